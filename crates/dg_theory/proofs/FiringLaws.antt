@@ -1,0 +1,35 @@
+-- Laws of firing.
+--   gain-add        what one gets by a sum of scripts is what one gets by each
+--   fired-fired     firing adds up
+--   fired-constant  a constant script changes nothing
+--   fired-cong      scripts that agree on the vertices fire alike
+use Rattle.std.proofs.Common.{◌≡◌, ℕ, ◌<◌, arith, refl, sym, ◌∙◌}
+use Rattle.std.proofs.lemmas.Int.{ints}
+use Rattle.std.proofs.Math.IntN.{pos, ◌+ℤ◌, ◌-ℤ◌, ◌*ℤ◌, *ℤ-zero}
+use Rattle.dg_theory.specs.Multigraph.{Multigraph, edges_between}
+use Rattle.dg_theory.specs.Firing.{Amounts, gain, fired}
+use Rattle.dg_theory.specs.Laws.{FiringAddsUp, ConstantScriptsDoNothing}
+use Rattle.dg_theory.proofs.Products.{mul-change}
+use Rattle.dg_theory.proofs.SumLaws.{sum_below-add, sum_below-cong, sum_below-zero}
+
+pub gain-add : (g : Multigraph) (s t : Amounts) (v : ℕ) → gain g s v +ℤ gain g t v ≡ gain g (λ w. s w +ℤ t w) v
+gain-add g s t v =
+    sym (sum_below-add g.size (λ w. pos (edges_between g v w) *ℤ (s w -ℤ s v)) (λ w. pos (edges_between g v w) *ℤ (t w -ℤ t v)))
+    ∙ sum_below-cong g.size _ _ (λ w below. mul-change (edges_between g v w) (s w) (t w) (s v) (t v))
+
+pub fired-fired : FiringAddsUp
+fired-fired g D s t v = omega (arith, ints, gain-add g s t v)
+
+pub fired-constant : ConstantScriptsDoNothing
+fired-constant g D x v =
+    let nothing : gain g (λ _. x) v ≡ pos 0 = sum_below-zero g.size _ (λ w below.
+    let same : x -ℤ x ≡ pos 0 = omega (arith, ints) in rw (same, *ℤ-zero) refl) in
+    omega (arith, ints)
+
+pub fired-cong : (g : Multigraph) (D s t : Amounts) (v : ℕ) → v < g.size → ((w : ℕ) → w < g.size → s w ≡ t w) →
+    fired g D s v ≡ fired g D t v
+fired-cong g D s t v inside same =
+    let gains : gain g s v ≡ gain g t v = sum_below-cong g.size _ _ (λ w below.
+    let at_w : s w ≡ t w = same w below in let at_v : s v ≡ t v = same v inside in
+    rw (at_w, at_v) refl) in
+    omega (arith, ints)

@@ -1,0 +1,3 @@
+pub mod Products
+pub mod SumLaws
+pub mod FiringLaws

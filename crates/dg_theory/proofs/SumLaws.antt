@@ -1,0 +1,26 @@
+-- Laws of sums over the numbers below n.
+--   sum_below-cong      equal terms give equal sums
+--   sum_below-add       a sum of sums is the sum of both
+--   sum_below-zero      a sum of zeros is zero
+use Rattle.std.proofs.Common.{◌≡◌, ℕ, zero, suc, ◌<◌, arith, refl}
+use Rattle.std.proofs.lemmas.Int.{ints}
+use Rattle.std.proofs.Math.IntN.{ℤ, pos, ◌+ℤ◌}
+use Rattle.dg_theory.specs.Sums.{sum_below}
+
+pub sum_below-cong : (n : ℕ) (f h : ℕ → ℤ) → ((w : ℕ) → w < n → f w ≡ h w) → sum_below n f ≡ sum_below n h
+sum_below-cong zero f h same = refl
+sum_below-cong (suc n) f h same =
+    let before : sum_below n f ≡ sum_below n h = sum_below-cong n f h (λ w below. same w (omega arith)) in
+    let last : f n ≡ h n = same n (omega arith) in
+    omega (arith, ints)
+
+pub sum_below-add : (n : ℕ) (f h : ℕ → ℤ) → sum_below n (λ w. f w +ℤ h w) ≡ sum_below n f +ℤ sum_below n h
+sum_below-add zero f h = refl
+sum_below-add (suc n) f h = omega (arith, ints, sum_below-add n f h)
+
+pub sum_below-zero : (n : ℕ) (f : ℕ → ℤ) → ((w : ℕ) → w < n → f w ≡ pos 0) → sum_below n f ≡ pos 0
+sum_below-zero zero f none = refl
+sum_below-zero (suc n) f none =
+    let before : sum_below n f ≡ pos 0 = sum_below-zero n f (λ w below. none w (omega arith)) in
+    let last : f n ≡ pos 0 = none n (omega arith) in
+    omega (arith, ints)
