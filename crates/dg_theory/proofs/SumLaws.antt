@@ -2,7 +2,8 @@
 --   sum_below-cong      equal terms give equal sums
 --   sum_below-add       a sum of sums is the sum of both
 --   sum_below-zero      a sum of zeros is zero
-use Rattle.std.proofs.Common.{◌≡◌, ℕ, zero, suc, ◌<◌, arith, refl}
+--   sum_below-more      a sum of n + 1 terms is the sum of n and the last
+use Rattle.std.proofs.Common.{◌≡◌, ℕ, zero, suc, ◌+◌, ◌<◌, add-one, arith, refl}
 use Rattle.std.proofs.lemmas.Int.{ints}
 use Rattle.std.proofs.Math.IntN.{ℤ, pos, ◌+ℤ◌}
 use Rattle.dg_theory.specs.Sums.{sum_below}
@@ -24,3 +25,6 @@ sum_below-zero (suc n) f none =
     let before : sum_below n f ≡ pos 0 = sum_below-zero n f (λ w below. none w (omega arith)) in
     let last : f n ≡ pos 0 = none n (omega arith) in
     omega (arith, ints)
+
+pub sum_below-more : (n : ℕ) (f : ℕ → ℤ) (s x z : ℤ) → s ≡ sum_below n f → x ≡ f n → z ≡ s +ℤ x → z ≡ sum_below (n + 1) f
+sum_below-more n f s x z before last whole = rw add-one (omega (arith, ints))

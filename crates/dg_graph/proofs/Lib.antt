@@ -1,0 +1,6 @@
+pub mod Listed
+pub mod Capped
+pub mod Reached
+pub mod Given
+pub mod NoEdges
+pub mod Genus

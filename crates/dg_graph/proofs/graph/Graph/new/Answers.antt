@@ -1,0 +1,36 @@
+use Rattle.std.proofs.Common.{arith, refl}
+use Rattle.dg_graph.proofs.Given.{cells-symmetric, cells-high, cells-exact, cells-parted, cells-graph}
+use Rattle.dg_graph.proofs.graph.Graph.new.Goals as goal
+
+pub is_connected-requires-clause-symmetric : goal.is_connected-requires-clause-symmetric
+is_connected-requires-clause-symmetric c = cells-symmetric _ _ c.table_of-table.ensures
+
+pub returns-in-Some-first_high : goal.returns-in-Some-first_high
+returns-in-Some-first_high c = (
+  (omega arith, omega arith),
+  c.in_default.ensures,
+  cells-high c.args.size c.args.items.now c.table_of-table.result c.in-Some-first_high.v c.table_of-table.ensures
+      c.in-Some-first_high.ensures.0 c.in-Some-first_high.ensures.1 c.in-Some-first_high.ensures.2,
+)
+
+pub returns-then-not-is_connected : goal.returns-then-not-is_connected
+returns-then-not-is_connected c = (
+  (omega arith, omega arith),
+  c.in_default.ensures,
+  cells-parted c.args.size c.args.items.now c.table_of-table.result (omega arith, omega arith) c.in_default.ensures
+      c.table_of-table.ensures c.in_default-first_high.ensures c.if-not-is_connected.ensures,
+)
+
+pub invariant_of-result : goal.invariant_of-result
+invariant_of-result c =
+    cells-graph c.args.size c.args.items.now c.table_of-table.result (omega arith, omega arith) c.in_default.ensures
+    c.table_of-table.ensures c.in_default-first_high.ensures c.if-not-is_connected.ensures
+
+pub returns : goal.returns
+returns c = record {
+  graph = invariant_of-result c;
+  size = refl;
+  right = c.in_default.ensures;
+  edges = cells-exact c.args.size c.args.items.now c.table_of-table.result c.in_default.ensures
+      c.table_of-table.ensures c.in_default-first_high.ensures;
+}

@@ -1,0 +1,74 @@
+ghost use Rattle.std.specs.Prelude.{◌≡◌, ◌≢◌, ℕ, ◌+◌, ◌<◌, ◌≤◌, MatchOption, min, slice_index};
+ghost use Rattle.dg_theory.specs.Multigraph.{entry};
+ghost use Rattle.dg_graph.specs.Items.{IsItem, IsItems, edges_put, edges_listed};
+ghost use Rattle.dg_graph.specs.Faults.{IsFirstFault, IsSize};
+
+use crate::fault::GraphFault;
+use crate::table::Table;
+
+/// The first fault of a single item.
+pub fn first_item_fault(size: usize, items: &[(u8, u8, u8)]) -> Option<GraphFault>
+    requires { IsSize size }
+    ensures { MatchOption result (IsItems size items.now) (IsFirstFault size items.now) }
+{
+    for (i, &(u, v, edges)) in items.iter().enumerate() {
+        let (u, v) = (usize::from(u), usize::from(v));
+        if u >= size || v >= size {
+            return Some(GraphFault::NoVertex(i));
+        }
+        if u == v {
+            return Some(GraphFault::Loop(i));
+        }
+        if edges == 0 {
+            return Some(GraphFault::Multiplicity(i));
+        }
+    }
+    None
+}
+
+/// The sums of the items' edges, each cut off at 255.
+pub fn table_of(size: usize, items: &[(u8, u8, u8)]) -> Table
+    requires size { IsSize size }
+    requires items { IsItems size items.now }
+    ensures { (u v : ℕ) → entry result u v ≡ min 255 (edges_listed items.now u v) }
+{
+    let mut table = [[0; 16]; 16];
+    'items: for &item in items {
+        add_item(&mut table, item);
+    }
+    table
+}
+
+/// Adds the item's edges between its two vertices, in both directions, cut off at 255.
+fn add_item(table: &mut Table, item: (u8, u8, u8))
+    requires item { IsItem 16 item }
+    requires capped { (a b : ℕ) → entry table.old a b ≤ 255 }
+    ensures { (a b : ℕ) → entry table.new a b ≡ min 255 (entry table.old a b + edges_put item a b) }
+{
+    let (u, v, edges) = item;
+    let (u, v) = (usize::from(u), usize::from(v));
+    add_edges(table, u, v, edges);
+    add_edges(table, v, u, edges);
+}
+
+/// Adds edges in row u and column v, cut off at 255.
+#[tactic(auto, unfolding(dg_theory::specs::Multigraph::entry))]
+fn add_edges(table: &mut Table, u: usize, v: usize, edges: u8)
+    requires u { u < 16 }
+    requires v { v < 16 }
+    ensures at { entry table.new u v ≡ min 255 (entry table.old u v + edges) }
+    ensures row { (b : ℕ) → b ≢ v → entry table.new u b ≡ entry table.old u b }
+    ensures others { (a b : ℕ) → a ≢ u → entry table.new a b ≡ entry table.old a b }
+{
+    table[u] = with_more(table[u], v, edges);
+}
+
+/// The row with some edges more at v, cut off at 255.
+fn with_more(mut row: [u8; 16], v: usize, edges: u8) -> [u8; 16]
+    requires { v < 16 }
+    ensures at { slice_index result v ≡ min 255 (slice_index row v + edges) }
+    ensures others { (b : ℕ) → b ≢ v → slice_index result b ≡ slice_index row b }
+{
+    row[v] = row[v].saturating_add(edges);
+    row
+}

@@ -1,0 +1,67 @@
+ghost use Rattle.std.specs.Prelude.{◌≡◌, ℕ, ◌<◌, ◌≤◌, true, false, MatchOption, MatchBool, slice_index};
+ghost use Rattle.dg_theory.specs.Multigraph.{entry};
+ghost use Rattle.dg_graph.specs.Search.{is_in, IsNextTo, IsSettled, IsJoined, IsApart};
+
+use crate::table::Table;
+
+/// Whether a chain of edges joins vertex 0 to every other.
+pub fn is_connected(size: usize, table: &Table) -> bool
+    requires some { 1 ≤ size }
+    requires few { size ≤ 16 }
+    requires symmetric { (u v : ℕ) → entry table.now u v ≡ entry table.now v u }
+    ensures { MatchBool result (IsJoined size (entry table.now)) (IsApart size (entry table.now)) }
+{
+    let mut reached = [false; 16];
+    reached[0] = true;
+    'search: while let Some(v) = next_reached(size, table, &reached) {
+        reached[v] = true;
+    }
+    has_all(size, &reached)
+}
+
+/// The first vertex that is not reached and that an edge joins to one that is.
+#[tactic(auto, unfolding(dg_theory::specs::Multigraph::entry))]
+fn next_reached(size: usize, table: &Table, reached: &[bool; 16]) -> Option<usize>
+    requires { size ≤ 16 }
+    ensures { MatchOption result
+        ((u : ℕ) → u < size → IsSettled size (entry table.now) reached.now u)
+        (λ v. (v < size) × (is_in reached.now v ≡ false) × IsNextTo size (entry table.now v) reached.now
+        × ((u : ℕ) → u < v → IsSettled size (entry table.now) reached.now u)) }
+{
+    for v in 0..size {
+        if !reached[v] && is_next_to(size, &table[v], reached) {
+            return Some(v);
+        }
+    }
+    None
+}
+
+/// Whether an edge of the row leads to a vertex that is reached.
+fn is_next_to(size: usize, row: &[u8; 16], reached: &[bool; 16]) -> bool
+    requires { size ≤ 16 }
+    ensures { MatchBool result
+        (IsNextTo size (slice_index row.now) reached.now)
+        (¬ IsNextTo size (slice_index row.now) reached.now) }
+{
+    for w in 0..size {
+        if row[w] > 0 && reached[w] {
+            return true;
+        }
+    }
+    false
+}
+
+/// Whether every vertex is reached.
+fn has_all(size: usize, reached: &[bool; 16]) -> bool
+    requires { size ≤ 16 }
+    ensures { MatchBool result
+        ((v : ℕ) → v < size → is_in reached.now v ≡ true)
+        ((v : ℕ) × (v < size) × (is_in reached.now v ≡ false)) }
+{
+    for v in 0..size {
+        if !reached[v] {
+            return false;
+        }
+    }
+    true
+}

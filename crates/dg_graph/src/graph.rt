@@ -1,0 +1,95 @@
+ghost use Rattle.std.specs.Prelude.{◌≡◌, ◌<◌, MatchResult};
+ghost use Rattle.dg_theory.specs.Multigraph.{edges_between, valence, genus};
+ghost use Rattle.dg_graph.specs.Graph.{IsGraph};
+ghost use Rattle.dg_graph.specs.Items.{IsGiven};
+ghost use Rattle.dg_graph.specs.Faults.{IsFirstFault};
+
+use crate::build::{first_item_fault, table_of};
+use crate::connected::is_connected;
+use crate::fault::GraphFault;
+use crate::table::{Table, edge_count, first_high, row_sum};
+use std::marker::Model;
+
+/// A finite connected multigraph without loops: 1 to 16 vertices, numbered from 0, and at most 63 edges at each.
+#[derive(Clone, Copy)]
+pub struct Graph {
+    size: usize,
+    table: Table,
+}
+
+impl Model for Graph {
+    ghost use Rattle.dg_theory.specs.Multigraph.{Multigraph};
+
+    ghost Value = { Multigraph };
+
+    ghost use Rattle.dg_graph.specs.Graph.{IsGraph};
+
+    ghost view = { λ a. record { size = a.size; table = a.table } };
+
+    ghost invariant = { λ a. IsGraph (record { size = a.size; table = a.table }) };
+
+    ghost inverse = { λ g. record { size = g.size; table = g.table } };
+}
+
+impl Graph {
+    /// The graph of `size` vertices whose edges are listed: two vertices and a number of edges in each item. A pair
+    /// that is listed twice has the sum of both.
+    ///
+    /// The first fault is reported: `Size`; then item by item `NoVertex`, `Loop`, `Multiplicity`; then `Valence` for
+    /// the least vertex with more than 63 edges; then `NotConnected`.
+    pub fn new(size: usize, items: &[(u8, u8, u8)]) -> Result<Graph, GraphFault>
+        ensures { MatchResult result (IsGiven size items.now) (IsFirstFault size items.now) }
+    {
+        if size == 0 || size > 16 {
+            return Err(GraphFault::Size);
+        }
+        if let Some(fault) = first_item_fault(size, items) {
+            return Err(fault);
+        }
+        let table = table_of(size, items);
+        if let Some(v) = first_high(size, &table) {
+            return Err(GraphFault::Valence(v));
+        }
+        if !is_connected(size, &table) {
+            return Err(GraphFault::NotConnected);
+        }
+        Ok(Graph { size, table })
+    }
+
+    /// The number of vertices, 1 to 16.
+    pub fn size(&self) -> usize
+        ensures size { result ≡ self.now.size }
+        ensures graph { IsGraph self.now }
+    {
+        self.size
+    }
+
+    /// The number of edges between two vertices, at most 63.
+    #[tactic(auto, unfolding(dg_theory::specs::Multigraph::entry))]
+    pub fn edges(&self, u: usize, v: usize) -> u8
+        requires u { u < self.now.size }
+        requires v { v < self.now.size }
+        ensures { result ≡ edges_between self.now u v }
+    {
+        let table = &self.table;
+        table[u][v]
+    }
+
+    /// The number of edges at a vertex, at most 63.
+    #[tactic(auto, unfolding(dg_theory::specs::Multigraph::entry))]
+    pub fn valence(&self, v: usize) -> u8
+        requires { v < self.now.size }
+        ensures { result ≡ valence self.now v }
+    {
+        let size = self.size;
+        let table = &self.table;
+        row_sum(size, &table[v]) as u8
+    }
+
+    /// The number of edges, less that of vertices, plus 1.
+    pub fn genus(&self) -> i32
+        ensures { result ≡ genus self.now }
+    {
+        edge_count(self.size, &self.table) as i32 - self.size as i32 + 1
+    }
+}

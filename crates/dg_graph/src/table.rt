@@ -1,0 +1,59 @@
+ghost use Rattle.std.specs.Prelude.{◌≡◌, ℕ, ◌<◌, ◌≤◌, ◌*◌, MatchOption, slice_index};
+ghost use Rattle.dg_theory.specs.Sums.{total_below};
+ghost use Rattle.dg_theory.specs.Multigraph.{entry};
+
+/// The numbers of edges, by both vertices.
+pub type Table = [[u8; 16]; 16];
+
+/// The sum of a row's first `size` numbers.
+pub fn row_sum(size: usize, row: &[u8; 16]) -> u32
+    requires { size ≤ 16 }
+    ensures sum { result ≡ total_below size (slice_index row.now) }
+    ensures limit { result ≤ 255 * size }
+{
+    let mut sum = 0u32;
+    for v in 0..size {
+        sum += u32::from(row[v]);
+    }
+    sum
+}
+
+/// The sum of row v before its diagonal.
+#[tactic(auto, unfolding(dg_theory::specs::Multigraph::entry))]
+fn sum_before(table: &Table, v: usize) -> u32
+    requires { v < 16 }
+    ensures sum { result ≡ total_below v (entry table.now v) }
+    ensures limit { result ≤ 255 * v }
+{
+    row_sum(v, &table[v])
+}
+
+/// The sum of all numbers before the diagonal.
+pub fn edge_count(size: usize, table: &Table) -> u32
+    requires { size ≤ 16 }
+    ensures sum { result ≡ total_below size (λ v. total_below v (entry table.now v)) }
+    ensures limit { result ≤ 3825 * size }
+{
+    let mut count = 0u32;
+    for v in 0..size {
+        count += sum_before(table, v);
+    }
+    count
+}
+
+/// The first vertex with more than 63 edges.
+#[tactic(auto, unfolding(dg_theory::specs::Multigraph::entry))]
+pub fn first_high(size: usize, table: &Table) -> Option<usize>
+    requires { size ≤ 16 }
+    ensures { MatchOption result
+        ((v : ℕ) → v < size → total_below size (entry table.now v) ≤ 63)
+        (λ v. (v < size) × (63 < total_below size (entry table.now v))
+        × ((u : ℕ) → u < v → total_below size (entry table.now u) ≤ 63)) }
+{
+    for v in 0..size {
+        if row_sum(size, &table[v]) > 63 {
+            return Some(v);
+        }
+    }
+    None
+}

@@ -1,0 +1,29 @@
+-- Laws of sums of natural numbers below n.
+--   total_below-cong    equal terms give equal sums
+--   total_below-le      larger terms give a larger sum
+--   total_below-term    a term is at most the sum
+use Rattle.std.proofs.Common.{◌≡◌, ℕ, zero, suc, ◌<◌, ◌≤◌, arith, refl, ap, ⊎_elim}
+use Rattle.std.proofs.lemmas.Bool.{cases_eq}
+use Rattle.dg_theory.specs.Sums.{total_below}
+
+pub total_below-cong : (n : ℕ) (f h : ℕ → ℕ) → ((w : ℕ) → w < n → f w ≡ h w) → total_below n f ≡ total_below n h
+total_below-cong zero f h same = refl
+total_below-cong (suc n) f h same =
+    let before : total_below n f ≡ total_below n h = total_below-cong n f h (λ w below. same w (omega arith)) in
+    let last : f n ≡ h n = same n (omega arith) in
+    omega arith
+
+pub total_below-le : (n : ℕ) (f h : ℕ → ℕ) → ((w : ℕ) → w < n → f w ≤ h w) → total_below n f ≤ total_below n h
+total_below-le zero f h less = omega arith
+total_below-le (suc n) f h less =
+    let before : total_below n f ≤ total_below n h = total_below-le n f h (λ w below. less w (omega arith)) in
+    let last : f n ≤ h n = less n (omega arith) in
+    omega arith
+
+pub total_below-term : (n : ℕ) (f : ℕ → ℕ) (v : ℕ) → v < n → f v ≤ total_below n f
+total_below-term zero f v below = absurd (omega arith)
+total_below-term (suc n) f v below =
+    ⊎_elim
+    (λ (same : v ≡ n). let at : f v ≡ f n = ap f same in omega arith)
+    (λ (other : v ≡ n → ⊥). let before : f v ≤ total_below n f = total_below-term n f v (omega arith) in omega arith)
+    (cases_eq v n)
