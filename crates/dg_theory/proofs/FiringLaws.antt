@@ -3,9 +3,10 @@
 --   fired-fired     firing adds up
 --   fired-constant  a constant script changes nothing
 --   fired-cong      scripts that agree on the vertices fire alike
+--   fired-constant_script  the law for a script that is constant on the vertices
 use Rattle.std.proofs.Common.{◌≡◌, ℕ, ◌<◌, arith, refl, sym, ◌∙◌}
 use Rattle.std.proofs.lemmas.Int.{ints}
-use Rattle.std.proofs.Math.IntN.{pos, ◌+ℤ◌, ◌-ℤ◌, ◌*ℤ◌, *ℤ-zero}
+use Rattle.std.proofs.Math.IntN.{ℤ, pos, ◌+ℤ◌, ◌-ℤ◌, ◌*ℤ◌, *ℤ-zero}
 use Rattle.dg_theory.specs.Multigraph.{Multigraph, edges_between}
 use Rattle.dg_theory.specs.Firing.{Amounts, gain, fired}
 use Rattle.dg_theory.specs.Laws.{FiringAddsUp, ConstantScriptsDoNothing}
@@ -20,7 +21,7 @@ gain-add g s t v =
 pub fired-fired : FiringAddsUp
 fired-fired g D s t v = omega (arith, ints, gain-add g s t v)
 
-pub fired-constant : ConstantScriptsDoNothing
+pub fired-constant : (g : Multigraph) (D : Amounts) (x : ℤ) (v : ℕ) → fired g D (λ _. x) v ≡ D v
 fired-constant g D x v =
     let nothing : gain g (λ _. x) v ≡ pos 0 = sum_below-zero g.size _ (λ w below.
     let same : x -ℤ x ≡ pos 0 = omega (arith, ints) in rw (same, *ℤ-zero) refl) in
@@ -33,3 +34,7 @@ fired-cong g D s t v inside same =
     let at_w : s w ≡ t w = same w below in let at_v : s v ≡ t v = same v inside in
     rw (at_w, at_v) refl) in
     omega (arith, ints)
+
+pub fired-constant_script : ConstantScriptsDoNothing
+fired-constant_script g D s x constant v inside =
+    fired-cong g D s (λ _. x) v inside constant ∙ fired-constant g D x v

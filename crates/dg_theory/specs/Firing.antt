@@ -1,8 +1,8 @@
 -- Divisors, scripts and firing (Corry and Perkinson, chapters 1 and 2).
 -- A divisor gives each vertex an amount of dollars, and a negative one is a debt. A script tells how often each
 -- vertex lends, and a negative number is so many borrowings. Both are whole numbers for the vertices.
---   degree g D      == the sum of all amounts
---   IsEffective g D == no vertex is in debt
+--   degree n D      == the sum of the amounts of n vertices
+--   IsEffective n D == none of n vertices is in debt
 --   gain g s v      == what v gets by the script: along each edge to w, what w lends less what v lends
 --   fired g D s     == the divisor after every vertex has lent as often as the script s says
 --   only_at v x     == the script that is x at v and 0 elsewhere
@@ -14,11 +14,11 @@ use Rattle.dg_theory.specs.Multigraph.{Multigraph, edges_between}
 abbrev pub Amounts : Type 0
 Amounts = ℕ → ℤ
 
-abbrev pub degree : Multigraph → Amounts → ℤ
-degree g D = sum_below g.size D
+abbrev pub degree : ℕ → Amounts → ℤ
+degree n D = sum_below n D
 
-abbrev pub IsEffective : Multigraph → Amounts → Type 0
-IsEffective g D = (v : ℕ) → v < g.size → pos 0 ≤ℤ D v
+abbrev pub IsEffective : ℕ → Amounts → Type 0
+IsEffective n D = (v : ℕ) → v < n → pos 0 ≤ℤ D v
 
 abbrev pub gain : Multigraph → Amounts → Amounts
 gain g s v = sum_below g.size (λ w. pos (edges_between g v w) *ℤ (s w -ℤ s v))

@@ -1,0 +1,4 @@
+pub mod VectorLaws
+pub mod FlowLaws
+pub mod SetLaws
+pub mod Applying

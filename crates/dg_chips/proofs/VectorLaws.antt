@@ -1,0 +1,53 @@
+-- Lists of numbers, read at a place.
+--   at_zeros      each number of a list of zeros is zero, also past its end
+--   filled-set    a list that is f below v is f below v + 1 once f v is written at v
+--   rest-set      a list that is zero from v on is zero from v + 1 on, whatever is written at v
+--   single        zeros with x written at v are x at v and 0 elsewhere
+--   only_at_small a script of one small entry is within the limit
+use Rattle.std.proofs.Common.{◌≡◌, ◌≢◌, ℕ, ◌+◌, ◌<◌, ◌≤◌, List, length, slice_set, arith, inl, inr, get_or-set_same, get_or-set_other, below_more, ◌∙◌, nat_eq, true, false, lit≤}
+use Rattle.std.specs.Int.RustNames.{unsigned_abs}
+use Rattle.std.specs.Prelude.{replicate, if◌then◌else◌}
+use Rattle.std.specs.List.{slice_index_or}
+use Rattle.std.proofs.Math.IntN.{ℤ, pos}
+use Rattle.std.proofs.lemmas.Bool.{cases_lt}
+use Rattle.std.proofs.lemmas.List.{get_or-replicate, get_or_past, length-replicate}
+use Rattle.std.proofs.lemmas.Bool.Decides.{nat_tests}
+use Rattle.dg_theory.specs.Firing.{only_at}
+
+pub at_zeros : (n v : ℕ) → slice_index_or (replicate n (pos 0)) v (pos 0) ≡ pos 0
+at_zeros n v = elim (cases_lt v n) [
+  | inl within ↦ get_or-replicate n v (pos 0) (pos 0) within
+  | inr past ↦ get_or_past (replicate n (pos 0)) v (pos 0) (omega (arith, length-replicate n (pos 0)))
+]
+
+pub filled-set : (xs : List ℤ) (v : ℕ) (x : ℤ) (f : ℕ → ℤ) → v < length xs → x ≡ f v →
+    ((u : ℕ) → u < v → slice_index_or xs u (pos 0) ≡ f u) →
+    (u : ℕ) → u < v + 1 → slice_index_or (slice_set xs v x) u (pos 0) ≡ f u
+filled-set xs v x f within here before = below_more _ _
+    (λ u below. let other : u ≢ v = omega arith in get_or-set_other xs v u x (pos 0) other ∙ before u below)
+    (get_or-set_same xs v x (pos 0) within ∙ here)
+
+pub rest-set : (xs : List ℤ) (v : ℕ) (x : ℤ) → ((u : ℕ) → v ≤ u → slice_index_or xs u (pos 0) ≡ pos 0) →
+    (u : ℕ) → v + 1 ≤ u → slice_index_or (slice_set xs v x) u (pos 0) ≡ pos 0
+rest-set xs v x rest u above =
+    let other : u ≢ v = omega arith in get_or-set_other xs v u x (pos 0) other ∙ rest u (omega arith)
+
+pub single : (n v : ℕ) (x : ℤ) → v < n → (w : ℕ) → slice_index_or (slice_set (replicate n (pos 0)) v x) w (pos 0) ≡ only_at v x w
+single n v x within w = elim (cases_lt w v) [
+  | inl below ↦ let other : w ≢ v = omega arith in elsewhere other
+  | inr above ↦ elim (cases_lt v w) [
+    | inl past ↦ let other : w ≢ v = omega arith in elsewhere other
+    | inr equal ↦
+        let same : w ≡ v = omega arith in
+        rw (same) (get_or-set_same (replicate n (pos 0)) v x (pos 0) (omega (arith, length-replicate n (pos 0))) ∙ grind (arith, nat_tests))
+  ]
+]
+  where
+    elsewhere : w ≢ v → slice_index_or (slice_set (replicate n (pos 0)) v x) w (pos 0) ≡ only_at v x w
+    elsewhere other = get_or-set_other (replicate n (pos 0)) v w x (pos 0) other ∙ at_zeros n w ∙ grind (arith, nat_tests)
+
+pub only_at_small : (v : ℕ) (x : ℤ) → unsigned_abs x ≤ 1 → (w : ℕ) → unsigned_abs (only_at v x w) ≤ 1000000000
+only_at_small v x small w = elim (nat_eq w v) as (λ same. unsigned_abs (if same then x else pos 0) ≤ 1000000000) [
+  | true ↦ omega arith
+  | false ↦ lit≤ tt
+]

@@ -1,0 +1,13 @@
+use Rattle.std.proofs.Common.{◌≡◌, ◌≤◌, ◌*◌}
+use Rattle.std.specs.Int.RustNames.{unsigned_abs}
+use Rattle.std.proofs.Math.IntN.{pos, ◌-ℤ◌, ◌*ℤ◌}
+use Rattle.dg_theory.specs.Sums.{sum_below}
+use Rattle.dg_theory.specs.Multigraph.{edges_between}
+use Rattle.dg_chips.specs.Vector.{at}
+use Rattle.dg_chips.proofs.firing.gained.Given as goal
+
+abbrev pub invariant-loop-w : goal.invariant-loop-w
+invariant-loop-w l = record {
+  sum : l.sum ≡ sum_below l.w (λ u. pos (edges_between l.graph l.v u) *ℤ (at l.script u -ℤ at l.script l.v));
+  limit : unsigned_abs l.sum ≤ 510000000000 * l.w;
+}

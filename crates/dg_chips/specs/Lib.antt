@@ -1,0 +1,10 @@
+-- What divisors, scripts and moves hold, and what a move does.
+pub mod Vector
+pub mod VectorFaults
+pub mod DivisorFaults
+pub mod ScriptFaults
+pub mod Moves
+pub mod Applied
+pub mod Refused
+pub mod Opening
+pub mod StartFaults

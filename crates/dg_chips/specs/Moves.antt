@@ -1,0 +1,47 @@
+-- Moves (Corry and Perkinson, chapters 1 and 2).
+--   in_set m v          == whether bit v of the number m is set: the set of vertices that m stands for
+--   script_of m         == the script of the move: 1 or -1 at the vertex, 1 on the set, or the script given
+--   NamesNoVertex n m   == the move names a number that is none of the n vertices
+--   IsEmptySet m        == the move fires the empty set
+--   HasOtherSize n m    == the move is a script for another number of vertices
+--   IsPlayable n m      == none of these
+-- To fire the empty set would change nothing; on a table it is refused, since it is no move.
+use Rattle.std.specs.Prelude.{◌≡◌, ◌≢◌, ℕ, ◌<◌, ◌≤◌, ◌==◌, Bool, true, pos, negsuc}
+use Rattle.std.specs.Int.{bit_at}
+use Rattle.dg_theory.specs.Firing.{Amounts, only_at, indicator}
+use Rattle.dg_chips.specs.Vector.{at}
+use Rattle.dg_chips.specs.declared.moves.Move.{Move}
+use Rattle.dg_chips.specs.declared.moves.Move.TheVariants.{Lend, Borrow, Fire, Script}
+
+unfoldable pub in_set : ℕ → ℕ → Bool
+in_set m v = bit_at m v == 1
+
+abbrev pub script_of : Move → Amounts
+script_of (Lend v) = only_at v (pos 1)
+script_of (Borrow v) = only_at v (negsuc 0)
+script_of (Fire m) = indicator (in_set m)
+script_of (Script s) = at s
+
+abbrev pub NamesNoVertex : ℕ → Move → Type 0
+NamesNoVertex n (Lend v) = n ≤ v
+NamesNoVertex n (Borrow v) = n ≤ v
+NamesNoVertex n (Fire m) = (v : ℕ) × (n ≤ v) × (in_set m v ≡ true)
+NamesNoVertex n (Script s) = ⊥
+
+abbrev pub IsEmptySet : Move → Type 0
+IsEmptySet (Lend v) = ⊥
+IsEmptySet (Borrow v) = ⊥
+IsEmptySet (Fire m) = m ≡ 0
+IsEmptySet (Script s) = ⊥
+
+abbrev pub HasOtherSize : ℕ → Move → Type 0
+HasOtherSize n (Lend v) = ⊥
+HasOtherSize n (Borrow v) = ⊥
+HasOtherSize n (Fire m) = ⊥
+HasOtherSize n (Script s) = s.size ≢ n
+
+abbrev pub IsPlayable : ℕ → Move → Type 0
+IsPlayable n (Lend v) = v < n
+IsPlayable n (Borrow v) = v < n
+IsPlayable n (Fire m) = (m ≢ 0) × ((v : ℕ) → in_set m v ≡ true → v < n)
+IsPlayable n (Script s) = s.size ≡ n

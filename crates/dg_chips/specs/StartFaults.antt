@@ -1,0 +1,10 @@
+-- When a graph, a divisor and a vertex are refused as a start.
+use Rattle.std.specs.Prelude.{◌≡◌, ◌≢◌, ℕ, ◌≤◌}
+use Rattle.dg_theory.specs.Multigraph.{Multigraph}
+use Rattle.dg_chips.specs.Vector.{Vector}
+use Rattle.dg_chips.specs.declared.start.StartFault.{StartFault}
+use Rattle.dg_chips.specs.declared.start.StartFault.TheVariants.{Length, Vertex}
+
+abbrev pub IsStartFault : Multigraph → Vector → ℕ → StartFault → Type 0
+IsStartFault g d q Length = d.size ≢ g.size
+IsStartFault g d q Vertex = (d.size ≡ g.size) × (g.size ≤ q)

@@ -1,0 +1,127 @@
+ghost use Rattle.std.specs.Prelude.{◌≡◌, ℕ, ◌<◌, ◌≤◌, ◌↔◌, IsTrue, MatchResult, MatchOption, ◌+ℤ◌};
+ghost use Rattle.std.specs.Int.RustNames.{unsigned_abs};
+ghost use Rattle.dg_theory.specs.Firing.{degree, IsEffective, only_at};
+ghost use Rattle.dg_chips.specs.Vector.{at, HoldsNumbers, IsDivisor, IsInRange};
+ghost use Rattle.dg_chips.specs.DivisorFaults.{IsFirstChipFault};
+
+use crate::numbers::{first_past, padded};
+use dg_graph::Graph;
+use std::marker::Model;
+use thiserror::Error;
+
+/// The largest amount, and the largest debt, that a divisor may hold.
+pub const MAX_AMOUNT: u64 = 1_000_000;
+
+/// Why amounts are refused as a divisor. Vertices are numbered from 0.
+#[derive(Clone, Copy, Debug, PartialEq, Eq, Error)]
+pub enum ChipFault {
+    /// There are not as many amounts as vertices.
+    #[error("number of amounts")]
+    Length,
+    /// The amount of the vertex is not within 1,000,000.
+    #[error("amount of vertex {0}")]
+    Range(usize),
+}
+
+/// An amount of dollars for each vertex of a graph, from -1,000,000 to 1,000,000; a negative one is a debt.
+#[derive(Clone, Copy, PartialEq, Eq)]
+pub struct Divisor {
+    size: usize,
+    amounts: [i64; 16],
+}
+
+impl Model for Divisor {
+    ghost use Rattle.dg_chips.specs.Vector.{Vector, IsDivisor};
+
+    ghost Value = { Vector };
+
+    ghost view = { λ a. record { size = a.size; numbers = a.amounts } };
+
+    ghost invariant = { λ a. IsDivisor (record { size = a.size; numbers = a.amounts }) };
+
+    ghost inverse = { λ x. record { size = x.size; amounts = x.numbers } };
+}
+
+impl Divisor {
+    /// The divisor with these amounts, in vertex order.
+    ///
+    /// Refused with `Length` where there are not as many as vertices, then with `Range` for the first vertex whose
+    /// amount is not within 1,000,000.
+    pub fn new(graph: &Graph, amounts: &[i64]) -> Result<Divisor, ChipFault>
+        ensures { MatchResult result
+            (λ d. (d.size ≡ graph.now.size) × HoldsNumbers amounts.now d × IsDivisor d)
+            (IsFirstChipFault graph.now.size amounts.now) }
+    {
+        let size = graph.size();
+        if amounts.len() != size {
+            return Err(ChipFault::Length);
+        }
+        if let Some(v) = first_past(amounts, MAX_AMOUNT) {
+            return Err(ChipFault::Range(v));
+        }
+        let amounts = padded(amounts);
+        Ok(Divisor { size, amounts })
+    }
+
+    /// The number of vertices.
+    pub fn size(&self) -> usize
+        ensures size { result ≡ self.now.size }
+        ensures divisor { IsDivisor self.now }
+    {
+        self.size
+    }
+
+    /// The sum of all amounts.
+    pub fn degree(&self) -> i64
+        ensures { result ≡ degree self.now.size (at self.now) }
+    {
+        let mut sum = 0;
+        for v in 0..self.size() {
+            sum += self.get(v);
+        }
+        sum
+    }
+
+    /// Whether no vertex is in debt.
+    pub fn is_effective(&self) -> bool
+        ensures { IsTrue result ↔ IsEffective self.now.size (at self.now) }
+    {
+        for v in 0..self.size() {
+            if self.get(v) < 0 {
+                return false;
+            }
+        }
+        true
+    }
+
+    /// The amount of a vertex.
+    pub fn get(&self, v: usize) -> i64
+        requires { v < self.now.size }
+        ensures amount { result ≡ at self.now v }
+        ensures limit { unsigned_abs result ≤ 1000000 }
+    {
+        let _size = self.size;
+        let amounts = &self.amounts;
+        amounts[v]
+    }
+
+    /// The divisor with so many dollars more at one vertex, at most 1,000,000 more or less; `None` where the vertex
+    /// would not hold an amount within 1,000,000.
+    pub fn with_more(&self, v: usize, dollars: i64) -> Option<Divisor>
+        requires vertex { v < self.now.size }
+        requires dollars { unsigned_abs dollars ≤ 1000000 }
+        ensures { MatchOption result
+            (1000000 < unsigned_abs (at self.now v +ℤ dollars))
+            (λ d. (d.size ≡ self.now.size)
+            × ((w : ℕ) → w < self.now.size → at d w ≡ at self.now w +ℤ only_at v dollars w)) }
+    {
+        let amount = self.get(v) + dollars;
+        if amount.unsigned_abs() > MAX_AMOUNT {
+            return None;
+        }
+        let size = self.size;
+        let mut amounts = self.amounts;
+        amounts[v] = amount;
+        Some(Divisor { size, amounts })
+    }
+}

@@ -1,0 +1,71 @@
+ghost use Rattle.std.specs.Prelude.{◌≡◌, ℕ, ◌<◌, ◌≤◌, ◌*◌, pos, ◌-ℤ◌, ◌*ℤ◌, MatchResult, length};
+ghost use Rattle.std.specs.List.{slice_index_or};
+ghost use Rattle.std.specs.Int.RustNames.{unsigned_abs};
+ghost use Rattle.dg_theory.specs.Firing.{gain, fired};
+ghost use Rattle.dg_chips.specs.Vector.{at};
+ghost use Rattle.dg_chips.specs.Applied.{IsMoved};
+ghost use Rattle.dg_chips.specs.Refused.{IsRefusal};
+
+use crate::divisor::Divisor;
+use crate::moves::{Move, MoveFault};
+use crate::script::Script;
+use crate::scripts::script_of;
+use dg_graph::Graph;
+
+/// The divisor after a move; the one that is handed in stays as it is.
+///
+/// Refused in this order: `NoVertex` where the move names a vertex that is not there, `Empty` where it fires the empty
+/// set, `Script` where its script has another size, `Range` where an amount of the result is not within 1,000,000.
+/// What lies between the single lendings of a move is not tested.
+pub fn apply(graph: &Graph, divisor: &Divisor, play: &Move) -> Result<Divisor, MoveFault>
+    requires { divisor.now.size ≡ graph.now.size }
+    ensures { MatchResult result
+        (IsMoved graph.now (at divisor.now) play.now)
+        (IsRefusal graph.now (at divisor.now) play.now) }
+{
+    let script = script_of(graph.size(), play)?;
+    let amounts = fired_amounts(graph, divisor, &script);
+    match Divisor::new(graph, &amounts[..graph.size()]) {
+        Ok(divisor) => Ok(divisor),
+        Err(_) => Err(MoveFault::Range),
+    }
+}
+
+/// The amounts after a firing.
+fn fired_amounts(graph: &Graph, divisor: &Divisor, script: &Script) -> [i64; 16]
+    requires divisor { divisor.now.size ≡ graph.now.size }
+    requires script { script.now.size ≡ graph.now.size }
+    ensures places { length result ≡ 16 }
+    ensures amounts { (v : ℕ) → v < graph.now.size →
+        slice_index_or result v (pos 0) ≡ fired graph.now (at divisor.now) (at script.now) v }
+{
+    let mut amounts = [0; 16];
+    for v in 0..graph.size() {
+        amounts[v] = divisor.get(v) + gained(graph, script, v);
+    }
+    amounts
+}
+
+/// What a vertex gets by a script.
+fn gained(graph: &Graph, script: &Script, v: usize) -> i64
+    requires vertex { v < graph.now.size }
+    requires script { script.now.size ≡ graph.now.size }
+    ensures gain { result ≡ gain graph.now (at script.now) v }
+    ensures limit { unsigned_abs result ≤ 510000000000 * 16 }
+{
+    let here = script.get(v);
+    let mut sum = 0;
+    for w in 0..graph.size() {
+        sum += flow(graph.edges(v, w), script.get(w), here);
+    }
+    sum
+}
+
+/// What comes along some edges, where the vertex there and the vertex here lend so often.
+fn flow(edges: u8, there: i64, here: i64) -> i64
+    requires there { unsigned_abs there ≤ 1000000000 }
+    requires here { unsigned_abs here ≤ 1000000000 }
+    ensures { result ≡ pos edges *ℤ (there -ℤ here) }
+{
+    i64::from(edges) * (there - here)
+}

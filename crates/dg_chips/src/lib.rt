@@ -1,0 +1,18 @@
+//! Divisors, scripts and moves of the dollar game, and what a move does.
+#![tactic(auto)]
+
+mod divisor;
+mod firing;
+mod moves;
+mod numbers;
+mod script;
+mod scripts;
+mod start;
+#[cfg(test)]
+mod tests;
+
+pub use divisor::{ChipFault, Divisor};
+pub use firing::apply;
+pub use moves::{Move, MoveFault};
+pub use script::{Script, ScriptFault};
+pub use start::{Start, StartFault};

@@ -1,0 +1,31 @@
+ghost use Rattle.std.specs.Prelude.{◌≡◌, ℕ, ◌<◌, ◌≤◌, ℤ, pos, length, MatchOption};
+ghost use Rattle.std.specs.List.{slice_index_or};
+ghost use Rattle.std.specs.Int.RustNames.{unsigned_abs};
+ghost use Rattle.dg_chips.specs.VectorFaults.{IsFirstPast};
+
+/// The place of the first number whose absolute value is above the limit.
+pub fn first_past(numbers: &[i64], limit: u64) -> Option<usize>
+    ensures { MatchOption result
+        ((v : ℕ) → v < length numbers.now → unsigned_abs (slice_index_or numbers.now v (pos 0)) ≤ limit)
+        (IsFirstPast limit numbers.now) }
+{
+    for (v, number) in numbers.iter().enumerate() {
+        if number.unsigned_abs() > limit {
+            return Some(v);
+        }
+    }
+    None
+}
+
+/// The numbers, and 0 at each place after them.
+pub fn padded(numbers: &[i64]) -> [i64; 16]
+    requires { length numbers.now ≤ 16 }
+    ensures same { (v : ℕ) → v < length numbers.now → slice_index_or result v (pos 0) ≡ slice_index_or numbers.now v (pos 0) }
+    ensures zero { (v : ℕ) → length numbers.now ≤ v → slice_index_or result v (pos 0) ≡ pos 0 }
+{
+    let mut padded = [0; 16];
+    for (v, number) in numbers.iter().enumerate() {
+        padded[v] = *number;
+    }
+    padded
+}

@@ -1,0 +1,114 @@
+ghost use Rattle.std.specs.Prelude.{◌≡◌, ℕ, ◌<◌, ◌≤◌, MatchResult};
+ghost use Rattle.std.specs.Int.RustNames.{unsigned_abs};
+ghost use Rattle.dg_theory.specs.Firing.{only_at, indicator};
+ghost use Rattle.dg_chips.specs.Vector.{at, HoldsNumbers, IsScript};
+ghost use Rattle.dg_chips.specs.Moves.{in_set};
+ghost use Rattle.dg_chips.specs.ScriptFaults.{IsFirstScriptFault};
+
+use crate::numbers::{first_past, padded};
+use crate::scripts::contains;
+use dg_graph::Graph;
+use std::marker::Model;
+use thiserror::Error;
+
+/// The most lendings, and the most borrowings, that a script may ask of a vertex.
+pub const MAX_ENTRY: u64 = 1_000_000_000;
+
+/// Why numbers are refused as a script. Vertices are numbered from 0.
+#[derive(Clone, Copy, Debug, PartialEq, Eq, Error)]
+pub enum ScriptFault {
+    /// There are not as many numbers as vertices.
+    #[error("number of entries")]
+    Length,
+    /// The number of the vertex is not within 1,000,000,000.
+    #[error("entry of vertex {0}")]
+    Limit(usize),
+}
+
+/// How often each vertex lends, from -1,000,000,000 to 1,000,000,000; a negative number is so many borrowings.
+#[derive(Clone, Copy, PartialEq, Eq)]
+pub struct Script {
+    size: usize,
+    entries: [i64; 16],
+}
+
+impl Model for Script {
+    ghost use Rattle.dg_chips.specs.Vector.{Vector, IsScript};
+
+    ghost Value = { Vector };
+
+    ghost view = { λ a. record { size = a.size; numbers = a.entries } };
+
+    ghost invariant = { λ a. IsScript (record { size = a.size; numbers = a.entries }) };
+
+    ghost inverse = { λ x. record { size = x.size; entries = x.numbers } };
+}
+
+impl Script {
+    /// The script with these entries, in vertex order.
+    ///
+    /// Refused with `Length` where there are not as many as vertices, then with `Limit` for the first vertex whose
+    /// entry is not within 1,000,000,000.
+    pub fn new(graph: &Graph, entries: &[i64]) -> Result<Script, ScriptFault>
+        ensures { MatchResult result
+            (λ s. (s.size ≡ graph.now.size) × HoldsNumbers entries.now s × IsScript s)
+            (IsFirstScriptFault graph.now.size entries.now) }
+    {
+        let size = graph.size();
+        if entries.len() != size {
+            return Err(ScriptFault::Length);
+        }
+        if let Some(v) = first_past(entries, MAX_ENTRY) {
+            return Err(ScriptFault::Limit(v));
+        }
+        let entries = padded(entries);
+        Ok(Script { size, entries })
+    }
+
+    /// The script that is so much at one vertex and 0 elsewhere.
+    pub(crate) fn only_at(size: usize, v: usize, entry: i64) -> Script
+        requires size { size ≤ 16 }
+        requires vertex { v < size }
+        requires limit { unsigned_abs entry ≤ 1 }
+        ensures size { result.size ≡ size }
+        ensures entries { (w : ℕ) → w < size → at result w ≡ only_at v entry w }
+    {
+        let mut entries = [0; 16];
+        entries[v] = entry;
+        Script { size, entries }
+    }
+
+    /// The script by which each vertex of a set lends once.
+    pub(crate) fn indicator(size: usize, set: u16) -> Script
+        requires { size ≤ 16 }
+        ensures size { result.size ≡ size }
+        ensures entries { (w : ℕ) → w < size → at result w ≡ indicator (in_set set) w }
+    {
+        let mut entries = [0; 16];
+        for v in 0..size {
+            if contains(set, v) {
+                entries[v] = 1;
+            }
+        }
+        Script { size, entries }
+    }
+
+    /// The number of vertices.
+    pub fn size(&self) -> usize
+        ensures size { result ≡ self.now.size }
+        ensures script { IsScript self.now }
+    {
+        self.size
+    }
+
+    /// How often a vertex lends.
+    pub fn get(&self, v: usize) -> i64
+        requires { v < self.now.size }
+        ensures entry { result ≡ at self.now v }
+        ensures limit { unsigned_abs result ≤ 1000000000 }
+    {
+        let _size = self.size;
+        let entries = &self.entries;
+        entries[v]
+    }
+}

@@ -1,0 +1,82 @@
+ghost use Rattle.std.specs.Prelude.{◌≡◌, ◌≢◌, ℕ, ◌<◌, ◌≤◌, MatchResult};
+ghost use Rattle.dg_chips.specs.Opening.{IsOpening};
+ghost use Rattle.dg_chips.specs.StartFaults.{IsStartFault};
+
+use crate::divisor::Divisor;
+use dg_graph::Graph;
+use std::marker::Model;
+use thiserror::Error;
+
+/// Why a start is refused.
+#[derive(Clone, Copy, Debug, PartialEq, Eq, Error)]
+pub enum StartFault {
+    /// The divisor has another number of vertices than the graph.
+    #[error("number of amounts")]
+    Length,
+    /// The vertex q is not there.
+    #[error("no vertex q")]
+    Vertex,
+}
+
+/// The start of a game: a graph, a divisor on it, and the vertex q from which verdicts are reckoned.
+#[derive(Clone, Copy)]
+pub struct Start {
+    graph: Graph,
+    divisor: Divisor,
+    q: u8,
+}
+
+impl Model for Start {
+    ghost use Rattle.dg_chips.specs.Opening.{Opening, IsOpening};
+
+    ghost Value = { Opening };
+
+    ghost view = { λ a. record { graph = a.graph; divisor = a.divisor; q = a.q } };
+
+    ghost invariant = { λ a. IsOpening (record { graph = a.graph; divisor = a.divisor; q = a.q }) };
+
+    ghost inverse = { λ o. record { graph = o.graph; divisor = o.divisor; q = o.q } };
+}
+
+impl Start {
+    /// The start with these three parts.
+    ///
+    /// Refused with `Length` where the divisor has another number of vertices than the graph, then with `Vertex` where
+    /// q is none of the graph's.
+    pub fn new(graph: Graph, divisor: Divisor, q: u8) -> Result<Start, StartFault>
+        ensures { MatchResult result
+            (λ s. (s ≡ record { graph = graph; divisor = divisor; q = q }) × IsOpening s)
+            (IsStartFault graph divisor q) }
+    {
+        let size = graph.size();
+        if divisor.size() != size {
+            return Err(StartFault::Length);
+        }
+        if usize::from(q) >= size {
+            return Err(StartFault::Vertex);
+        }
+        Ok(Start { graph, divisor, q })
+    }
+
+    /// The graph.
+    pub fn graph(&self) -> &Graph
+        ensures graph { result.now ≡ self.now.graph }
+        ensures opening { IsOpening self.now }
+    {
+        &self.graph
+    }
+
+    /// The amounts at the start.
+    pub fn divisor(&self) -> &Divisor
+        ensures { result.now ≡ self.now.divisor }
+    {
+        &self.divisor
+    }
+
+    /// The vertex from which verdicts are reckoned.
+    pub fn q(&self) -> u8
+        ensures { result ≡ self.now.q }
+    {
+        self.q
+    }
+}

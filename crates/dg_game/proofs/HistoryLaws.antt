@@ -1,0 +1,23 @@
+-- What one more entry adds to the sums over a history.
+--   gifts_given-more      its gift to the gifts given
+--   scripts_played-more   its script to the scripts played
+--   gifts_in-more         its gift to the gift count
+use Rattle.std.proofs.Common.{◌≡◌, ℕ, ◌+◌, List, [], ◌∷◌, ◌++◌, arith}
+use Rattle.std.proofs.lemmas.Int.{ints}
+use Rattle.std.proofs.Math.IntN.{◌+ℤ◌}
+use Rattle.dg_game.specs.History.{gift_by, script_by, gifts_given, scripts_played, gift_counted, gifts_in}
+use Rattle.dg_game.specs.declared.entry.Entry.{Entry}
+
+pub gifts_given-more : (H : List Entry) (e : Entry) (v : ℕ) →
+    gifts_given (H ++ e ∷ []) v ≡ gifts_given H v +ℤ gift_by e.request e.reply v
+gifts_given-more [] e v = omega (arith, ints)
+gifts_given-more (x ∷ H) e v = omega (arith, ints, gifts_given-more H e v)
+
+pub scripts_played-more : (H : List Entry) (e : Entry) (v : ℕ) →
+    scripts_played (H ++ e ∷ []) v ≡ scripts_played H v +ℤ script_by e.request e.reply v
+scripts_played-more [] e v = omega (arith, ints)
+scripts_played-more (x ∷ H) e v = omega (arith, ints, scripts_played-more H e v)
+
+pub gifts_in-more : (H : List Entry) (e : Entry) → gifts_in (H ++ e ∷ []) ≡ gifts_in H + gift_counted e.reply
+gifts_in-more [] e = omega arith
+gifts_in-more (x ∷ H) e = omega (arith, gifts_in-more H e)

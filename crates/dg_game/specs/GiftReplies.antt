@@ -1,0 +1,38 @@
+-- What may be replied to a gift of x dollars to v at the position p, after g accepted gifts.
+--   IsGift x                      == a gift may be so large
+--   IsGivenTo p g v x count d     == the count and the amounts after the gift, all in range
+--   RefusesGift p v x refusal     == the gift is refused for this cause, and for no earlier one
+--   RepliesToGift p g v x reply   == the reply is the right one
+use Rattle.std.specs.Prelude.{◌≡◌, ℕ, ◌+◌, ◌<◌, ◌≤◌, ℤ, pos, ◌≤ℤ◌}
+use Rattle.dg_chips.specs.Vector.{Vector, at, IsInRange, IsOutOfRange}
+use Rattle.dg_game.specs.Position.{Position, with_gift}
+use Rattle.dg_game.specs.declared.entry.Refusal.{Refusal}
+use Rattle.dg_game.specs.declared.entry.Refusal.TheVariants.{NoVertex, Empty, Script, Gift, Range}
+use Rattle.dg_game.specs.declared.entry.Reply.{Reply}
+use Rattle.dg_game.specs.declared.entry.Reply.TheVariants.{Moved, Given, Looked, Won, NotWon, Refused}
+
+abbrev pub IsGift : ℤ → Type 0
+IsGift x = (pos 1 ≤ℤ x) × (x ≤ℤ pos 1000000)
+
+pub record IsGivenTo (p : Position) (g v : ℕ) (x : ℤ) (count : ℕ) (d : Vector) : Type 0 where
+  pub vertex : v < p.graph.size
+  pub gift : IsGift x
+  pub in_range : IsInRange p.graph.size (with_gift p v x)
+  pub count' : count ≡ g + 1
+  pub size : d.size ≡ p.graph.size
+  pub amounts : (w : ℕ) → w < p.graph.size → at d w ≡ with_gift p v x w
+
+abbrev pub RefusesGift : Position → ℕ → ℤ → Refusal → Type 0
+RefusesGift p v x NoVertex = p.graph.size ≤ v
+RefusesGift p v x Empty = ⊥
+RefusesGift p v x Script = ⊥
+RefusesGift p v x Gift = (v < p.graph.size) × (¬ IsGift x)
+RefusesGift p v x Range = (v < p.graph.size) × IsGift x × IsOutOfRange p.graph.size (with_gift p v x)
+
+abbrev pub RepliesToGift : Position → ℕ → ℕ → ℤ → Reply → Type 0
+RepliesToGift p g v x (Moved d) = ⊥
+RepliesToGift p g v x (Given count d) = IsGivenTo p g v x count d
+RepliesToGift p g v x (Looked count d) = ⊥
+RepliesToGift p g v x Won = ⊥
+RepliesToGift p g v x NotWon = ⊥
+RepliesToGift p g v x (Refused refusal) = RefusesGift p v x refusal

@@ -1,0 +1,12 @@
+-- The one-player game: positions, histories, what may be replied, and schedules.
+pub mod Position
+pub mod History
+pub mod Step
+pub mod Refusals
+pub mod MoveReplies
+pub mod GiftReplies
+pub mod Replies
+pub mod Legal
+pub mod State
+pub mod Schedule
+pub mod ScheduleFaults

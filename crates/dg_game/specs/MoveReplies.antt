@@ -1,0 +1,28 @@
+-- What may be replied to a move at the position p.
+--   RefusesMove p m refusal == the move is refused for this cause, and for no earlier one
+--   RepliesToMove p m reply == the reply is the right one: the amounts after the move, or its refusal
+use Rattle.dg_theory.specs.Firing.{fired}
+use Rattle.dg_chips.specs.Vector.{IsOutOfRange}
+use Rattle.dg_chips.specs.Moves.{script_of, NamesNoVertex, IsEmptySet, HasOtherSize, IsPlayable}
+use Rattle.dg_chips.specs.Applied.{IsMoved}
+use Rattle.dg_chips.specs.declared.moves.Move.{Move}
+use Rattle.dg_game.specs.Position.{Position}
+use Rattle.dg_game.specs.declared.entry.Refusal.{Refusal}
+use Rattle.dg_game.specs.declared.entry.Refusal.TheVariants.{NoVertex, Empty, Script, Gift, Range}
+use Rattle.dg_game.specs.declared.entry.Reply.{Reply}
+use Rattle.dg_game.specs.declared.entry.Reply.TheVariants.{Moved, Given, Looked, Won, NotWon, Refused}
+
+abbrev pub RefusesMove : Position → Move → Refusal → Type 0
+RefusesMove p m NoVertex = NamesNoVertex p.graph.size m
+RefusesMove p m Empty = IsEmptySet m
+RefusesMove p m Script = HasOtherSize p.graph.size m
+RefusesMove p m Gift = ⊥
+RefusesMove p m Range = IsPlayable p.graph.size m × IsOutOfRange p.graph.size (fired p.graph p.amounts (script_of m))
+
+abbrev pub RepliesToMove : Position → Move → Reply → Type 0
+RepliesToMove p m (Moved d) = IsMoved p.graph p.amounts m d
+RepliesToMove p m (Given g d) = ⊥
+RepliesToMove p m (Looked g d) = ⊥
+RepliesToMove p m Won = ⊥
+RepliesToMove p m NotWon = ⊥
+RepliesToMove p m (Refused refusal) = RefusesMove p m refusal

@@ -1,0 +1,12 @@
+-- A refused move in the words of the history.
+--   refusal_for fault == the refusal of the same name
+use Rattle.dg_chips.specs.declared.moves.MoveFault.{MoveFault}
+use Rattle.dg_chips.specs.declared.moves.MoveFault.TheVariants as fault
+use Rattle.dg_game.specs.declared.entry.Refusal.{Refusal}
+use Rattle.dg_game.specs.declared.entry.Refusal.TheVariants as refusal
+
+abbrev pub refusal_for : MoveFault → Refusal
+refusal_for fault.NoVertex = refusal.NoVertex
+refusal_for fault.Empty = refusal.Empty
+refusal_for fault.Script = refusal.Script
+refusal_for fault.Range = refusal.Range

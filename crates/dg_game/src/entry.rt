@@ -1,0 +1,86 @@
+ghost use Rattle.std.specs.Prelude.{◌≡◌};
+ghost use Rattle.dg_game.specs.Refusals.{refusal_for};
+
+use dg_chips::{Divisor, Move, MoveFault};
+
+/// What a seat may ask of the game itself. Vertices are numbered from 0.
+#[derive(Clone, Copy, PartialEq, Eq)]
+pub enum Plain {
+    /// Play a move.
+    Move(Move),
+    /// Give a vertex some dollars, 1 to 1,000,000.
+    Gift(u8, i64),
+    /// See the position.
+    Look,
+    /// Claim that nobody is in debt.
+    Claim,
+}
+
+/// What an entry of the history asked.
+#[derive(Clone, Copy, PartialEq, Eq)]
+pub enum Request {
+    /// A move.
+    Move(Move),
+    /// A gift to a vertex.
+    Gift(u8, i64),
+    /// A look at the position.
+    Look,
+    /// A claim that nobody is in debt.
+    Claim,
+}
+
+/// What an entry of the history was answered. Amounts are those after the entry, and so are the numbers of gifts.
+#[derive(Clone, Copy, PartialEq, Eq)]
+pub enum Reply {
+    /// The move was played.
+    Moved(Divisor),
+    /// The gift was accepted: the number of accepted gifts, and the amounts.
+    Given(u32, Divisor),
+    /// The number of accepted gifts, and the amounts.
+    Looked(u32, Divisor),
+    /// Nobody is in debt.
+    Won,
+    /// Somebody is in debt.
+    NotWon,
+    /// The move or the gift was refused, and nothing has changed.
+    Refused(Refusal),
+}
+
+/// Why a move or a gift is refused.
+#[derive(Clone, Copy, Debug, PartialEq, Eq)]
+pub enum Refusal {
+    /// It names a vertex that is not there.
+    NoVertex,
+    /// It fires the empty set.
+    Empty,
+    /// Its script has another size than the graph.
+    Script,
+    /// The gift is not 1 to 1,000,000.
+    Gift,
+    /// It leaves an amount that is not within 1,000,000.
+    Range,
+}
+
+/// One line of the history: who asked, what, and what was answered.
+#[derive(Clone, Copy, PartialEq, Eq)]
+pub struct Entry {
+    /// The seat, 1 to 64.
+    pub seat: u8,
+    /// What was asked.
+    pub request: Request,
+    /// What was answered.
+    pub reply: Reply,
+}
+
+impl From<MoveFault> for Refusal {
+    ghost from_gives = { λ fault refusal. refusal ≡ refusal_for fault };
+
+    fn from(fault: MoveFault) -> Refusal {
+        match fault {
+            MoveFault::NoVertex => Refusal::NoVertex,
+            MoveFault::Empty => Refusal::Empty,
+            MoveFault::Script => Refusal::Script,
+            MoveFault::Range => Refusal::Range,
+        }
+    }
+}
