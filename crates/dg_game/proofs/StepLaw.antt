@@ -1,7 +1,8 @@
 -- The step law: what one more entry does to the position.
 --   fired_then_given    firing by s on the opening with gifts, and then one more gift and script
 --   one_more_entry      the law, by the cases of the request and the reply
-use Rattle.std.proofs.Common.{◌≡◌, ℕ, List, [], ◌∷◌, ◌++◌, arith, sym, ap, ◌∙◌}
+--   vertices_stay       and entries neither add nor remove vertices
+use Rattle.std.proofs.Common.{refl, ◌≡◌, ℕ, List, [], ◌∷◌, ◌++◌, arith, sym, ap, ◌∙◌}
 use Rattle.std.proofs.lemmas.Int.{ints}
 use Rattle.std.proofs.Math.IntN.{pos, ◌+ℤ◌}
 use Rattle.dg_theory.specs.Multigraph.{Multigraph}
@@ -77,3 +78,8 @@ entry_is p Claim reply = same p
 
 pub one_more_entry : OneMoreEntry
 one_more_entry o H e = position_more o H e ∙ entry_is (position_after o H) e.request e.reply
+
+-- entries neither add nor remove vertices
+pub vertices_stay : (o : Opening) (H : List Entry) → (position_after o H).graph.size ≡ o.graph.size
+unfolding position_after
+vertices_stay o H = refl

@@ -1,0 +1,9 @@
+-- The text so far, with the pairs that are left, is the text with all pairs.
+use Rattle.std.proofs.Common.{◌≡◌, ◌++◌}
+use Rattle.dg_chips.specs.Vector.{at}
+use Rattle.dg_server.specs.Texts.{pairs}
+use Rattle.dg_server.proofs.Pairs.{pairs_left}
+use Rattle.dg_server.proofs.text.push_pairs.Given as goal
+
+abbrev pub invariant-vertices : goal.invariant-vertices
+invariant-vertices g l = l.text.items ++ pairs_left l.names (at l.divisor) l.v ≡ l.fn.text.items ++ pairs l.names (at l.divisor)

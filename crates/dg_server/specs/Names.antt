@@ -1,0 +1,32 @@
+-- Names of vertices. A table's names are a list of byte lists, in vertex order.
+--   IsName bytes        == 1 to 16 bytes, each an ASCII letter, an ASCII digit or `_`
+--   has names name      == whether the name is among the names
+--   added names name    == the names with the name put last, or as they are where it is among them
+--   place_of names name == the first vertex of that name, where there is one
+--   name_at names v     == the name of the vertex v
+use Rattle.std.specs.Prelude.{ℕ, ◌≤◌, ◌||◌, ◌&&◌, Bool, IsTrue, List, [], ◌∷◌, ◌++◌, length, Option, cond, leb, ◌==◌, bytes_eq, All, position}
+use Rattle.std.specs.List.{list_any, slice_index_or}
+
+abbrev pub is_from_to : ℕ → ℕ → ℕ → Bool
+is_from_to low high b = leb low b && leb b high
+
+-- a digit, a capital letter, a small letter, or the byte 95, `_`
+abbrev pub is_name_byte : ℕ → Bool
+is_name_byte b = is_from_to 48 57 b || is_from_to 65 90 b || is_from_to 97 122 b || b == 95
+
+pub record IsName (bytes : List ℕ) : Type 0 where
+  pub not_empty : 1 ≤ length bytes
+  pub short : length bytes ≤ 16
+  pub each : All (λ b. IsTrue (is_name_byte b)) bytes
+
+abbrev pub has : List (List ℕ) → List ℕ → Bool
+has names name = list_any (bytes_eq name) names
+
+abbrev pub added : List (List ℕ) → List ℕ → List (List ℕ)
+added names name = cond (has names name) names (names ++ name ∷ [])
+
+unfoldable pub place_of : List (List ℕ) → List ℕ → Option ℕ
+place_of names name = position (λ own. bytes_eq own name) names
+
+abbrev pub name_at : List (List ℕ) → ℕ → List ℕ
+name_at names v = slice_index_or names v []

@@ -1,0 +1,33 @@
+-- The exit statuses of runs that end with a fault.
+--   IsStatus n   == 0, or the status of a run that ends with a fault
+--   status fault == 2 for a refused command line, 3 for refused input, 4 for want of memory, 5 for reading and writing
+use Rattle.std.specs.Prelude.{◌≡◌, ℕ, ◌≤◌, ◌⊎◌}
+use Rattle.dg_server.specs.declared.fault.Fault.{Fault}
+use Rattle.dg_server.specs.declared.fault.Fault.TheVariants.{CommandLine, Words, Source, File, Line, Seat, Full, OutOfMemory, Write}
+use Rattle.dg_server.specs.declared.sources.SourceFault.{SourceFault}
+use Rattle.dg_server.specs.declared.sources.SourceFault.TheVariants.{Unreadable, TooLong, OutOfMemory as NoMemoryToRead}
+use Rattle.dg_server.specs.declared.table.FileFault.{FileFault}
+use Rattle.dg_server.specs.declared.table.FileFault.TheVariants.{OutOfMemory as NoMemoryForTable}
+
+abbrev pub status_of_source : SourceFault → ℕ
+status_of_source TooLong = 3
+status_of_source NoMemoryToRead = 4
+status_of_source Unreadable = 5
+
+abbrev pub status_of_file : FileFault → ℕ
+status_of_file NoMemoryForTable = 4
+status_of_file _ = 3
+
+abbrev pub status : Fault → ℕ
+status (CommandLine _) = 2
+status Words = 2
+status (Source fault) = status_of_source fault
+status (File fault) = status_of_file fault
+status (Line _ _) = 3
+status (Seat _) = 3
+status (Full _) = 3
+status OutOfMemory = 4
+status Write = 5
+
+abbrev pub IsStatus : ℕ → Type 0
+IsStatus n = (n ≡ 0) ⊎ ((2 ≤ n) × (n ≤ 5))

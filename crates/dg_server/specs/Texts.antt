@@ -1,0 +1,51 @@
+-- The texts of replies, over the names of the vertices, in vertex order.
+--   HasNames names reply          == there are as many names as the divisor of the reply has vertices
+--   pair name amount              == `name=amount`
+--   pairs names amounts           == the pairs of all vertices, with one space between two
+--   text_of names reply           == the text of the reply, with no number and no newline
+--   entry_text names number reply == the line of an entry: its number, a space, the text and a newline
+use Rattle.std.specs.Prelude.{◌≡◌, ℕ, ◌+◌, ℤ, List, [], ◌∷◌, ◌++◌, length, codes, decimal}
+use Rattle.std.specs.Fmt.{signed_decimal}
+use Rattle.dg_chips.specs.Vector.{at}
+use Rattle.dg_game.specs.declared.entry.Reply.{Reply}
+use Rattle.dg_game.specs.declared.entry.Reply.TheVariants.{Moved, Given, Looked, Won, NotWon, Refused}
+use Rattle.dg_game.specs.declared.entry.Refusal.{Refusal}
+use Rattle.dg_game.specs.declared.entry.Refusal.TheVariants.{NoVertex, Empty, Script, Gift, Range}
+
+abbrev pub HasNames : List (List ℕ) → Reply → Type 0
+HasNames names (Moved d) = length names ≡ d.size
+HasNames names (Given gifts d) = length names ≡ d.size
+HasNames names (Looked gifts d) = length names ≡ d.size
+HasNames names Won = Unit {0}
+HasNames names NotWon = Unit {0}
+HasNames names (Refused refusal) = Unit {0}
+
+abbrev pub pair : List ℕ → ℤ → List ℕ
+pair name amount = name ++ codes "=" ++ signed_decimal amount
+
+-- the pairs from the vertex v on, each after a space
+unfoldable pub more_pairs : List (List ℕ) → (ℕ → ℤ) → ℕ → List ℕ
+more_pairs [] amounts v = []
+more_pairs (name ∷ names) amounts v = codes " " ++ pair name (amounts v) ++ more_pairs names amounts (v + 1)
+
+unfoldable pub pairs : List (List ℕ) → (ℕ → ℤ) → List ℕ
+pairs [] amounts = []
+pairs (name ∷ names) amounts = pair name (amounts 0) ++ more_pairs names amounts 1
+
+abbrev pub refusal_text : Refusal → List ℕ
+refusal_text NoVertex = codes "refused vertex"
+refusal_text Empty = codes "refused empty"
+refusal_text Script = codes "refused script"
+refusal_text Gift = codes "refused gift"
+refusal_text Range = codes "refused range"
+
+abbrev pub text_of : List (List ℕ) → Reply → List ℕ
+text_of names (Moved d) = codes "moved " ++ pairs names (at d)
+text_of names (Given gifts d) = codes "given " ++ decimal gifts ++ codes " " ++ pairs names (at d)
+text_of names (Looked gifts d) = codes "looked " ++ decimal gifts ++ codes " " ++ pairs names (at d)
+text_of names Won = codes "won"
+text_of names NotWon = codes "not won"
+text_of names (Refused refusal) = refusal_text refusal
+
+abbrev pub entry_text : List (List ℕ) → ℕ → Reply → List ℕ
+entry_text names number reply = decimal number ++ codes " " ++ text_of names reply ++ codes "\n"

@@ -1,0 +1,136 @@
+ghost use Rattle.std.specs.Prelude.{◌≡◌, ◌⊎◌, IfErr};
+ghost use Rattle.dg_server.specs.Status.{status};
+
+use crate::fault::Fault;
+use clap::error::ErrorKind;
+use clap::{Arg, ArgMatches, Command};
+use std::alloc::{AllocError, Global};
+use std::rt::Env;
+use std::{env, io};
+
+/// What the command line asks for.
+#[derive(Drop)]
+pub enum Task<'a> {
+    /// Play the steps of one file on the table of another, and print the history.
+    Rehearse {
+        /// The name of the table file.
+        file: &'a str,
+        /// The name of the file of steps.
+        steps: &'a str,
+    },
+}
+
+/// What a command line that is not refused comes to.
+#[derive(Drop)]
+pub enum Asked<'a> {
+    /// Something to do.
+    Task(Task<'a>),
+    /// A text to print, as after `--help`.
+    Text(String),
+}
+
+/// The words of the process's own command line, the program's name first.
+///
+/// Refused with `Words` where one of them is no text, and with `OutOfMemory`.
+pub fn words_of<R: Env + AllocGlobal>(rt: &R) -> Result<Vec<String>, Fault>
+    ensures { IfErr result (λ fault. (status fault ≡ 2) ⊎ (status fault ≡ 4)) }
+{
+    match env::args(rt) {
+        Ok(words) => Ok(words.collect(rt.alloc())?),
+        Err(error) if error.kind() == io::ErrorKind::OutOfMemory => Err(Fault::OutOfMemory),
+        Err(_) => Err(Fault::Words),
+    }
+}
+
+/// What the words ask for, the first of which is the program's name.
+///
+/// Refused with `CommandLine` and what is to be said of it, and with `OutOfMemory`.
+pub fn asked_by<'a>(alloc: Global, words: &'a [String]) -> Result<Asked<'a>, Fault>
+    ensures { IfErr result (λ fault. (status fault ≡ 2) ⊎ (status fault ≡ 4)) }
+{
+    match task_of(alloc, words) {
+        Ok(task) => Ok(Asked::Task(task)),
+        Err(error) if error.kind() == ErrorKind::OutOfMemory => Err(Fault::OutOfMemory),
+        Err(error) => {
+            let text = format!(in alloc; "{error}")?;
+            if error.use_stderr() {
+                Err(Fault::CommandLine(text))
+            } else {
+                Ok(Asked::Text(text))
+            }
+        }
+    }
+}
+
+fn task_of<'a>(alloc: Global, words: &'a [String]) -> Result<Task<'a>, clap::Error> {
+    let matches = dollar(alloc)?.try_get_matches_from(words)?;
+    match task_in(&matches) {
+        Some(task) => Ok(task),
+        None => {
+            let missing = ErrorKind::MissingSubcommand;
+            Err(dollar(alloc)?.error(missing, "a command is missing")?)
+        }
+    }
+}
+
+fn task_in<'a>(matches: &ArgMatches<'a>) -> Option<Task<'a>> {
+    let (name, inner) = matches.subcommand()?;
+    match name {
+        "rehearse" => Some(Task::Rehearse {
+            file: inner.get_str("file")?,
+            steps: inner.get_str("steps")?,
+        }),
+        _ => None,
+    }
+}
+
+fn dollar<'a>(alloc: Global) -> Result<Command<'a>, AllocError> {
+    Command::new(alloc, "dollar")
+        .about("Plays the dollar game on a graph")
+        .subcommand_required(true)
+        .arg_required_else_help(true)
+        .subcommand(rehearse(alloc)?)
+}
+
+fn rehearse<'a>(alloc: Global) -> Result<Command<'a>, AllocError> {
+    let file = Arg::new(alloc, "file")
+        .value_name("FILE")
+        .required(true)
+        .help(FILE_HELP);
+    let steps = Arg::new(alloc, "steps")
+        .value_name("STEPS")
+        .required(true)
+        .help(STEPS_HELP);
+    Command::new(alloc, "rehearse")
+        .about("Plays a list of steps on a table, and prints what came of each")
+        .after_help(REHEARSE_MORE)
+        .arg(file)?
+        .arg(steps)
+}
+
+const FILE_HELP: &str =
+    "The table: a JSON file with the graph, the amounts at the start and the vertex q";
+
+const STEPS_HELP: &str =
+    "The steps: a text file with a line for each, a seat from 1 to 64 and what it does";
+
+const REHEARSE_MORE: &str = "\
+FILE names the vertices, gives each edge as two names and how often it is there, and each vertex its dollars
+(a negative amount is a debt). A triangle, for example:
+
+    {
+      \"vertices\": [\"a\", \"b\", \"c\"],
+      \"edges\": [[\"a\", \"b\", 1], [\"b\", \"c\", 1], [\"a\", \"c\", 1]],
+      \"amounts\": [2, -1, -1],
+      \"q\": \"a\"
+    }
+
+STEPS has one step a line. A vertex lends a dollar along each of its edges, or borrows one along each,
+or a set of vertices lends at once:
+
+    1 lend a
+    2 borrow b
+    1 fire a,c
+
+Each step gives a line with its number, from 0 on, and what came of it, as `0 moved a=0 b=0 c=0`.
+";

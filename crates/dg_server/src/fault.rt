@@ -1,0 +1,125 @@
+ghost use Rattle.std.specs.Prelude.{◌≡◌};
+ghost use Rattle.dg_server.specs.Status.{status};
+
+use crate::line::LineFault;
+use crate::sources::SourceFault;
+use crate::steps::StepsFault;
+use crate::table::FileFault;
+use dg_game::RehearseFault;
+use std::alloc::{AllocError, AllocFailed};
+use std::io::Write;
+use thiserror::Error;
+
+/// What ends a run before its work is done. Its text is what the fault line says.
+#[derive(Debug, Drop, Error)]
+pub enum Fault {
+    /// The command line is refused; the text has all that is said of it.
+    #[error("{0}")]
+    CommandLine(String),
+    /// A word of the command line is no text.
+    #[error("a word of the command line is not UTF-8")]
+    Words,
+    /// A file is not read.
+    #[error(transparent)]
+    Source(#[from] SourceFault),
+    /// The table file is refused.
+    #[error(transparent)]
+    File(#[from] FileFault),
+    /// A line of the steps, counted from 1, is refused.
+    #[error("line {line}: {fault}")]
+    Line { line: usize, fault: LineFault },
+    /// A step, counted from 0, has no seat. The text counts from 1.
+    #[error("step {}: bad seat", .0.saturating_add(1))]
+    Seat(usize),
+    /// A step, counted from 0, finds the history full. The text counts from 1.
+    #[error("step {}: full", .0.saturating_add(1))]
+    Full(usize),
+    /// There is not enough memory.
+    #[error("out of memory")]
+    OutOfMemory,
+    /// The output takes no more bytes.
+    #[error("write fault")]
+    Write,
+}
+
+impl From<AllocError> for Fault {
+    ghost use Rattle.dg_server.specs.declared.fault.Fault.TheVariants.{OutOfMemory};
+    ghost use Rattle.std.specs.Prelude.{◌≡◌};
+
+    ghost from_gives = { λ _ fault. fault ≡ OutOfMemory };
+
+    fn from(_error: AllocError) -> Fault {
+        Fault::OutOfMemory
+    }
+}
+
+impl<T: Drop> From<AllocFailed<T>> for Fault {
+    ghost use Rattle.dg_server.specs.declared.fault.Fault.TheVariants.{OutOfMemory};
+    ghost use Rattle.std.specs.Prelude.{◌≡◌};
+
+    ghost from_gives = { λ _ fault. fault ≡ OutOfMemory };
+
+    fn from(_error: AllocFailed<T>) -> Fault {
+        Fault::OutOfMemory
+    }
+}
+
+impl From<StepsFault> for Fault {
+    ghost use Rattle.dg_server.specs.Faults.{fault_of_steps};
+    ghost use Rattle.std.specs.Prelude.{◌≡◌};
+
+    ghost from_gives = { λ steps fault. fault ≡ fault_of_steps steps };
+
+    fn from(fault: StepsFault) -> Fault {
+        match fault {
+            StepsFault::Line { line, fault } => Fault::Line { line, fault },
+            StepsFault::OutOfMemory => Fault::OutOfMemory,
+        }
+    }
+}
+
+impl From<RehearseFault> for Fault {
+    ghost use Rattle.dg_server.specs.Faults.{fault_of_schedule};
+    ghost use Rattle.std.specs.Prelude.{◌≡◌};
+
+    ghost from_gives = { λ schedule fault. fault ≡ fault_of_schedule schedule };
+
+    fn from(fault: RehearseFault) -> Fault {
+        match fault {
+            RehearseFault::Seat(i) => Fault::Seat(i),
+            RehearseFault::Full(i) => Fault::Full(i),
+            RehearseFault::OutOfMemory => Fault::OutOfMemory,
+        }
+    }
+}
+
+/// The exit status of a run that ends with the fault: 2 for a refused command line, 3 for refused input, 4 for want of
+/// memory, 5 for reading and writing.
+pub fn status_of(fault: &Fault) -> u8
+    ensures { result ≡ status fault.now }
+{
+    match fault {
+        Fault::CommandLine(_) | Fault::Words => 2,
+        Fault::Source(SourceFault::TooLong) => 3,
+        Fault::Source(SourceFault::OutOfMemory) => 4,
+        Fault::Source(SourceFault::Unreadable) => 5,
+        Fault::File(FileFault::OutOfMemory) => 4,
+        Fault::File(_) => 3,
+        Fault::Line { .. } | Fault::Seat(_) | Fault::Full(_) => 3,
+        Fault::OutOfMemory => 4,
+        Fault::Write => 5,
+    }
+}
+
+/// Writes what is said of a fault, and gives the exit status. That is one line, but after a refused command line as many
+/// as it takes. Where they cannot be written the status is the same.
+pub fn report<F: Write>(fault: &Fault, faults: &mut F) -> u8
+    ensures { result ≡ status fault.now }
+{
+    let _ = match fault {
+        Fault::CommandLine(text) => faults.write_all(text.as_bytes()),
+        _ => writeln!(faults, "dollar: {fault}"),
+    };
+    let _ = faults.flush();
+    status_of(fault)
+}

@@ -1,0 +1,50 @@
+//! Schedules that are played and printed.
+ghost use Rattle.std.specs.Prelude.{IfOk, IfErr, ◌≡◌};
+ghost use Rattle.dg_server.specs.Cuts.{lines};
+ghost use Rattle.dg_server.specs.Rehearsals.{history_text, AllHaveNames, IsPrinted};
+ghost use Rattle.dg_server.specs.Refusals.{RefusesSchedule};
+
+use crate::fault::Fault;
+use crate::names::Names;
+use crate::steps::parse_steps;
+use crate::table::TableFile;
+use crate::text::entry_line;
+use dg_game::{Entry, rehearse};
+use std::alloc::{AllocError, Global};
+
+/// The history of a schedule as text: a line for each entry, with its number, from 0 on, and the text of its reply. The
+/// history is the legal one that the steps make from the table's start.
+///
+/// Refused with `Line` for the first line that spells no step, then with `Full` where there are more than 65,536 steps;
+/// `OutOfMemory` comes at the growth that was refused.
+pub fn rehearsal(alloc: Global, table: &TableFile, steps: &[u8]) -> Result<Vec<u8>, Fault>
+    ensures printed { IfOk result (λ text. IsPrinted table.now.start table.now.names (lines steps.now) text.items) }
+    ensures refused { IfErr result (RefusesSchedule table.now.names (lines steps.now)) }
+{
+    let names = table.names();
+    let steps = match parse_steps(alloc, steps, names) {
+        Ok(steps) => steps,
+        Err(fault) => return Err(Fault::from(fault)),
+    };
+    let history = match rehearse(alloc, table.start(), steps.as_slice()) {
+        Ok(history) => history,
+        Err(fault) => return Err(Fault::from(fault)),
+    };
+    match history_lines(alloc, history.as_slice(), names) {
+        Ok(text) => Ok(text),
+        Err(_) => Err(Fault::OutOfMemory),
+    }
+}
+
+/// The lines of the entries, numbered from 0 on.
+fn history_lines(alloc: Global, history: &[Entry], names: &Names) -> Result<Vec<u8>, AllocError>
+    requires { AllHaveNames names.now history.now }
+    ensures { IfOk result (λ text. text.items ≡ history_text names.now 0 history.now) }
+{
+    let mut text = Vec::new(alloc);
+    for (number, entry) in history.iter().enumerate() {
+        let line = entry_line(alloc, number, &entry.reply, names)?;
+        text.extend_from_slice(line.as_slice())?;
+    }
+    Ok(text)
+}

@@ -1,0 +1,74 @@
+ghost use Rattle.std.specs.Prelude.{◌≡◌, ◌<◌, ◌≤◌, length, vec_len, IfOk, IfSome};
+
+use std::alloc::Global;
+use std::fs;
+use std::io::{self, Read};
+use std::rt::Files;
+use thiserror::Error;
+
+/// The most bytes that a file may have.
+pub const MAX_FILE: usize = 1_048_576;
+
+/// Why a file is not read.
+#[derive(Clone, Copy, Debug, PartialEq, Eq, Error)]
+pub enum SourceFault {
+    /// It cannot be opened, or a read of it fails.
+    #[error("read fault")]
+    Unreadable,
+    /// It has more than 1,048,576 bytes.
+    #[error("file too long")]
+    TooLong,
+    /// There is not enough memory.
+    #[error("out of memory")]
+    OutOfMemory,
+}
+
+impl From<io::Error> for SourceFault {
+    ghost use Rattle.std.specs.Prelude.{◌≢◌};
+    ghost use Rattle.dg_server.specs.declared.sources.SourceFault.TheVariants.{TooLong};
+
+    ghost from_gives = { λ _ fault. fault ≢ TooLong };
+
+    fn from(error: io::Error) -> SourceFault {
+        match error.kind() {
+            io::ErrorKind::OutOfMemory => SourceFault::OutOfMemory,
+            _ => SourceFault::Unreadable,
+        }
+    }
+}
+
+/// Where a file's bytes come from.
+pub trait Sources {
+    /// The bytes of the file with this name, at most 1,048,576.
+    ///
+    /// Refused with `Unreadable` where there is no such file or a read fails, with `TooLong` where one more byte can be
+    /// read, and with `OutOfMemory` at the growth that was refused.
+    fn bytes<R: Files + AllocGlobal>(&self, rt: &R, name: &str) -> Result<Vec<u8>, SourceFault>
+        ensures { IfOk result (λ bytes. vec_len bytes ≤ MAX_FILE) };
+}
+
+/// The files of the machine.
+#[derive(Clone, Copy)]
+pub struct Disk;
+
+impl Sources for Disk {
+    fn bytes<R: Files + AllocGlobal>(&self, rt: &R, name: &str) -> Result<Vec<u8>, SourceFault> {
+        read_within(rt.alloc(), fs::open(rt, name)?)
+    }
+}
+
+/// All bytes that the reader has left, where they are at most 1,048,576. It takes at most one byte more.
+///
+/// Refused as `Sources::bytes` says.
+pub fn read_within<I: Read + Drop>(alloc: Global, reader: I) -> Result<Vec<u8>, SourceFault>
+    ensures few { IfOk result (λ bytes. vec_len bytes ≤ MAX_FILE) }
+    ensures all { IfOk result (λ bytes. IfSome (I.remaining reader) (λ left. bytes.items ≡ left)) }
+    ensures long { result ≡ Err SourceFault.TooLong → IfSome (I.remaining reader) (λ left. MAX_FILE < length left) }
+{
+    let mut bytes = Vec::new(alloc);
+    reader.take(MAX_FILE as u64 + 1).read_to_end(&mut bytes)?;
+    if bytes.len() > MAX_FILE {
+        return Err(SourceFault::TooLong);
+    }
+    Ok(bytes)
+}

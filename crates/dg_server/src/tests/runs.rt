@@ -1,0 +1,501 @@
+use crate::{SourceFault, Sources, read_within, run};
+use std::alloc::{AllocError, Global};
+use std::io;
+use std::io::{Read, Write};
+use std::rt::Files;
+use std::test::Fail;
+
+// A table file and a file of steps in memory, each of which may be missing.
+#[derive(Drop)]
+struct Shelf<'a> {
+    file: Option<&'a str>,
+    steps: Option<&'a str>,
+}
+
+impl Sources for Shelf<'_> {
+    fn bytes<R: Files + AllocGlobal>(&self, rt: &R, name: &str) -> Result<Vec<u8>, SourceFault> {
+        let text = match name {
+            "table.json" => self.file,
+            "steps.txt" => self.steps,
+            _ => None,
+        };
+        match text {
+            Some(text) => read_within(rt.alloc(), text.as_bytes()),
+            None => Err(SourceFault::Unreadable),
+        }
+    }
+}
+
+// What a run leaves.
+#[derive(Drop)]
+struct Outcome {
+    output: Vec<u8>,
+    faults: Vec<u8>,
+    status: u8,
+}
+
+// The words stand in one line, with a space between two.
+fn outcome_of(rt: &HostRuntime, shelf: &Shelf<'_>, line: &str) -> Result<Outcome, AllocError> {
+    let alloc = rt.alloc();
+    let words = words_in(alloc, line)?;
+    let mut output = Vec::new(alloc);
+    let mut faults = Vec::new(alloc);
+    let input = b"".as_slice();
+    let status = run(rt, words.as_slice(), shelf, input, &mut output, &mut faults);
+    Ok(Outcome {
+        output,
+        faults,
+        status,
+    })
+}
+
+fn words_in(alloc: Global, line: &str) -> Result<Vec<String>, AllocError> {
+    let mut words = Vec::new(alloc);
+    for word in line.split(' ') {
+        if !word.is_empty() {
+            words.push(String::from_str(alloc, word)?)?;
+        }
+    }
+    Ok(words)
+}
+
+const REHEARSE: &str = "dollar rehearse table.json steps.txt";
+
+const TRIANGLE: &str =
+    r#"{"vertices":["a","b","c"],"edges":[["a","b",1],["b","c",1],["a","c",1]],"amounts":[2,-1,-1],"q":"a"}"#;
+
+const THREE_AT_A: &str =
+    r#"{"vertices":["a","b","c"],"edges":[["a","b",1],["b","c",1],["a","c",1]],"amounts":[3,0,0],"q":"a"}"#;
+
+const ONE_BELOW: &str =
+    r#"{"vertices":["a","b","c"],"edges":[["a","b",1],["b","c",1],["a","c",1]],"amounts":[999999,0,0],"q":"a"}"#;
+
+const TWO_BELOW: &str =
+    r#"{"vertices":["a","b","c"],"edges":[["a","b",1],["b","c",1],["a","c",1]],"amounts":[999998,0,0],"q":"a"}"#;
+
+const ONE_VERTEX: &str = r#"{"vertices":["a"],"edges":[],"amounts":[-1],"q":"a"}"#;
+
+const TWICE_JOINED: &str =
+    r#"{"vertices":["a","b"],"edges":[["a","b",1],["b","a",2]],"amounts":[1,1],"q":"a"}"#;
+
+// A table file, steps, and what is printed.
+static PLAYED: [(&str, &str, &str); 12] = [
+    (TRIANGLE, "1 lend a\n", "0 moved a=0 b=0 c=0\n"),
+    (TRIANGLE, "1 lend a", "0 moved a=0 b=0 c=0\n"),
+    (TRIANGLE, "", ""),
+    (ONE_BELOW, "1 borrow a\n", "0 refused range\n"),
+    (TWO_BELOW, "1 borrow a\n", "0 moved a=1000000 b=-1 c=-1\n"),
+    (THREE_AT_A, "1 fire a,b\n", "0 moved a=2 b=-1 c=2\n"),
+    (
+        THREE_AT_A,
+        "1 lend a\n2 lend b\n",
+        "0 moved a=1 b=1 c=1\n1 moved a=2 b=-1 c=2\n",
+    ),
+    (
+        THREE_AT_A,
+        "1 lend b\n2 lend a\n",
+        "0 moved a=4 b=-2 c=1\n1 moved a=2 b=-1 c=2\n",
+    ),
+    (THREE_AT_A, "64 fire a,b,c\n", "0 moved a=3 b=0 c=0\n"),
+    (ONE_VERTEX, "1 lend a\n", "0 moved a=-1\n"),
+    (TWICE_JOINED, "1 lend a\n", "0 moved a=-2 b=4\n"),
+    (
+        TWO_BELOW,
+        "1 borrow a\n1 borrow a\n1 lend a\n",
+        "0 moved a=1000000 b=-1 c=-1\n1 refused range\n2 moved a=999998 b=0 c=0\n",
+    ),
+];
+
+#[test]
+fn plays_and_prints(rt: HostRuntime) -> Result<(), Fail> {
+    for (file, steps, printed) in &PLAYED {
+        let shelf = Shelf {
+            file: Some(file),
+            steps: Some(steps),
+        };
+        let outcome = outcome_of(&rt, &shelf, REHEARSE)?;
+        assert!(rt;
+            outcome.status == 0
+                && outcome.output.as_slice() == printed.as_bytes()
+                && outcome.faults.is_empty(),
+            "{steps}"
+        );
+    }
+    Ok(())
+}
+
+// A table file and the fault line at which a run ends, with nothing printed.
+static REFUSED: [(&str, &str); 36] = [
+    (r#"{"vertices":["a"]"#, "not JSON"),
+    ("", "not JSON"),
+    ("[]", "shape of top"),
+    (
+        r#"{"vertices":["a"],"edges":[],"amounts":[0]}"#,
+        "shape of top",
+    ),
+    (
+        r#"{"vertices":["a"],"edges":[],"amounts":[0],"p":"a"}"#,
+        "shape of top",
+    ),
+    (
+        r#"{"vertices":["a"],"edges":[],"amounts":[0],"q":"a","r":1}"#,
+        "shape of top",
+    ),
+    (
+        r#"{"vertices":"a","edges":[],"amounts":[0],"q":"a"}"#,
+        "shape of vertices",
+    ),
+    (
+        r#"{"vertices":["a",1],"edges":{},"amounts":[0],"q":"a"}"#,
+        "shape of vertices",
+    ),
+    (
+        r#"{"vertices":["a"],"edges":{},"amounts":0,"q":"a"}"#,
+        "shape of edges",
+    ),
+    (
+        r#"{"vertices":["a"],"edges":[["a","b",1],["a","b"]],"amounts":0,"q":"a"}"#,
+        "shape of edge 1",
+    ),
+    (
+        r#"{"vertices":["a"],"edges":[["a","b",256],1],"amounts":[0],"q":"a"}"#,
+        "shape of edge 0",
+    ),
+    (
+        r#"{"vertices":["a"],"edges":[["a","b",-1]],"amounts":[0],"q":"a"}"#,
+        "shape of edge 0",
+    ),
+    (
+        r#"{"vertices":["a"],"edges":[["a","b",1.0]],"amounts":[0],"q":"a"}"#,
+        "shape of edge 0",
+    ),
+    (
+        r#"{"vertices":["a"],"edges":[["a",2,1]],"amounts":[0],"q":"a"}"#,
+        "shape of edge 0",
+    ),
+    (
+        r#"{"vertices":["a"],"edges":[["a","b",1,1]],"amounts":[0],"q":"a"}"#,
+        "shape of edge 0",
+    ),
+    (
+        r#"{"vertices":["a"],"edges":[],"amounts":[1.5],"q":"a"}"#,
+        "shape of amounts",
+    ),
+    (
+        r#"{"vertices":["a"],"edges":[],"amounts":[9223372036854775808],"q":1}"#,
+        "shape of amounts",
+    ),
+    (
+        r#"{"vertices":[],"edges":[],"amounts":[],"q":1}"#,
+        "shape of q",
+    ),
+    (
+        r#"{"vertices":[],"edges":[],"amounts":[],"q":"a"}"#,
+        "number of vertices",
+    ),
+    (
+        r#"{"vertices":["","b","c","d","e","f","g","h","i","j","k","l","m","n","o","p","q"],"edges":[],"amounts":[],"q":"a"}"#,
+        "number of vertices",
+    ),
+    (
+        r#"{"vertices":["a b"],"edges":[],"amounts":[0],"q":"a b"}"#,
+        "name of vertex 0",
+    ),
+    (
+        r#"{"vertices":["a","a","b c"],"edges":[],"amounts":[0,0],"q":"a"}"#,
+        "vertex 1 named twice",
+    ),
+    (
+        r#"{"vertices":["a","b","12345678901234567"],"edges":[["a","a",1]],"amounts":[],"q":"a"}"#,
+        "name of vertex 2",
+    ),
+    (
+        r#"{"vertices":["a","a"],"edges":[],"amounts":[0,0],"q":"a"}"#,
+        "vertex 1 named twice",
+    ),
+    (
+        r#"{"vertices":["a","b"],"edges":[["a","z",1]],"amounts":[0,0],"q":"a"}"#,
+        "edge 0 has no vertex",
+    ),
+    (
+        r#"{"vertices":["a","b"],"edges":[["a","b",1],["y","y",0]],"amounts":[0],"q":"z"}"#,
+        "edge 1 has no vertex",
+    ),
+    (
+        r#"{"vertices":["a","b"],"edges":[["a","a",1],["a","z",1]],"amounts":[0,0],"q":"a"}"#,
+        "edge 0 is a loop",
+    ),
+    (
+        r#"{"vertices":["a","b"],"edges":[["a","a",1]],"amounts":[0,0],"q":"a"}"#,
+        "edge 0 is a loop",
+    ),
+    (
+        r#"{"vertices":["a","b"],"edges":[["a","b",0]],"amounts":[0,0],"q":"a"}"#,
+        "edge 0 is empty",
+    ),
+    (
+        r#"{"vertices":["a","b"],"edges":[["a","b",64]],"amounts":[0,0],"q":"a"}"#,
+        "valence of vertex 0",
+    ),
+    (
+        r#"{"vertices":["a","b","c","d"],"edges":[["a","b",1],["c","d",1]],"amounts":[0,0,0,0],"q":"a"}"#,
+        "not connected",
+    ),
+    (
+        r#"{"vertices":["a"],"edges":[],"amounts":[0,0],"q":"b"}"#,
+        "number of amounts",
+    ),
+    (
+        r#"{"vertices":["a"],"edges":[],"amounts":[0,0],"q":"a"}"#,
+        "number of amounts",
+    ),
+    (
+        r#"{"vertices":["a"],"edges":[],"amounts":[1000001],"q":"b"}"#,
+        "amount of vertex 0",
+    ),
+    (
+        r#"{"vertices":["a"],"edges":[],"amounts":[1000001],"q":"a"}"#,
+        "amount of vertex 0",
+    ),
+    (
+        r#"{"vertices":["a"],"edges":[],"amounts":[0],"q":"b"}"#,
+        "no vertex q",
+    ),
+];
+
+#[test]
+fn refuses_table_files(rt: HostRuntime) -> Result<(), Fail> {
+    let alloc = rt.alloc();
+    for (file, fault) in &REFUSED {
+        let shelf = Shelf {
+            file: Some(file),
+            steps: None,
+        };
+        let outcome = outcome_of(&rt, &shelf, REHEARSE)?;
+        let line = format!(in alloc; "dollar: {fault}\n")?;
+        assert!(rt;
+            outcome.status == 3
+                && outcome.output.is_empty()
+                && outcome.faults.as_slice() == line.as_bytes(),
+            "{file}"
+        );
+    }
+    Ok(())
+}
+
+// What stands in the two files, if anything, the fault line at which a run ends, and its status.
+static ENDED: [(Option<&str>, Option<&str>, &str, u8); 7] = [
+    (Some(TRIANGLE), Some("1 lend z\n"), "line 1: bad name", 3),
+    (
+        Some(TRIANGLE),
+        Some("1 lend a\n1 look\n"),
+        "line 2: bad word",
+        3,
+    ),
+    (Some(TRIANGLE), Some("1 lend a\n\n"), "line 2: bad seat", 3),
+    (Some(TRIANGLE), Some("1 lend\n"), "line 1: bad form", 3),
+    (None, Some("1 lend z\n"), "read fault", 5),
+    (Some(TRIANGLE), None, "read fault", 5),
+    (Some("[]"), None, "shape of top", 3),
+];
+
+#[test]
+fn ends_with_one_fault(rt: HostRuntime) -> Result<(), Fail> {
+    let alloc = rt.alloc();
+    for (file, steps, fault, status) in &ENDED {
+        let shelf = Shelf {
+            file: *file,
+            steps: *steps,
+        };
+        let outcome = outcome_of(&rt, &shelf, REHEARSE)?;
+        let line = format!(in alloc; "dollar: {fault}\n")?;
+        assert!(rt;
+            outcome.status == *status
+                && outcome.output.is_empty()
+                && outcome.faults.as_slice() == line.as_bytes(),
+            "{fault}"
+        );
+    }
+    Ok(())
+}
+
+#[test]
+fn a_file_may_be_so_long(rt: HostRuntime) -> Result<(), Fail> {
+    let alloc = rt.alloc();
+    for (length, status, line) in [
+        (1_048_576, 0, ""),
+        (1_048_577, 3, "dollar: file too long\n"),
+    ] {
+        let mut file = String::from_str(alloc, TRIANGLE)?;
+        fill_up(&mut file, length)?;
+        let shelf = Shelf {
+            file: Some(file.as_str()),
+            steps: Some("1 lend a\n"),
+        };
+        let outcome = outcome_of(&rt, &shelf, REHEARSE)?;
+        assert!(rt;
+            outcome.status == status && outcome.faults.as_slice() == line.as_bytes(),
+            "{length}"
+        );
+    }
+    Ok(())
+}
+
+// Spaces up to the length.
+fn fill_up(text: &mut String, length: usize) -> Result<(), AllocError> {
+    for _ in text.len()..length {
+        text.push_str(" ")?;
+    }
+    Ok(())
+}
+
+#[test]
+fn the_history_has_room(rt: HostRuntime) -> Result<(), Fail> {
+    let alloc = rt.alloc();
+    for (count, status, line) in [(65_536, 0, ""), (65_537, 3, "dollar: step 65537: full\n")] {
+        let mut steps = String::new(alloc);
+        for _ in 0..count {
+            steps.push_str("1 fire a,b,c\n")?;
+        }
+        let shelf = Shelf {
+            file: Some(TRIANGLE),
+            steps: Some(steps.as_str()),
+        };
+        let outcome = outcome_of(&rt, &shelf, REHEARSE)?;
+        assert!(rt;
+            outcome.status == status
+                && outcome.faults.as_slice() == line.as_bytes()
+                && outcome.output.is_empty() == (status != 0),
+            "{count}"
+        );
+    }
+    Ok(())
+}
+
+#[test]
+fn a_call_for_help_is_answered(rt: HostRuntime) -> Result<(), Fail> {
+    let shelf = Shelf {
+        file: None,
+        steps: None,
+    };
+    for line in [
+        "dollar --help",
+        "dollar rehearse --help",
+        "dollar help rehearse",
+    ] {
+        let outcome = outcome_of(&rt, &shelf, line)?;
+        assert!(rt;
+            outcome.status == 0 && !outcome.output.is_empty() && outcome.faults.is_empty(),
+            "{line}"
+        );
+    }
+    Ok(())
+}
+
+#[test]
+fn command_lines_are_refused(rt: HostRuntime) -> Result<(), Fail> {
+    let shelf = Shelf {
+        file: Some(TRIANGLE),
+        steps: Some("1 lend a\n"),
+    };
+    for line in [
+        "",
+        "dollar",
+        "dollar gamble table.json",
+        "dollar rehearse table.json",
+        "dollar rehearse table.json steps.txt more",
+    ] {
+        let outcome = outcome_of(&rt, &shelf, line)?;
+        assert!(rt;
+            outcome.status == 2 && outcome.output.is_empty() && !outcome.faults.is_empty(),
+            "{line}"
+        );
+    }
+    Ok(())
+}
+
+// A writer that takes some bytes and then no more.
+#[derive(Drop)]
+struct Narrow {
+    room: usize,
+}
+
+impl Write for Narrow {
+    fn write(&mut self, buf: &[u8]) -> io::Result<usize> {
+        if self.room == 0 {
+            return Err(io::Error::from(io::ErrorKind::BrokenPipe));
+        }
+        let taken = buf.len().min(self.room);
+        self.room -= taken;
+        Ok(taken)
+    }
+
+    fn flush(&mut self) -> io::Result<()> {
+        Ok(())
+    }
+}
+
+#[test]
+fn an_output_that_is_refused_is_a_fault(rt: HostRuntime) -> Result<(), Fail> {
+    let alloc = rt.alloc();
+    let shelf = Shelf {
+        file: Some(TRIANGLE),
+        steps: Some("1 lend a\n"),
+    };
+    let words = words_in(alloc, REHEARSE)?;
+    for (room, status, line) in [
+        (0, 5, "dollar: write fault\n"),
+        (5, 5, "dollar: write fault\n"),
+        (20, 0, ""),
+    ] {
+        let mut output = Narrow { room };
+        let mut faults = Vec::new(alloc);
+        let input = b"".as_slice();
+        let got = run(
+            &rt,
+            words.as_slice(),
+            &shelf,
+            input,
+            &mut output,
+            &mut faults,
+        );
+        assert!(rt;
+            got == status && faults.as_slice() == line.as_bytes(),
+            "{room}"
+        );
+    }
+    Ok(())
+}
+
+// A reader that gives some bytes and then fails.
+#[derive(Drop)]
+struct Torn {
+    left: usize,
+    kind: io::ErrorKind,
+}
+
+impl Read for Torn {
+    fn read(&mut self, buf: &mut [u8]) -> io::Result<usize> {
+        if self.left == 0 {
+            return Err(io::Error::from(self.kind));
+        }
+        let given = buf.len().min(self.left);
+        self.left -= given;
+        Ok(given)
+    }
+}
+
+#[test]
+fn a_read_that_fails_is_a_fault(rt: HostRuntime) -> Result<(), Fail> {
+    for (left, kind, fault) in [
+        (0, io::ErrorKind::IsADirectory, SourceFault::Unreadable),
+        (1_048_576, io::ErrorKind::Other, SourceFault::Unreadable),
+        (1_048_577, io::ErrorKind::Other, SourceFault::TooLong),
+        (9, io::ErrorKind::OutOfMemory, SourceFault::OutOfMemory),
+    ] {
+        let torn = Torn { left, kind };
+        let got = read_within(rt.alloc(), torn);
+        assert!(rt; got.err() == Some(fault), "{left}");
+    }
+    Ok(())
+}

@@ -1,0 +1,69 @@
+use crate::line::{LineFault, parse_step};
+use crate::names::is_name;
+use crate::steps::{StepsFault, parse_steps};
+use crate::tests::triangle;
+use dg_chips::Move;
+use dg_game::{Command, Plain, Step};
+use std::test::Fail;
+
+fn step(seat: u8, play: Move) -> Result<Step, LineFault> {
+    let command = Command::Call(Plain::Move(play));
+    Ok(Step { seat, command })
+}
+
+#[test]
+fn lines_are_steps_or_refused(rt: HostRuntime) -> Result<(), Fail> {
+    let names = triangle(rt.alloc())?;
+    let table = [
+        ("1 fire a,b", step(1, Move::Fire(3))),
+        ("64 borrow c", step(64, Move::Borrow(2))),
+        ("10 lend a", step(10, Move::Lend(0))),
+        ("1 fire c", step(1, Move::Fire(4))),
+        ("1 fire a,a", Err(LineFault::Name)),
+        ("1 fire", Err(LineFault::Form)),
+        ("1 fire ", Err(LineFault::Form)),
+        ("1 fire a,", Err(LineFault::Name)),
+        ("1 fire a b", Err(LineFault::Form)),
+        ("1 lend  a", Err(LineFault::Form)),
+        ("1 Lend a", Err(LineFault::Word)),
+        ("1 lend a b", Err(LineFault::Form)),
+        ("1 lend z", Err(LineFault::Name)),
+        ("1 lend a\r", Err(LineFault::Name)),
+        ("1 ", Err(LineFault::Word)),
+        ("1  lend a", Err(LineFault::Word)),
+        ("0 lend a", Err(LineFault::Seat)),
+        ("65 lend a", Err(LineFault::Seat)),
+        ("01 lend a", Err(LineFault::Seat)),
+        ("+1 lend a", Err(LineFault::Seat)),
+        (" lend a", Err(LineFault::Seat)),
+        ("1", Err(LineFault::Seat)),
+        ("", Err(LineFault::Seat)),
+    ];
+    for (line, want) in table {
+        assert!(rt; parse_step(line.as_bytes(), &names) == want, "at {line:?}");
+    }
+    Ok(())
+}
+
+#[test]
+fn a_file_is_its_lines(rt: HostRuntime) -> Result<(), Fail> {
+    let names = triangle(rt.alloc())?;
+    let refused = StepsFault::Line {
+        line: 2,
+        fault: LineFault::Name,
+    };
+    let table = [
+        ("", Ok(0)),
+        ("1 lend a\n2 borrow b\n", Ok(2)),
+        ("1 lend a\n2 borrow b", Ok(2)),
+        ("1 lend a\n1 lend z\nlend", Err(refused)),
+    ];
+    for (text, want) in table {
+        let read = parse_steps(rt.alloc(), text.as_bytes(), &names);
+        assert!(rt; read.map(|steps| steps.len()) == want, "at {text:?}");
+    }
+    let told = format!(in rt.alloc(); "{refused}")?;
+    assert_eq!(rt; told.as_str(), "line 2: bad name");
+    assert!(rt; is_name(b"a_1") && !is_name(b"a b") && !is_name(b""));
+    Ok(())
+}
