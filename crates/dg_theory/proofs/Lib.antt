@@ -1,6 +1,29 @@
+-- Arithmetic and sums.
 pub mod Products
 pub mod Absolute
 pub mod SumLaws
+pub mod SumSwap
+pub mod SumBounds
+pub mod SumTotals
 pub mod TotalLaws
+-- Graphs and firing.
 pub mod Chains
 pub mod FiringLaws
+pub mod SetFiring
+pub mod Scripts
+pub mod Exchange
+-- Winning, reduced divisors and burning.
+pub mod Plays
+pub mod Winning
+pub mod Largest
+pub mod Levels
+pub mod Lending
+pub mod ReducedLaws
+pub mod ConstantLaws
+pub mod BurningOrder
+pub mod BurningLaws
+-- How far the entries of a script can lie apart.
+pub mod Cuts
+pub mod Counting
+pub mod Climbs
+pub mod Bounds

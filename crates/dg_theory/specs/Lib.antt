@@ -3,4 +3,8 @@ pub mod Sums
 pub mod Multigraph
 pub mod Firing
 pub mod Play
+pub mod Reduced
 pub mod Laws
+pub mod WinningLaws
+pub mod Burning
+pub mod BurningLaws

@@ -3,9 +3,35 @@
 #![tactic(auto)]
 
 ghost use Rattle.dg_theory.specs.Laws.{FiringAddsUp, ConstantScriptsDoNothing};
+ghost use Rattle.dg_theory.specs.WinningLaws.{DegreeStays, WinnableByScript, WinnableTogether, SameByConstant, ReducedDecides, ReducedOnce};
+ghost use Rattle.dg_theory.specs.BurningLaws.{UnburntFires, BurntIsReduced};
 
 /// Firing by one script and then by another is firing by their sum, and a constant script changes nothing.
 pub fn laws_of_firing()
     ensures adds_up { FiringAddsUp }
     ensures constant { ConstantScriptsDoNothing }
+{}
+
+/// Winning in terms of scripts: a divisor is winnable exactly where some script clears all debts, firing does not
+/// change whether it is, and firing keeps the degree.
+pub fn laws_of_winning()
+    ensures by_script { WinnableByScript }
+    ensures together { WinnableTogether }
+    ensures degree { DegreeStays }
+{}
+
+/// Scripts that do the same, and reduced divisors: two scripts give the same amounts exactly where they differ by a
+/// constant; a divisor can be fired to at most one that is reduced for q, and it is winnable exactly where that one is
+/// not in debt at q.
+pub fn laws_of_reduced_divisors()
+    ensures constant { SameByConstant }
+    ensures once { ReducedOnce }
+    ensures decides { ReducedDecides }
+{}
+
+/// What burning tells: what it leaves is the greatest set that fires without debt off q, and it leaves nothing exactly
+/// where the divisor is reduced.
+pub fn laws_of_burning()
+    ensures unburnt { UnburntFires }
+    ensures burnt { BurntIsReduced }
 {}

@@ -1,0 +1,79 @@
+-- The order in which vertices burn.
+--   list_any-among   a list with an element v that passes a test has some element that passes it
+--   among_first      the first element of a list is in it
+--   first_where      the first element of a list that passes a test, and its place
+--   into-le-out      as many edges at most lead into one set as lead out of another, if the two sets are disjoint
+--   burnt_of_set     if a vertex of a set without q burns, some vertex of the set holds fewer dollars than edges lead
+--                    from it out of the set: the first one of the set that burns
+--   q_burns          q burns
+use Rattle.std.proofs.Common.{◌≡◌, ℕ, zero, suc, ◌<◌, ◌≤◌, ◌==◌, Bool, true, false, List, [], ◌∷◌, take, arith, refl, sym, ap, ◌∙◌, ⊎_elim}
+use Rattle.std.specs.Prelude.{slice_get, Some, pos, ◌<ℤ◌, if◌then◌else◌}
+use Rattle.std.specs.List.{list_any}
+use Rattle.std.proofs.lemmas.Int.{ints}
+use Rattle.std.proofs.lemmas.Bool.{cases_Bool, eqb-true, eq-eqb, or_cases, or_left, or_right, or_from, false_from_ne_true, both_ways}
+use Rattle.dg_theory.specs.Multigraph.{Multigraph, edges_between}
+use Rattle.dg_theory.specs.Firing.{Amounts}
+use Rattle.dg_theory.specs.Reduced.{edges_out}
+use Rattle.dg_theory.specs.Burning.{among, edges_into, BurnsInOrder, BurnsNext}
+use Rattle.dg_theory.proofs.TotalLaws.{total_below-le}
+
+pub list_any-among : (T : ℕ → Bool) (l : List ℕ) (v : ℕ) → among l v ≡ true → T v ≡ true → list_any T l ≡ true
+list_any-among T [] v here passes = here
+list_any-among T (x ∷ l) v here passes =
+    ⊎_elim
+    (λ (first : (x == v) ≡ true). or_left _ _ (ap T (eqb-true x v first) ∙ passes))
+    (λ (later : among l v ≡ true). or_right _ _ (list_any-among T l v later passes))
+    (or_cases _ _ here)
+
+pub among_first : (l : List ℕ) (v : ℕ) → slice_get l 0 ≡ Some v → among l v ≡ true
+among_first [] v first = cc
+among_first (x ∷ l) v first = or_left _ _ (eq-eqb x v (cc))
+
+pub first_where : (T : ℕ → Bool) (l : List ℕ) → list_any T l ≡ true →
+    (i : ℕ) × (v : ℕ) × (slice_get l i ≡ Some v) × (T v ≡ true) × (list_any T (take i l) ≡ false)
+first_where T [] some = absurd (both_ways _ refl some)
+first_where T (x ∷ l) some =
+    ⊎_elim
+    (λ (now : T x ≡ true). (zero, x, refl, now, refl))
+    (λ (no : T x ≡ false).
+    let rest : list_any T l ≡ true = rw no at some in
+    let (i, v, place, passes, none) = first_where T l rest in
+    (suc i, v, place, passes, or_from _ _ no none))
+    (cases_Bool (T x))
+
+-- edges that count where b holds, and edges that count where c fails
+into-le-out-once : (b c : Bool) (e : ℕ) → (b ≡ true → c ≡ false) → (if b then e else 0) ≤ (if c then 0 else e)
+into-le-out-once true true e apart = absurd (both_ways _ (apart refl) refl)
+into-le-out-once true false e apart = omega arith
+into-le-out-once false c e apart = omega arith
+
+pub into-le-out : (g : Multigraph) (B T : ℕ → Bool) (v : ℕ) → ((w : ℕ) → B w ≡ true → T w ≡ false) →
+    edges_into g B v ≤ edges_out g T v
+into-le-out g B T v apart =
+    total_below-le g.size _ _ (λ w below. into-le-out-once (B w) (T w) (edges_between g v w) (apart w))
+
+-- the first vertex of the set that burns does so at the place i, and no vertex of the set burns before
+burnt_at : (g : Multigraph) (q : ℕ) (D : Amounts) (l : List ℕ) (T : ℕ → Bool) → BurnsInOrder g q D l → T q ≡ false →
+    (i u : ℕ) → slice_get l i ≡ Some u → T u ≡ true → list_any T (take i l) ≡ false →
+    (u < g.size) × (D u <ℤ pos (edges_out g T u))
+burnt_at g q D l T order without zero u place member earlier =
+    let first : slice_get l 0 ≡ Some q = order.first in
+    let same : u ≡ q = cc in
+    absurd (both_ways _ without (ap T (sym same) ∙ member))
+burnt_at g q D l T order without (suc i) u place member earlier =
+    let burns : BurnsNext g D (among (take (suc i) l)) u = order.next i u place in
+    let out : edges_into g (among (take (suc i) l)) u ≤ edges_out g T u = into-le-out g _ T u (λ w burnt.
+    false_from_ne_true (T w) (λ yes. both_ways _ earlier (list_any-among T (take (suc i) l) w burnt yes))) in
+    let reached : D u <ℤ pos (edges_into g (among (take (suc i) l)) u) = burns.may.reached in
+    (burns.may.vertex, omega (arith, ints))
+
+pub burnt_of_set : (g : Multigraph) (q : ℕ) (D : Amounts) (l : List ℕ) (T : ℕ → Bool) (v : ℕ) →
+    BurnsInOrder g q D l → T q ≡ false → among l v ≡ true → T v ≡ true →
+    (u : ℕ) × (u < g.size) × (T u ≡ true) × (D u <ℤ pos (edges_out g T u))
+burnt_of_set g q D l T v order without burnt member =
+    let (i, u, place, passes, none) = first_where T l (list_any-among T l v burnt member) in
+    let (below, less) = burnt_at g q D l T order without i u place passes none in
+    (u, below, passes, less)
+
+pub q_burns : (g : Multigraph) (q : ℕ) (D : Amounts) (l : List ℕ) → BurnsInOrder g q D l → among l q ≡ true
+q_burns g q D l order = among_first l q order.first

@@ -1,0 +1,43 @@
+-- Dhar's burning algorithm (Dhar 1990; Corry and Perkinson, chapter 3; Baker and Norine 2007, section 5.1). From a
+-- divisor without debt off q: q burns first; then, again and again, of the vertices that more edges join to burnt ones
+-- than they hold dollars, the least burns.
+--   among l v              == whether v is in the list l
+--   edges_into g B v       == how many edges lead from v to vertices of the set B
+--   MayBurn g D B v        == v is not in B, and more edges join it to B than it holds dollars
+--   BurnsNext g D B v      == v is the least that may burn
+--   BurnsInOrder g q D l   == l is the order in which vertices burn, to the end
+--   FiresFreely g q D S    == S is without q, and nobody off q is in debt once S has fired
+--   IsGreatestFree g q D S == S fires freely, and holds every vertex of every set that does
+use Rattle.std.specs.Prelude.{◌≡◌, ◌≢◌, ℕ, suc, ◌<◌, ◌==◌, Bool, true, false, if◌then◌else◌, List, slice_get, take, Some, pos, ◌≤ℤ◌, ◌<ℤ◌}
+use Rattle.std.specs.List.{list_any}
+use Rattle.dg_theory.specs.Sums.{total_below}
+use Rattle.dg_theory.specs.Multigraph.{Multigraph, edges_between}
+use Rattle.dg_theory.specs.Firing.{Amounts, fired, indicator}
+
+abbrev pub among : List ℕ → ℕ → Bool
+among l v = list_any (λ w. w == v) l
+
+abbrev pub edges_into : Multigraph → (ℕ → Bool) → ℕ → ℕ
+edges_into g B v = total_below g.size (λ w. if B w then edges_between g v w else 0)
+
+pub record MayBurn (g : Multigraph) (D : Amounts) (B : ℕ → Bool) (v : ℕ) : Type 0 where
+  pub vertex : v < g.size
+  pub unburnt : B v ≡ false
+  pub reached : D v <ℤ pos (edges_into g B v)
+
+pub record BurnsNext (g : Multigraph) (D : Amounts) (B : ℕ → Bool) (v : ℕ) : Type 0 where
+  pub may : MayBurn g D B v
+  pub least : (u : ℕ) → u < v → ¬ MayBurn g D B u
+
+pub record BurnsInOrder (g : Multigraph) (q : ℕ) (D : Amounts) (l : List ℕ) : Type 0 where
+  pub first : slice_get l 0 ≡ Some q
+  pub next : (i v : ℕ) → slice_get l (suc i) ≡ Some v → BurnsNext g D (among (take (suc i) l)) v
+  pub last : (v : ℕ) → ¬ MayBurn g D (among l) v
+
+pub record FiresFreely (g : Multigraph) (q : ℕ) (D : Amounts) (S : ℕ → Bool) : Type 0 where
+  pub without : S q ≡ false
+  pub no_debt : (v : ℕ) → v < g.size → v ≢ q → pos 0 ≤ℤ fired g D (indicator S) v
+
+pub record IsGreatestFree (g : Multigraph) (q : ℕ) (D : Amounts) (S : ℕ → Bool) : Type 0 where
+  pub free : FiresFreely g q D S
+  pub greatest : (T : ℕ → Bool) → FiresFreely g q D T → (v : ℕ) → v < g.size → T v ≡ true → S v ≡ true

@@ -1,0 +1,23 @@
+-- The laws of burning, for a divisor without debt off q.
+--   UnburntFires    == what burning leaves is the greatest set that fires freely
+--   BurntIsReduced  == burning leaves nothing exactly where the divisor is reduced
+use Rattle.std.specs.Prelude.{◌≡◌, ◌≢◌, ℕ, ◌<◌, ◌↔◌, Bool, true, not, ◌&&◌, nat_lt, List, pos, ◌≤ℤ◌}
+use Rattle.dg_theory.specs.Multigraph.{Multigraph, IsMultigraph}
+use Rattle.dg_theory.specs.Firing.{Amounts}
+use Rattle.dg_theory.specs.Reduced.{IsReduced}
+use Rattle.dg_theory.specs.Burning.{among, BurnsInOrder, IsGreatestFree}
+
+abbrev pub HasNoDebtOff : Multigraph → ℕ → Amounts → Type 0
+HasNoDebtOff g q D = (v : ℕ) → v < g.size → v ≢ q → pos 0 ≤ℤ D v
+
+-- the vertices that are not in the list
+abbrev pub unburnt_by : Multigraph → List ℕ → ℕ → Bool
+unburnt_by g l v = nat_lt v g.size && not (among l v)
+
+abbrev pub UnburntFires : Type 0
+UnburntFires = (g : Multigraph) (q : ℕ) (D : Amounts) (l : List ℕ) → IsMultigraph g → q < g.size → HasNoDebtOff g q D →
+    BurnsInOrder g q D l → IsGreatestFree g q D (unburnt_by g l)
+
+abbrev pub BurntIsReduced : Type 0
+BurntIsReduced = (g : Multigraph) (q : ℕ) (D : Amounts) (l : List ℕ) → IsMultigraph g → q < g.size → HasNoDebtOff g q D →
+    BurnsInOrder g q D l → (((v : ℕ) → v < g.size → among l v ≡ true) ↔ IsReduced g q D)
