@@ -9,7 +9,7 @@ use Rattle.std.specs.Prelude.{◌≤ℤ◌}
 use Rattle.dg_theory.specs.Multigraph.{Multigraph, IsMultigraph, edges_between}
 use Rattle.dg_theory.specs.Firing.{Amounts, gain, fired}
 use Rattle.dg_theory.specs.WinningLaws.{SameByConstant}
-use Rattle.dg_theory.proofs.SumBounds.{mul-nonpos, mul-cancel, sum_below-all_zero}
+use Rattle.dg_theory.proofs.SumBounds.{mul-nonpos, mul-cancel, sum_below-le_term}
 use Rattle.dg_theory.proofs.Chains.{JoinedIn-stays}
 use Rattle.dg_theory.proofs.Largest.{largest, IsLargest}
 use Rattle.dg_theory.proofs.Scripts.{difference, fired-difference, fired-shifted}
@@ -17,12 +17,12 @@ use Rattle.dg_theory.proofs.Scripts.{difference, fired-difference, fired-shifted
 level_next : (g : Multigraph) (k : Amounts) (a b : ℕ) → IsLargest g.size k a → gain g k a ≡ pos 0 →
     b < g.size → 0 < edges_between g a b → k b ≡ k a
 level_next g k a b top nothing below edge =
-    let term : pos 0 ≤ℤ (pos (edges_between g a b) *ℤ (k b -ℤ k a)) =
-    sum_below-all_zero g.size (λ w. pos (edges_between g a w) *ℤ (k w -ℤ k a))
+    let term : gain g k a ≤ℤ (pos (edges_between g a b) *ℤ (k b -ℤ k a)) =
+    sum_below-le_term g.size (λ w. pos (edges_between g a w) *ℤ (k w -ℤ k a))
     (λ w inside. let at : k w ≤ℤ k a = top w inside in
     mul-nonpos (edges_between g a w) (k w -ℤ k a) (omega (arith, ints)))
-    (omega (arith, ints)) b below in
-    let high : pos 0 ≤ℤ (k b -ℤ k a) = mul-cancel (edges_between g a b) (k b -ℤ k a) edge term in
+    b below in
+    let high : pos 0 ≤ℤ (k b -ℤ k a) = mul-cancel (edges_between g a b) (k b -ℤ k a) edge (omega (arith, ints)) in
     let low : k b ≤ℤ k a = top b below in
     omega (arith, ints)
 

@@ -4,8 +4,9 @@
 --   count_of-some      a set with a member has at least one
 --   count_of-more      a set with one member more has more
 --   count_of-missing   a set in which a number below n is missing has fewer than n
-use Rattle.std.proofs.Common.{◌≡◌, ℕ, zero, suc, ◌<◌, ◌≤◌, arith, refl, ap, ⊎_elim, Bool, true, false}
-use Rattle.std.proofs.lemmas.Bool.{cases_eq}
+--   member_or_none     a set has a member below n, or none
+use Rattle.std.proofs.Common.{◌≡◌, ℕ, zero, suc, ◌<◌, ◌≤◌, arith, refl, ap, ◌∙◌, ◌⊎◌, inl, inr, ⊎_elim, Bool, true, false}
+use Rattle.std.proofs.lemmas.Bool.{cases_eq, cases_Bool}
 use Rattle.std.specs.Prelude.{if◌then◌else◌}
 use Rattle.dg_theory.specs.Sums.{total_below}
 use Rattle.dg_theory.proofs.TotalLaws.{total_below-le, total_below-term}
@@ -58,3 +59,20 @@ count_of-missing n S v inside missing =
     let more : count_of n S < total_below n (λ w. 1) =
     count_of-more n S (λ _. true) (λ w _. refl) v inside missing refl in
     omega (arith, total_ones n)
+
+pub member_or_none : (n : ℕ) (S : ℕ → Bool) →
+    ((u : ℕ) × (u < n) × (S u ≡ true)) ⊎ ((u : ℕ) → u < n → S u ≡ false)
+member_or_none zero S = inr (λ u below. absurd (omega arith))
+member_or_none (suc n) S =
+    ⊎_elim
+    (λ (here : S n ≡ true). inl (n, omega arith, here))
+    (λ (not_here : S n ≡ false).
+    ⊎_elim
+    (λ (some : (u : ℕ) × (u < n) × (S u ≡ true)). inl (some.0, omega (arith, some.1), some.2))
+    (λ (none : (u : ℕ) → u < n → S u ≡ false). inr (λ u below.
+    ⊎_elim
+    (λ (same : u ≡ n). ap S same ∙ not_here)
+    (λ (other : u ≡ n → ⊥). none u (omega arith))
+    (cases_eq u n)))
+    (member_or_none n S))
+    (cases_Bool (S n))

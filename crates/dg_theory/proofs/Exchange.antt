@@ -19,6 +19,7 @@ use Rattle.dg_theory.specs.Firing.{Amounts, gain}
 use Rattle.dg_theory.specs.WinningLaws.{DegreeStays}
 use Rattle.dg_theory.proofs.Products.{mulz-sub, mul-swap, one-mul}
 use Rattle.dg_theory.proofs.SumLaws.{sum_below-add, sum_below-cong, sum_below-zero}
+use Rattle.dg_theory.proofs.FiringLaws.{gain-constant}
 use Rattle.dg_theory.proofs.SumSwap.{sum_below-scale, sum_below-sub, sum_below-swap}
 
 abbrev pub crossing : Multigraph → Amounts → Amounts → ℕ → ℕ → ℤ
@@ -67,9 +68,7 @@ pub gains_cancel : (g : Multigraph) (s : Amounts) → IsMultigraph g → sum_bel
 gains_cancel g s graph =
     sym (sum_below-cong g.size _ _ (λ v _. one-mul (gain g s v)))
     ∙ gain-symmetric g (λ _. pos 1) s graph
-    ∙ sum_below-zero g.size _ (λ v _.
-    let none : gain g (λ _. pos 1) v ≡ pos 0 = sum_below-zero g.size _ (λ w _. *ℤ-zero (pos (edges_between g v w))) in
-    rw none (*ℤ-zero (s v)))
+    ∙ sum_below-zero g.size _ (λ v _. rw (gain-constant g (pos 1) v) (*ℤ-zero (s v)))
 
 pub degree_stays : DegreeStays
 degree_stays g D s graph = omega (arith, ints, sum_below-add g.size D (gain g s), gains_cancel g s graph)

@@ -1,9 +1,10 @@
 -- Laws of firing.
---   gain-add        what one gets by a sum of scripts is what one gets by each
---   fired-fired     firing adds up
---   fired-constant  a constant script changes nothing
---   fired-cong      scripts that agree on the vertices fire alike
---   fired-constant_script  the law for a script that is constant on the vertices
+--   gain-add                what one gets by a sum of scripts is what one gets by each
+--   fired-fired             firing adds up
+--   gain-constant           by a constant script nobody gets anything
+--   fired-constant          so it changes nothing
+--   fired-cong              scripts that agree on the vertices fire alike
+--   fired-constant_script   the law for a script that is constant on the vertices
 use Rattle.std.proofs.Common.{◌≡◌, ℕ, ◌<◌, arith, refl, sym, ◌∙◌}
 use Rattle.std.proofs.lemmas.Int.{ints}
 use Rattle.std.proofs.Math.IntN.{ℤ, pos, ◌+ℤ◌, ◌-ℤ◌, ◌*ℤ◌, *ℤ-zero}
@@ -21,11 +22,12 @@ gain-add g s t v =
 pub fired-fired : FiringAddsUp
 fired-fired g D s t v = omega (arith, ints, gain-add g s t v)
 
+pub gain-constant : (g : Multigraph) (x : ℤ) (v : ℕ) → gain g (λ _. x) v ≡ pos 0
+gain-constant g x v =
+    sum_below-zero g.size _ (λ w below. let same : x -ℤ x ≡ pos 0 = omega (arith, ints) in rw (same, *ℤ-zero) refl)
+
 pub fired-constant : (g : Multigraph) (D : Amounts) (x : ℤ) (v : ℕ) → fired g D (λ _. x) v ≡ D v
-fired-constant g D x v =
-    let nothing : gain g (λ _. x) v ≡ pos 0 = sum_below-zero g.size _ (λ w below.
-    let same : x -ℤ x ≡ pos 0 = omega (arith, ints) in rw (same, *ℤ-zero) refl) in
-    omega (arith, ints)
+fired-constant g D x v = omega (arith, ints, gain-constant g x v)
 
 pub fired-cong : (g : Multigraph) (D s t : Amounts) (v : ℕ) → v < g.size → ((w : ℕ) → w < g.size → s w ≡ t w) →
     fired g D s v ≡ fired g D t v

@@ -27,3 +27,6 @@ pub mod Cuts
 pub mod Counting
 pub mod Climbs
 pub mod Bounds
+-- The degree of a reduced divisor.
+pub mod Leaving
+pub mod GenusLaws

@@ -1,8 +1,6 @@
--- Products of a natural number with whole numbers.
---   mul-add k a b    k (a + b) = k a + k b
---   mul-change k ..  k (a - c) + k (b - d) = k ((a + b) - (c + d))
 -- Products of whole numbers x, a, b, and of a natural number k.
 --   mulz-add x a b   x (a + b) = x a + x b
+--   mul-change k ..  k (a - c) + k (b - d) = k ((a + b) - (c + d))
 --   mulz-sub x a b   x (a - b) = x a - x b
 --   addz-mul a b x   (a + b) x = a x + b x
 --   subz-mul a b x   (a - b) x = a x - b x
@@ -12,22 +10,19 @@ use Rattle.std.proofs.Common.{◌≡◌, ℕ, zero, suc, arith, refl}
 use Rattle.std.proofs.lemmas.Int.{ints}
 use Rattle.std.proofs.Math.IntN.{ℤ, pos, negsuc, ◌+ℤ◌, ◌-ℤ◌, ◌*ℤ◌, suc_ℤ-*ℤ, pred_ℤ-*ℤ, zero-*ℤ, *ℤ-zero, *ℤ_comm}
 
-pub mul-add : (k : ℕ) (a b : ℤ) → pos k *ℤ (a +ℤ b) ≡ pos k *ℤ a +ℤ pos k *ℤ b
-mul-add zero a b = omega (arith, ints, zero-*ℤ (a +ℤ b), zero-*ℤ a, zero-*ℤ b)
-mul-add (suc k) a b =
-    omega (arith, ints, suc_ℤ-*ℤ (pos k) (a +ℤ b), suc_ℤ-*ℤ (pos k) a, suc_ℤ-*ℤ (pos k) b, mul-add k a b)
+pub mulz-add : (x a b : ℤ) → x *ℤ (a +ℤ b) ≡ x *ℤ a +ℤ x *ℤ b
+mulz-add (pos zero) a b = omega (arith, ints, zero-*ℤ (a +ℤ b), zero-*ℤ a, zero-*ℤ b)
+mulz-add (pos (suc k)) a b =
+    omega (arith, ints, suc_ℤ-*ℤ (pos k) (a +ℤ b), suc_ℤ-*ℤ (pos k) a, suc_ℤ-*ℤ (pos k) b, mulz-add (pos k) a b)
+mulz-add (negsuc zero) a b =
+    omega (arith, ints, pred_ℤ-*ℤ (pos 0) (a +ℤ b), pred_ℤ-*ℤ (pos 0) a, pred_ℤ-*ℤ (pos 0) b, zero-*ℤ (a +ℤ b), zero-*ℤ a, zero-*ℤ b)
+mulz-add (negsuc (suc k)) a b =
+    omega (arith, ints, pred_ℤ-*ℤ (negsuc k) (a +ℤ b), pred_ℤ-*ℤ (negsuc k) a, pred_ℤ-*ℤ (negsuc k) b, mulz-add (negsuc k) a b)
 
 pub mul-change : (k : ℕ) (a b c d : ℤ) → pos k *ℤ (a -ℤ c) +ℤ pos k *ℤ (b -ℤ d) ≡ pos k *ℤ ((a +ℤ b) -ℤ (c +ℤ d))
 mul-change k a b c d =
     let same : (a -ℤ c) +ℤ (b -ℤ d) ≡ (a +ℤ b) -ℤ (c +ℤ d) = omega (arith, ints) in
-    rw (← mul-add k (a -ℤ c) (b -ℤ d), same) refl
-
-pub mulz-add : (x a b : ℤ) → x *ℤ (a +ℤ b) ≡ x *ℤ a +ℤ x *ℤ b
-mulz-add (pos k) a b = mul-add k a b
-mulz-add (negsuc zero) a b =
-    omega (arith, ints, pred_ℤ-*ℤ (pos 0) (a +ℤ b), pred_ℤ-*ℤ (pos 0) a, pred_ℤ-*ℤ (pos 0) b, mul-add 0 a b)
-mulz-add (negsuc (suc k)) a b =
-    omega (arith, ints, pred_ℤ-*ℤ (negsuc k) (a +ℤ b), pred_ℤ-*ℤ (negsuc k) a, pred_ℤ-*ℤ (negsuc k) b, mulz-add (negsuc k) a b)
+    rw (← mulz-add (pos k) (a -ℤ c) (b -ℤ d), same) refl
 
 pub mulz-sub : (x a b : ℤ) → x *ℤ (a -ℤ b) ≡ x *ℤ a -ℤ x *ℤ b
 mulz-sub x a b =

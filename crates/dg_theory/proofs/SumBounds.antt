@@ -3,7 +3,6 @@
 --   mul-negative        k times a negative number is at most - k
 --   mul-cancel          if k times x is at least 0 and k is positive, x is at least 0
 --   sum_below-nonpos    a sum of terms that are at most 0 is at most 0
---   sum_below-all_zero  if such a sum is at least 0, so is each of its terms
 --   mul-once            a positive number times one that is at most 0 is at most that one
 --   sum_below-le_term   a sum of terms that are at most 0 is at most each of them
 --   sum_below-at_least  a sum of n terms that are at least - K is at least - n K
@@ -35,18 +34,6 @@ sum_below-nonpos (suc n) f low =
     let before : sum_below n f ≤ℤ pos 0 = sum_below-nonpos n f (λ w below. low w (omega arith)) in
     let last : f n ≤ℤ pos 0 = low n (omega arith) in
     omega (arith, ints)
-
-pub sum_below-all_zero : (n : ℕ) (f : ℕ → ℤ) → ((w : ℕ) → w < n → f w ≤ℤ pos 0) → pos 0 ≤ℤ sum_below n f →
-    (v : ℕ) → v < n → pos 0 ≤ℤ f v
-sum_below-all_zero zero f low high v inside = absurd (omega arith)
-sum_below-all_zero (suc n) f low high v inside =
-    let fewer : (w : ℕ) → w < n → f w ≤ℤ pos 0 = λ w below. low w (omega arith) in
-    let before : sum_below n f ≤ℤ pos 0 = sum_below-nonpos n f fewer in
-    let last : f n ≤ℤ pos 0 = low n (omega arith) in
-    ⊎_elim
-    (λ (same : v ≡ n). let at : f v ≡ f n = ap f same in omega (arith, ints))
-    (λ (other : v ≡ n → ⊥). sum_below-all_zero n f fewer (omega (arith, ints)) v (omega arith))
-    (cases_eq v n)
 
 pub mul-once : (k : ℕ) (x : ℤ) → 0 < k → x ≤ℤ pos 0 → (pos k *ℤ x) ≤ℤ x
 mul-once zero x some low = absurd (omega arith)

@@ -1,8 +1,9 @@
 -- Laws of sums of natural numbers below n.
---   total_below-cong    equal terms give equal sums
---   total_below-le      larger terms give a larger sum
---   total_below-term    a term is at most the sum
-use Rattle.std.proofs.Common.{◌≡◌, ℕ, zero, suc, ◌<◌, ◌≤◌, arith, refl, ap, ⊎_elim}
+--   total_below-cong        equal terms give equal sums
+--   total_below-le          larger terms give a larger sum
+--   total_below-term        a term is at most the sum
+--   total_below-differ_at   sums whose terms agree but at v differ by their terms at v
+use Rattle.std.proofs.Common.{◌≡◌, ◌≢◌, ℕ, zero, suc, ◌+◌, ◌<◌, ◌≤◌, arith, refl, ap, ⊎_elim}
 use Rattle.std.proofs.lemmas.Bool.{cases_eq}
 use Rattle.dg_theory.specs.Sums.{total_below}
 
@@ -26,4 +27,20 @@ total_below-term (suc n) f v below =
     ⊎_elim
     (λ (same : v ≡ n). let at : f v ≡ f n = ap f same in omega arith)
     (λ (other : v ≡ n → ⊥). let before : f v ≤ total_below n f = total_below-term n f v (omega arith) in omega arith)
+    (cases_eq v n)
+
+pub total_below-differ_at : (n : ℕ) (f h : ℕ → ℕ) (v : ℕ) → v < n → ((w : ℕ) → w < n → w ≢ v → f w ≡ h w) →
+    total_below n f + h v ≡ total_below n h + f v
+total_below-differ_at zero f h v inside same = absurd (omega arith)
+total_below-differ_at (suc n) f h v inside same =
+    ⊎_elim
+    (λ (last : v ≡ n).
+    let before : total_below n f ≡ total_below n h =
+    total_below-cong n f h (λ w below. same w (omega arith) (omega arith)) in
+    let at : f v ≡ f n = ap f last in let at' : h v ≡ h n = ap h last in omega arith)
+    (λ (other : v ≡ n → ⊥).
+    let before : total_below n f + h v ≡ total_below n h + f v =
+    total_below-differ_at n f h v (omega arith) (λ w below off_v. same w (omega arith) off_v) in
+    let last : f n ≡ h n = same n (omega arith) (omega arith) in
+    omega arith)
     (cases_eq v n)

@@ -4,18 +4,18 @@
 --   script_of_win        from plays that clear all debts, a script that does
 --   win_of_script        from a script that clears all debts, plays that do
 --   winnable_by_script   the law that says both
---   fired-onward         firing by t is firing by s and then by t - s
 --   win_after            what is winnable stays so by firing
 --   win_before           and what firing makes winnable was so before
 --   winnable_together    the law that firing does not change winnability
 use Rattle.std.proofs.Common.{◌≡◌, ℕ, ◌<◌, arith, sym, ◌∙◌}
 use Rattle.std.proofs.lemmas.Int.{ints}
-use Rattle.std.proofs.Math.IntN.{◌+ℤ◌, ◌-ℤ◌}
+use Rattle.std.proofs.Math.IntN.{◌+ℤ◌}
 use Rattle.dg_theory.specs.Multigraph.{Multigraph}
 use Rattle.dg_theory.specs.Firing.{Amounts, fired, IsEffective}
 use Rattle.dg_theory.specs.Play.{played, IsWinnable}
 use Rattle.dg_theory.specs.WinningLaws.{WinnableByScript, WinnableTogether}
 use Rattle.dg_theory.proofs.FiringLaws.{fired-fired, fired-cong}
+use Rattle.dg_theory.proofs.Scripts.{difference, fired-difference}
 use Rattle.dg_theory.proofs.Plays.{total_script, plays_for, played-total, plays_for-total}
 
 pub effective-cong : (n : ℕ) (D E : Amounts) → ((v : ℕ) → v < n → D v ≡ E v) → IsEffective n D → IsEffective n E
@@ -41,17 +41,11 @@ win_of_script g D s effective =
 pub winnable_by_script : WinnableByScript
 winnable_by_script g D = (script_of_win g D, λ (s, effective). win_of_script g D s effective)
 
-pub fired-onward : (g : Multigraph) (D s t : Amounts) (v : ℕ) → v < g.size →
-    fired g D t v ≡ fired g (fired g D s) (λ w. t w -ℤ s w) v
-fired-onward g D s t v below =
-    fired-cong g D t (λ w. s w +ℤ (t w -ℤ s w)) v below (λ w _. omega (arith, ints))
-    ∙ sym (fired-fired g D s (λ w. t w -ℤ s w) v)
-
 pub win_after : (g : Multigraph) (D s : Amounts) → IsWinnable g D → IsWinnable g (fired g D s)
 win_after g D s win =
     let (t, effective) = script_of_win g D win in
-    let rest : Amounts = λ w. t w -ℤ s w in
-    win_of_script g (fired g D s) rest (effective-cong g.size (fired g D t) _ (fired-onward g D s t) effective)
+    win_of_script g (fired g D s) (difference t s)
+    (effective-cong g.size (fired g D t) _ (λ v below. sym (fired-difference g D s t v below)) effective)
 
 pub win_before : (g : Multigraph) (D s : Amounts) → IsWinnable g (fired g D s) → IsWinnable g D
 win_before g D s win =

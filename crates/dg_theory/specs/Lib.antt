@@ -8,3 +8,4 @@ pub mod Laws
 pub mod WinningLaws
 pub mod Burning
 pub mod BurningLaws
+pub mod GenusLaws

@@ -5,6 +5,7 @@
 ghost use Rattle.dg_theory.specs.Laws.{FiringAddsUp, ConstantScriptsDoNothing};
 ghost use Rattle.dg_theory.specs.WinningLaws.{DegreeStays, WinnableByScript, WinnableTogether, SameByConstant, ReducedDecides, ReducedOnce};
 ghost use Rattle.dg_theory.specs.BurningLaws.{UnburntFires, BurntIsReduced};
+ghost use Rattle.dg_theory.specs.GenusLaws.{ReducedBelowGenus, BurntBelowGenus};
 
 /// Firing by one script and then by another is firing by their sum, and a constant script changes nothing.
 pub fn laws_of_firing()
@@ -34,4 +35,11 @@ pub fn laws_of_reduced_divisors()
 pub fn laws_of_burning()
     ensures unburnt { UnburntFires }
     ensures burnt { BurntIsReduced }
+{}
+
+/// What the genus tells: a divisor that is reduced for q and in debt at q has a degree below the genus, and so has one
+/// without debt off q, but in debt at q, from which every vertex burns.
+pub fn laws_of_the_genus()
+    ensures reduced { ReducedBelowGenus }
+    ensures burnt { BurntBelowGenus }
 {}
