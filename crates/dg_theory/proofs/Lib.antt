@@ -30,3 +30,9 @@ pub mod Bounds
 -- The degree of a reduced divisor.
 pub mod Leaving
 pub mod GenusLaws
+-- That reductions end, and how large their amounts get on the way.
+pub mod Distances
+pub mod Debts
+pub mod Potential
+pub mod Weights
+pub mod Range

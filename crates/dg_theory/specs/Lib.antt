@@ -9,3 +9,4 @@ pub mod WinningLaws
 pub mod Burning
 pub mod BurningLaws
 pub mod GenusLaws
+pub mod Distances

@@ -1,0 +1,248 @@
+-- How large amounts become.
+-- While the vertices nearer to q than a level fire, to clear the debts of that level:
+--   firing_left          c firings so far, each giving at least 1, leave a debt only where the debt before exceeds c
+--   within_level         after c ≤ B firings, each changing an amount by at most 63, an amount within B is within 64 B
+--   IsClearing ..        c firings so far, with amounts within B before
+--   clearing_start       it holds before the first firing
+--   clearing_step        it holds after one more, where some vertex of the level was in debt
+--   clearing-cong        it holds of every divisor that agrees on the vertices
+--   clearing_limit       so amounts stay within 64 B
+--   IsClear g level j D  nobody of level j or farther is in debt
+--   clear_stays          it stays so of the farther levels while those nearer than j fire
+--   clear_step           it goes on from one level to the next nearer one, once nobody of that is in debt
+--   clear_all            at level 1 it says that nobody off q is in debt
+--   limit_step, limit_last    the bounds of the levels in a row, and the last of them
+-- While sets without q fire and leave nobody off q in debt:
+--   sum_below-one, sum_below-two   where terms but one are not negative, a sum is at least that one, and one more
+--   IsLed g q D E        from the divisor D such sets led to E: E has the degree of D, nobody off q is in debt, and
+--                        q holds no less
+--   led_start, led_step  it holds at first, and after one more such set
+--   led-cong             it holds of every divisor that agrees on the vertices
+--   led_between          amounts off q are from 0 to the degree less what q held
+--   led_limit            if amounts were within M, they stay within 17 M
+-- For any firing:
+--   script_between       a script that takes amounts off q within A to amounts within B has all its entries within
+--                        225 (A + B) of that at q, for at most 16 vertices
+use Rattle.std.proofs.Common.{◌≡◌, ◌≢◌, ℕ, zero, suc, ◌+◌, ◌-◌, ◌*◌, ◌^◌, ◌<◌, ◌≤◌, Bool, arith, refl, ap, sym, ◌∙◌, ⊎_elim, suc-mul, pow-suc, mul_assoc, mul_comm}
+use Rattle.std.proofs.lemmas.Bool.{cases_eq}
+use Rattle.std.proofs.lemmas.Int.{ints}
+use Rattle.std.proofs.lemmas.Nat.{mul-le}
+use Rattle.std.proofs.Math.IntN.{ℤ, pos, ◌+ℤ◌, ◌-ℤ◌}
+use Rattle.std.specs.Prelude.{◌≤ℤ◌, ◌<ℤ◌}
+use Rattle.std.specs.Int.RustNames.{unsigned_abs}
+use Rattle.dg_theory.specs.Sums.{sum_below}
+use Rattle.dg_theory.specs.Multigraph.{Multigraph, IsMultigraph, valence}
+use Rattle.dg_theory.specs.Firing.{Amounts, degree, gain, fired, indicator}
+use Rattle.dg_theory.specs.Burning.{edges_into, FiresFreely}
+use Rattle.dg_theory.specs.BurningLaws.{HasNoDebtOff}
+use Rattle.dg_theory.specs.Distances.{IsDistance}
+use Rattle.dg_theory.proofs.Absolute.{within_abs, abs_within}
+use Rattle.dg_theory.proofs.Bounds.{gentle_between}
+use Rattle.dg_theory.proofs.SetFiring.{gain-outside}
+use Rattle.dg_theory.proofs.Exchange.{degree_stays}
+use Rattle.dg_theory.proofs.SumLaws.{sum_below-cong}
+use Rattle.dg_theory.proofs.Distances.{level_positive}
+use Rattle.dg_theory.proofs.Debts.{fired_nearer, farther_stays, level_gains, changes_little}
+
+pub firing_left : (c B : ℕ) (x z : ℤ) → unsigned_abs x ≤ B → (x +ℤ pos c) ≤ℤ z → z <ℤ pos 0 → c + 1 ≤ B
+firing_left c B x z small more debt = let (low, high) = within_abs x B small in omega (arith, ints)
+
+pub within_level : (c B : ℕ) (x z : ℤ) → unsigned_abs x ≤ B → c ≤ B → x ≤ℤ (z +ℤ pos (63 * c)) → z ≤ℤ (x +ℤ pos (63 * c)) →
+    unsigned_abs z ≤ 64 * B
+within_level c B x z small few up down =
+    let (low, high) = within_abs x B small in
+    abs_within z (64 * B) (omega (arith, ints)) (omega (arith, ints))
+
+pub record IsClearing (g : Multigraph) (level : ℕ → ℕ) (j B c : ℕ) (D : Amounts) : Type 0 where
+  pub few : c ≤ B
+  pub near : (v : ℕ) → v < g.size → unsigned_abs (D v) ≤ B + 63 * c
+  pub gained : (v : ℕ) → v < g.size → level v ≡ j → pos c ≤ℤ (D v +ℤ pos B)
+
+pub clearing_start : (g : Multigraph) (level : ℕ → ℕ) (j B : ℕ) (D : Amounts) →
+    ((v : ℕ) → v < g.size → unsigned_abs (D v) ≤ B) → IsClearing g level j B 0 D
+clearing_start g level j B D small = record {
+  few = omega arith;
+  near = λ v inside. let at : unsigned_abs (D v) ≤ B = small v inside in omega arith;
+  gained = λ v inside at. let (low, high) = within_abs (D v) B (small v inside) in omega (arith, ints);
+}
+
+pub clearing_step : (g : Multigraph) (q : ℕ) (level : ℕ → ℕ) (j B c : ℕ) (D : Amounts) (v : ℕ) → IsDistance g q level →
+    ((w : ℕ) → w < g.size → valence g w ≤ 63) → 0 < j → IsClearing g level j B c D →
+    v < g.size → level v ≡ j → D v <ℤ pos 0 → IsClearing g level j B (c + 1) (fired_nearer g level j D)
+clearing_step g q level j B c D v distance few some clearing inside at debt =
+    let got : pos c ≤ℤ (D v +ℤ pos B) = clearing.gained v inside at in
+    record {
+      few = omega (arith, ints);
+      near = λ w below.
+          let (low, high) = within_abs (D w) (B + 63 * c) (clearing.near w below) in
+          let (up, down) = changes_little g level j D w (few w below) in
+          abs_within (fired_nearer g level j D w) (B + 63 * (c + 1)) (omega (arith, ints)) (omega (arith, ints));
+      gained = λ w below same.
+          let (more, most) = level_gains g q level j D w distance below (few w below) some same in
+          let before : pos c ≤ℤ (D w +ℤ pos B) = clearing.gained w below same in
+          omega (arith, ints);
+    }
+
+pub clearing-cong : (g : Multigraph) (level : ℕ → ℕ) (j B c : ℕ) (D E : Amounts) → ((v : ℕ) → v < g.size → D v ≡ E v) →
+    IsClearing g level j B c D → IsClearing g level j B c E
+clearing-cong g level j B c D E same clearing = record {
+  few = clearing.few;
+  near = λ v inside. rw (← same v inside) (clearing.near v inside);
+  gained = λ v inside at. rw (← same v inside) (clearing.gained v inside at);
+}
+
+pub clearing_limit : (g : Multigraph) (level : ℕ → ℕ) (j B c : ℕ) (D : Amounts) (v : ℕ) → IsClearing g level j B c D →
+    v < g.size → unsigned_abs (D v) ≤ 64 * B
+clearing_limit g level j B c D v clearing inside = omega (arith, clearing.few, clearing.near v inside)
+
+abbrev pub IsClear : Multigraph → (ℕ → ℕ) → ℕ → Amounts → Type 0
+IsClear g level j D = (v : ℕ) → v < g.size → j ≤ level v → pos 0 ≤ℤ D v
+
+pub clear_step : (g : Multigraph) (level : ℕ → ℕ) (j : ℕ) (D : Amounts) → IsClear g level (j + 1) D →
+    ((v : ℕ) → v < g.size → level v ≡ j → pos 0 ≤ℤ D v) → IsClear g level j D
+clear_step g level j D farther paid v inside far =
+    ⊎_elim
+    (λ (same : level v ≡ j). paid v inside same)
+    (λ (other : level v ≡ j → ⊥). farther v inside (omega arith))
+    (cases_eq (level v) j)
+
+pub clear_stays : (g : Multigraph) (q : ℕ) (level : ℕ → ℕ) (j : ℕ) (D : Amounts) → IsDistance g q level →
+    IsClear g level (j + 1) D → IsClear g level (j + 1) (fired_nearer g level j D)
+clear_stays g q level j D distance clear v inside far =
+    farther_stays g q level j D v distance inside (omega arith) (clear v inside far)
+
+pub clear_all : (g : Multigraph) (q : ℕ) (level : ℕ → ℕ) (D : Amounts) → IsDistance g q level → IsClear g level 1 D →
+    HasNoDebtOff g q D
+clear_all g q level D distance clear v inside other =
+    let far : 0 < level v = level_positive g q level v distance inside other in clear v inside (omega arith)
+
+pub limit_step : (M j : ℕ) → j < 15 → M * 64 ^ (15 - j) ≡ 64 * (M * 64 ^ (15 - (j + 1)))
+limit_step M j few =
+    let place : 15 - j ≡ suc (15 - (j + 1)) = omega arith in
+    let next : 64 ^ (15 - j) ≡ 64 ^ suc (15 - (j + 1)) = ap (λ (x : ℕ). 64 ^ x) place in
+    let power : 64 ^ suc (15 - (j + 1)) ≡ 64 ^ (15 - (j + 1)) * 64 = pow-suc 64 (15 - (j + 1)) in
+    let x : ℕ = 64 ^ (15 - (j + 1)) in
+    ap (λ (y : ℕ). M * y) (next ∙ power) ∙ (sym (mul_assoc M x 64) ∙ mul_comm (M * x) 64)
+
+pub limit_last : (M : ℕ) → M ≤ 2000000 → M * 64 ^ (15 - 0) < 2 ^ 111
+limit_last M small = let most : M * 64 ^ 15 ≤ 2000000 * 64 ^ 15 = mul-le M (64 ^ 15) 2000000 (64 ^ 15) small (omega arith) in omega arith
+
+sum_below-nonneg : (n : ℕ) (f : ℕ → ℤ) → ((w : ℕ) → w < n → pos 0 ≤ℤ f w) → pos 0 ≤ℤ sum_below n f
+sum_below-nonneg zero f rich = omega (arith, ints)
+sum_below-nonneg (suc n) f rich =
+    let before : pos 0 ≤ℤ sum_below n f = sum_below-nonneg n f (λ w below. rich w (omega arith)) in
+    let last : pos 0 ≤ℤ f n = rich n (omega arith) in
+    omega (arith, ints)
+
+pub sum_below-one : (n q : ℕ) (f : ℕ → ℤ) → q < n → ((w : ℕ) → w < n → w ≢ q → pos 0 ≤ℤ f w) → f q ≤ℤ sum_below n f
+sum_below-one zero q f inside rich = absurd (omega arith)
+sum_below-one (suc n) q f inside rich =
+    ⊎_elim
+    (λ (same : q ≡ n).
+    let at : f q ≡ f n = ap f same in
+    let before : pos 0 ≤ℤ sum_below n f = sum_below-nonneg n f (λ w below. rich w (omega arith) (omega arith)) in
+    omega (arith, ints))
+    (λ (other : q ≡ n → ⊥).
+    let before : f q ≤ℤ sum_below n f = sum_below-one n q f (omega arith) (λ w below off_q. rich w (omega arith) off_q) in
+    let last : pos 0 ≤ℤ f n = rich n (omega arith) (omega arith) in
+    omega (arith, ints))
+    (cases_eq q n)
+
+pub sum_below-two : (n q v : ℕ) (f : ℕ → ℤ) → q < n → v < n → v ≢ q →
+    ((w : ℕ) → w < n → w ≢ q → pos 0 ≤ℤ f w) → (f v +ℤ f q) ≤ℤ sum_below n f
+sum_below-two zero q v f vertex inside apart rich = absurd (omega arith)
+sum_below-two (suc n) q v f vertex inside apart rich =
+    let fewer : (w : ℕ) → w < n → w ≢ q → pos 0 ≤ℤ f w = λ w below off_q. rich w (omega arith) off_q in
+    ⊎_elim
+    (λ (same : v ≡ n).
+    let at : f v ≡ f n = ap f same in
+    let before : f q ≤ℤ sum_below n f = sum_below-one n q f (omega arith) fewer in
+    omega (arith, ints))
+    (λ (other : v ≡ n → ⊥). ⊎_elim
+    (λ (last_q : q ≡ n).
+    let at : f q ≡ f n = ap f last_q in
+    let before : f v ≤ℤ sum_below n f = sum_below-one n v f (omega arith) (λ w below _. rich w (omega arith) (omega arith)) in
+    omega (arith, ints))
+    (λ (other_q : q ≡ n → ⊥).
+    let before : (f v +ℤ f q) ≤ℤ sum_below n f = sum_below-two n q v f (omega arith) (omega arith) apart fewer in
+    let last : pos 0 ≤ℤ f n = rich n (omega arith) (omega arith) in
+    omega (arith, ints))
+    (cases_eq q n))
+    (cases_eq v n)
+
+sum_below-at_most : (n M : ℕ) (f : ℕ → ℤ) → ((w : ℕ) → w < n → f w ≤ℤ pos M) → sum_below n f ≤ℤ pos (n * M)
+sum_below-at_most zero M f high = omega (arith, ints)
+sum_below-at_most (suc n) M f high =
+    let before : sum_below n f ≤ℤ pos (n * M) = sum_below-at_most n M f (λ w below. high w (omega arith)) in
+    let last : f n ≤ℤ pos M = high n (omega arith) in
+    omega (arith, ints, suc-mul n M)
+
+pub record IsLed (g : Multigraph) (q : ℕ) (D E : Amounts) : Type 0 where
+  pub no_debt : HasNoDebtOff g q E
+  pub sum : degree g.size E ≡ degree g.size D
+  pub rises : D q ≤ℤ E q
+
+pub led_start : (g : Multigraph) (q : ℕ) (D : Amounts) → HasNoDebtOff g q D → IsLed g q D D
+led_start g q D solvent = record { no_debt = solvent; sum = refl; rises = omega (arith, ints) }
+
+pub led_step : (g : Multigraph) (q : ℕ) (D E : Amounts) (S : ℕ → Bool) → IsMultigraph g → IsLed g q D E →
+    FiresFreely g q E S → IsLed g q D (fired g E (indicator S))
+led_step g q D E S graph led free = record {
+  no_debt = free.no_debt;
+  sum = degree_stays g E (indicator S) graph ∙ led.sum;
+  rises =
+      let got : gain g (indicator S) q ≡ pos (edges_into g S q) = gain-outside g S q free.without in
+      let before : D q ≤ℤ E q = led.rises in
+      omega (arith, ints);
+}
+
+pub led-cong : (g : Multigraph) (q : ℕ) (D E F : Amounts) → q < g.size → ((v : ℕ) → v < g.size → E v ≡ F v) →
+    IsLed g q D E → IsLed g q D F
+led-cong g q D E F vertex same led = record {
+  no_debt = λ v inside other. rw (← same v inside) (led.no_debt v inside other);
+  sum = sym (sum_below-cong g.size E F same) ∙ led.sum;
+  rises = rw (← same q vertex) led.rises;
+}
+
+pub led_between : (g : Multigraph) (q : ℕ) (D E : Amounts) (v : ℕ) → q < g.size → IsLed g q D E → v < g.size → v ≢ q →
+    (pos 0 ≤ℤ E v) × (E v ≤ℤ (degree g.size D -ℤ D q))
+led_between g q D E v vertex led inside other =
+    let sum : degree g.size E ≡ degree g.size D = led.sum in
+    let kept : D q ≤ℤ E q = led.rises in
+    let both : (E v +ℤ E q) ≤ℤ degree g.size E = sum_below-two g.size q v E vertex inside other led.no_debt in
+    (led.no_debt v inside other, omega (arith, ints))
+
+pub led_limit : (g : Multigraph) (q : ℕ) (D E : Amounts) (M v : ℕ) → q < g.size → g.size ≤ 16 →
+    ((w : ℕ) → w < g.size → unsigned_abs (D w) ≤ M) → IsLed g q D E → v < g.size → unsigned_abs (E v) ≤ 17 * M
+led_limit g q D E M v vertex few small led inside =
+    let (low, high) = within_abs (D q) M (small q vertex) in
+    let total : degree g.size D ≤ℤ pos (g.size * M) =
+    sum_below-at_most g.size M D (λ w below. (within_abs (D w) M (small w below)).1) in
+    let most : g.size * M ≤ 16 * M = mul-le g.size M 16 M few (omega arith) in
+    let sum : degree g.size E ≡ degree g.size D = led.sum in
+    let kept : D q ≤ℤ E q = led.rises in
+    ⊎_elim
+    (λ (same : v ≡ q).
+    let at : E v ≡ E q = ap E same in
+    let whole : E q ≤ℤ degree g.size E = sum_below-one g.size q E vertex led.no_debt in
+    abs_within (E v) (17 * M) (omega (arith, ints)) (omega (arith, ints)))
+    (λ (other : v ≡ q → ⊥).
+    let (rich, modest) = led_between g q D E v vertex led inside other in
+    abs_within (E v) (17 * M) (omega (arith, ints)) (omega (arith, ints)))
+    (cases_eq v q)
+
+pub script_between : (g : Multigraph) (q : ℕ) (D s : Amounts) (A B v : ℕ) → IsMultigraph g → q < g.size → g.size ≤ 16 →
+    ((w : ℕ) → w < g.size → w ≢ q → unsigned_abs (D w) ≤ A) →
+    ((w : ℕ) → w < g.size → w ≢ q → unsigned_abs (fired g D s w) ≤ B) →
+    v < g.size → unsigned_abs (s v -ℤ s q) ≤ 225 * (A + B)
+script_between g q D s A B v graph vertex few before after inside =
+    let m : ℕ = g.size - 1 in
+    let size_is : g.size ≡ suc m = omega arith in
+    let near : unsigned_abs (s v -ℤ s q) ≤ m * (m * (A + B)) =
+    gentle_between g q m (A + B) s graph vertex size_is (λ w below off_q.
+    let (low, high) = within_abs (D w) A (before w below off_q) in
+    let (low', high') = within_abs (fired g D s w) B (after w below off_q) in
+    (omega (arith, ints), omega (arith, ints))) v inside in
+    let once : m * (A + B) ≤ 15 * (A + B) = mul-le m (A + B) 15 (A + B) (omega arith) (omega arith) in
+    let twice : m * (m * (A + B)) ≤ 15 * (15 * (A + B)) = mul-le m (m * (A + B)) 15 (15 * (A + B)) (omega arith) once in
+    omega arith
