@@ -2,6 +2,7 @@
 --   at x v               == the number at v
 --   IsVector limit x     == at most 16 numbers, each within the limit, and 0 past the size
 --   IsDivisor, IsScript  == the same with the limit of a divisor and of a script
+--   IsWide x             == at most 16 numbers, and 0 past the size
 --   HoldsNumbers xs x    == the vector holds just the numbers of the list xs
 --   IsInRange n D        == all n amounts are within the limit of a divisor
 --   IsOutOfRange n D     == some of the n amounts is past it
@@ -27,6 +28,10 @@ IsDivisor x = IsVector 1000000 x
 
 abbrev pub IsScript : Vector → Type 0
 IsScript x = IsVector 1000000000 x
+
+pub record IsWide (x : Vector) : Type 0 where
+  pub few : x.size ≤ 16
+  pub inside : (v : ℕ) → x.size ≤ v → at x v ≡ pos 0
 
 pub record HoldsNumbers (xs : List ℤ) (x : Vector) : Type 0 where
   pub size : x.size ≡ length xs

@@ -10,9 +10,11 @@ mod scripts;
 mod start;
 #[cfg(test)]
 mod tests;
+mod wide;
 
 pub use divisor::{ChipFault, Divisor};
 pub use firing::apply;
 pub use moves::{Move, MoveFault};
 pub use script::{Script, ScriptFault};
 pub use start::{Start, StartFault};
+pub use wide::Wide;

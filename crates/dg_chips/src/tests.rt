@@ -1,4 +1,6 @@
-use crate::{ChipFault, Divisor, Move, MoveFault, Script, ScriptFault, Start, StartFault, apply};
+use crate::{
+    ChipFault, Divisor, Move, MoveFault, Script, ScriptFault, Start, StartFault, Wide, apply,
+};
 use dg_graph::Graph;
 use std::test::Fail;
 
@@ -150,5 +152,31 @@ fn what_a_move_does(rt: HostRuntime) -> Result<(), Fail> {
             "{fault}"
         );
     }
+    Ok(())
+}
+
+#[test]
+fn what_wide_amounts_hold(rt: HostRuntime) -> Result<(), Fail> {
+    let triangle = Graph::new(3, &[(0, 1, 1), (1, 2, 1), (0, 2, 1)])?;
+    let cases: [(&[i128], Option<ChipFault>); 5] = [
+        (&[0, 0], Some(ChipFault::Length)),
+        (&[0, 0, 0, 0], Some(ChipFault::Length)),
+        (&[], Some(ChipFault::Length)),
+        (&[1_000_001, -1_000_001, 0], None),
+        (&[i128::MIN, 0, i128::MAX], None),
+    ];
+    for (numbers, fault) in cases {
+        assert!(rt; Wide::new(&triangle, numbers).err() == fault, "wide");
+    }
+    let most = Wide::new(&triangle, &[i128::MIN, -7, i128::MAX])?;
+    assert_eq!(rt;
+        (most.size(), most.get(0), most.get(1), most.get(2)),
+        (3, i128::MIN, -7, i128::MAX)
+    );
+    let divisor = Divisor::new(&triangle, &[5, -1_000_000, 1])?;
+    assert!(rt;
+        Wide::of(&divisor) == Wide::new(&triangle, &[5, -1_000_000, 1])?,
+        "of a divisor"
+    );
     Ok(())
 }

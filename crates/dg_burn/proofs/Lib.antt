@@ -1,0 +1,4 @@
+pub mod Orders
+pub mod Steps
+pub mod Rests
+pub mod Told

@@ -1,0 +1,45 @@
+-- Lists of vertices in the order in which they burn.
+--   get-push       what a list with one more element at its end holds at a place
+--   so_far-first   q alone
+--   so_far-more    one vertex more, which is the least that may burn
+--   so_far-done    the list is the whole order where none may burn
+use Rattle.std.proofs.Common.{◌≡◌, ℕ, zero, suc, ◌<◌, ◌⊎◌, List, [], ◌∷◌, ◌++◌, length, arith, refl, inl, inr, ⊎_elim}
+use Rattle.std.specs.Prelude.{slice_get, Some}
+use Rattle.std.proofs.lemmas.List.{take-append-le, take_all}
+use Rattle.dg_theory.specs.Multigraph.{Multigraph}
+use Rattle.dg_theory.specs.Firing.{Amounts}
+use Rattle.dg_theory.specs.Burning.{among, MayBurn, BurnsNext, BurnsInOrder}
+use Rattle.dg_burn.specs.SoFar.{BurnsSoFar}
+
+pub get-push : (l : List ℕ) (v i w : ℕ) → slice_get (l ++ v ∷ []) i ≡ Some w →
+    ((i < length l) × (slice_get l i ≡ Some w)) ⊎ ((i ≡ length l) × (v ≡ w))
+get-push [] v zero w place = inr (refl, cc)
+get-push [] v (suc i) w place = let clash : ⊥ = cc in absurd clash
+get-push (x ∷ l) v zero w place = inl (omega arith, place)
+get-push (x ∷ l) v (suc i) w place = ⊎_elim
+    (λ (old : (i < length l) × (slice_get l i ≡ Some w)). inl (omega arith, old.1))
+    (λ (new : (i ≡ length l) × (v ≡ w)). inr (omega arith, new.1))
+    (get-push l v i w place)
+
+get-first : (l : List ℕ) (v q : ℕ) → slice_get l 0 ≡ Some q → slice_get (l ++ v ∷ []) 0 ≡ Some q
+get-first [] v q first = let clash : ⊥ = cc in absurd clash
+get-first (x ∷ l) v q first = first
+
+pub so_far-first : (g : Multigraph) (q : ℕ) (D : Amounts) → BurnsSoFar g q D (q ∷ [])
+so_far-first g q D = record { first = refl; next = λ i v place. let clash : ⊥ = cc in absurd clash }
+
+pub so_far-more : (g : Multigraph) (q : ℕ) (D : Amounts) (l : List ℕ) (v : ℕ) → BurnsSoFar g q D l →
+    BurnsNext g D (among l) v → BurnsSoFar g q D (l ++ v ∷ [])
+so_far-more g q D l v so_far burns = record {
+  first = get-first l v q so_far.first;
+  next = λ i w place. ⊎_elim
+      (λ (old : (suc i < length l) × (slice_get l (suc i) ≡ Some w)).
+      rw (take-append-le (suc i) l (v ∷ []) (omega arith)) (so_far.next i w old.1))
+      (λ (new : (suc i ≡ length l) × (v ≡ w)).
+      rw (take-append-le (suc i) l (v ∷ []) (omega arith), take_all (suc i) l (omega arith), ← new.1) burns)
+      (get-push l v (suc i) w place);
+}
+
+pub so_far-done : (g : Multigraph) (q : ℕ) (D : Amounts) (l : List ℕ) → BurnsSoFar g q D l →
+    ((v : ℕ) → ¬ MayBurn g D (among l) v) → BurnsInOrder g q D l
+so_far-done g q D l so_far none = record { first = so_far.first; next = so_far.next; last = none }

@@ -1,0 +1,2 @@
+-- How far burning has come.
+pub mod SoFar

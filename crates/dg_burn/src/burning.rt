@@ -1,0 +1,53 @@
+ghost use Rattle.std.specs.Prelude.{◌≡◌, ◌≢◌, ℕ, ◌<◌, ◌≤◌, ◌↔◌, take, pos, ◌≤ℤ◌};
+ghost use Rattle.std.specs.List.{slice_index_or};
+ghost use Rattle.dg_theory.specs.Burning.{BurnsInOrder, IsGreatestFree};
+ghost use Rattle.dg_theory.specs.Reduced.{IsReduced};
+ghost use Rattle.dg_chips.specs.Vector.{at};
+ghost use Rattle.dg_chips.specs.Moves.{in_set};
+
+use crate::rest::rest_of;
+use crate::search::next_to_burn;
+use dg_chips::Wide;
+use dg_graph::Graph;
+
+/// What burning from a vertex comes to.
+#[derive(Clone, Copy, Debug, PartialEq, Eq)]
+pub struct Burnt {
+    /// The vertices in the order in which they burn, then zeros.
+    pub order: [u8; 16],
+    /// How many burn.
+    pub burnt: u8,
+    /// The set of those that do not; bit v of the number stands for vertex v.
+    pub unburnt: u16,
+}
+
+/// Burns the graph from q. Of the vertices that more edges join to burnt ones than they hold dollars, the least burns
+/// next, until there is none.
+pub fn burn(graph: &Graph, q: usize, chips: &Wide) -> Burnt
+    requires size { chips.now.size ≡ graph.now.size }
+    requires vertex { q < graph.now.size }
+    requires no_debt { (v : ℕ) → v < graph.now.size → v ≢ q → pos 0 ≤ℤ at chips.now v }
+    ensures order { BurnsInOrder graph.now q (at chips.now) (take result.burnt result.order) }
+    ensures rest { (i : ℕ) → result.burnt ≤ i → i < 16 → slice_index_or result.order i 0 ≡ 0 }
+    ensures some { 1 ≤ result.burnt }
+    ensures burnt { result.burnt ≤ graph.now.size }
+    ensures unburnt { IsGreatestFree graph.now q (at chips.now) (in_set result.unburnt) }
+    ensures reduced { (result.unburnt ≡ 0) ↔ IsReduced graph.now q (at chips.now) }
+{
+    let size = graph.size();
+    let mut order = [0; 16];
+    order[0] = q as u8;
+    let mut count = 1;
+    let mut reached = [false; 16];
+    reached[q] = true;
+    'burning: while let Some(v) = next_to_burn(graph, chips, &reached) {
+        order[count] = v as u8;
+        count += 1;
+        reached[v] = true;
+    }
+    Burnt {
+        order,
+        burnt: count as u8,
+        unburnt: rest_of(size, &reached),
+    }
+}

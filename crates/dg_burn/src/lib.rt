@@ -1,0 +1,10 @@
+//! Burning a graph from a vertex: the order in which the vertices burn, and those that do not.
+#![tactic(auto)]
+
+mod burning;
+mod rest;
+mod search;
+#[cfg(test)]
+mod tests;
+
+pub use burning::{Burnt, burn};

@@ -1,0 +1,75 @@
+ghost use Rattle.std.specs.Prelude.{◌≡◌, ℕ, ◌<◌, MatchResult};
+ghost use Rattle.dg_chips.specs.Vector.{at, HoldsNumbers, IsWide};
+ghost use Rattle.dg_chips.specs.DivisorFaults.{IsWideFault};
+
+use crate::divisor::{ChipFault, Divisor};
+use crate::numbers::padded_wide;
+use dg_graph::Graph;
+use std::marker::Model;
+
+/// An amount of dollars for each vertex of a graph, without a divisor's limit; a negative one is a debt.
+#[derive(Clone, Copy, PartialEq, Eq)]
+pub struct Wide {
+    size: usize,
+    amounts: [i128; 16],
+}
+
+impl Model for Wide {
+    ghost use Rattle.dg_chips.specs.Vector.{Vector, IsWide};
+
+    ghost Value = { Vector };
+
+    ghost view = { λ a. record { size = a.size; numbers = a.amounts } };
+
+    ghost invariant = { λ a. IsWide (record { size = a.size; numbers = a.amounts }) };
+
+    ghost inverse = { λ x. record { size = x.size; amounts = x.numbers } };
+}
+
+impl Wide {
+    /// The amounts, in vertex order; refused with `Length` where there are not as many as vertices.
+    pub fn new(graph: &Graph, amounts: &[i128]) -> Result<Wide, ChipFault>
+        ensures { MatchResult result
+            (λ x. (x.size ≡ graph.now.size) × HoldsNumbers amounts.now x × IsWide x)
+            (IsWideFault graph.now.size amounts.now) }
+    {
+        let size = graph.size();
+        if amounts.len() != size {
+            return Err(ChipFault::Length);
+        }
+        let amounts = padded_wide(amounts);
+        Ok(Wide { size, amounts })
+    }
+
+    /// The amounts of a divisor.
+    pub fn of(divisor: &Divisor) -> Wide
+        ensures size { result.size ≡ divisor.now.size }
+        ensures amounts { (v : ℕ) → v < divisor.now.size → at result v ≡ at divisor.now v }
+        ensures wide { IsWide result }
+    {
+        let size = divisor.size();
+        let mut amounts = [0; 16];
+        for v in 0..size {
+            amounts[v] = i128::from(divisor.get(v));
+        }
+        Wide { size, amounts }
+    }
+
+    /// The number of vertices.
+    pub fn size(&self) -> usize
+        ensures size { result ≡ self.now.size }
+        ensures wide { IsWide self.now }
+    {
+        self.size
+    }
+
+    /// The amount of a vertex.
+    pub fn get(&self, v: usize) -> i128
+        requires { v < self.now.size }
+        ensures { result ≡ at self.now v }
+    {
+        let _size = self.size;
+        let amounts = &self.amounts;
+        amounts[v]
+    }
+}
