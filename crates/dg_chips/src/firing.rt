@@ -47,7 +47,7 @@ fn fired_amounts(graph: &Graph, divisor: &Divisor, script: &Script) -> [i64; 16]
 }
 
 /// What a vertex gets by a script.
-fn gained(graph: &Graph, script: &Script, v: usize) -> i64
+pub(crate) fn gained(graph: &Graph, script: &Script, v: usize) -> i64
     requires vertex { v < graph.now.size }
     requires script { script.now.size ≡ graph.now.size }
     ensures gain { result ≡ gain graph.now (at script.now) v }

@@ -1,4 +1,4 @@
-ghost use Rattle.std.specs.Prelude.{◌≡◌, ℕ, ◌<◌, ◌≤◌, MatchResult};
+ghost use Rattle.std.specs.Prelude.{◌≡◌, ℕ, ◌<◌, ◌≤◌, ◌-ℤ◌, MatchResult};
 ghost use Rattle.std.specs.Int.RustNames.{unsigned_abs};
 ghost use Rattle.dg_theory.specs.Firing.{only_at, indicator};
 ghost use Rattle.dg_chips.specs.Vector.{at, HoldsNumbers, IsScript};
@@ -7,6 +7,7 @@ ghost use Rattle.dg_chips.specs.ScriptFaults.{IsFirstScriptFault};
 
 use crate::numbers::{first_past, padded};
 use crate::scripts::contains;
+use crate::wide::Wide;
 use dg_graph::Graph;
 use std::marker::Model;
 use thiserror::Error;
@@ -89,6 +90,22 @@ impl Script {
             if contains(set, v) {
                 entries[v] = 1;
             }
+        }
+        Script { size, entries }
+    }
+
+    /// The script by which each vertex lends as often as its amount exceeds that of q.
+    pub fn relative(lendings: &Wide, q: usize) -> Script
+        requires vertex { q < lendings.now.size }
+        requires limit { (v : ℕ) → v < lendings.now.size →
+            unsigned_abs (at lendings.now v -ℤ at lendings.now q) ≤ 1000000000 }
+        ensures size { result.size ≡ lendings.now.size }
+        ensures entries { (v : ℕ) → v < lendings.now.size → at result v ≡ at lendings.now v -ℤ at lendings.now q }
+    {
+        let size = lendings.size();
+        let mut entries = [0; 16];
+        for v in 0..size {
+            entries[v] = (lendings.get(v) - lendings.get(q)) as i64;
         }
         Script { size, entries }
     }

@@ -1,9 +1,15 @@
-ghost use Rattle.std.specs.Prelude.{◌≡◌, ℕ, ◌<◌, MatchResult};
+ghost use Rattle.std.specs.Prelude.{◌≡◌, ℕ, ◌<◌, ◌≤◌, ◌^◌, ◌+ℤ◌, ◌-ℤ◌, pos, MatchResult};
+ghost use Rattle.std.specs.Int.RustNames.{unsigned_abs};
+ghost use Rattle.dg_theory.specs.Firing.{fired, indicator};
 ghost use Rattle.dg_chips.specs.Vector.{at, HoldsNumbers, IsWide};
+ghost use Rattle.dg_chips.specs.Moves.{in_set};
 ghost use Rattle.dg_chips.specs.DivisorFaults.{IsWideFault};
 
 use crate::divisor::{ChipFault, Divisor};
+use crate::firing::gained;
 use crate::numbers::padded_wide;
+use crate::script::Script;
+use crate::scripts::contains;
 use dg_graph::Graph;
 use std::marker::Model;
 
@@ -51,6 +57,49 @@ impl Wide {
         let mut amounts = [0; 16];
         for v in 0..size {
             amounts[v] = i128::from(divisor.get(v));
+        }
+        Wide { size, amounts }
+    }
+
+    /// The amounts that are 0 at every vertex of the graph.
+    pub fn zero(graph: &Graph) -> Wide
+        ensures size { result.size ≡ graph.now.size }
+        ensures amounts { (v : ℕ) → at result v ≡ pos 0 }
+    {
+        let size = graph.size();
+        Wide {
+            size,
+            amounts: [0; 16],
+        }
+    }
+
+    /// The amounts after each vertex of a set has lent once.
+    pub fn fired(&self, graph: &Graph, set: u16) -> Wide
+        requires size { self.now.size ≡ graph.now.size }
+        requires range { (v : ℕ) → v < graph.now.size → unsigned_abs (at self.now v) ≤ 2 ^ 120 }
+        ensures size { result.size ≡ graph.now.size }
+        ensures amounts { (v : ℕ) → v < graph.now.size →
+            at result v ≡ fired graph.now (at self.now) (indicator (in_set set)) v }
+    {
+        let size = graph.size();
+        let script = Script::indicator(size, set);
+        let mut amounts = [0; 16];
+        for v in 0..size {
+            amounts[v] = self.get(v) + i128::from(gained(graph, &script, v));
+        }
+        Wide { size, amounts }
+    }
+
+    /// The amounts with 1 more at each vertex of a set.
+    pub fn one_more(&self, set: u16) -> Wide
+        requires { (v : ℕ) → v < self.now.size → unsigned_abs (at self.now v) ≤ 2 ^ 126 }
+        ensures size { result.size ≡ self.now.size }
+        ensures amounts { (v : ℕ) → v < self.now.size → at result v ≡ at self.now v +ℤ indicator (in_set set) v }
+    {
+        let size = self.size();
+        let mut amounts = [0; 16];
+        for v in 0..size {
+            amounts[v] = self.get(v) + i128::from(contains(set, v));
         }
         Wide { size, amounts }
     }

@@ -1,0 +1,70 @@
+-- What a reduction comes to.
+--   reduced-cong     divisors that agree on the vertices are reduced together
+--   reduced_few      off q, a reduced divisor holds at most 62 dollars
+--   script_near      so a script that leads to it is near to its entry at q
+--   relative_leads   less its entry at q, it leads to the same
+--   reduced_only     the reduced divisor and its script that is 0 at q are the only ones
+--   only-cong        divisors that agree on the vertices are fired to the same only one
+use Rattle.std.proofs.Common.{◌≡◌, ◌≢◌, ℕ, ◌+◌, ◌*◌, ◌<◌, ◌≤◌, ◌==◌, Bool, arith, ap, sym, ◌∙◌, refl}
+use Rattle.std.proofs.lemmas.Int.{ints}
+use Rattle.std.proofs.lemmas.Bool.{eq-eqb, eqb-true, ne_eqb}
+use Rattle.std.proofs.Math.IntN.{ℤ, pos, ◌+ℤ◌, ◌-ℤ◌}
+use Rattle.std.specs.Prelude.{◌≤ℤ◌}
+use Rattle.std.specs.Int.RustNames.{unsigned_abs}
+use Rattle.dg_theory.specs.Multigraph.{Multigraph, valence}
+use Rattle.dg_theory.specs.Firing.{Amounts, gain, fired}
+use Rattle.dg_theory.specs.Reduced.{edges_out, IsReduced}
+use Rattle.dg_theory.proofs.Bounds.{script_bound}
+use Rattle.dg_theory.proofs.ConstantLaws.{same_by_constant}
+use Rattle.dg_theory.proofs.Debts.{out-le-valence}
+use Rattle.dg_theory.proofs.ReducedLaws.{reduced_once}
+use Rattle.dg_theory.proofs.Scripts.{fired-shifted}
+use Rattle.dg_graph.specs.Graph.{IsGraph}
+use Rattle.dg_reduce.specs.Only.{IsOnly}
+
+pub reduced-cong : (g : Multigraph) (q : ℕ) (D E : Amounts) → ((v : ℕ) → v < g.size → D v ≡ E v) → IsReduced g q D → IsReduced g q E
+reduced-cong g q D E same reduced = record {
+  no_debt = λ v inside other. rw (← same v inside) (reduced.no_debt v inside other);
+  none_fires = λ S without u inside member.
+      let (v, below, in_S, less) = reduced.none_fires S without u inside member in
+      (v, below, in_S, rw (← same v below) less);
+}
+
+pub reduced_few : (g : Multigraph) (q : ℕ) (D : Amounts) (v : ℕ) → IsGraph g → IsReduced g q D → v < g.size → v ≢ q → D v ≤ℤ pos 62
+reduced_few g q D v graph reduced inside other =
+    let S : ℕ → Bool = λ w. w == v in
+    let (u, below, member, less) = reduced.none_fires S (ne_eqb q v (λ e. other (sym e))) v inside (eq-eqb v v refl) in
+    let out : edges_out g S u ≤ valence g u = out-le-valence g S u in
+    let few : valence g u ≤ 63 = graph.valences u below in
+    let same : D u ≡ D v = ap D (eqb-true u v member) in
+    omega (arith, ints)
+
+pub script_near : (g : Multigraph) (q : ℕ) (D R s : Amounts) (M : ℕ) → IsGraph g → q < g.size →
+    ((v : ℕ) → v < g.size → unsigned_abs (D v) ≤ M) → IsReduced g q R → ((v : ℕ) → v < g.size → R v ≡ fired g D s v) →
+    (v : ℕ) → v < g.size → unsigned_abs (s v -ℤ s q) ≤ 225 * (M + 62)
+script_near g q D R s M graph vertex range reduced leads v inside =
+    script_bound g q D s M graph.multigraph vertex graph.few range
+    (λ w below other. rw (← leads w below) (reduced.no_debt w below other, reduced_few g q R w graph reduced below other)) v inside
+
+pub relative_leads : (g : Multigraph) (q : ℕ) (D R s t : Amounts) → ((v : ℕ) → v < g.size → R v ≡ fired g D s v) →
+    ((v : ℕ) → v < g.size → t v ≡ s v -ℤ s q) → (v : ℕ) → v < g.size → R v ≡ fired g D t v
+relative_leads g q D R s t leads relative v inside =
+    leads v inside
+    ∙ fired-shifted g D s t (s q) (λ w below. let at : t w ≡ s w -ℤ s q = relative w below in omega (arith, ints)) v inside
+
+pub reduced_only : (g : Multigraph) (q : ℕ) (D R s : Amounts) → IsGraph g → q < g.size → IsReduced g q R →
+    ((v : ℕ) → v < g.size → R v ≡ fired g D s v) → s q ≡ pos 0 → IsOnly g q D R s
+reduced_only g q D R s graph vertex reduced leads at_q t also_q other v inside =
+    let here : IsReduced g q (fired g D s) = reduced-cong g q R (fired g D s) leads reduced in
+    let same : (w : ℕ) → w < g.size → fired g D t w ≡ fired g D s w = reduced_once g q D t s vertex other here in
+    let (x, shift) = (same_by_constant g D t s graph.multigraph).0 same in
+    let at_v : t v ≡ s v +ℤ x = shift v inside in
+    let there : t q ≡ s q +ℤ x = shift q vertex in
+    (omega (arith, ints), same v inside ∙ sym (leads v inside))
+
+pub only-cong : (g : Multigraph) (q : ℕ) (D E R s : Amounts) → ((v : ℕ) → v < g.size → D v ≡ E v) → IsOnly g q D R s → IsOnly g q E R s
+only-cong g q D E R s same only t at_q reduced v inside =
+    let alike : (w : ℕ) → w < g.size → fired g E t w ≡ fired g D t w =
+    λ w below. ap (λ (z : ℤ). z +ℤ gain g t w) (sym (same w below)) in
+    let (script, divisor) = only t at_q (reduced-cong g q (fired g E t) (fired g D t) alike reduced) v inside in
+    (script, alike v inside ∙ divisor)

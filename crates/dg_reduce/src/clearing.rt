@@ -1,0 +1,46 @@
+ghost use Rattle.std.specs.Prelude.{◌≡◌, ℕ, ◌+◌, ◌<◌, ◌≤◌, slice_index};
+ghost use Rattle.std.specs.Int.RustNames.{unsigned_abs};
+ghost use Rattle.dg_theory.specs.Distances.{IsDistance};
+ghost use Rattle.dg_graph.specs.Graph.{IsGraph};
+ghost use Rattle.dg_chips.specs.Vector.{at};
+ghost use Rattle.dg_reduce.specs.States.{IsCleared};
+
+use crate::led::Led;
+use crate::near::{has_debt, nearer_set};
+use dg_chips::Wide;
+use dg_graph::Graph;
+
+/// Clears the debts off q, from the farthest level to the nearest.
+pub fn clear_levels(graph: &Graph, levels: &[usize; 16], chips: &Wide) -> Led
+    requires graph { IsGraph graph.now }
+    requires size { chips.now.size ≡ graph.now.size }
+    requires range { (v : ℕ) → v < graph.now.size → unsigned_abs (at chips.now v) ≤ 2000000 }
+    requires distance { (q : ℕ) × IsDistance graph.now q (slice_index levels.now) }
+    ensures cleared { IsCleared graph.now (slice_index levels.now) 1 result }
+    ensures start { result.start ≡ chips.now }
+{
+    let mut led = Led::new(graph, chips);
+    let mut level = 15;
+    'levels: while level > 0 {
+        led = clear_level(graph, levels, level, &led);
+        level -= 1;
+    }
+    led
+}
+
+/// Clears the debts of a level: all nearer vertices lend until nobody of it is in debt.
+fn clear_level(graph: &Graph, levels: &[usize; 16], level: usize, led: &Led) -> Led
+    requires some { 0 < level }
+    requires few { level ≤ 15 }
+    requires distance { (q : ℕ) × IsDistance graph.now q (slice_index levels.now) }
+    requires cleared { IsCleared graph.now (slice_index levels.now) (level + 1) led.now }
+    ensures cleared { IsCleared graph.now (slice_index levels.now) level result }
+    ensures start { result.start ≡ led.now.start }
+{
+    let set = nearer_set(graph.size(), levels, level);
+    let mut now = *led;
+    'debts: while has_debt(levels, level, &now.chips) {
+        now = now.fired(graph, set);
+    }
+    now
+}
