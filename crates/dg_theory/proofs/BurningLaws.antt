@@ -18,7 +18,7 @@ use Rattle.dg_theory.specs.Burning.{among, edges_into, BurnsInOrder, FiresFreely
 use Rattle.dg_theory.specs.BurningLaws.{HasNoDebtOff, unburnt_by, UnburntFires, BurntIsReduced}
 use Rattle.dg_theory.proofs.TotalLaws.{total_below-cong}
 use Rattle.dg_theory.proofs.SetFiring.{fired-inside, inside-fired, outside-fired}
-use Rattle.dg_theory.proofs.BurningOrder.{burnt_of_set, q_burns}
+use Rattle.dg_theory.proofs.BurningOrder.{burnt_of_set, may_burn, q_burns}
 
 pub unburnt_by-below : (g : Multigraph) (l : List ℕ) (v : ℕ) → v < g.size → unburnt_by g l v ≡ not (among l v)
 unburnt_by-below g l v below = rw (lt-ltb v g.size below) refl
@@ -58,7 +58,7 @@ rest_fires g q D l solvent order = record {
 pub never_burns : (g : Multigraph) (q : ℕ) (D : Amounts) (l : List ℕ) (T : ℕ → Bool) (v : ℕ) → BurnsInOrder g q D l →
     FiresFreely g q D T → T v ≡ true → among l v ≡ false
 never_burns g q D l T v order free member = false_from_ne_true (among l v) (λ burnt.
-    let (u, below, inside, less) = burnt_of_set g q D l T v order free.without burnt member in
+    let (u, below, inside, less) = burnt_of_set g q D l T v order.first (may_burn g q D l order) free.without burnt member in
     let other : u ≢ q = λ same. both_ways _ free.without (ap T (sym same) ∙ inside) in
     let enough : pos (edges_out g T u) ≤ℤ D u = fired-inside g D T u inside (free.no_debt u below other) in
     absurd (omega (arith, ints)))
@@ -74,7 +74,7 @@ pub burnt_reduced : (g : Multigraph) (q : ℕ) (D : Amounts) (l : List ℕ) → 
     ((v : ℕ) → v < g.size → among l v ≡ true) → IsReduced g q D
 burnt_reduced g q D l solvent order all = record {
   no_debt = solvent;
-  none_fires = λ S without u below member. burnt_of_set g q D l S u order without (all u below) member;
+  none_fires = λ S without u below member. burnt_of_set g q D l S u order.first (may_burn g q D l order) without (all u below) member;
 }
 
 pub reduced_burnt : (g : Multigraph) (q : ℕ) (D : Amounts) (l : List ℕ) → BurnsInOrder g q D l → IsReduced g q D →

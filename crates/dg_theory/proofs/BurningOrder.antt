@@ -3,8 +3,9 @@
 --   among_first      the first element of a list is in it
 --   first_where      the first element of a list that passes a test, and its place
 --   into-le-out      as many edges at most lead into one set as lead out of another, if the two sets are disjoint
---   burnt_of_set     if a vertex of a set without q burns, some vertex of the set holds fewer dollars than edges lead
---                    from it out of the set: the first one of the set that burns
+--   burnt_of_set     if vertices burn, q first, and one of them is in a set without q, some vertex of the set holds fewer
+--                    dollars than edges lead from it out of the set: the first one of the set that burns
+--   may_burn         in the order in which vertices burn, each may burn when those before it have
 --   q_burns          q burns
 use Rattle.std.proofs.Common.{◌≡◌, ℕ, zero, suc, ◌<◌, ◌≤◌, ◌==◌, Bool, true, false, List, [], ◌∷◌, take, arith, refl, sym, ap, ◌∙◌, ⊎_elim}
 use Rattle.std.specs.Prelude.{slice_get, Some, pos, ◌<ℤ◌, if◌then◌else◌}
@@ -14,7 +15,7 @@ use Rattle.std.proofs.lemmas.Bool.{cases_Bool, eqb-true, eq-eqb, or_cases, or_le
 use Rattle.dg_theory.specs.Multigraph.{Multigraph, edges_between}
 use Rattle.dg_theory.specs.Firing.{Amounts}
 use Rattle.dg_theory.specs.Reduced.{edges_out}
-use Rattle.dg_theory.specs.Burning.{among, edges_into, BurnsInOrder, BurnsNext}
+use Rattle.dg_theory.specs.Burning.{among, edges_into, MayBurn, BurnsInOrder}
 use Rattle.dg_theory.proofs.TotalLaws.{total_below-le}
 
 pub list_any-among : (T : ℕ → Bool) (l : List ℕ) (v : ℕ) → among l v ≡ true → T v ≡ true → list_any T l ≡ true
@@ -53,27 +54,31 @@ into-le-out g B T v apart =
     total_below-le g.size _ _ (λ w below. into-le-out-once (B w) (T w) (edges_between g v w) (apart w))
 
 -- the first vertex of the set that burns does so at the place i, and no vertex of the set burns before
-burnt_at : (g : Multigraph) (q : ℕ) (D : Amounts) (l : List ℕ) (T : ℕ → Bool) → BurnsInOrder g q D l → T q ≡ false →
+burnt_at : (g : Multigraph) (q : ℕ) (D : Amounts) (l : List ℕ) (T : ℕ → Bool) → slice_get l 0 ≡ Some q →
+    ((i v : ℕ) → slice_get l (suc i) ≡ Some v → MayBurn g D (among (take (suc i) l)) v) → T q ≡ false →
     (i u : ℕ) → slice_get l i ≡ Some u → T u ≡ true → list_any T (take i l) ≡ false →
     (u < g.size) × (D u <ℤ pos (edges_out g T u))
-burnt_at g q D l T order without zero u place member earlier =
-    let first : slice_get l 0 ≡ Some q = order.first in
+burnt_at g q D l T first next without zero u place member earlier =
     let same : u ≡ q = cc in
     absurd (both_ways _ without (ap T (sym same) ∙ member))
-burnt_at g q D l T order without (suc i) u place member earlier =
-    let burns : BurnsNext g D (among (take (suc i) l)) u = order.next i u place in
+burnt_at g q D l T first next without (suc i) u place member earlier =
+    let burns : MayBurn g D (among (take (suc i) l)) u = next i u place in
     let out : edges_into g (among (take (suc i) l)) u ≤ edges_out g T u = into-le-out g _ T u (λ w burnt.
     false_from_ne_true (T w) (λ yes. both_ways _ earlier (list_any-among T (take (suc i) l) w burnt yes))) in
-    let reached : D u <ℤ pos (edges_into g (among (take (suc i) l)) u) = burns.may.reached in
-    (burns.may.vertex, omega (arith, ints))
+    let reached : D u <ℤ pos (edges_into g (among (take (suc i) l)) u) = burns.reached in
+    (burns.vertex, omega (arith, ints))
 
-pub burnt_of_set : (g : Multigraph) (q : ℕ) (D : Amounts) (l : List ℕ) (T : ℕ → Bool) (v : ℕ) →
-    BurnsInOrder g q D l → T q ≡ false → among l v ≡ true → T v ≡ true →
-    (u : ℕ) × (u < g.size) × (T u ≡ true) × (D u <ℤ pos (edges_out g T u))
-burnt_of_set g q D l T v order without burnt member =
+pub burnt_of_set : (g : Multigraph) (q : ℕ) (D : Amounts) (l : List ℕ) (T : ℕ → Bool) (v : ℕ) → slice_get l 0 ≡ Some q →
+    ((i v : ℕ) → slice_get l (suc i) ≡ Some v → MayBurn g D (among (take (suc i) l)) v) → T q ≡ false →
+    among l v ≡ true → T v ≡ true → (u : ℕ) × (u < g.size) × (T u ≡ true) × (D u <ℤ pos (edges_out g T u))
+burnt_of_set g q D l T v first next without burnt member =
     let (i, u, place, passes, none) = first_where T l (list_any-among T l v burnt member) in
-    let (below, less) = burnt_at g q D l T order without i u place passes none in
+    let (below, less) = burnt_at g q D l T first next without i u place passes none in
     (u, below, passes, less)
+
+pub may_burn : (g : Multigraph) (q : ℕ) (D : Amounts) (l : List ℕ) → BurnsInOrder g q D l →
+    (i v : ℕ) → slice_get l (suc i) ≡ Some v → MayBurn g D (among (take (suc i) l)) v
+may_burn g q D l order i v place = (order.next i v place).may
 
 pub q_burns : (g : Multigraph) (q : ℕ) (D : Amounts) (l : List ℕ) → BurnsInOrder g q D l → among l q ≡ true
 q_burns g q D l order = among_first l q order.first

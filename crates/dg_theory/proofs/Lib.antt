@@ -22,6 +22,7 @@ pub mod ReducedLaws
 pub mod ConstantLaws
 pub mod BurningOrder
 pub mod BurningLaws
+pub mod BurntWhole
 -- How far the entries of a script can lie apart.
 pub mod Cuts
 pub mod Counting
@@ -36,3 +37,9 @@ pub mod Debts
 pub mod Potential
 pub mod Weights
 pub mod Range
+-- That every divisor can be fired to a reduced one, for amounts of any size.
+pub mod Orders
+pub mod Heights
+pub mod Clearing
+pub mod Unburnt
+pub mod ExistenceLaws

@@ -6,6 +6,8 @@
 --   MayBurn g D B v        == v is not in B, and more edges join it to B than it holds dollars
 --   BurnsNext g D B v      == v is the least that may burn
 --   BurnsInOrder g q D l   == l is the order in which vertices burn, to the end
+--   BurnsAll g q D l       == l names each vertex once, q first, and each later one may burn when those before it have,
+--                             whether or not it is the least
 --   FiresFreely g q D S    == S is without q, and nobody off q is in debt once S has fired
 --   IsGreatestFree g q D S == S fires freely, and holds every vertex of every set that does
 use Rattle.std.specs.Prelude.{◌≡◌, ◌≢◌, ℕ, suc, ◌<◌, ◌==◌, Bool, true, false, if◌then◌else◌, List, slice_get, take, Some, pos, ◌≤ℤ◌, ◌<ℤ◌}
@@ -33,6 +35,11 @@ pub record BurnsInOrder (g : Multigraph) (q : ℕ) (D : Amounts) (l : List ℕ) 
   pub first : slice_get l 0 ≡ Some q
   pub next : (i v : ℕ) → slice_get l (suc i) ≡ Some v → BurnsNext g D (among (take (suc i) l)) v
   pub last : (v : ℕ) → ¬ MayBurn g D (among l) v
+
+pub record BurnsAll (g : Multigraph) (q : ℕ) (D : Amounts) (l : List ℕ) : Type 0 where
+  pub first : slice_get l 0 ≡ Some q
+  pub next : (i v : ℕ) → slice_get l (suc i) ≡ Some v → MayBurn g D (among (take (suc i) l)) v
+  pub all : (v : ℕ) → v < g.size → among l v ≡ true
 
 pub record FiresFreely (g : Multigraph) (q : ℕ) (D : Amounts) (S : ℕ → Bool) : Type 0 where
   pub without : S q ≡ false

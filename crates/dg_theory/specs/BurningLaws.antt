@@ -1,11 +1,12 @@
 -- The laws of burning, for a divisor without debt off q.
 --   UnburntFires    == what burning leaves is the greatest set that fires freely
 --   BurntIsReduced  == burning leaves nothing exactly where the divisor is reduced
+--   BurnsToReduced  == a divisor from which all vertices burn, in any order, is reduced
 use Rattle.std.specs.Prelude.{◌≡◌, ◌≢◌, ℕ, ◌<◌, ◌↔◌, Bool, true, not, ◌&&◌, nat_lt, List, pos, ◌≤ℤ◌}
 use Rattle.dg_theory.specs.Multigraph.{Multigraph, IsMultigraph}
 use Rattle.dg_theory.specs.Firing.{Amounts}
 use Rattle.dg_theory.specs.Reduced.{IsReduced}
-use Rattle.dg_theory.specs.Burning.{among, BurnsInOrder, IsGreatestFree}
+use Rattle.dg_theory.specs.Burning.{among, BurnsInOrder, BurnsAll, IsGreatestFree}
 
 abbrev pub HasNoDebtOff : Multigraph → ℕ → Amounts → Type 0
 HasNoDebtOff g q D = (v : ℕ) → v < g.size → v ≢ q → pos 0 ≤ℤ D v
@@ -21,3 +22,7 @@ UnburntFires = (g : Multigraph) (q : ℕ) (D : Amounts) (l : List ℕ) → IsMul
 abbrev pub BurntIsReduced : Type 0
 BurntIsReduced = (g : Multigraph) (q : ℕ) (D : Amounts) (l : List ℕ) → IsMultigraph g → q < g.size → HasNoDebtOff g q D →
     BurnsInOrder g q D l → (((v : ℕ) → v < g.size → among l v ≡ true) ↔ IsReduced g q D)
+
+abbrev pub BurnsToReduced : Type 0
+BurnsToReduced = (g : Multigraph) (q : ℕ) (D : Amounts) (l : List ℕ) → IsMultigraph g → q < g.size → HasNoDebtOff g q D →
+    BurnsAll g q D l → IsReduced g q D

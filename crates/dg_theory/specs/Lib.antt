@@ -9,4 +9,5 @@ pub mod WinningLaws
 pub mod Burning
 pub mod BurningLaws
 pub mod GenusLaws
+pub mod ExistenceLaws
 pub mod Distances

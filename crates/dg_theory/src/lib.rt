@@ -4,8 +4,9 @@
 
 ghost use Rattle.dg_theory.specs.Laws.{FiringAddsUp, ConstantScriptsDoNothing};
 ghost use Rattle.dg_theory.specs.WinningLaws.{DegreeStays, WinnableByScript, WinnableTogether, SameByConstant, ReducedDecides, ReducedOnce};
-ghost use Rattle.dg_theory.specs.BurningLaws.{UnburntFires, BurntIsReduced};
+ghost use Rattle.dg_theory.specs.BurningLaws.{UnburntFires, BurntIsReduced, BurnsToReduced};
 ghost use Rattle.dg_theory.specs.GenusLaws.{ReducedBelowGenus, BurntBelowGenus};
+ghost use Rattle.dg_theory.specs.ExistenceLaws.{ReducedExists, RichIsWinnable};
 
 /// Firing by one script and then by another is firing by their sum, and a constant script changes nothing.
 pub fn laws_of_firing()
@@ -30,11 +31,12 @@ pub fn laws_of_reduced_divisors()
     ensures decides { ReducedDecides }
 {}
 
-/// What burning tells: what it leaves is the greatest set that fires without debt off q, and it leaves nothing exactly
-/// where the divisor is reduced.
+/// What burning tells: what it leaves is the greatest set that fires without debt off q, it leaves nothing exactly
+/// where the divisor is reduced, and a divisor from which all vertices burn in any order is reduced.
 pub fn laws_of_burning()
     ensures unburnt { UnburntFires }
     ensures burnt { BurntIsReduced }
+    ensures all { BurnsToReduced }
 {}
 
 /// What the genus tells: a divisor that is reduced for q and in debt at q has a degree below the genus, and so has one
@@ -42,4 +44,11 @@ pub fn laws_of_burning()
 pub fn laws_of_the_genus()
     ensures reduced { ReducedBelowGenus }
     ensures burnt { BurntBelowGenus }
+{}
+
+/// What exists in every multigraph, for amounts of any size: each divisor can be fired to one that is reduced for q, by
+/// a script that is 0 at q; and a divisor whose degree is at least the genus is winnable.
+pub fn laws_of_existence()
+    ensures reduced { ReducedExists }
+    ensures rich { RichIsWinnable }
 {}

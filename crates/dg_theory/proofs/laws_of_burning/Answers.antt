@@ -1,4 +1,5 @@
 use Rattle.dg_theory.proofs.BurningLaws.{unburnt_fires, burnt_is_reduced}
+use Rattle.dg_theory.proofs.BurntWhole.{burns_to_reduced}
 use Rattle.dg_theory.proofs.laws_of_burning.Goals as goal
 
 pub returns-clause-unburnt : goal.returns-clause-unburnt
@@ -6,3 +7,6 @@ returns-clause-unburnt c = unburnt_fires
 
 pub returns-clause-burnt : goal.returns-clause-burnt
 returns-clause-burnt c = burnt_is_reduced
+
+pub returns-clause-all : goal.returns-clause-all
+returns-clause-all c = burns_to_reduced
