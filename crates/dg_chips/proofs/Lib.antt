@@ -1,4 +1,5 @@
 pub mod VectorLaws
 pub mod FlowLaws
 pub mod SetLaws
+pub mod DriftLaws
 pub mod Applying

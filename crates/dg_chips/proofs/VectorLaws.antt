@@ -1,7 +1,10 @@
 -- Lists of numbers, read at a place.
---   at_zeros      each number of a list of zeros is zero, also past its end
---   filled-set    a list that is f below v is f below v + 1 once f v is written at v
---   rest-set      a list that is zero from v on is zero from v + 1 on, whatever is written at v
+--   at_same       each number of a list of equal numbers is that number, also past its end
+--   at_zeros      the same for zeros
+--   filled        a list that is f below v is f below v + 1 once f v is written at v; z stands for what is past its end
+--   rest          a list that is z from v on is z from v + 1 on, whatever is written at v
+--   filled-set    the law of filled lists with 0 past the end
+--   rest-set      the law of the rest for 0
 --   single        zeros with x written at v are x at v and 0 elsewhere
 --   only_at_small a script of one small entry is within the limit
 use Rattle.std.proofs.Common.{◌≡◌, ◌≢◌, ℕ, ◌+◌, ◌<◌, ◌≤◌, List, length, slice_set, arith, inl, inr, get_or-set_same, get_or-set_other, below_more, ◌∙◌, nat_eq, true, false, lit≤}
@@ -14,23 +17,35 @@ use Rattle.std.proofs.lemmas.List.{get_or-replicate, get_or_past, length-replica
 use Rattle.std.proofs.lemmas.Bool.Decides.{nat_tests}
 use Rattle.dg_theory.specs.Firing.{only_at}
 
-pub at_zeros : (n v : ℕ) → slice_index_or (replicate n (pos 0)) v (pos 0) ≡ pos 0
-at_zeros n v = elim (cases_lt v n) [
-  | inl within ↦ get_or-replicate n v (pos 0) (pos 0) within
-  | inr past ↦ get_or_past (replicate n (pos 0)) v (pos 0) (omega (arith, length-replicate n (pos 0)))
+pub at_same : {X : Type 0} (n v : ℕ) (x : X) → slice_index_or (replicate n x) v x ≡ x
+at_same n v x = elim (cases_lt v n) [
+  | inl within ↦ get_or-replicate n v x x within
+  | inr past ↦ get_or_past (replicate n x) v x (omega (arith, length-replicate n x))
 ]
+
+pub at_zeros : (n v : ℕ) → slice_index_or (replicate n (pos 0)) v (pos 0) ≡ pos 0
+at_zeros n v = at_same n v (pos 0)
+
+pub filled : {X : Type 0} (z : X) (xs : List X) (v : ℕ) (x : X) (f : ℕ → X) → v < length xs → x ≡ f v →
+    ((u : ℕ) → u < v → slice_index_or xs u z ≡ f u) →
+    (u : ℕ) → u < v + 1 → slice_index_or (slice_set xs v x) u z ≡ f u
+filled z xs v x f within here before = below_more _ _
+    (λ u below. let other : u ≢ v = omega arith in get_or-set_other xs v u x z other ∙ before u below)
+    (get_or-set_same xs v x z within ∙ here)
+
+pub rest : {X : Type 0} (z : X) (xs : List X) (v : ℕ) (x : X) → ((u : ℕ) → v ≤ u → slice_index_or xs u z ≡ z) →
+    (u : ℕ) → v + 1 ≤ u → slice_index_or (slice_set xs v x) u z ≡ z
+rest z xs v x same u above =
+    let other : u ≢ v = omega arith in get_or-set_other xs v u x z other ∙ same u (omega arith)
 
 pub filled-set : (xs : List ℤ) (v : ℕ) (x : ℤ) (f : ℕ → ℤ) → v < length xs → x ≡ f v →
     ((u : ℕ) → u < v → slice_index_or xs u (pos 0) ≡ f u) →
     (u : ℕ) → u < v + 1 → slice_index_or (slice_set xs v x) u (pos 0) ≡ f u
-filled-set xs v x f within here before = below_more _ _
-    (λ u below. let other : u ≢ v = omega arith in get_or-set_other xs v u x (pos 0) other ∙ before u below)
-    (get_or-set_same xs v x (pos 0) within ∙ here)
+filled-set = filled (pos 0)
 
 pub rest-set : (xs : List ℤ) (v : ℕ) (x : ℤ) → ((u : ℕ) → v ≤ u → slice_index_or xs u (pos 0) ≡ pos 0) →
     (u : ℕ) → v + 1 ≤ u → slice_index_or (slice_set xs v x) u (pos 0) ≡ pos 0
-rest-set xs v x rest u above =
-    let other : u ≢ v = omega arith in get_or-set_other xs v u x (pos 0) other ∙ rest u (omega arith)
+rest-set = rest (pos 0)
 
 pub single : (n v : ℕ) (x : ℤ) → v < n → (w : ℕ) → slice_index_or (slice_set (replicate n (pos 0)) v x) w (pos 0) ≡ only_at v x w
 single n v x within w = elim (cases_lt w v) [

@@ -4,6 +4,7 @@ pub mod VectorFaults
 pub mod DivisorFaults
 pub mod ScriptFaults
 pub mod Moves
+pub mod Drifts
 pub mod Applied
 pub mod Refused
 pub mod Opening

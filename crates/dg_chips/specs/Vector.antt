@@ -2,6 +2,7 @@
 --   at x v               == the number at v
 --   IsVector limit x     == at most 16 numbers, each within the limit, and 0 past the size
 --   IsDivisor, IsScript  == the same with the limit of a divisor and of a script
+--   IsDrift              == the same with the limit of a drift, which is a sum of scripts
 --   IsWide x             == at most 16 numbers, and 0 past the size
 --   HoldsNumbers xs x    == the vector holds just the numbers of the list xs
 --   IsInRange n D        == all n amounts are within the limit of a divisor
@@ -28,6 +29,9 @@ IsDivisor x = IsVector 1000000 x
 
 abbrev pub IsScript : Vector → Type 0
 IsScript x = IsVector 1000000000 x
+
+abbrev pub IsDrift : Vector → Type 0
+IsDrift x = IsVector 100000000000000 x
 
 pub record IsWide (x : Vector) : Type 0 where
   pub few : x.size ≤ 16

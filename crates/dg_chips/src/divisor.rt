@@ -59,7 +59,7 @@ impl Divisor {
         if let Some(v) = first_past(amounts, MAX_AMOUNT) {
             return Err(ChipFault::Range(v));
         }
-        let amounts = padded(amounts);
+        let amounts = padded(amounts, 0);
         Ok(Divisor { size, amounts })
     }
 

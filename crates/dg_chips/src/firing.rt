@@ -7,8 +7,8 @@ ghost use Rattle.dg_chips.specs.Applied.{IsMoved};
 ghost use Rattle.dg_chips.specs.Refused.{IsRefusal};
 
 use crate::divisor::Divisor;
+use crate::drift::Drift;
 use crate::moves::{Move, MoveFault};
-use crate::script::Script;
 use crate::scripts::script_of;
 use dg_graph::Graph;
 
@@ -24,7 +24,7 @@ pub fn apply(graph: &Graph, divisor: &Divisor, play: &Move) -> Result<Divisor, M
         (IsRefusal graph.now (at divisor.now) play.now) }
 {
     let script = script_of(graph.size(), play)?;
-    let amounts = fired_amounts(graph, divisor, &script);
+    let amounts = fired_amounts(graph, divisor, &Drift::of(&script));
     match Divisor::new(graph, &amounts[..graph.size()]) {
         Ok(divisor) => Ok(divisor),
         Err(_) => Err(MoveFault::Range),
@@ -32,39 +32,39 @@ pub fn apply(graph: &Graph, divisor: &Divisor, play: &Move) -> Result<Divisor, M
 }
 
 /// The amounts after a firing.
-fn fired_amounts(graph: &Graph, divisor: &Divisor, script: &Script) -> [i64; 16]
+fn fired_amounts(graph: &Graph, divisor: &Divisor, drift: &Drift) -> [i64; 16]
     requires divisor { divisor.now.size ≡ graph.now.size }
-    requires script { script.now.size ≡ graph.now.size }
+    requires drift { drift.now.size ≡ graph.now.size }
     ensures places { length result ≡ 16 }
     ensures amounts { (v : ℕ) → v < graph.now.size →
-        slice_index_or result v (pos 0) ≡ fired graph.now (at divisor.now) (at script.now) v }
+        slice_index_or result v (pos 0) ≡ fired graph.now (at divisor.now) (at drift.now) v }
 {
     let mut amounts = [0; 16];
     for v in 0..graph.size() {
-        amounts[v] = divisor.get(v) + gained(graph, script, v);
+        amounts[v] = divisor.get(v) + gained(graph, drift, v);
     }
     amounts
 }
 
-/// What a vertex gets by a script.
-pub(crate) fn gained(graph: &Graph, script: &Script, v: usize) -> i64
+/// What a vertex gets by a drift.
+pub(crate) fn gained(graph: &Graph, drift: &Drift, v: usize) -> i64
     requires vertex { v < graph.now.size }
-    requires script { script.now.size ≡ graph.now.size }
-    ensures gain { result ≡ gain graph.now (at script.now) v }
-    ensures limit { unsigned_abs result ≤ 510000000000 * 16 }
+    requires drift { drift.now.size ≡ graph.now.size }
+    ensures gain { result ≡ gain graph.now (at drift.now) v }
+    ensures limit { unsigned_abs result ≤ 51000000000000000 * 16 }
 {
-    let here = script.get(v);
+    let here = drift.get(v);
     let mut sum = 0;
     for w in 0..graph.size() {
-        sum += flow(graph.edges(v, w), script.get(w), here);
+        sum += flow(graph.edges(v, w), drift.get(w), here);
     }
     sum
 }
 
 /// What comes along some edges, where the vertex there and the vertex here lend so often.
 fn flow(edges: u8, there: i64, here: i64) -> i64
-    requires there { unsigned_abs there ≤ 1000000000 }
-    requires here { unsigned_abs here ≤ 1000000000 }
+    requires there { unsigned_abs there ≤ 100000000000000 }
+    requires here { unsigned_abs here ≤ 100000000000000 }
     ensures { result ≡ pos edges *ℤ (there -ℤ here) }
 {
     i64::from(edges) * (there - here)

@@ -2,6 +2,7 @@
 #![tactic(auto)]
 
 mod divisor;
+mod drift;
 mod firing;
 mod moves;
 mod numbers;
@@ -13,8 +14,10 @@ mod tests;
 mod wide;
 
 pub use divisor::{ChipFault, Divisor};
+pub use drift::Drift;
 pub use firing::apply;
 pub use moves::{Move, MoveFault};
 pub use script::{Script, ScriptFault};
+pub use scripts::{contains, with_vertex};
 pub use start::{Start, StartFault};
 pub use wide::Wide;

@@ -17,26 +17,13 @@ pub fn first_past(numbers: &[i64], limit: u64) -> Option<usize>
     None
 }
 
-/// The numbers, and 0 at each place after them.
-pub fn padded(numbers: &[i64]) -> [i64; 16]
+/// The numbers, at most 16, and zero at each place after them.
+pub fn padded<T: Copy>(numbers: &[T], zero: T) -> [T; 16]
     requires { length numbers.now ≤ 16 }
-    ensures same { (v : ℕ) → v < length numbers.now → slice_index_or result v (pos 0) ≡ slice_index_or numbers.now v (pos 0) }
-    ensures zero { (v : ℕ) → length numbers.now ≤ v → slice_index_or result v (pos 0) ≡ pos 0 }
+    ensures same { (v : ℕ) → v < length numbers.now → slice_index_or result v zero ≡ slice_index_or numbers.now v zero }
+    ensures zero { (v : ℕ) → length numbers.now ≤ v → slice_index_or result v zero ≡ zero }
 {
-    let mut padded = [0; 16];
-    for (v, number) in numbers.iter().enumerate() {
-        padded[v] = *number;
-    }
-    padded
-}
-
-/// The numbers, and 0 at each place after them.
-pub fn padded_wide(numbers: &[i128]) -> [i128; 16]
-    requires { length numbers.now ≤ 16 }
-    ensures same { (v : ℕ) → v < length numbers.now → slice_index_or result v (pos 0) ≡ slice_index_or numbers.now v (pos 0) }
-    ensures zero { (v : ℕ) → length numbers.now ≤ v → slice_index_or result v (pos 0) ≡ pos 0 }
-{
-    let mut padded = [0; 16];
+    let mut padded = [zero; 16];
     for (v, number) in numbers.iter().enumerate() {
         padded[v] = *number;
     }

@@ -1,10 +1,14 @@
-ghost use Rattle.std.specs.Prelude.{◌≡◌, ℕ, ◌<◌, ◌≤◌, ◌-ℤ◌, MatchResult};
+ghost use Rattle.std.specs.Prelude.{◌≡◌, ℕ, ◌<◌, ◌≤◌, ◌+ℤ◌, ◌-ℤ◌, MatchResult, MatchBool};
 ghost use Rattle.std.specs.Int.RustNames.{unsigned_abs};
 ghost use Rattle.dg_theory.specs.Firing.{only_at, indicator};
 ghost use Rattle.dg_chips.specs.Vector.{at, HoldsNumbers, IsScript};
 ghost use Rattle.dg_chips.specs.Moves.{in_set};
+ghost use Rattle.dg_chips.specs.Drifts.{LeadsTo};
 ghost use Rattle.dg_chips.specs.ScriptFaults.{IsFirstScriptFault};
 
+use crate::divisor::Divisor;
+use crate::drift::Drift;
+use crate::firing::gained;
 use crate::numbers::{first_past, padded};
 use crate::scripts::contains;
 use crate::wide::Wide;
@@ -62,7 +66,7 @@ impl Script {
         if let Some(v) = first_past(entries, MAX_ENTRY) {
             return Err(ScriptFault::Limit(v));
         }
-        let entries = padded(entries);
+        let entries = padded(entries, 0);
         Ok(Script { size, entries })
     }
 
@@ -108,6 +112,44 @@ impl Script {
             entries[v] = (lendings.get(v) - lendings.get(q)) as i64;
         }
         Script { size, entries }
+    }
+
+    /// What this script lends more than a drift, with the drift's number for q added at each vertex: so q lends as often
+    /// as by this script.
+    pub fn rebased(&self, drift: &Drift, q: usize) -> Script
+        requires size { drift.now.size ≡ self.now.size }
+        requires vertex { q < self.now.size }
+        requires limit { (v : ℕ) → v < self.now.size →
+            unsigned_abs (at self.now v -ℤ at drift.now v +ℤ at drift.now q) ≤ 1000000000 }
+        ensures size { result.size ≡ self.now.size }
+        ensures entries { (v : ℕ) → v < self.now.size →
+            at result v ≡ at self.now v -ℤ at drift.now v +ℤ at drift.now q }
+    {
+        let size = self.size();
+        let mut entries = [0; 16];
+        for v in 0..size {
+            entries[v] = self.get(v) - drift.get(v) + drift.get(q);
+        }
+        Script { size, entries }
+    }
+
+    /// Whether firing by this script leads from a divisor to some amounts.
+    pub fn leads(&self, graph: &Graph, from: &Divisor, to: &Wide) -> bool
+        requires size { self.now.size ≡ graph.now.size }
+        requires from { from.now.size ≡ graph.now.size }
+        requires to { to.now.size ≡ graph.now.size }
+        ensures { MatchBool result
+            (LeadsTo graph.now (at self.now) (at from.now) (at to.now))
+            (¬ LeadsTo graph.now (at self.now) (at from.now) (at to.now)) }
+    {
+        let drift = Drift::of(self);
+        for v in 0..graph.size() {
+            let amount = from.get(v) + gained(graph, &drift, v);
+            if i128::from(amount) != to.get(v) {
+                return false;
+            }
+        }
+        true
     }
 
     /// The number of vertices.

@@ -1,4 +1,4 @@
-ghost use Rattle.std.specs.Prelude.{◌≡◌, ℕ, ◌<◌, ◌≤◌, true, MatchResult};
+ghost use Rattle.std.specs.Prelude.{◌≡◌, ◌≢◌, ℕ, ◌<◌, ◌≤◌, true, MatchResult};
 ghost use Rattle.std.specs.Bool.{OnTrue, OnFalse};
 ghost use Rattle.dg_chips.specs.Vector.{at};
 ghost use Rattle.dg_chips.specs.Moves.{in_set, script_of, IsPlayable};
@@ -61,10 +61,19 @@ fn names_past(size: usize, set: u16) -> bool
     false
 }
 
-/// Whether a vertex is in a set.
+/// Whether a vertex, 0 to 15, is in a set; bit v of the number stands for vertex v.
 pub fn contains(set: u16, v: usize) -> bool
     requires { v < 16 }
     ensures { result ≡ in_set set v }
 {
     set >> v & 1 == 1
+}
+
+/// The set with one vertex more, 0 to 15; bit v of the number stands for vertex v.
+pub fn with_vertex(set: u16, v: usize) -> u16
+    requires { v < 16 }
+    ensures same { in_set result v ≡ true }
+    ensures others { (w : ℕ) → w ≢ v → in_set result w ≡ in_set set w }
+{
+    set | 1 << v
 }

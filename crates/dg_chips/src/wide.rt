@@ -6,8 +6,9 @@ ghost use Rattle.dg_chips.specs.Moves.{in_set};
 ghost use Rattle.dg_chips.specs.DivisorFaults.{IsWideFault};
 
 use crate::divisor::{ChipFault, Divisor};
+use crate::drift::Drift;
 use crate::firing::gained;
-use crate::numbers::padded_wide;
+use crate::numbers::padded;
 use crate::script::Script;
 use crate::scripts::contains;
 use dg_graph::Graph;
@@ -43,7 +44,7 @@ impl Wide {
         if amounts.len() != size {
             return Err(ChipFault::Length);
         }
-        let amounts = padded_wide(amounts);
+        let amounts = padded(amounts, 0);
         Ok(Wide { size, amounts })
     }
 
@@ -82,10 +83,10 @@ impl Wide {
             at result v ≡ fired graph.now (at self.now) (indicator (in_set set)) v }
     {
         let size = graph.size();
-        let script = Script::indicator(size, set);
+        let drift = Drift::of(&Script::indicator(size, set));
         let mut amounts = [0; 16];
         for v in 0..size {
-            amounts[v] = self.get(v) + i128::from(gained(graph, &script, v));
+            amounts[v] = self.get(v) + i128::from(gained(graph, &drift, v));
         }
         Wide { size, amounts }
     }

@@ -10,6 +10,6 @@ loop-v-preserved c =
     let within : c.loop-v.v < length c.loop-v.amounts = omega arith in
     record {
       size = length-set _ _ _ ∙ c.loop-v.invariant.size;
-      fired = filled-set c.loop-v.amounts c.loop-v.v _ (fired c.args.graph.now (at c.args.divisor.now) (at c.args.script.now)) within
+      fired = filled-set c.loop-v.amounts c.loop-v.v _ (fired c.args.graph.now (at c.args.divisor.now) (at c.args.drift.now)) within
           (omega (arith, ints)) c.loop-v.invariant.fired;
     }

@@ -13,21 +13,21 @@ pub overflow_add-sum : goal.overflow_add-sum
 overflow_add-sum c =
     let (flow, flow_small) = flow_held c.edges.result c.get.result c.get-here.result c.flow-sum.result (omega arith) c.get.ensures.limit
     c.get-here.ensures.limit c.flow-sum.ensures in
-    let (low, high) = within_abs c.flow-sum.result 510000000000 flow_small in
-    let (low', high') = within_abs (to_z w64 c.loop-w.sum-bits) (510000000000 * c.loop-w.w) c.loop-w.invariant.limit in
+    let (low, high) = within_abs c.flow-sum.result 51000000000000000 flow_small in
+    let (low', high') = within_abs (to_z w64 c.loop-w.sum-bits) (51000000000000000 * c.loop-w.w) c.loop-w.invariant.limit in
     omega (arith, ints)
 
 pub loop-w-preserved : goal.loop-w-preserved
 loop-w-preserved c =
     let (flow, flow_small) = flow_held c.edges.result c.get.result c.get-here.result c.flow-sum.result (omega arith) c.get.ensures.limit
     c.get-here.ensures.limit c.flow-sum.ensures in
-    let (low, high) = within_abs c.flow-sum.result 510000000000 flow_small in
-    let (low', high') = within_abs (to_z w64 c.loop-w.sum-bits) (510000000000 * c.loop-w.w) c.loop-w.invariant.limit in
+    let (low, high) = within_abs c.flow-sum.result 51000000000000000 flow_small in
+    let (low', high') = within_abs (to_z w64 c.loop-w.sum-bits) (51000000000000000 * c.loop-w.w) c.loop-w.invariant.limit in
     let more : ℤ = to_z w64 (of_z w64 (to_z w64 c.loop-w.sum-bits +ℤ to_z w64 (of_z w64 c.flow-sum.result))) in
-    let term : ℤ = pos (edges_between c.args.graph.now c.args.v c.loop-w.w) *ℤ (at c.args.script.now c.loop-w.w -ℤ at c.args.script.now c.args.v) in
+    let term : ℤ = pos (edges_between c.args.graph.now c.args.v c.loop-w.w) *ℤ (at c.args.drift.now c.loop-w.w -ℤ at c.args.drift.now c.args.v) in
     let last : c.flow-sum.result ≡ term = flow ∙ rw (c.edges.ensures, c.get.ensures.entry, c.get-here.ensures.entry) refl in
     record {
-      sum = sum_below-more c.loop-w.w (λ u. pos (edges_between c.args.graph.now c.args.v u) *ℤ (at c.args.script.now u -ℤ at c.args.script.now c.args.v))
+      sum = sum_below-more c.loop-w.w (λ u. pos (edges_between c.args.graph.now c.args.v u) *ℤ (at c.args.drift.now u -ℤ at c.args.drift.now c.args.v))
           (to_z w64 c.loop-w.sum-bits) c.flow-sum.result more c.loop-w.invariant.sum last (omega (arith, ints));
-      limit = abs_within more (510000000000 * (c.loop-w.w + 1)) (omega (arith, ints)) (omega (arith, ints));
+      limit = abs_within more (51000000000000000 * (c.loop-w.w + 1)) (omega (arith, ints)) (omega (arith, ints));
     }

@@ -8,6 +8,6 @@ use Rattle.dg_chips.proofs.firing.gained.Given as goal
 
 abbrev pub invariant-loop-w : goal.invariant-loop-w
 invariant-loop-w l = record {
-  sum : l.sum ≡ sum_below l.w (λ u. pos (edges_between l.graph l.v u) *ℤ (at l.script u -ℤ at l.script l.v));
-  limit : unsigned_abs l.sum ≤ 510000000000 * l.w;
+  sum : l.sum ≡ sum_below l.w (λ u. pos (edges_between l.graph l.v u) *ℤ (at l.drift u -ℤ at l.drift l.v));
+  limit : unsigned_abs l.sum ≤ 51000000000000000 * l.w;
 }

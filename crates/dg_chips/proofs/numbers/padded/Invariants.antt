@@ -1,11 +1,10 @@
 use Rattle.std.proofs.Common.{◌≡◌, ℕ, ◌<◌, ◌≤◌, length}
 use Rattle.std.specs.List.{slice_index_or}
-use Rattle.std.proofs.Math.IntN.{pos}
 use Rattle.dg_chips.proofs.numbers.padded.Given as goal
 
 abbrev pub invariant-loop-v : goal.invariant-loop-v
-invariant-loop-v l = record {
+invariant-loop-v g l = record {
   size : length l.padded ≡ 16;
-  same : (w : ℕ) → w < l.v → slice_index_or l.padded w (pos 0) ≡ slice_index_or l.numbers w (pos 0);
-  zero : (w : ℕ) → l.v ≤ w → slice_index_or l.padded w (pos 0) ≡ pos 0;
+  same : (w : ℕ) → w < l.v → slice_index_or l.padded w l.fn.zero ≡ slice_index_or l.numbers w l.fn.zero;
+  zero : (w : ℕ) → l.v ≤ w → slice_index_or l.padded w l.fn.zero ≡ l.fn.zero;
 }

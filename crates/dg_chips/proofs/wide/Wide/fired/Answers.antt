@@ -14,7 +14,7 @@ loop-v-preserved c =
     let small : unsigned_abs (at c.args.self.now c.loop-v.v) ≤ 2 ^ 120 = c.requires.range c.loop-v.v (omega arith) in
     record {
       size = length-set _ _ _ ∙ c.loop-v.invariant.size;
-      same = filled-set c.loop-v.amounts c.loop-v.v _ (fired c.args.graph.now (at c.args.self.now) (at c.indicator-script.result)) within
+      same = filled-set c.loop-v.amounts c.loop-v.v _ (fired c.args.graph.now (at c.args.self.now) (at c.of-drift.result)) within
           (omega (arith, ints)) c.loop-v.invariant.same;
       zero = rest-set c.loop-v.amounts c.loop-v.v _ c.loop-v.invariant.zero;
     }
@@ -22,5 +22,5 @@ loop-v-preserved c =
 pub returns-clause-amounts : goal.returns-clause-amounts
 returns-clause-amounts c = λ v below.
     c.loop-v.invariant.same v (omega arith)
-    ∙ fired-cong c.args.graph.now (at c.args.self.now) (at c.indicator-script.result) (indicator (in_set c.args.set)) v below
-    (λ w inside. c.indicator-script.ensures.entries w (omega arith))
+    ∙ fired-cong c.args.graph.now (at c.args.self.now) (at c.of-drift.result) (indicator (in_set c.args.set)) v below
+    (λ w inside. c.of-drift.ensures.entries w (omega arith) ∙ c.indicator.ensures.entries w (omega arith))

@@ -1,0 +1,154 @@
+ghost use Rattle.std.specs.Prelude.{◌≡◌, ℕ, ◌<◌, ◌≤◌, ◌+ℤ◌, ◌-ℤ◌, pos, MatchOption, MatchBool};
+ghost use Rattle.std.specs.Int.RustNames.{unsigned_abs};
+ghost use Rattle.dg_chips.specs.Vector.{at, IsDrift};
+ghost use Rattle.dg_chips.specs.Moves.{script_of, IsPlayable};
+ghost use Rattle.dg_chips.specs.Drifts.{IsPastDrift, LeadsTo};
+
+use crate::divisor::Divisor;
+use crate::firing::gained;
+use crate::moves::Move;
+use crate::script::Script;
+use crate::scripts::script_of;
+use dg_graph::Graph;
+use std::marker::Model;
+
+/// The most lendings, and the most borrowings, that a drift may hold for a vertex.
+pub const MAX_DRIFT: u64 = 100_000_000_000_000;
+
+/// How often each vertex has lent by some moves together, from -100,000,000,000,000 to 100,000,000,000,000; a negative
+/// number is so many borrowings.
+#[derive(Clone, Copy, PartialEq, Eq)]
+pub struct Drift {
+    size: usize,
+    entries: [i64; 16],
+}
+
+impl Model for Drift {
+    ghost use Rattle.dg_chips.specs.Vector.{Vector, IsDrift};
+
+    ghost Value = { Vector };
+
+    ghost view = { λ a. record { size = a.size; numbers = a.entries } };
+
+    ghost invariant = { λ a. IsDrift (record { size = a.size; numbers = a.entries }) };
+
+    ghost inverse = { λ x. record { size = x.size; entries = x.numbers } };
+}
+
+impl Drift {
+    /// The drift of no move at all: 0 at every vertex.
+    pub fn zero(graph: &Graph) -> Drift
+        ensures size { result.size ≡ graph.now.size }
+        ensures entries { (v : ℕ) → at result v ≡ pos 0 }
+    {
+        let size = graph.size();
+        Drift {
+            size,
+            entries: [0; 16],
+        }
+    }
+
+    /// The drift of one script.
+    pub(crate) fn of(script: &Script) -> Drift
+        ensures size { result.size ≡ script.now.size }
+        ensures entries { (v : ℕ) → v < script.now.size → at result v ≡ at script.now v }
+    {
+        let size = script.size();
+        let mut entries = [0; 16];
+        for v in 0..size {
+            entries[v] = script.get(v);
+        }
+        Drift { size, entries }
+    }
+
+    /// What the first script lends more than the second, at each vertex.
+    pub fn between(first: &Script, second: &Script) -> Drift
+        requires { first.now.size ≡ second.now.size }
+        ensures size { result.size ≡ first.now.size }
+        ensures entries { (v : ℕ) → v < first.now.size → at result v ≡ at first.now v -ℤ at second.now v }
+    {
+        let size = first.size();
+        let mut entries = [0; 16];
+        for v in 0..size {
+            entries[v] = first.get(v) - second.get(v);
+        }
+        Drift { size, entries }
+    }
+
+    /// The drift with one move more.
+    ///
+    /// The move can be played on the graph: it names vertices of the graph alone, the set that it fires is not empty,
+    /// and its script has the graph's size. With it no vertex has lent or borrowed more than 100,000,000,000,000 times.
+    pub fn plus(&self, graph: &Graph, play: &Move) -> Drift
+        requires size { self.now.size ≡ graph.now.size }
+        requires playable { IsPlayable graph.now.size play.now }
+        requires limit { (v : ℕ) → v < graph.now.size → unsigned_abs (at self.now v +ℤ script_of play.now v) ≤ 100000000000000 }
+        ensures size { result.size ≡ graph.now.size }
+        ensures entries { (v : ℕ) → v < graph.now.size → at result v ≡ at self.now v +ℤ script_of play.now v }
+    {
+        let size = graph.size();
+        let Ok(script) = script_of(size, play) else {
+            unreachable!()
+        };
+        let mut entries = [0; 16];
+        for v in 0..size {
+            entries[v] = self.get(v) + script.get(v);
+        }
+        Drift { size, entries }
+    }
+
+    /// What this drift lends more than an earlier one; `None` where some difference is not within 100,000,000,000,000.
+    pub fn since(&self, earlier: &Drift) -> Option<Drift>
+        requires { earlier.now.size ≡ self.now.size }
+        ensures { MatchOption result
+            (IsPastDrift self.now.size (at self.now) (at earlier.now))
+            (λ d. (d.size ≡ self.now.size) × ((v : ℕ) → v < self.now.size → at d v ≡ at self.now v -ℤ at earlier.now v)) }
+    {
+        let size = self.size();
+        let mut entries = [0; 16];
+        for v in 0..size {
+            let more = self.get(v) - earlier.get(v);
+            if more.unsigned_abs() > MAX_DRIFT {
+                return None;
+            }
+            entries[v] = more;
+        }
+        Some(Drift { size, entries })
+    }
+
+    /// Whether firing by this drift leads from one divisor to another.
+    pub fn leads(&self, graph: &Graph, from: &Divisor, to: &Divisor) -> bool
+        requires size { self.now.size ≡ graph.now.size }
+        requires from { from.now.size ≡ graph.now.size }
+        requires to { to.now.size ≡ graph.now.size }
+        ensures { MatchBool result
+            (LeadsTo graph.now (at self.now) (at from.now) (at to.now))
+            (¬ LeadsTo graph.now (at self.now) (at from.now) (at to.now)) }
+    {
+        for v in 0..graph.size() {
+            if from.get(v) + gained(graph, self, v) != to.get(v) {
+                return false;
+            }
+        }
+        true
+    }
+
+    /// The number of vertices.
+    pub fn size(&self) -> usize
+        ensures size { result ≡ self.now.size }
+        ensures drift { IsDrift self.now }
+    {
+        self.size
+    }
+
+    /// How often a vertex has lent.
+    pub fn get(&self, v: usize) -> i64
+        requires { v < self.now.size }
+        ensures entry { result ≡ at self.now v }
+        ensures limit { unsigned_abs result ≤ 100000000000000 }
+    {
+        let _size = self.size;
+        let entries = &self.entries;
+        entries[v]
+    }
+}
