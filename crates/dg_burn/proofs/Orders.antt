@@ -1,9 +1,11 @@
 -- Lists of vertices in the order in which they burn.
 --   get-push       what a list with one more element at its end holds at a place
+--   get-first      it begins as before
+--   next-more      if each later element is right after those before it, so it is with one more that is right after all
 --   so_far-first   q alone
 --   so_far-more    one vertex more, which is the least that may burn
 --   so_far-done    the list is the whole order where none may burn
-use Rattle.std.proofs.Common.{◌≡◌, ℕ, zero, suc, ◌<◌, ◌⊎◌, List, [], ◌∷◌, ◌++◌, length, arith, refl, inl, inr, ⊎_elim}
+use Rattle.std.proofs.Common.{◌≡◌, ℕ, zero, suc, ◌<◌, ◌⊎◌, Bool, List, [], ◌∷◌, ◌++◌, length, take, arith, refl, inl, inr, ⊎_elim}
 use Rattle.std.specs.Prelude.{slice_get, Some}
 use Rattle.std.proofs.lemmas.List.{take-append-le, take_all}
 use Rattle.dg_theory.specs.Multigraph.{Multigraph}
@@ -21,9 +23,19 @@ get-push (x ∷ l) v (suc i) w place = ⊎_elim
     (λ (new : (i ≡ length l) × (v ≡ w)). inr (omega arith, new.1))
     (get-push l v i w place)
 
-get-first : (l : List ℕ) (v q : ℕ) → slice_get l 0 ≡ Some q → slice_get (l ++ v ∷ []) 0 ≡ Some q
+pub get-first : (l : List ℕ) (v q : ℕ) → slice_get l 0 ≡ Some q → slice_get (l ++ v ∷ []) 0 ≡ Some q
 get-first [] v q first = let clash : ⊥ = cc in absurd clash
 get-first (x ∷ l) v q first = first
+
+pub next-more : (P : (ℕ → Bool) → ℕ → Type 0) (l : List ℕ) (v : ℕ) →
+    ((i w : ℕ) → slice_get l (suc i) ≡ Some w → P (among (take (suc i) l)) w) → P (among l) v →
+    (i w : ℕ) → slice_get (l ++ v ∷ []) (suc i) ≡ Some w → P (among (take (suc i) (l ++ v ∷ []))) w
+next-more P l v before last i w place = ⊎_elim
+    (λ (old : (suc i < length l) × (slice_get l (suc i) ≡ Some w)).
+    rw (take-append-le (suc i) l (v ∷ []) (omega arith)) (before i w old.1))
+    (λ (new : (suc i ≡ length l) × (v ≡ w)).
+    rw (take-append-le (suc i) l (v ∷ []) (omega arith), take_all (suc i) l (omega arith), ← new.1) last)
+    (get-push l v (suc i) w place)
 
 pub so_far-first : (g : Multigraph) (q : ℕ) (D : Amounts) → BurnsSoFar g q D (q ∷ [])
 so_far-first g q D = record { first = refl; next = λ i v place. let clash : ⊥ = cc in absurd clash }
@@ -32,12 +44,7 @@ pub so_far-more : (g : Multigraph) (q : ℕ) (D : Amounts) (l : List ℕ) (v : �
     BurnsNext g D (among l) v → BurnsSoFar g q D (l ++ v ∷ [])
 so_far-more g q D l v so_far burns = record {
   first = get-first l v q so_far.first;
-  next = λ i w place. ⊎_elim
-      (λ (old : (suc i < length l) × (slice_get l (suc i) ≡ Some w)).
-      rw (take-append-le (suc i) l (v ∷ []) (omega arith)) (so_far.next i w old.1))
-      (λ (new : (suc i ≡ length l) × (v ≡ w)).
-      rw (take-append-le (suc i) l (v ∷ []) (omega arith), take_all (suc i) l (omega arith), ← new.1) burns)
-      (get-push l v (suc i) w place);
+  next = next-more (BurnsNext g D) l v so_far.next burns;
 }
 
 pub so_far-done : (g : Multigraph) (q : ℕ) (D : Amounts) (l : List ℕ) → BurnsSoFar g q D l →

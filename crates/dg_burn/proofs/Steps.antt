@@ -1,5 +1,6 @@
 -- The state of burning, from step to step.
 --   unreached-fewer   a vertex that is reached leaves one less that is not
+--   same-more         a set with one vertex more agrees with a list that has it at its end
 --   burning-first     the state where q alone burns
 --   burning-fewer     a vertex that burns leaves one less that is not reached
 --   burning-more      the state after one vertex more
@@ -47,8 +48,7 @@ all_unreached : (n k : ℕ) → unreached n (replicate k false) ≡ n
 all_unreached zero k = refl
 all_unreached (suc n) k = rw (none_in k n) (let front : unreached n (replicate k false) ≡ n = all_unreached n k in omega arith)
 
--- a set with one vertex more agrees with a list that has it at its end
-same-more : (l : List ℕ) (reached : List Bool) (v : ℕ) → v < length reached → ((w : ℕ) → is_in reached w ≡ among l w) →
+pub same-more : (l : List ℕ) (reached : List Bool) (v : ℕ) → v < length reached → ((w : ℕ) → is_in reached w ≡ among l w) →
     (w : ℕ) → is_in (set reached v true) w ≡ among (l ++ v ∷ []) w
 same-more l reached v within same w = ⊎_elim
     (λ (equal : w ≡ v). rw (equal, list_any-append (λ u. u == v) l (v ∷ []))

@@ -3,17 +3,21 @@
 --   rest_is_free    it is the greatest that fires freely
 --   none_reduced    if it is empty, the divisor is reduced
 --   reduced_none    if the divisor is reduced, it is empty
-use Rattle.std.proofs.Common.{◌≡◌, ℕ, ◌<◌, ◌≤◌, Bool, not, ◌&&◌, List, sym, ap, subst, ◌∙◌, ⊎_elim}
-use Rattle.std.specs.Prelude.{nat_lt}
-use Rattle.std.proofs.lemmas.Bool.{cases_lt, le-ltb, and_left, and_right, not-false, not_from_true}
+--   none_unreached  if no vertex is unreached, each is reached
+--   none_whole      it is empty exactly where as many vertices burn as there are
+use Rattle.std.proofs.Common.{◌≡◌, ℕ, zero, suc, ◌<◌, ◌≤◌, Bool, true, not, ◌&&◌, List, arith, refl, sym, ap, subst, ◌∙◌, ⊎_elim}
+use Rattle.std.specs.Prelude.{nat_lt, ◌↔◌, if◌then◌else◌}
+use Rattle.std.proofs.lemmas.Bool.{cases_lt, lt-ltb, le-ltb, and_left, and_right, not-false, not_from_true, true_from_ne_false}
 use Rattle.dg_theory.specs.Multigraph.{Multigraph, IsMultigraph}
 use Rattle.dg_theory.specs.Firing.{Amounts}
 use Rattle.dg_theory.specs.Reduced.{IsReduced}
 use Rattle.dg_theory.specs.Burning.{among, BurnsInOrder, IsGreatestFree}
 use Rattle.dg_theory.specs.BurningLaws.{HasNoDebtOff, unburnt_by}
 use Rattle.dg_theory.proofs.BurningLaws.{unburnt_by-below, unburnt_fires, burnt_reduced, reduced_burnt}
+use Rattle.dg_theory.proofs.TotalLaws.{total_below-term}
 use Rattle.dg_graph.specs.Search.{is_in}
 use Rattle.dg_chips.specs.Moves.{in_set}
+use Rattle.dg_burn.specs.SoFar.{unreached, IsBurning}
 use Rattle.dg_burn.proofs.Rests.{in_set-none, no_set}
 
 pub set_is_rest : (g : Multigraph) (l : List ℕ) (reached : List Bool) (k m : ℕ) → k ≡ g.size →
@@ -39,3 +43,38 @@ reduced_none g q D l m order rest reduced = no_set m (λ v. rest v ∙ ⊎_elim
     (λ (below : v < g.size). and_right _ _ (not_from_true _ (reduced_burnt g q D l order reduced v below)))
     (λ (above : g.size ≤ v). and_left _ _ (le-ltb v g.size above))
     (cases_lt v g.size))
+
+abbrev one_unless : Bool → ℕ
+one_unless b = if b then 0 else 1
+
+-- if each of n vertices is reached, none is unreached
+all_reached : (n : ℕ) (reached : List Bool) → ((v : ℕ) → v < n → is_in reached v ≡ true) → unreached n reached ≡ 0
+all_reached zero reached all = refl
+all_reached (suc n) reached all =
+    let before : unreached n reached ≡ 0 = all_reached n reached (λ v below. all v (omega arith)) in
+    let last : one_unless (is_in reached n) ≡ 0 = ap one_unless (all n (omega arith)) in
+    omega arith
+
+pub none_unreached : (n : ℕ) (reached : List Bool) (v : ℕ) → v < n → unreached n reached ≡ 0 → is_in reached v ≡ true
+none_unreached n reached v below none = true_from_ne_false (is_in reached v) (λ missed.
+    let one : one_unless (is_in reached v) ≡ 1 = ap one_unless missed in
+    let term : one_unless (is_in reached v) ≤ unreached n reached =
+    total_below-term n (λ w. one_unless (is_in reached w)) v below in
+    absurd (omega arith))
+
+pub none_whole : (g : Multigraph) (q : ℕ) (D : Amounts) (l : List ℕ) (n : ℕ) (reached : List Bool) (k m : ℕ) →
+    IsBurning g q D l n reached → k ≡ g.size → ((v : ℕ) → in_set m v ≡ (nat_lt v k && not (is_in reached v))) →
+    (m ≡ 0) ↔ (n ≡ g.size)
+none_whole g q D l n reached k m state size rest = (
+  λ none.
+      let all : unreached g.size reached ≡ 0 = all_reached g.size reached (λ v below.
+      not-false (is_in reached v)
+      (sym (ap (λ b. b && not (is_in reached v)) (lt-ltb v k (omega arith))) ∙ sym (rest v) ∙ ap (λ j. in_set j v) none ∙ in_set-none v)) in
+      omega (arith, state.left),
+  λ whole.
+      let none : unreached g.size reached ≡ 0 = omega (arith, state.left) in
+      no_set m (λ v. rest v ∙ ⊎_elim
+      (λ (below : v < k). and_right _ _ (not_from_true _ (none_unreached g.size reached v (omega arith) none)))
+      (λ (above : k ≤ v). and_left _ _ (le-ltb v k above))
+      (cases_lt v k)),
+)

@@ -33,6 +33,7 @@ pub fn burn(graph: &Graph, q: usize, chips: &Wide) -> Burnt
     ensures burnt { result.burnt ≤ graph.now.size }
     ensures unburnt { IsGreatestFree graph.now q (at chips.now) (in_set result.unburnt) }
     ensures reduced { (result.unburnt ≡ 0) ↔ IsReduced graph.now q (at chips.now) }
+    ensures whole { (result.unburnt ≡ 0) ↔ (result.burnt ≡ graph.now.size) }
 {
     let size = graph.size();
     let mut order = [0; 16];

@@ -8,3 +8,4 @@ mod search;
 mod tests;
 
 pub use burning::{Burnt, burn};
+pub use search::edges_to;

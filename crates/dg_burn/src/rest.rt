@@ -1,6 +1,8 @@
-ghost use Rattle.std.specs.Prelude.{◌≡◌, ◌≢◌, ℕ, ◌<◌, ◌≤◌, ◌&&◌, true, not, nat_lt};
+ghost use Rattle.std.specs.Prelude.{◌≡◌, ℕ, ◌≤◌, ◌&&◌, not, nat_lt};
 ghost use Rattle.dg_graph.specs.Search.{is_in};
 ghost use Rattle.dg_chips.specs.Moves.{in_set};
+
+use dg_chips::with_vertex;
 
 /// The set of the vertices that are not reached.
 pub fn rest_of(size: usize, reached: &[bool; 16]) -> u16
@@ -14,13 +16,4 @@ pub fn rest_of(size: usize, reached: &[bool; 16]) -> u16
         }
     }
     rest
-}
-
-/// The set with one vertex more.
-fn with_vertex(set: u16, v: usize) -> u16
-    requires { v < 16 }
-    ensures same { in_set result v ≡ true }
-    ensures others { (w : ℕ) → w ≢ v → in_set result w ≡ in_set set w }
-{
-    set | 1 << v
 }

@@ -22,7 +22,7 @@ pub fn next_to_burn(graph: &Graph, chips: &Wide, reached: &[bool; 16]) -> Option
 }
 
 /// The number of edges that join a vertex to burnt ones.
-fn edges_to(graph: &Graph, v: usize, reached: &[bool; 16]) -> u32
+pub fn edges_to(graph: &Graph, v: usize, reached: &[bool; 16]) -> u32
     requires { v < graph.now.size }
     ensures sum { result ≡ edges_into graph.now (is_in reached.now) v }
     ensures limit { result ≤ 255 * 16 }

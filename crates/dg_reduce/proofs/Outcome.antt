@@ -1,5 +1,4 @@
 -- What a reduction comes to.
---   reduced-cong     divisors that agree on the vertices are reduced together
 --   reduced_few      off q, a reduced divisor holds at most 62 dollars
 --   script_near      so a script that leads to it is near to its entry at q
 --   relative_leads   less its entry at q, it leads to the same
@@ -17,18 +16,11 @@ use Rattle.dg_theory.specs.Reduced.{edges_out, IsReduced}
 use Rattle.dg_theory.proofs.Bounds.{script_bound}
 use Rattle.dg_theory.proofs.ConstantLaws.{same_by_constant}
 use Rattle.dg_theory.proofs.Debts.{out-le-valence}
+use Rattle.dg_theory.proofs.ExistenceLaws.{reduced-cong}
 use Rattle.dg_theory.proofs.ReducedLaws.{reduced_once}
 use Rattle.dg_theory.proofs.Scripts.{fired-shifted}
 use Rattle.dg_graph.specs.Graph.{IsGraph}
 use Rattle.dg_reduce.specs.Only.{IsOnly}
-
-pub reduced-cong : (g : Multigraph) (q : ℕ) (D E : Amounts) → ((v : ℕ) → v < g.size → D v ≡ E v) → IsReduced g q D → IsReduced g q E
-reduced-cong g q D E same reduced = record {
-  no_debt = λ v inside other. rw (← same v inside) (reduced.no_debt v inside other);
-  none_fires = λ S without u inside member.
-      let (v, below, in_S, less) = reduced.none_fires S without u inside member in
-      (v, below, in_S, rw (← same v below) less);
-}
 
 pub reduced_few : (g : Multigraph) (q : ℕ) (D : Amounts) (v : ℕ) → IsGraph g → IsReduced g q D → v < g.size → v ≢ q → D v ≤ℤ pos 62
 reduced_few g q D v graph reduced inside other =

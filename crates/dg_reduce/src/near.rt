@@ -3,7 +3,7 @@ ghost use Rattle.std.specs.Bool.{OnTrue, OnFalse};
 ghost use Rattle.dg_chips.specs.Vector.{at};
 ghost use Rattle.dg_chips.specs.Moves.{in_set};
 
-use dg_chips::Wide;
+use dg_chips::{Wide, with_vertex};
 
 /// Whether a vertex of the level is in debt.
 pub fn has_debt(levels: &[usize; 16], level: usize, chips: &Wide) -> bool
@@ -32,13 +32,4 @@ pub fn nearer_set(size: usize, levels: &[usize; 16], level: usize) -> u16
         }
     }
     set
-}
-
-/// The set with one vertex more.
-fn with_vertex(set: u16, v: usize) -> u16
-    requires { v < 16 }
-    ensures same { in_set result v ≡ true }
-    ensures others { (w : ℕ) → w ≢ v → in_set result w ≡ in_set set w }
-{
-    set | 1 << v
 }

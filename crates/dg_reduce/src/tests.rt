@@ -10,15 +10,25 @@ use std::test::Fail;
 
 #[test]
 fn reduced_divisors(rt: HostRuntime) -> Result<(), Fail> {
+    let triangle = Graph::new(3, &[(0, 1, 1), (1, 2, 1), (0, 2, 1)])?;
     let path = Graph::new(4, &[(0, 1, 1), (1, 2, 1), (2, 3, 1)])?;
     let square = Graph::new(4, &[(0, 1, 1), (1, 2, 1), (2, 3, 1), (3, 0, 1)])?;
-    let cases: [(Graph, &[i64], &[i128], &[i64]); 2] = [
-        (path, &[0, 10, 10, 10], &[30, 0, 0, 0], &[0, 30, 50, 60]),
-        (square, &[-2, 0, 3, 0], &[0, 0, 1, 0], &[0, 1, 2, 1]),
+    // By hand: in the triangle 0 lends once and gives 1 and 2 what they owe, and from 2 all burns, since nobody off 2
+    // holds a dollar. On a path all dollars come to q: each edge carries the sum of the amounts beyond it, which is
+    // how much more often its far end lends. Square from 2 with 0 0 -1 3: burning leaves 3, which lends, and from
+    // 1 0 0 1 it leaves 0 and 3, which lend; from 0 1 1 0 burn 3, 0 and, with 2 edges for 1 dollar, 1.
+    let cases: [(Graph, usize, &[i64], &[i128], &[i64]); 6] = [
+        (path, 0, &[0, 10, 10, 10], &[30, 0, 0, 0], &[0, 30, 50, 60]),
+        (square, 0, &[-2, 0, 3, 0], &[0, 0, 1, 0], &[0, 1, 2, 1]),
+        (triangle, 2, &[2, -1, -1], &[0, 0, 0], &[1, 0, 0]),
+        (path, 3, &[-1, 4, 0, -2], &[0, 0, 0, 1], &[5, 6, 3, 0]),
+        (path, 1, &[3, -2, 1, -1], &[0, 1, 0, 0], &[3, 0, 0, -1]),
+        (square, 2, &[0, 0, -1, 3], &[0, 1, 1, 0], &[1, 0, 0, 2]),
     ];
-    for (graph, amounts, chips, script) in cases {
+    for (graph, q, amounts, chips, script) in cases {
         let divisor = Divisor::new(&graph, amounts)?;
-        let reduced = reduce(&graph, 0, &divisor);
+        assert!(rt; q < graph.size());
+        let reduced = reduce(&graph, q, &divisor);
         assert!(rt; reduced.divisor == Wide::new(&graph, chips)?, "{chips:?}");
         assert!(rt;
             reduced.script == Script::new(&graph, script)?,

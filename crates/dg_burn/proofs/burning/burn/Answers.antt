@@ -5,7 +5,7 @@ use Rattle.dg_chips.specs.Vector.{at}
 use Rattle.dg_chips.specs.Moves.{in_set}
 use Rattle.dg_burn.proofs.Rests.{none_after}
 use Rattle.dg_burn.proofs.Steps.{burning-first, burning-fewer, burning-more, burning-done}
-use Rattle.dg_burn.proofs.Told.{set_is_rest, rest_is_free, none_reduced, reduced_none}
+use Rattle.dg_burn.proofs.Told.{set_is_rest, rest_is_free, none_reduced, reduced_none, none_whole}
 use Rattle.dg_burn.proofs.burning.burn.Goals as goal
 
 pub burning-init : goal.burning-init
@@ -58,3 +58,7 @@ returns-clause-reduced c =
     let rest : (v : ℕ) → in_set c.rest_of.result v ≡ unburnt_by c.args.graph.now (take c.burning.count c.burning.order) v =
     set_is_rest c.args.graph.now _ _ _ _ c.size-size.ensures.size c.burning.invariant.state.same c.rest_of.ensures in
     (none_reduced _ _ _ _ _ c.requires.no_debt order rest, reduced_none _ _ _ _ _ order rest)
+
+pub returns-clause-whole : goal.returns-clause-whole
+returns-clause-whole c =
+    none_whole c.args.graph.now _ _ _ _ _ _ _ c.burning.invariant.state c.size-size.ensures.size c.rest_of.ensures
