@@ -1,0 +1,5 @@
+pub mod Orders
+pub mod Verdicts
+pub mod Rebased
+pub mod Agreement
+pub mod Between

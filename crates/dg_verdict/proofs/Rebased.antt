@@ -1,0 +1,63 @@
+-- A verdict that is carried along a drift m: its script s becomes s less m, with m's number for q added.
+--   rebased_leads   the new script leads from the divisor after the drift to the same reduced divisor
+--   rebased_small   if that divisor is in range, the new script fits
+--   rebased_right   the verdict with the new script is right for it
+use Rattle.std.proofs.Common.{◌≡◌, ℕ, ◌+◌, ◌*◌, ◌<◌, ◌≤◌, arith, sym, ◌∙◌}
+use Rattle.std.specs.Int.RustNames.{unsigned_abs}
+use Rattle.std.proofs.lemmas.Int.{ints}
+use Rattle.std.proofs.Math.IntN.{pos, ◌+ℤ◌, ◌-ℤ◌}
+use Rattle.dg_theory.specs.Multigraph.{Multigraph}
+use Rattle.dg_theory.specs.Firing.{Amounts, fired}
+use Rattle.dg_theory.proofs.FiringLaws.{fired-fired}
+use Rattle.dg_theory.proofs.Scripts.{fired-shifted}
+use Rattle.dg_theory.proofs.Winning.{win_after, win_before}
+use Rattle.dg_chips.specs.Vector.{Vector, at}
+use Rattle.dg_reduce.proofs.Outcome.{script_near}
+use Rattle.dg_verdict.specs.declared.verdict.Verdict.{Verdict}
+use Rattle.dg_verdict.specs.Right.{IsRight}
+use Rattle.dg_verdict.specs.Rebasing.{IsRebasable}
+
+pub rebased_leads : (g : Multigraph) (q : ℕ) (D R s m t : Amounts) → ((v : ℕ) → v < g.size → R v ≡ fired g D s v) →
+    ((v : ℕ) → v < g.size → t v ≡ s v -ℤ m v +ℤ m q) → (v : ℕ) → v < g.size → R v ≡ fired g (fired g D m) t v
+rebased_leads g q D R s m t leads rebased v inside =
+    leads v inside
+    ∙ sym (fired-fired g D m t v
+    ∙ fired-shifted g D (λ w. m w +ℤ t w) s (m q)
+    (λ w below. let here : t w ≡ s w -ℤ m w +ℤ m q = rebased w below in omega (arith, ints)) v inside)
+
+pub rebased_small : (q : ℕ) (x : Verdict) (m : Vector) → IsRebasable q x m → (v : ℕ) → v < x.script.size →
+    unsigned_abs (at x.script v -ℤ at m v +ℤ at m q) ≤ 1000000000
+rebased_small q x m can v inside =
+    let t : Amounts = λ w. at x.script w -ℤ at m w +ℤ at m q in
+    let leads : (w : ℕ) → w < can.graph.size → at x.reduced w ≡ fired can.graph (fired can.graph can.start (at m)) t w =
+    rebased_leads can.graph q can.start (at x.reduced) (at x.script) (at m) t can.right.led (λ w below. omega (arith, ints)) in
+    let near : unsigned_abs (t v -ℤ t q) ≤ 225 * (1000000 + 62) =
+    script_near can.graph q (fired can.graph can.start (at m)) (at x.reduced) t 1000000 can.is_graph can.vertex can.in_range
+    can.right.reduced leads v (omega (arith, can.right.script_size)) in
+    let at_q : at x.script q ≡ pos 0 = can.right.at_q in
+    let same : t v -ℤ t q ≡ t v = omega (arith, ints) in
+    let small : unsigned_abs (t v) ≤ 225 * (1000000 + 62) = rw same at near in
+    omega arith
+
+pub rebased_right : (g : Multigraph) (q : ℕ) (D : Amounts) (x : Verdict) (m t : Vector) → q < g.size → IsRight g q D x →
+    m.size ≡ g.size → t.size ≡ x.script.size →
+    ((v : ℕ) → v < x.script.size → at t v ≡ at x.script v -ℤ at m v +ℤ at m q) →
+    IsRight g q (fired g D (at m)) record { winnable = x.winnable; script = t; reduced = x.reduced; order = x.order }
+rebased_right g q D x m t vertex right drift size rebased =
+    let within : (v : ℕ) → v < g.size → at t v ≡ at x.script v -ℤ at m v +ℤ at m q =
+    λ v inside. rebased v (omega (arith, right.script_size)) in
+    record {
+      script_size = size ∙ right.script_size;
+      reduced_size = right.reduced_size;
+      at_q =
+          let before : at x.script q ≡ pos 0 = right.at_q in
+          let after : at t q ≡ at x.script q -ℤ at m q +ℤ at m q = within q vertex in
+          omega (arith, ints);
+      led = rebased_leads g q D (at x.reduced) (at x.script) (at m) (at t) right.led within;
+      reduced = right.reduced;
+      order = right.order;
+      winnable = (
+        λ told. win_after g D (at m) (right.winnable.0 told),
+        λ winnable. right.winnable.1 (win_before g D (at m) winnable),
+      );
+    }

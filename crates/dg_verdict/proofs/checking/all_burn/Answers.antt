@@ -1,0 +1,25 @@
+use Rattle.std.proofs.Common.{arith}
+use Rattle.dg_chips.specs.Vector.{at}
+use Rattle.dg_verdict.proofs.Orders.{order-first, order-more, order-done, order-fails}
+use Rattle.dg_verdict.proofs.checking.all_burn.Goals as goal
+
+pub loop-i-init : goal.loop-i-init
+loop-i-init c =
+    order-first c.args.graph.now c.args.q (at c.args.chips.now) c.args.order.now c.size-size.ensures.graph.few c.requires.vertex
+    (omega arith) (grind arith)
+
+pub returns-then-not-may_burn : goal.returns-then-not-may_burn
+returns-then-not-may_burn c =
+    order-fails c.args.graph.now c.args.q (at c.args.chips.now) c.args.order.now c.loop-i.i c.loop-i.reached c.loop-i.invariant
+    (omega arith) (omega arith) (omega (arith, c.size-size.ensures.graph.few)) (grind arith)
+
+pub loop-i-preserved : goal.loop-i-preserved
+loop-i-preserved c =
+    order-more c.args.graph.now c.args.q (at c.args.chips.now) c.args.order.now c.loop-i.i c.loop-i.reached c.from-v.result
+    c.loop-i.invariant c.size-size.ensures.graph.few (omega (arith, c.size-size.ensures.graph.few)) (grind arith)
+    c.if-not-may_burn.ensures
+
+pub returns : goal.returns
+returns c =
+    order-done c.args.graph.now c.args.q (at c.args.chips.now) c.args.order.now c.loop-i.i c.loop-i.reached c.loop-i.invariant
+    (omega arith)

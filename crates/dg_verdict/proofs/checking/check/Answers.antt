@@ -1,0 +1,41 @@
+use Rattle.std.proofs.Common.{◌≡◌, true, take, rules, arith, sym}
+use Rattle.std.specs.Prelude.{◌≤ℤ◌}
+use Rattle.std.specs.Int.{w128}
+use lib.Signed.{le_z}
+use mir.Val.{to_z, of_z}
+use Rattle.std.proofs.lemmas.Int.{ints}
+use Rattle.std.proofs.Math.IntN.{pos}
+use Rattle.dg_theory.specs.Reduced.{IsReduced}
+use Rattle.dg_theory.specs.Burning.{BurnsAll}
+use Rattle.dg_theory.specs.BurningLaws.{HasNoDebtOff}
+use Rattle.dg_theory.proofs.BurntWhole.{burns_to_reduced}
+use Rattle.dg_chips.specs.Vector.{at}
+use Rattle.dg_chips.specs.Drifts.{LeadsTo}
+use Rattle.dg_verdict.proofs.Verdicts.{winnable_at_q, told_apart}
+use Rattle.dg_verdict.proofs.checking.check.Goals as goal
+
+pub returns : goal.returns
+returns c =
+    let leads : LeadsTo c.args.graph.now (at c.args.verdict.now.script) (at c.args.divisor.now) (at c.args.verdict.now.reduced) = search rules in
+    let solvent : HasNoDebtOff c.args.graph.now c.args.q (at c.args.verdict.now.reduced) = search rules in
+    let burns : BurnsAll c.args.graph.now c.args.q (at c.args.verdict.now.reduced) (take c.args.graph.now.size c.args.verdict.now.order) =
+    search rules in
+    let reduced : IsReduced c.args.graph.now c.args.q (at c.args.verdict.now.reduced) =
+    burns_to_reduced c.args.graph.now c.args.q (at c.args.verdict.now.reduced) _ c.size-size.ensures.graph.multigraph
+    c.requires.vertex solvent burns in
+    let (to, from) = winnable_at_q c.args.graph.now c.args.q (at c.args.divisor.now) (at c.args.verdict.now.reduced)
+    (at c.args.verdict.now.script) c.requires.vertex leads reduced in
+    told_apart _ _ _ _ (
+      λ (told : le_z (pos 0) (to_z w128 (of_z w128 c.get-2.result)) ≡ true). from (omega (arith, ints)),
+      λ winnable. let paid : pos 0 ≤ℤ at c.args.verdict.now.reduced c.args.q = to winnable in sym (omega (arith, ints)),
+    )
+    (λ winnable. record {
+      script_size = omega arith;
+      reduced_size = omega arith;
+      at_q = omega (arith, ints);
+      led = leads;
+      reduced = reduced;
+      order = burns;
+      winnable = winnable;
+    })
+    (λ right. right.winnable)

@@ -1,0 +1,86 @@
+ghost use Rattle.std.specs.Prelude.{◌≡◌, ℕ, ◌<◌, take, MatchBool};
+ghost use Rattle.dg_theory.specs.Burning.{MayBurn, BurnsAll};
+ghost use Rattle.dg_theory.specs.BurningLaws.{HasNoDebtOff};
+ghost use Rattle.dg_graph.specs.Search.{is_in};
+ghost use Rattle.dg_chips.specs.Vector.{at};
+ghost use Rattle.dg_verdict.specs.Right.{IsRight};
+
+use crate::verdict::Verdict;
+use dg_burn::edges_to;
+use dg_chips::{Divisor, Wide};
+use dg_graph::Graph;
+
+/// Whether a verdict is right for a divisor and vertex q, whoever made it and whatever it holds. Nothing is reduced
+/// anew: firing by the script and burning in the order of the verdict tell.
+pub fn check(graph: &Graph, q: usize, divisor: &Divisor, verdict: &Verdict) -> bool
+    requires size { divisor.now.size ≡ graph.now.size }
+    requires vertex { q < graph.now.size }
+    ensures { MatchBool result
+        (IsRight graph.now q (at divisor.now) verdict.now)
+        (¬ IsRight graph.now q (at divisor.now) verdict.now) }
+{
+    let size = graph.size();
+    if verdict.script.size() != size || verdict.reduced.size() != size {
+        return false;
+    }
+    if verdict.script.get(q) != 0 || !verdict.script.leads(graph, divisor, &verdict.reduced) {
+        return false;
+    }
+    if !is_solvent_off(graph, q, &verdict.reduced) {
+        return false;
+    }
+    if !all_burn(graph, q, &verdict.reduced, &verdict.order) {
+        return false;
+    }
+    verdict.winnable == (verdict.reduced.get(q) >= 0)
+}
+
+/// Whether nobody off q is in debt.
+fn is_solvent_off(graph: &Graph, q: usize, chips: &Wide) -> bool
+    requires { chips.now.size ≡ graph.now.size }
+    ensures { MatchBool result
+        (HasNoDebtOff graph.now q (at chips.now))
+        (¬ HasNoDebtOff graph.now q (at chips.now)) }
+{
+    for v in 0..graph.size() {
+        if v != q && chips.get(v) < 0 {
+            return false;
+        }
+    }
+    true
+}
+
+/// Whether the first places of the order, as many as there are vertices, name each of them once, q first, and each
+/// later one may burn when those before it have.
+fn all_burn(graph: &Graph, q: usize, chips: &Wide, order: &[u8; 16]) -> bool
+    requires size { chips.now.size ≡ graph.now.size }
+    requires vertex { q < graph.now.size }
+    ensures { MatchBool result
+        (BurnsAll graph.now q (at chips.now) (take graph.now.size order.now))
+        (¬ BurnsAll graph.now q (at chips.now) (take graph.now.size order.now)) }
+{
+    let size = graph.size();
+    if usize::from(order[0]) != q {
+        return false;
+    }
+    let mut reached = [false; 16];
+    reached[q] = true;
+    for i in 1..size {
+        let v = usize::from(order[i]);
+        if !may_burn(graph, chips, &reached, v) {
+            return false;
+        }
+        reached[v] = true;
+    }
+    true
+}
+
+/// Whether a number is a vertex that is not reached, and that more edges join to reached ones than it holds dollars.
+fn may_burn(graph: &Graph, chips: &Wide, reached: &[bool; 16], v: usize) -> bool
+    requires { chips.now.size ≡ graph.now.size }
+    ensures { MatchBool result
+        (MayBurn graph.now (at chips.now) (is_in reached.now) v)
+        (¬ MayBurn graph.now (at chips.now) (is_in reached.now) v) }
+{
+    v < graph.size() && !reached[v] && chips.get(v) < i128::from(edges_to(graph, v, reached))
+}

@@ -1,0 +1,12 @@
+//! Verdicts: whether a divisor is winnable, with what shows it.
+#![tactic(auto)]
+
+mod checking;
+mod rebasing;
+#[cfg(test)]
+mod tests;
+mod verdict;
+
+pub use checking::check;
+pub use rebasing::rebase;
+pub use verdict::{Verdict, judge};

@@ -1,0 +1,44 @@
+ghost use Rattle.std.specs.Prelude.{◌≡◌, ℕ, ◌<◌, ◌≤◌, take};
+ghost use Rattle.std.specs.List.{slice_index_or};
+ghost use Rattle.dg_theory.specs.Burning.{BurnsInOrder};
+ghost use Rattle.dg_chips.specs.Vector.{at};
+ghost use Rattle.dg_verdict.specs.Right.{IsRight};
+
+use dg_burn::burn;
+use dg_chips::{Divisor, Script, Wide};
+use dg_graph::Graph;
+use dg_reduce::reduce;
+
+/// Whether a divisor is winnable, with what shows it.
+#[derive(Clone, Copy, PartialEq, Eq)]
+pub struct Verdict {
+    /// Whether some list of lendings and borrowings clears all debts.
+    pub winnable: bool,
+    /// The script that leads to the reduced divisor: 0 at q.
+    pub script: Script,
+    /// The divisor that is reduced for q.
+    pub reduced: Wide,
+    /// An order in which all vertices burn: it shows that the divisor is reduced.
+    pub order: [u8; 16],
+}
+
+/// The verdict on a divisor, reckoned from vertex q. The order is that in which the least vertex burns first; past the
+/// last vertex it holds zeros.
+pub fn judge(graph: &Graph, q: usize, divisor: &Divisor) -> Verdict
+    requires size { divisor.now.size ≡ graph.now.size }
+    requires vertex { q < graph.now.size }
+    ensures right { IsRight graph.now q (at divisor.now) result }
+    ensures order { BurnsInOrder graph.now q (at result.reduced) (take graph.now.size result.order) }
+    ensures rest { (i : ℕ) → graph.now.size ≤ i → i < 16 → slice_index_or result.order i 0 ≡ 0 }
+{
+    let _size = graph.size();
+    let reduced = reduce(graph, q, divisor);
+    let burnt = burn(graph, q, &reduced.divisor);
+    let order = burnt.order;
+    Verdict {
+        winnable: reduced.divisor.get(q) >= 0,
+        script: reduced.script,
+        reduced: reduced.divisor,
+        order,
+    }
+}
