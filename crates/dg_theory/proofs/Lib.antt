@@ -43,3 +43,7 @@ pub mod Heights
 pub mod Clearing
 pub mod Unburnt
 pub mod ExistenceLaws
+-- Rank tests and first losses.
+pub mod Giving
+pub mod RankLaws
+pub mod LossLaws

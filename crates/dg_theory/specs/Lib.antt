@@ -10,4 +10,6 @@ pub mod Burning
 pub mod BurningLaws
 pub mod GenusLaws
 pub mod ExistenceLaws
+pub mod Rank
+pub mod RankLaws
 pub mod Distances

@@ -7,6 +7,7 @@ ghost use Rattle.dg_theory.specs.WinningLaws.{DegreeStays, WinnableByScript, Win
 ghost use Rattle.dg_theory.specs.BurningLaws.{UnburntFires, BurntIsReduced, BurnsToReduced};
 ghost use Rattle.dg_theory.specs.GenusLaws.{ReducedBelowGenus, BurntBelowGenus};
 ghost use Rattle.dg_theory.specs.ExistenceLaws.{ReducedExists, RichIsWinnable};
+ghost use Rattle.dg_theory.specs.RankLaws.{RankTogether, LossTogether, RankBelow, RankZero, RichRank, PoorRank, LossOnce, RankOrLoss};
 
 /// Firing by one script and then by another is firing by their sum, and a constant script changes nothing.
 pub fn laws_of_firing()
@@ -51,4 +52,19 @@ pub fn laws_of_the_genus()
 pub fn laws_of_existence()
     ensures reduced { ReducedExists }
     ensures rich { RichIsWinnable }
+{}
+
+/// What rank tests tell: a rank of at least k + 1 is one of at least k, and the rank is at least 0 exactly where the
+/// divisor is winnable; a degree of at least the genus and k more gives a rank of at least k, and one below k gives
+/// none. A first loss, of which there is at most one, shows that the rank is less; and firing changes neither the rank
+/// nor the first loss.
+pub fn laws_of_rank()
+    ensures below { RankBelow }
+    ensures zero { RankZero }
+    ensures rich { RichRank }
+    ensures poor { PoorRank }
+    ensures loss { RankOrLoss }
+    ensures loss_once { LossOnce }
+    ensures together { RankTogether }
+    ensures loss_together { LossTogether }
 {}

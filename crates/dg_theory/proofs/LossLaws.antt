@@ -1,0 +1,104 @@
+-- The laws of the first loss.
+--   loss_after      a first loss of a divisor is one after a firing
+--   loss_before     and the other way round
+--   loss_together   the law that says both
+--   OneIsBefore     of two divisors E and F one is before the other
+--   SameOrBefore    they are the same at n vertices, or one is before the other
+--   before_in_more  who is before another at n vertices is so at n + 1
+--   differ_last     who is the same at n vertices and holds less at the next is before the other
+--   same_last       two divisors that are the same at n vertices and at the next are so at n + 1
+--   compare_last    so, the same at n vertices, they are the same at n + 1, or one is before the other
+--   same_or_before  any two divisors are the same at n vertices, or one is before the other
+--   loss_once       there is at most one first loss
+--   rank_or_loss    where there is a first loss of degree k, the rank is not at least k
+use Rattle.std.proofs.Common.{◌≡◌, ℕ, zero, suc, ◌<◌, ◌⊎◌, arith, sym, ap, inl, inr, ⊎_elim}
+use Rattle.std.proofs.lemmas.Bool.{cases_eq}
+use Rattle.std.proofs.lemmas.Int.{ints, by_lt_z}
+use Rattle.std.specs.Prelude.{◌≤ℤ◌, ◌<ℤ◌}
+use Rattle.dg_theory.specs.Multigraph.{Multigraph}
+use Rattle.dg_theory.specs.Firing.{Amounts, fired}
+use Rattle.dg_theory.specs.Rank.{IsBefore, IsFirstLoss}
+use Rattle.dg_theory.specs.RankLaws.{LossTogether, LossOnce, RankOrLoss}
+use Rattle.dg_theory.proofs.RankLaws.{win_less_fired, win_fired_less}
+
+loss_after : (g : Multigraph) (D s : Amounts) (k : ℕ) (E : Amounts) → IsFirstLoss g D k E → IsFirstLoss g (fired g D s) k E
+loss_after g D s k E loss = record {
+  effective = loss.effective;
+  of_degree = loss.of_degree;
+  loses = λ win. loss.loses (win_fired_less g D s E win);
+  first = λ F effective of_degree before. win_less_fired g D s F (loss.first F effective of_degree before);
+}
+
+loss_before : (g : Multigraph) (D s : Amounts) (k : ℕ) (E : Amounts) → IsFirstLoss g (fired g D s) k E → IsFirstLoss g D k E
+loss_before g D s k E loss = record {
+  effective = loss.effective;
+  of_degree = loss.of_degree;
+  loses = λ win. loss.loses (win_less_fired g D s E win);
+  first = λ F effective of_degree before. win_fired_less g D s F (loss.first F effective of_degree before);
+}
+
+pub loss_together : LossTogether
+loss_together g D s k E = (loss_after g D s k E, loss_before g D s k E)
+
+before_in_more : (n : ℕ) (E F : Amounts) → IsBefore n E F → IsBefore (suc n) E F
+before_in_more n E F before = record {
+  place = before.place;
+  inside = omega (arith, before.inside);
+  same = before.same;
+  smaller = before.smaller;
+}
+
+abbrev OneIsBefore : ℕ → Amounts → Amounts → Type 0
+OneIsBefore n E F = IsBefore n E F ⊎ IsBefore n F E
+
+differ_last : (n : ℕ) (E F : Amounts) → ((v : ℕ) → v < n → E v ≡ F v) → E n <ℤ F n → IsBefore (suc n) E F
+differ_last n E F same smaller = record {
+  place = n;
+  inside = omega arith;
+  same = same;
+  smaller = smaller;
+}
+
+same_last : (n : ℕ) (E F : Amounts) → ((v : ℕ) → v < n → E v ≡ F v) → E n ≡ F n → (v : ℕ) → v < suc n → E v ≡ F v
+same_last n E F same last v below =
+    ⊎_elim
+    (λ (at : v ≡ n). let E_at : E v ≡ E n = ap E at in let F_at : F v ≡ F n = ap F at in omega (arith, ints))
+    (λ (other : v ≡ n → ⊥). same v (omega arith))
+    (cases_eq v n)
+
+abbrev SameOrBefore : ℕ → Amounts → Amounts → Type 0
+SameOrBefore n E F = ((v : ℕ) → v < n → E v ≡ F v) ⊎ OneIsBefore n E F
+
+compare_last : (n : ℕ) (E F : Amounts) → ((v : ℕ) → v < n → E v ≡ F v) → SameOrBefore (suc n) E F
+compare_last n E F same =
+    by_lt_z (E n) (F n)
+    (λ (smaller : E n <ℤ F n). inr (inl (differ_last n E F same smaller)))
+    (λ (more : F n ≤ℤ E n).
+    by_lt_z (F n) (E n)
+    (λ (larger : F n <ℤ E n). inr (inr (differ_last n F E (λ v below. sym (same v below)) larger)))
+    (λ (less : E n ≤ℤ F n). inl (same_last n E F same (omega (arith, ints)))))
+
+same_or_before : (n : ℕ) (E F : Amounts) → SameOrBefore n E F
+same_or_before zero E F = inl (λ v below. absurd (omega arith))
+same_or_before (suc n) E F =
+    ⊎_elim
+    (λ (same : (v : ℕ) → v < n → E v ≡ F v). compare_last n E F same)
+    (λ (one : OneIsBefore n E F).
+    ⊎_elim
+    (λ (before : IsBefore n E F). inr (inl (before_in_more n E F before)))
+    (λ (after : IsBefore n F E). inr (inr (before_in_more n F E after)))
+    one)
+    (same_or_before n E F)
+
+pub loss_once : LossOnce
+loss_once g D k E F one other v inside =
+    ⊎_elim
+    (λ (same : (v : ℕ) → v < g.size → E v ≡ F v). same v inside)
+    (λ (either : OneIsBefore g.size E F). absurd (⊎_elim
+    (λ (before : IsBefore g.size E F). one.loses (other.first E one.effective one.of_degree before))
+    (λ (after : IsBefore g.size F E). other.loses (one.first F other.effective other.of_degree after))
+    either))
+    (same_or_before g.size E F)
+
+pub rank_or_loss : RankOrLoss
+rank_or_loss g D k E loss rank = loss.loses (rank E loss.effective loss.of_degree)
