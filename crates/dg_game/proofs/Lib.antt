@@ -4,3 +4,6 @@ pub mod StepLaw
 pub mod ReplyLaws
 pub mod StateLaws
 pub mod LegalLaws
+pub mod LookLaws
+pub mod KeptLaws
+pub mod PlayingLaws

@@ -1,8 +1,9 @@
 -- A list with one more element at its end.
 --   slice_get-append   before the end it holds what it held
 --   slice_get-seam     at the end it holds the new element
+--   get_or-inside      inside a list the element read does not depend on what stands for a missing one
 --   more_holds         each of its elements is an old one at its place, or the new one at the end
-use Rattle.std.proofs.Common.{◌≡◌, ℕ, zero, suc, ◌<◌, List, [], ◌∷◌, ◌++◌, length, slice_get, Some, ◌⊎◌, arith, refl, sym, ap, ◌∙◌, inl, inr, length-append}
+use Rattle.std.proofs.Common.{◌≡◌, ℕ, zero, suc, ◌<◌, List, [], ◌∷◌, ◌++◌, length, slice_get, get_or, Some, ◌⊎◌, arith, refl, sym, ap, ◌∙◌, inl, inr, length-append}
 use Rattle.std.proofs.lemmas.Bool.{cases_lt}
 use Rattle.std.proofs.lemmas.Option.{slice_get_within}
 
@@ -14,6 +15,11 @@ slice_get-append (x ∷ xs) ys (suc k) below = slice_get-append xs ys k (omega a
 pub slice_get-seam : {X : Type 0} (xs : List X) (y : X) (ys : List X) → slice_get (xs ++ y ∷ ys) (length xs) ≡ Some y
 slice_get-seam [] y ys = refl
 slice_get-seam (x ∷ xs) y ys = slice_get-seam xs y ys
+
+pub get_or-inside : {X : Type 0} (xs : List X) (k : ℕ) (d e : X) → k < length xs → get_or xs k d ≡ get_or xs k e
+get_or-inside [] k d e below = absurd (omega arith)
+get_or-inside (x ∷ xs) zero d e below = refl
+get_or-inside (x ∷ xs) (suc k) d e below = get_or-inside xs k d e (omega arith)
 
 pub more_holds : {X : Type 0} (xs : List X) (y : X) (k : ℕ) (x : X) → slice_get (xs ++ y ∷ []) k ≡ Some x →
     ((k < length xs) × (slice_get xs k ≡ Some x)) ⊎ ((k ≡ length xs) × (x ≡ y))

@@ -15,8 +15,8 @@ use Rattle.dg_game.specs.MoveReplies.{RepliesToMove}
 use Rattle.dg_game.specs.GiftReplies.{RepliesToGift}
 use Rattle.dg_game.specs.Replies.{RepliesToLook, RepliesToClaim, RepliesAt}
 use Rattle.dg_game.specs.declared.entry.Refusal.TheVariants as refusal
-use Rattle.dg_game.specs.declared.entry.Request.{Request}
-use Rattle.dg_game.specs.declared.entry.Request.TheVariants.{Move, Gift, Look, Claim}
+use Rattle.dg_game.specs.declared.entry.Plain.{Plain}
+use Rattle.dg_game.specs.declared.entry.Plain.TheVariants as plain
 use Rattle.dg_game.specs.declared.entry.Reply.{Reply}
 use Rattle.dg_game.specs.declared.entry.Reply.TheVariants.{Moved, Given, Looked, Won, NotWon, Refused}
 
@@ -80,9 +80,9 @@ claimed-cong g D E Won same right = λ v below. rw (← same v below) (right v b
 claimed-cong g D E NotWon same right = λ effective. right (λ v below. rw (same v below) (effective v below))
 claimed-cong g D E reply same right = absurd right
 
-pub replies-cong : (g : Multigraph) (D E : Amounts) (n : ℕ) (request : Request) (reply : Reply) → Agree g.size D E →
-    RepliesAt (record { graph = g; amounts = D }) n request reply → RepliesAt (record { graph = g; amounts = E }) n request reply
-replies-cong g D E n (Move m) reply same right = moved-cong g D E m reply same right
-replies-cong g D E n (Gift v x) reply same right = given-cong g D E n v x reply same right
-replies-cong g D E n Look reply same right = looked-cong g D E n reply same right
-replies-cong g D E n Claim reply same right = claimed-cong g D E reply same right
+pub replies-cong : (g : Multigraph) (D E : Amounts) (n : ℕ) (call : Plain) (reply : Reply) → Agree g.size D E →
+    RepliesAt (record { graph = g; amounts = D }) n call reply → RepliesAt (record { graph = g; amounts = E }) n call reply
+replies-cong g D E n (plain.Move m) reply same right = moved-cong g D E m reply same right
+replies-cong g D E n (plain.Gift v x) reply same right = given-cong g D E n v x reply same right
+replies-cong g D E n plain.Look reply same right = looked-cong g D E n reply same right
+replies-cong g D E n plain.Claim reply same right = claimed-cong g D E reply same right

@@ -1,118 +1,115 @@
 -- States and histories go on together.
 --   start_leads      the empty history leads to the state at the start
 --   replies_after    a reply that is right in a state is right after a history that leads to it
---   fits_state       such a reply fits the state
---   leads_more       with the entry the history leads to the state after the reply
-use Rattle.std.proofs.Common.{◌≡◌, ℕ, ◌+◌, List, [], ◌∷◌, ◌++◌, arith, refl, sym, ap, subst, ◌∙◌, length-append}
+--   leads_more       a reply that is right after the history leads with its entry to the next state
+use Rattle.std.proofs.Common.{◌≡◌, ℕ, ◌+◌, ◌<◌, List, [], ◌∷◌, ◌++◌, arith, refl, sym, ap, subst, ◌∙◌, length-append}
 use Rattle.std.proofs.lemmas.Int.{ints}
 use Rattle.std.proofs.Math.IntN.{pos}
 use Rattle.dg_theory.specs.Multigraph.{Multigraph}
 use Rattle.dg_theory.proofs.FiringLaws.{fired-constant}
-use Rattle.dg_chips.specs.Vector.{at}
+use Rattle.dg_chips.specs.Vector.{Vector, at}
 use Rattle.dg_chips.specs.Opening.{Opening}
 use Rattle.dg_game.specs.Position.{Position, Shows}
-use Rattle.dg_game.specs.History.{position_after, gifts_in, gift_counted}
+use Rattle.dg_game.specs.History.{position_after, gifts_in, gift_counted, scripts_played}
 use Rattle.dg_game.specs.Step.{after_reply}
 use Rattle.dg_game.specs.Replies.{Replies, RepliesAt}
-use Rattle.dg_game.specs.State.{State, LeadsTo, FitsState, position_of, state_after}
+use Rattle.dg_game.specs.Schedule.{asked}
+use Rattle.dg_game.specs.State.{State, LeadsTo, IsNext, position_of, amounts_after, gifts_after}
 use Rattle.dg_game.specs.declared.entry.Entry.{Entry}
+use Rattle.dg_game.specs.declared.entry.Plain.{Plain}
+use Rattle.dg_game.specs.declared.entry.Plain.TheVariants as plain
 use Rattle.dg_game.specs.declared.entry.Request.{Request}
-use Rattle.dg_game.specs.declared.entry.Request.TheVariants.{Move, Gift, Look, Claim}
+use Rattle.dg_game.specs.declared.entry.Request.TheVariants.{Move, Gift, Look, Claim, Judge}
 use Rattle.dg_game.specs.declared.entry.Reply.{Reply}
-use Rattle.dg_game.specs.declared.entry.Reply.TheVariants.{Moved, Given, Looked, Won, NotWon, Refused}
-use Rattle.dg_game.proofs.HistoryLaws.{gifts_in-more}
+use Rattle.dg_game.specs.declared.entry.Reply.TheVariants.{Moved, Given, Looked, Verdict, Stale, Won, NotWon, Refused}
+use Rattle.dg_game.proofs.HistoryLaws.{gifts_in-more, scripts_played-more}
 use Rattle.dg_game.proofs.StepLaw.{one_more_entry}
 use Rattle.dg_game.proofs.ReplyLaws.{replies-cong}
 
-pub replies_after : (o : Opening) (H : List Entry) (s : State) (request : Request) (reply : Reply) → LeadsTo o H s →
-    RepliesAt (position_of s) s.gifts request reply → Replies o H request reply
-replies_after o H s request reply leads right =
+replies_asked : (o : Opening) (H : List Entry) (call : Plain) (reply : Reply) → RepliesAt (position_after o H) (gifts_in H) call reply →
+    Replies o H (asked call) reply
+replies_asked o H (plain.Move m) reply right = right
+replies_asked o H (plain.Gift v x) reply right = right
+replies_asked o H plain.Look reply right = right
+replies_asked o H plain.Claim reply right = right
+
+pub replies_after : (o : Opening) (H : List Entry) (s : State) (call : Plain) (reply : Reply) → LeadsTo o H s →
+    RepliesAt (position_of s) s.gifts call reply → Replies o H (asked call) reply
+replies_after o H s call reply leads right =
     let p : Position = position_after o H in
-    let on_graph : RepliesAt (record { graph = p.graph; amounts = at s.amounts }) s.gifts request reply =
-    subst (λ (g : Multigraph). RepliesAt (record { graph = g; amounts = at s.amounts }) s.gifts request reply) leads.graph right in
-    let on_amounts : RepliesAt p s.gifts request reply =
-    replies-cong p.graph (at s.amounts) p.amounts s.gifts request reply leads.amounts.amounts on_graph in
-    subst (λ (g : ℕ). RepliesAt p g request reply) leads.gifts on_amounts
+    let on_graph : RepliesAt (record { graph = p.graph; amounts = at s.amounts }) s.gifts call reply =
+    subst (λ (g : Multigraph). RepliesAt (record { graph = g; amounts = at s.amounts }) s.gifts call reply) leads.graph right in
+    let on_amounts : RepliesAt p s.gifts call reply =
+    replies-cong p.graph (at s.amounts) p.amounts s.gifts call reply leads.amounts.amounts on_graph in
+    replies_asked o H call reply (subst (λ (g : ℕ). RepliesAt p g call reply) leads.gifts on_amounts)
 
-pub fits_state : (s : State) (request : Request) (reply : Reply) → RepliesAt (position_of s) s.gifts request reply → FitsState s reply
-fits_state s (Move m) (Moved d) right = right.size
-fits_state s (Move m) (Refused refusal) right = tt
-fits_state s (Gift v x) (Given g d) right = (right.size, omega arith)
-fits_state s (Gift v x) (Refused refusal) right = tt
-fits_state s Look (Looked g d) right = tt
-fits_state s Claim Won right = tt
-fits_state s Claim NotWon right = tt
-fits_state s request reply right = absurd right
+shows_after : (o : Opening) (H : List Entry) (d : Vector) (request : Request) (reply : Reply) → Shows (position_after o H) d →
+    Replies o H request reply → Shows (after_reply (position_after o H) request reply) (amounts_after d reply)
+shows_after o H d (Move m) (Moved e) shows right = record { size = right.size; amounts = right.amounts }
+shows_after o H d (Move m) (Refused refusal) shows right = shows
+shows_after o H d (Gift v x) (Given count e) shows right = record { size = right.size; amounts = right.amounts }
+shows_after o H d (Gift v x) (Refused refusal) shows right = shows
+shows_after o H d Look (Looked count e) shows right = shows
+shows_after o H d Claim Won shows right = shows
+shows_after o H d Claim NotWon shows right = shows
+shows_after o H d (Judge i) (Verdict x) shows right = shows
+shows_after o H d (Judge i) (Stale count) shows right = shows
+shows_after o H d request reply shows right = absurd right
 
-shows_after : (p : Position) (s : State) (g : ℕ) (request : Request) (reply : Reply) → Shows p s.amounts → RepliesAt p g request reply →
-    Shows (after_reply p request reply) (state_after s reply).amounts
-shows_after p s g (Move m) (Moved d) shows right = record { size = right.size; amounts = right.amounts }
-shows_after p s g (Move m) (Refused refusal) shows right = shows
-shows_after p s g (Gift v x) (Given count d) shows right = record { size = right.size; amounts = right.amounts }
-shows_after p s g (Gift v x) (Refused refusal) shows right = shows
-shows_after p s g Look (Looked count d) shows right = shows
-shows_after p s g Claim Won shows right = shows
-shows_after p s g Claim NotWon shows right = shows
-shows_after p s g request reply shows right = absurd right
+graph_after : (o : Opening) (H : List Entry) (request : Request) (reply : Reply) → Replies o H request reply →
+    (after_reply (position_after o H) request reply).graph ≡ (position_after o H).graph
+graph_after o H (Move m) (Moved d) right = refl
+graph_after o H (Move m) (Refused refusal) right = refl
+graph_after o H (Gift v x) (Given count d) right = refl
+graph_after o H (Gift v x) (Refused refusal) right = refl
+graph_after o H Look (Looked count d) right = refl
+graph_after o H Claim Won right = refl
+graph_after o H Claim NotWon right = refl
+graph_after o H (Judge i) (Verdict x) right = refl
+graph_after o H (Judge i) (Stale count) right = refl
+graph_after o H request reply right = absurd right
 
-graph_after : (p : Position) (request : Request) (reply : Reply) (g : ℕ) → RepliesAt p g request reply → (after_reply p request reply).graph ≡ p.graph
-graph_after p (Move m) (Moved d) g right = refl
-graph_after p (Move m) (Refused refusal) g right = refl
-graph_after p (Gift v x) (Given count d) g right = refl
-graph_after p (Gift v x) (Refused refusal) g right = refl
-graph_after p Look (Looked count d) g right = refl
-graph_after p Claim Won g right = refl
-graph_after p Claim NotWon g right = refl
-graph_after p request reply g right = absurd right
+gifts_counted : (o : Opening) (H : List Entry) (request : Request) (reply : Reply) → Replies o H request reply →
+    gifts_after (gifts_in H) reply ≡ gifts_in H + gift_counted reply
+gifts_counted o H (Move m) (Moved d) right = omega arith
+gifts_counted o H (Move m) (Refused refusal) right = omega arith
+gifts_counted o H (Gift v x) (Given count d) right = right.count'
+gifts_counted o H (Gift v x) (Refused refusal) right = omega arith
+gifts_counted o H Look (Looked count d) right = omega arith
+gifts_counted o H Claim Won right = omega arith
+gifts_counted o H Claim NotWon right = omega arith
+gifts_counted o H (Judge i) (Verdict x) right = omega arith
+gifts_counted o H (Judge i) (Stale count) right = omega arith
+gifts_counted o H request reply right = absurd right
 
-state_graph : (s : State) (reply : Reply) → (state_after s reply).graph ≡ s.graph
-state_graph s (Moved d) = refl
-state_graph s (Given g d) = refl
-state_graph s (Looked g d) = refl
-state_graph s Won = refl
-state_graph s NotWon = refl
-state_graph s (Refused refusal) = refl
-
-state_entries : (s : State) (reply : Reply) → (state_after s reply).entries ≡ s.entries + 1
-state_entries s (Moved d) = refl
-state_entries s (Given g d) = refl
-state_entries s (Looked g d) = refl
-state_entries s Won = refl
-state_entries s NotWon = refl
-state_entries s (Refused refusal) = refl
-
-state_gifts : (p : Position) (s : State) (g : ℕ) (request : Request) (reply : Reply) → s.gifts ≡ g → RepliesAt p g request reply →
-    (state_after s reply).gifts ≡ g + gift_counted reply
-state_gifts p s g (Move m) (Moved d) same right = omega arith
-state_gifts p s g (Move m) (Refused refusal) same right = omega arith
-state_gifts p s g (Gift v x) (Given count d) same right = right.count'
-state_gifts p s g (Gift v x) (Refused refusal) same right = omega arith
-state_gifts p s g Look (Looked count d) same right = omega arith
-state_gifts p s g Claim Won same right = omega arith
-state_gifts p s g Claim NotWon same right = omega arith
-state_gifts p s g request reply same right = absurd right
-
-pub leads_more : (o : Opening) (H : List Entry) (s : State) (e : Entry) → LeadsTo o H s → Replies o H e.request e.reply →
-    LeadsTo o (H ++ e ∷ []) (state_after s e.reply)
-leads_more o H s e leads right =
+pub leads_more : (o : Opening) (H : List Entry) (s t : State) (e : Entry) → LeadsTo o H s → Replies o H e.request e.reply →
+    IsNext s e.request e.reply t → LeadsTo o (H ++ e ∷ []) t
+leads_more o H s t e leads right next =
     let p : Position = position_after o H in
+    let shown : Shows (after_reply p e.request e.reply) t.amounts = rw next.amounts (shows_after o H s.amounts e.request e.reply leads.amounts right) in
     record {
-      graph = state_graph s e.reply ∙ leads.graph ∙ sym (graph_after p e.request e.reply (gifts_in H) right)
-          ∙ ap (λ (q : Position). q.graph) (sym (one_more_entry o H e));
-      amounts = rw (one_more_entry o H e) (shows_after p s (gifts_in H) e.request e.reply leads.amounts right);
-      gifts = state_gifts p s (gifts_in H) e.request e.reply leads.gifts right ∙ sym (gifts_in-more H e);
-      entries = state_entries s e.reply ∙ omega (arith, leads.entries, length-append H (e ∷ []));
+      graph = next.graph ∙ leads.graph ∙ sym (graph_after o H e.request e.reply right) ∙ ap (λ (r : Position). r.graph) (sym (one_more_entry o H e));
+      q = next.q ∙ leads.q;
+      amounts = rw (one_more_entry o H e) shown;
+      drift = λ v below.
+          let inside : v < s.graph.size = subst (λ (g : Multigraph). v < g.size) next.graph below in
+          let before : at s.drift v ≡ scripts_played H v = leads.drift v inside in
+          next.drift v inside ∙ omega (arith, ints, before, scripts_played-more H e v);
+      gifts = next.gifts ∙ ap (λ (n : ℕ). gifts_after n e.reply) leads.gifts ∙ gifts_counted o H e.request e.reply right ∙ sym (gifts_in-more H e);
+      entries = next.entries ∙ omega (arith, leads.entries, length-append H (e ∷ []));
     }
 
-pub start_leads : (o : Opening) → o.divisor.size ≡ o.graph.size →
-    LeadsTo o [] (record { graph = o.graph; amounts = o.divisor; gifts = 0; entries = 0 })
+pub start_leads : (o : Opening) (d : Vector) → o.divisor.size ≡ o.graph.size → ((v : ℕ) → at d v ≡ pos 0) →
+    LeadsTo o [] (record { graph = o.graph; q = o.q; amounts = o.divisor; drift = d; gifts = 0; entries = 0 })
 unfolding position_after
-start_leads o size = record {
+start_leads o d size still = record {
   graph = refl;
+  q = refl;
   amounts = record {
     size = size;
     amounts = λ v below. omega (arith, ints, fired-constant o.graph (at o.divisor) (pos 0) v);
   };
+  drift = λ v below. still v;
   gifts = refl;
   entries = refl;
 }

@@ -9,7 +9,7 @@ use Rattle.dg_game.specs.Position.{Position, with_gift}
 use Rattle.dg_game.specs.declared.entry.Refusal.{Refusal}
 use Rattle.dg_game.specs.declared.entry.Refusal.TheVariants.{NoVertex, Empty, Script, Gift, Range}
 use Rattle.dg_game.specs.declared.entry.Reply.{Reply}
-use Rattle.dg_game.specs.declared.entry.Reply.TheVariants.{Moved, Given, Looked, Won, NotWon, Refused}
+use Rattle.dg_game.specs.declared.entry.Reply.TheVariants.{Given, Refused}
 
 abbrev pub IsGift : ℤ → Type 0
 IsGift x = (pos 1 ≤ℤ x) × (x ≤ℤ pos 1000000)
@@ -30,9 +30,6 @@ RefusesGift p v x Gift = (v < p.graph.size) × (¬ IsGift x)
 RefusesGift p v x Range = (v < p.graph.size) × IsGift x × IsOutOfRange p.graph.size (with_gift p v x)
 
 abbrev pub RepliesToGift : Position → ℕ → ℕ → ℤ → Reply → Type 0
-RepliesToGift p g v x (Moved d) = ⊥
 RepliesToGift p g v x (Given count d) = IsGivenTo p g v x count d
-RepliesToGift p g v x (Looked count d) = ⊥
-RepliesToGift p g v x Won = ⊥
-RepliesToGift p g v x NotWon = ⊥
 RepliesToGift p g v x (Refused refusal) = RefusesGift p v x refusal
+RepliesToGift p g v x reply = ⊥

@@ -1,13 +1,22 @@
 -- Legal histories.
---   IsSeat s     == a seat's number is 1 to 64
---   IsLegal o H  == each entry is a seat's, and is answered rightly after the entries before it
-use Rattle.std.specs.Prelude.{◌≡◌, ℕ, ◌≤◌, List, take, slice_get, Some}
+--   IsSeat s              == a seat's number is 1 to 64
+--   LooksBack H request   == a request for a verdict names an entry of H that is a look
+--   IsLegal o H           == each entry is a seat's, looks back to an earlier look where it asks for a verdict, and is
+--                            answered rightly after the entries before it
+use Rattle.std.specs.Prelude.{◌≡◌, ℕ, ◌≤◌, List, take, slice_get, Some, ⊤}
 use Rattle.dg_chips.specs.Opening.{Opening}
 use Rattle.dg_game.specs.Replies.{Replies}
 use Rattle.dg_game.specs.declared.entry.Entry.{Entry}
+use Rattle.dg_game.specs.declared.entry.Request.{Request}
+use Rattle.dg_game.specs.declared.entry.Request.TheVariants.{Look, Judge}
 
 abbrev pub IsSeat : ℕ → Type 0
 IsSeat s = (1 ≤ s) × (s ≤ 64)
 
+abbrev pub LooksBack : List Entry → Request → Type 0
+LooksBack H (Judge i) = (e : Entry) × (slice_get H i ≡ Some e) × (e.request ≡ Look)
+LooksBack H request = ⊤
+
 abbrev pub IsLegal : Opening → List Entry → Type 0
-IsLegal o H = (k : ℕ) (e : Entry) → slice_get H k ≡ Some e → IsSeat e.seat × Replies o (take k H) e.request e.reply
+IsLegal o H = (k : ℕ) (e : Entry) → slice_get H k ≡ Some e →
+    IsSeat e.seat × LooksBack (take k H) e.request × Replies o (take k H) e.request e.reply

@@ -7,6 +7,8 @@ pub mod MoveReplies
 pub mod GiftReplies
 pub mod Replies
 pub mod Legal
+pub mod Look
 pub mod State
 pub mod Schedule
 pub mod ScheduleFaults
+pub mod Playing

@@ -10,7 +10,7 @@ use Rattle.dg_game.specs.Position.{Position}
 use Rattle.dg_game.specs.declared.entry.Refusal.{Refusal}
 use Rattle.dg_game.specs.declared.entry.Refusal.TheVariants.{NoVertex, Empty, Script, Gift, Range}
 use Rattle.dg_game.specs.declared.entry.Reply.{Reply}
-use Rattle.dg_game.specs.declared.entry.Reply.TheVariants.{Moved, Given, Looked, Won, NotWon, Refused}
+use Rattle.dg_game.specs.declared.entry.Reply.TheVariants.{Moved, Refused}
 
 abbrev pub RefusesMove : Position → Move → Refusal → Type 0
 RefusesMove p m NoVertex = NamesNoVertex p.graph.size m
@@ -21,8 +21,5 @@ RefusesMove p m Range = IsPlayable p.graph.size m × IsOutOfRange p.graph.size (
 
 abbrev pub RepliesToMove : Position → Move → Reply → Type 0
 RepliesToMove p m (Moved d) = IsMoved p.graph p.amounts m d
-RepliesToMove p m (Given g d) = ⊥
-RepliesToMove p m (Looked g d) = ⊥
-RepliesToMove p m Won = ⊥
-RepliesToMove p m NotWon = ⊥
 RepliesToMove p m (Refused refusal) = RefusesMove p m refusal
+RepliesToMove p m reply = ⊥

@@ -1,42 +1,49 @@
 -- What may be replied.
---   RepliesToLook p g reply      == the gift count and the amounts, as they are
---   RepliesToClaim p reply       == won where nobody is in debt, and not won where somebody is
---   RepliesAt p g request reply  == the reply is right at the position p, after g accepted gifts
---   Replies o H request reply    == the reply is right after the history H from the opening o
-use Rattle.std.specs.Prelude.{◌≡◌, ℕ, List}
+--   RepliesToLook p g reply        == the gift count and the amounts, as they are
+--   RepliesToClaim p reply         == won where nobody is in debt, and not won where somebody is
+--   RepliesToJudge p q h g reply   == h gifts were accepted before the look: where there are as many now, a verdict that
+--                                     is right for the position; else stale, with the gift count now
+--   RepliesAt p g call reply       == the reply to the call is right at the position p, after g accepted gifts
+--   Replies o H request reply      == the reply is right after the history H from the opening o
+use Rattle.std.specs.Prelude.{◌≡◌, ◌≢◌, ℕ, List, take}
 use Rattle.dg_theory.specs.Firing.{IsEffective}
 use Rattle.dg_chips.specs.Opening.{Opening}
+use Rattle.dg_verdict.specs.Right.{IsRight}
 use Rattle.dg_game.specs.Position.{Position, Shows}
 use Rattle.dg_game.specs.History.{position_after, gifts_in}
 use Rattle.dg_game.specs.MoveReplies.{RepliesToMove}
 use Rattle.dg_game.specs.GiftReplies.{RepliesToGift}
 use Rattle.dg_game.specs.declared.entry.Entry.{Entry}
+use Rattle.dg_game.specs.declared.entry.Plain.{Plain}
+use Rattle.dg_game.specs.declared.entry.Plain.TheVariants as plain
 use Rattle.dg_game.specs.declared.entry.Request.{Request}
-use Rattle.dg_game.specs.declared.entry.Request.TheVariants.{Move, Gift, Look, Claim}
+use Rattle.dg_game.specs.declared.entry.Request.TheVariants.{Move, Gift, Look, Claim, Judge}
 use Rattle.dg_game.specs.declared.entry.Reply.{Reply}
-use Rattle.dg_game.specs.declared.entry.Reply.TheVariants.{Moved, Given, Looked, Won, NotWon, Refused}
+use Rattle.dg_game.specs.declared.entry.Reply.TheVariants.{Looked, Won, NotWon, Verdict, Stale}
 
 abbrev pub RepliesToLook : Position → ℕ → Reply → Type 0
-RepliesToLook p g (Moved d) = ⊥
-RepliesToLook p g (Given count d) = ⊥
 RepliesToLook p g (Looked count d) = (count ≡ g) × Shows p d
-RepliesToLook p g Won = ⊥
-RepliesToLook p g NotWon = ⊥
-RepliesToLook p g (Refused refusal) = ⊥
+RepliesToLook p g reply = ⊥
 
 abbrev pub RepliesToClaim : Position → Reply → Type 0
-RepliesToClaim p (Moved d) = ⊥
-RepliesToClaim p (Given count d) = ⊥
-RepliesToClaim p (Looked count d) = ⊥
 RepliesToClaim p Won = IsEffective p.graph.size p.amounts
 RepliesToClaim p NotWon = ¬ IsEffective p.graph.size p.amounts
-RepliesToClaim p (Refused refusal) = ⊥
+RepliesToClaim p reply = ⊥
 
-abbrev pub RepliesAt : Position → ℕ → Request → Reply → Type 0
-RepliesAt p g (Move m) reply = RepliesToMove p m reply
-RepliesAt p g (Gift v x) reply = RepliesToGift p g v x reply
-RepliesAt p g Look reply = RepliesToLook p g reply
-RepliesAt p g Claim reply = RepliesToClaim p reply
+abbrev pub RepliesToJudge : Position → ℕ → ℕ → ℕ → Reply → Type 0
+RepliesToJudge p q h g (Verdict x) = (h ≡ g) × IsRight p.graph q p.amounts x
+RepliesToJudge p q h g (Stale count) = (h ≢ g) × (count ≡ g)
+RepliesToJudge p q h g reply = ⊥
+
+abbrev pub RepliesAt : Position → ℕ → Plain → Reply → Type 0
+RepliesAt p g (plain.Move m) reply = RepliesToMove p m reply
+RepliesAt p g (plain.Gift v x) reply = RepliesToGift p g v x reply
+RepliesAt p g plain.Look reply = RepliesToLook p g reply
+RepliesAt p g plain.Claim reply = RepliesToClaim p reply
 
 abbrev pub Replies : Opening → List Entry → Request → Reply → Type 0
-Replies o H request reply = RepliesAt (position_after o H) (gifts_in H) request reply
+Replies o H (Move m) reply = RepliesToMove (position_after o H) m reply
+Replies o H (Gift v x) reply = RepliesToGift (position_after o H) (gifts_in H) v x reply
+Replies o H Look reply = RepliesToLook (position_after o H) (gifts_in H) reply
+Replies o H Claim reply = RepliesToClaim (position_after o H) reply
+Replies o H (Judge i) reply = RepliesToJudge (position_after o H) o.q (gifts_in (take i H)) (gifts_in H) reply

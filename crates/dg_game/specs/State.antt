@@ -1,23 +1,28 @@
 -- The state of a game.
---   State               == the graph, the amounts now, the number of accepted gifts and that of entries
---   position_of s       == the position that the state shows
---   IsState s           == its parts fit together
---   LeadsTo o H s       == the history H leads from the opening o to the state s
---   state_after s reply == the state after an entry with this reply
---   FitsState s reply   == the amounts of the reply are those of as many vertices, and it counts at most one gift more
-use Rattle.std.specs.Prelude.{◌≡◌, ℕ, ◌+◌, ◌≤◌, List, length, ⊤}
+--   State                     == the graph, the vertex q, the amounts now, how often each vertex has lent by the accepted
+--                                moves, the number of accepted gifts and that of entries
+--   position_of s             == the position that the state shows
+--   IsState s                 == its parts fit together and are within their limits
+--   LeadsTo o H s             == the history H leads from the opening o to the state s
+--   IsNext s request reply t  == t is the state after s and one entry with this request and reply
+use Rattle.std.specs.Prelude.{◌≡◌, ℕ, ◌+◌, ◌*◌, ◌<◌, ◌≤◌, ◌+ℤ◌, List, length}
+use Rattle.std.specs.Int.RustNames.{unsigned_abs}
 use Rattle.dg_theory.specs.Multigraph.{Multigraph}
+use Rattle.dg_graph.specs.Graph.{IsGraph}
 use Rattle.dg_chips.specs.Vector.{Vector, at}
 use Rattle.dg_chips.specs.Opening.{Opening}
 use Rattle.dg_game.specs.Position.{Position, Shows}
-use Rattle.dg_game.specs.History.{position_after, gifts_in}
+use Rattle.dg_game.specs.History.{position_after, gifts_in, scripts_played, script_by}
 use Rattle.dg_game.specs.declared.entry.Entry.{Entry}
+use Rattle.dg_game.specs.declared.entry.Request.{Request}
 use Rattle.dg_game.specs.declared.entry.Reply.{Reply}
 use Rattle.dg_game.specs.declared.entry.Reply.TheVariants.{Moved, Given}
 
 pub record State : Type 0 where
   pub graph : Multigraph
+  pub q : ℕ
   pub amounts : Vector
+  pub drift : Vector
   pub gifts : ℕ
   pub entries : ℕ
 
@@ -25,22 +30,35 @@ abbrev pub position_of : State → Position
 position_of s = record { graph = s.graph; amounts = at s.amounts }
 
 pub record IsState (s : State) : Type 0 where
+  pub graph : IsGraph s.graph
+  pub vertex : s.q < s.graph.size
   pub size : s.amounts.size ≡ s.graph.size
+  pub drift_size : s.drift.size ≡ s.graph.size
+  pub drift_limit : (v : ℕ) → v < s.graph.size → unsigned_abs (at s.drift v) ≤ s.entries * 1000000000
   pub gifts : s.gifts ≤ s.entries
   pub entries : s.entries ≤ 65536
 
 pub record LeadsTo (o : Opening) (H : List Entry) (s : State) : Type 0 where
   pub graph : s.graph ≡ (position_after o H).graph
+  pub q : s.q ≡ o.q
   pub amounts : Shows (position_after o H) s.amounts
+  pub drift : (v : ℕ) → v < s.graph.size → at s.drift v ≡ scripts_played H v
   pub gifts : s.gifts ≡ gifts_in H
   pub entries : s.entries ≡ length H
 
-abbrev pub state_after : State → Reply → State
-state_after s (Moved d) = record { graph = s.graph; amounts = d; gifts = s.gifts; entries = s.entries + 1 }
-state_after s (Given g d) = record { graph = s.graph; amounts = d; gifts = g; entries = s.entries + 1 }
-state_after s reply = record { graph = s.graph; amounts = s.amounts; gifts = s.gifts; entries = s.entries + 1 }
+abbrev pub amounts_after : Vector → Reply → Vector
+amounts_after d (Moved e) = e
+amounts_after d (Given g e) = e
+amounts_after d reply = d
 
-abbrev pub FitsState : State → Reply → Type 0
-FitsState s (Moved d) = d.size ≡ s.graph.size
-FitsState s (Given g d) = (d.size ≡ s.graph.size) × (g ≤ s.gifts + 1)
-FitsState s reply = ⊤
+abbrev pub gifts_after : ℕ → Reply → ℕ
+gifts_after n (Given g e) = g
+gifts_after n reply = n
+
+pub record IsNext (s : State) (request : Request) (reply : Reply) (t : State) : Type 0 where
+  pub graph : t.graph ≡ s.graph
+  pub q : t.q ≡ s.q
+  pub amounts : t.amounts ≡ amounts_after s.amounts reply
+  pub drift : (v : ℕ) → v < s.graph.size → at t.drift v ≡ at s.drift v +ℤ script_by request reply v
+  pub gifts : t.gifts ≡ gifts_after s.gifts reply
+  pub entries : t.entries ≡ s.entries + 1

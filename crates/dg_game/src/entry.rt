@@ -1,7 +1,9 @@
 ghost use Rattle.std.specs.Prelude.{◌≡◌};
 ghost use Rattle.dg_game.specs.Refusals.{refusal_for};
+ghost use Rattle.dg_game.specs.Schedule.{asked};
 
 use dg_chips::{Divisor, Move, MoveFault};
+use dg_verdict::Verdict;
 
 /// What a seat may ask of the game itself. Vertices are numbered from 0.
 #[derive(Clone, Copy, PartialEq, Eq)]
@@ -16,6 +18,20 @@ pub enum Plain {
     Claim,
 }
 
+impl Plain {
+    /// What the entry of the call asks.
+    pub(crate) fn request(&self) -> Request
+        ensures { result ≡ asked self.now }
+    {
+        match self {
+            Plain::Move(play) => Request::Move(*play),
+            Plain::Gift(v, dollars) => Request::Gift(*v, *dollars),
+            Plain::Look => Request::Look,
+            Plain::Claim => Request::Claim,
+        }
+    }
+}
+
 /// What an entry of the history asked.
 #[derive(Clone, Copy, PartialEq, Eq)]
 pub enum Request {
@@ -27,6 +43,8 @@ pub enum Request {
     Look,
     /// A claim that nobody is in debt.
     Claim,
+    /// A verdict that was reckoned on the look with this number.
+    Judge(u32),
 }
 
 /// What an entry of the history was answered. Amounts are those after the entry, and so are the numbers of gifts.
@@ -38,6 +56,10 @@ pub enum Reply {
     Given(u32, Divisor),
     /// The number of accepted gifts, and the amounts.
     Looked(u32, Divisor),
+    /// Whether the position is winnable, with what shows it.
+    Verdict(Verdict),
+    /// Gifts were accepted since the look: their number now.
+    Stale(u32),
     /// Nobody is in debt.
     Won,
     /// Somebody is in debt.

@@ -1,25 +1,38 @@
-ghost use Rattle.std.specs.Prelude.{◌≡◌, ℕ, ◌+◌, ◌<◌, List, [], ◌∷◌, ◌++◌};
+ghost use Rattle.std.specs.Prelude.{◌≡◌, ℕ, ◌<◌, ◌≤◌, List, [], ◌∷◌, ◌++◌, MatchOption, ⊤};
+ghost use Rattle.std.specs.Int.RustNames.{unsigned_abs};
 ghost use Rattle.dg_chips.specs.Opening.{Opening};
+ghost use Rattle.dg_chips.specs.Vector.{at};
+ghost use Rattle.dg_chips.specs.Moves.{script_of};
+ghost use Rattle.dg_chips.specs.Drifts.{LeadsTo as LeadsByScript};
+ghost use Rattle.dg_theory.specs.Firing.{Amounts};
+ghost use Rattle.dg_verdict.specs.Right.{IsRight};
 ghost use Rattle.dg_game.specs.MoveReplies.{RepliesToMove};
 ghost use Rattle.dg_game.specs.GiftReplies.{RepliesToGift};
-ghost use Rattle.dg_game.specs.Replies.{Replies, RepliesAt};
-ghost use Rattle.dg_game.specs.State.{State, IsState, LeadsTo, FitsState, position_of, state_after};
+ghost use Rattle.dg_game.specs.Replies.{Replies, RepliesAt, RepliesToClaim};
+ghost use Rattle.dg_game.specs.Look.{IsLookAt, IsFoundFor, KeepsFinding};
+ghost use Rattle.dg_game.specs.State.{State, IsState, LeadsTo, IsNext, position_of};
 ghost use Rattle.dg_game.specs.Schedule.{asked};
 ghost use Rattle.dg_game.specs.declared.entry.Entry.{Entry};
+ghost use Rattle.dg_game.specs.declared.entry.Request.TheVariants.{Move as MoveRequest, Gift as GiftRequest, Claim as ClaimRequest, Judge as JudgeRequest};
 
 use crate::entry::{Plain, Refusal, Reply};
-use dg_chips::{Divisor, Move, Start, apply};
+use crate::look::{Finding, LookData};
+use dg_chips::{Divisor, Drift, Move, Start, apply};
 use dg_graph::Graph;
+use dg_verdict::{Verdict, judge, rebase};
 use std::marker::Model;
 
 /// The most entries that a history may have.
 pub const MAX_ENTRIES: usize = 65_536;
 
-/// A game as it stands: the graph, the amounts, how many gifts were accepted and how many entries there are.
+/// A game as it stands: the graph and the vertex q, the amounts, how often each vertex has lent by the accepted moves,
+/// how many gifts were accepted and how many entries there are.
 #[derive(Clone, Copy)]
 pub struct Game {
     graph: Graph,
+    q: u8,
     amounts: Divisor,
+    drift: Drift,
     gifts: u32,
     entries: u32,
 }
@@ -29,11 +42,11 @@ impl Model for Game {
 
     ghost Value = { State };
 
-    ghost view = { λ a. record { graph = a.graph; amounts = a.amounts; gifts = a.gifts; entries = a.entries } };
+    ghost view = { λ a. record { graph = a.graph; q = a.q; amounts = a.amounts; drift = a.drift; gifts = a.gifts; entries = a.entries } };
 
-    ghost invariant = { λ a. IsState (record { graph = a.graph; amounts = a.amounts; gifts = a.gifts; entries = a.entries }) };
+    ghost invariant = { λ a. IsState (record { graph = a.graph; q = a.q; amounts = a.amounts; drift = a.drift; gifts = a.gifts; entries = a.entries }) };
 
-    ghost inverse = { λ s. record { graph = s.graph; amounts = s.amounts; gifts = s.gifts; entries = s.entries } };
+    ghost inverse = { λ s. record { graph = s.graph; q = s.q; amounts = s.amounts; drift = s.drift; gifts = s.gifts; entries = s.entries } };
 }
 
 impl Game {
@@ -43,7 +56,9 @@ impl Game {
     {
         Game {
             graph: *start.graph(),
+            q: start.q(),
             amounts: *start.divisor(),
+            drift: Drift::zero(start.graph()),
             gifts: 0,
             entries: 0,
         }
@@ -66,9 +81,25 @@ impl Game {
 
     /// How many entries the history has, at most 65,536.
     pub fn entries(&self) -> u32
-        ensures { result ≡ self.now.entries }
+        ensures entries { result ≡ self.now.entries }
+        ensures limit { result ≤ 65536 }
     {
         self.entries
+    }
+
+    /// What a seat keeps of a look that is the next entry.
+    pub fn look_data(&self) -> LookData
+        ensures number { result.number ≡ self.now.entries }
+        ensures gifts { result.gifts ≡ self.now.gifts }
+        ensures position { result.position ≡ self.now.amounts }
+        ensures drift { result.drift ≡ self.now.drift }
+    {
+        LookData {
+            number: self.entries,
+            gifts: self.gifts,
+            position: self.amounts,
+            drift: self.drift,
+        }
     }
 
     /// Answers a call as the game answers it after its history, and takes it into the history. The condition is that
@@ -79,60 +110,141 @@ impl Game {
         ensures leads { (o : Opening) (H : List Entry) (seat : ℕ) → LeadsTo o H self.old →
             LeadsTo o (H ++ (record { seat = seat; request = asked plain; reply = result }) ∷ []) self.new }
     {
-        let reply = self.reply_to(&plain);
-        self.enter(&reply);
+        self.answer(&plain)
+    }
+
+    /// Enters what was reckoned on a look: `Stale` where gifts were accepted since; otherwise a verdict that is right
+    /// for the position now, with the reduced divisor and the burning order that were found. The conditions are that
+    /// there are fewer than 65,536 entries, that the look is one of the history, whatever its drift, and that the
+    /// finding is right for the amounts that it showed.
+    pub fn settle(&mut self, look: &LookData, finding: &Finding) -> Reply
+        requires room { self.old.entries < 65536 }
+        requires look { (o : Opening) × (H : List Entry) × LeadsTo o H self.old × IsLookAt o H look.now }
+        requires found { IsFoundFor self.old.graph self.old.q look.now finding.now }
+        ensures replies { (o : Opening) (H : List Entry) → LeadsTo o H self.old → IsLookAt o H look.now →
+            Replies o H (JudgeRequest look.now.number) result }
+        ensures leads { (o : Opening) (H : List Entry) (seat : ℕ) → LeadsTo o H self.old → IsLookAt o H look.now →
+            LeadsTo o (H ++ (record { seat = seat; request = JudgeRequest look.now.number; reply = result }) ∷ []) self.new }
+        ensures kept { KeepsFinding finding.now result }
+    {
+        let reply = self.settled(look, finding);
+        self.entries += 1;
         reply
     }
 
-    /// Takes a reply into the state.
-    fn enter(&mut self, reply: &Reply)
-        requires room { self.old.entries < 65536 }
-        requires reply { FitsState self.old reply.now }
-        ensures { self.new ≡ state_after self.old reply.now }
+    /// What is reckoned on a look: the verdict on the amounts that it showed.
+    pub(crate) fn found_on(&self, look: &LookData) -> Finding
+        requires { look.now.position.size ≡ self.now.graph.size }
+        ensures { IsFoundFor self.now.graph self.now.q look.now result }
     {
-        match reply {
-            Reply::Moved(amounts) => self.amounts = *amounts,
-            Reply::Given(gifts, amounts) => {
-                self.gifts = *gifts;
-                self.amounts = *amounts;
-            }
-            _ => {}
-        }
-        self.entries += 1;
+        let _size = look.position.size();
+        Finding::Judged(judge(&self.graph, usize::from(self.q), &look.position))
     }
 
-    /// The reply to a call, as things stand.
-    fn reply_to(&self, plain: &Plain) -> Reply
-        ensures { RepliesAt (position_of self.now) self.now.gifts (asked plain.now) result }
+    /// The reply to what was reckoned on a look.
+    fn settled(&self, look: &LookData, finding: &Finding) -> Reply
+        requires look { (o : Opening) × (H : List Entry) × LeadsTo o H self.now × IsLookAt o H look.now }
+        requires found { IsFoundFor self.now.graph self.now.q look.now finding.now }
+        ensures replies { (o : Opening) (H : List Entry) → LeadsTo o H self.now → IsLookAt o H look.now →
+            Replies o H (JudgeRequest look.now.number) result }
+        ensures kept { KeepsFinding finding.now result }
+    {
+        if self.gifts != look.gifts {
+            return Reply::Stale(self.gifts);
+        }
+        match finding {
+            Finding::Judged(verdict) => {
+                let carried = self.rebased(&look.position, &look.drift, verdict);
+                Reply::Verdict(carried)
+            }
+        }
+    }
+
+    /// The verdict on an earlier position, carried over to the position now.
+    fn rebased(&self, then: &Divisor, drift: &Drift, verdict: &Verdict) -> Verdict
+        requires size { then.now.size ≡ self.now.graph.size }
+        requires led { (s : Amounts) × LeadsByScript self.now.graph s (at then.now) (at self.now.amounts) }
+        requires right { IsRight self.now.graph self.now.q (at then.now) verdict.now }
+        ensures right { IsRight self.now.graph self.now.q (at self.now.amounts) result }
+        ensures reduced { result.reduced ≡ verdict.now.reduced }
+        ensures order { result.order ≡ verdict.now.order }
+    {
+        let _size = self.amounts.size();
+        let since = self.drift_from(then, drift);
+        rebase(usize::from(self.q), verdict, &since)
+    }
+
+    /// A drift that leads from an earlier position to the position now: what was lent since then, if it does; otherwise
+    /// what the scripts of two verdicts differ by.
+    fn drift_from(&self, then: &Divisor, drift: &Drift) -> Drift
+        requires size { then.now.size ≡ self.now.graph.size }
+        requires led { (s : Amounts) × LeadsByScript self.now.graph s (at then.now) (at self.now.amounts) }
+        ensures size { result.size ≡ self.now.graph.size }
+        ensures led { LeadsByScript self.now.graph (at result) (at then.now) (at self.now.amounts) }
+    {
+        if let Some(since) = self.lent_since(drift)
+            && since.leads(&self.graph, then, &self.amounts)
+        {
+            return since;
+        }
+        let q = usize::from(self.q);
+        let before = judge(&self.graph, q, then);
+        let now = judge(&self.graph, q, &self.amounts);
+        Drift::between(&before.script, &now.script)
+    }
+
+    /// What the moves have lent since an earlier drift, where both have one size and the difference is within the limit.
+    fn lent_since(&self, drift: &Drift) -> Option<Drift>
+        ensures { MatchOption result ⊤ (λ d. d.size ≡ self.now.graph.size) }
+    {
+        if drift.size() != self.drift.size() {
+            return None;
+        }
+        self.drift.since(drift)
+    }
+
+    /// Answers a call, and takes it into the state.
+    fn answer(&mut self, plain: &Plain) -> Reply
+        requires { self.old.entries < 65536 }
+        ensures replies { RepliesAt (position_of self.old) self.old.gifts plain.now result }
+        ensures next { IsNext self.old (asked plain.now) result self.new }
     {
         match plain {
-            Plain::Move(play) => self.reply_to_move(play),
-            Plain::Gift(v, dollars) => self.reply_to_gift(*v, *dollars),
-            Plain::Look => Reply::Looked(self.gifts, self.amounts),
-            Plain::Claim => {
-                if self.amounts.is_effective() {
-                    Reply::Won
-                } else {
-                    Reply::NotWon
-                }
+            Plain::Move(play) => self.play(play),
+            Plain::Gift(v, dollars) => self.give(*v, *dollars),
+            Plain::Look => {
+                self.entries += 1;
+                Reply::Looked(self.gifts, self.amounts)
             }
+            Plain::Claim => self.claim(),
         }
     }
 
-    /// The amounts after a move, or its refusal.
-    fn reply_to_move(&self, play: &Move) -> Reply
-        ensures { RepliesToMove (position_of self.now) play.now result }
+    /// Plays a move: the amounts after it, or its refusal.
+    fn play(&mut self, play: &Move) -> Reply
+        requires { self.old.entries < 65536 }
+        ensures replies { RepliesToMove (position_of self.old) play.now result }
+        ensures next { IsNext self.old (MoveRequest play.now) result self.new }
     {
+        self.entries += 1;
+        lends_few(play);
         match apply(&self.graph, &self.amounts, play) {
-            Ok(amounts) => Reply::Moved(amounts),
+            Ok(amounts) => {
+                self.drift = self.drift.plus(&self.graph, play);
+                self.amounts = amounts;
+                Reply::Moved(amounts)
+            }
             Err(fault) => Reply::Refused(Refusal::from(fault)),
         }
     }
 
-    /// The count and the amounts after a gift, or its refusal.
-    fn reply_to_gift(&self, v: u8, dollars: i64) -> Reply
-        ensures { RepliesToGift (position_of self.now) self.now.gifts v dollars result }
+    /// Gives dollars to a vertex: the count and the amounts after the gift, or its refusal.
+    fn give(&mut self, v: u8, dollars: i64) -> Reply
+        requires { self.old.entries < 65536 }
+        ensures replies { RepliesToGift (position_of self.old) self.old.gifts v dollars result }
+        ensures next { IsNext self.old (GiftRequest v dollars) result self.new }
     {
+        self.entries += 1;
         let v = usize::from(v);
         if v >= self.graph.size() {
             return Reply::Refused(Refusal::NoVertex);
@@ -141,8 +253,35 @@ impl Game {
             return Reply::Refused(Refusal::Gift);
         }
         match self.amounts.with_more(v, dollars) {
-            Some(amounts) => Reply::Given(self.gifts + 1, amounts),
+            Some(amounts) => {
+                self.gifts += 1;
+                self.amounts = amounts;
+                Reply::Given(self.gifts, amounts)
+            }
             None => Reply::Refused(Refusal::Range),
         }
+    }
+
+    /// Tells whether nobody is in debt.
+    fn claim(&mut self) -> Reply
+        requires { self.old.entries < 65536 }
+        ensures replies { RepliesToClaim (position_of self.old) result }
+        ensures next { IsNext self.old ClaimRequest result self.new }
+    {
+        self.entries += 1;
+        if self.amounts.is_effective() {
+            Reply::Won
+        } else {
+            Reply::NotWon
+        }
+    }
+}
+
+/// A move lends, and borrows, at most 1,000,000,000 times at each vertex.
+fn lends_few(play: &Move)
+    ensures { (v : ℕ) → unsigned_abs (script_of play.now v) ≤ 1000000000 }
+{
+    if let Move::Script(script) = play {
+        let _size = script.size();
     }
 }

@@ -5,6 +5,7 @@ ghost use Rattle.dg_game.specs.Step.{OneMoreEntry};
 
 mod entry;
 mod game;
+mod look;
 mod schedule;
 mod step;
 #[cfg(test)]
@@ -12,6 +13,7 @@ mod tests;
 
 pub use entry::{Entry, Plain, Refusal, Reply, Request};
 pub use game::Game;
+pub use look::{Finding, LookData};
 pub use schedule::{RehearseFault, rehearse};
 pub use step::{Command, Step};
 

@@ -1,14 +1,16 @@
-ghost use Rattle.std.specs.Prelude.{◌≡◌, ℕ, ◌+◌, ◌<◌, ◌≤◌, List, [], ◌∷◌, ◌++◌, length, MatchResult, MatchOption};
+ghost use Rattle.std.specs.Prelude.{◌≡◌, ℕ, ◌<◌, ◌≤◌, List, [], ◌∷◌, ◌++◌, length, slice_get, Some, MatchResult, MatchOption};
 ghost use Rattle.dg_chips.specs.Opening.{Opening};
-ghost use Rattle.dg_game.specs.Replies.{Replies};
 ghost use Rattle.dg_game.specs.Legal.{IsSeat};
-ghost use Rattle.dg_game.specs.State.{LeadsTo};
-ghost use Rattle.dg_game.specs.Schedule.{IsEntryOf, IsRehearsal};
-ghost use Rattle.dg_game.specs.ScheduleFaults.{AreSeatedBefore, IsFirstFault};
+ghost use Rattle.dg_game.specs.Schedule.{IsRehearsal, IsKept};
+ghost use Rattle.dg_game.specs.ScheduleFaults.{IsFirstFault};
+ghost use Rattle.dg_game.specs.Playing.{IsPlaying};
 ghost use Rattle.dg_game.specs.declared.entry.Entry.{Entry};
+ghost use Rattle.dg_game.specs.declared.step.Step.{Step};
+ghost use Rattle.dg_game.specs.declared.step.Command.TheVariants.{Call, Commit};
 
-use crate::entry::Entry;
+use crate::entry::{Entry, Plain, Request};
 use crate::game::{Game, MAX_ENTRIES};
+use crate::look::LookData;
 use crate::step::{Command, Step};
 use dg_chips::Start;
 use std::alloc::Allocator;
@@ -23,16 +25,28 @@ pub enum RehearseFault {
     /// The history has no room for the step.
     #[error("step {0} finds the history full")]
     Full(usize),
+    /// The step wants a look, and its seat keeps none.
+    #[error("step {0} has no look")]
+    NoLook(usize),
     /// There is not enough memory.
     #[error("out of memory")]
     OutOfMemory,
 }
 
+/// A schedule that is being played: the game, and for each seat the look that it keeps.
+#[derive(Clone, Copy)]
+pub struct Rehearsal {
+    /// The game as it stands.
+    pub game: Game,
+    /// The look that a seat has taken last and not used up, at the place of the seat's number.
+    pub looks: [Option<LookData>; 65],
+}
+
 /// Plays the steps one after another from the start, and gives the history: entry j has the seat and the request of
-/// step j.
+/// step j. A commit enters the verdict on the last look of its seat, and uses the look up.
 ///
-/// Refused with `OutOfMemory`, and then step by step with `Seat` where a seat is not 1 to 64 and with `Full` for the
-/// step of number 65,536. A refusal gives no history.
+/// Refused with `OutOfMemory`, and then step by step with `Seat` where a seat is not 1 to 64, with `Full` for the step
+/// of number 65,536, and with `NoLook` where a commit's seat keeps no look. A refusal gives no history.
 pub fn rehearse<A: Allocator + Drop>(
     alloc: A,
     start: &Start,
@@ -45,46 +59,89 @@ pub fn rehearse<A: Allocator + Drop>(
     let Ok(mut history) = Vec::with_capacity(alloc, steps.len().min(MAX_ENTRIES)) else {
         return Err(RehearseFault::OutOfMemory);
     };
-    if let Some(fault) = first_fault(steps) {
-        return Err(fault);
-    }
-    let mut game = Game::new(start);
+    let mut rehearsal = Rehearsal::new(start);
     for step in steps {
-        let entry = play(&mut game, step);
+        let entry = rehearsal.play(step)?;
         history.push(entry).unwrap();
     }
     Ok(history)
 }
 
-/// The first step that can't be played, whatever the game.
-fn first_fault(steps: &[Step]) -> Option<RehearseFault>
-    ensures { MatchOption result
-        (AreSeatedBefore steps.now (length steps.now) × (length steps.now ≤ 65536))
-        (IsFirstFault steps.now) }
-{
-    for (i, step) in steps.iter().enumerate() {
-        if step.seat < 1 || step.seat > 64 {
-            return Some(RehearseFault::Seat(i));
-        }
-        if i == MAX_ENTRIES {
-            return Some(RehearseFault::Full(i));
+impl Rehearsal {
+    /// The schedule before its first step.
+    fn new(start: &Start) -> Rehearsal
+        ensures { (steps : List Step) → IsPlaying start.now steps [] result }
+    {
+        Rehearsal {
+            game: Game::new(start),
+            looks: [None; 65],
         }
     }
-    None
-}
 
-/// Plays one step, and gives its entry.
-fn play(game: &mut Game, step: &Step) -> Entry
-    requires { game.old.entries < 65536 }
-    ensures entry { IsEntryOf step.now result }
-    ensures replies { (o : Opening) (H : List Entry) → LeadsTo o H game.old → Replies o H result.request result.reply }
-    ensures leads { (o : Opening) (H : List Entry) → LeadsTo o H game.old → LeadsTo o (H ++ result ∷ []) game.new }
-{
-    let request = step.command.request();
-    let reply = game.act(step.command.plain());
-    Entry {
-        seat: step.seat,
-        request,
-        reply,
+    /// Plays the next step, and gives its entry; or why it can't be played.
+    fn play(&mut self, step: &Step) -> Result<Entry, RehearseFault>
+        requires { (o : Opening) × (H : List Entry) × (steps : List Step) × IsPlaying o steps H self.old }
+        ensures { MatchResult result
+            (λ e. (o : Opening) (H : List Entry) (steps : List Step) → IsPlaying o steps H self.old →
+            slice_get steps (length H) ≡ Some step.now → (length H < 65536) × IsPlaying o steps (H ++ e ∷ []) self.new)
+            (λ fault. (o : Opening) (H : List Entry) (steps : List Step) → IsPlaying o steps H self.old →
+            slice_get steps (length H) ≡ Some step.now → IsFirstFault steps fault) }
+    {
+        let i = self.game.entries() as usize;
+        if step.seat < 1 || step.seat > 64 {
+            return Err(RehearseFault::Seat(i));
+        }
+        if i == MAX_ENTRIES {
+            return Err(RehearseFault::Full(i));
+        }
+        match &step.command {
+            Command::Call(plain) => Ok(self.call(step.seat, plain)),
+            Command::Commit => self.commit(step.seat).ok_or(RehearseFault::NoLook(i)),
+        }
+    }
+
+    /// Answers a seat's call; a look is kept for the seat.
+    fn call(&mut self, seat: u8, plain: &Plain) -> Entry
+        requires playing { (o : Opening) × (H : List Entry) × (steps : List Step) × IsPlaying o steps H self.old }
+        requires room { self.old.game.entries < 65536 }
+        requires seat { IsSeat seat }
+        ensures { (o : Opening) (H : List Entry) (steps : List Step) → IsPlaying o steps H self.old →
+            slice_get steps (length H) ≡ Some (record { seat = seat; command = Call plain.now }) →
+            IsPlaying o steps (H ++ result ∷ []) self.new }
+    {
+        if let Plain::Look = plain {
+            self.looks[usize::from(seat)] = Some(self.game.look_data());
+        }
+        Entry {
+            seat,
+            request: plain.request(),
+            reply: self.game.act(*plain),
+        }
+    }
+
+    /// Enters the verdict on the look that a seat keeps, which is used up; `None` where it keeps none.
+    fn commit(&mut self, seat: u8) -> Option<Entry>
+        requires playing { (o : Opening) × (H : List Entry) × (steps : List Step) × IsPlaying o steps H self.old }
+        requires room { self.old.game.entries < 65536 }
+        requires seat { IsSeat seat }
+        ensures { MatchOption result
+            ((o : Opening) (H : List Entry) (steps : List Step) → IsPlaying o steps H self.old →
+            (i : ℕ) → ¬ IsKept steps seat (length H) i)
+            (λ e. (o : Opening) (H : List Entry) (steps : List Step) → IsPlaying o steps H self.old →
+            slice_get steps (length H) ≡ Some (record { seat = seat; command = Commit }) →
+            IsPlaying o steps (H ++ e ∷ []) self.new) }
+    {
+        let place = usize::from(seat);
+        let Some(look) = self.looks[place] else {
+            return None;
+        };
+        self.looks[place] = None;
+        let finding = self.game.found_on(&look);
+        let reply = self.game.settle(&look, &finding);
+        Some(Entry {
+            seat,
+            request: Request::Judge(look.number),
+            reply,
+        })
     }
 }

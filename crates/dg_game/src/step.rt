@@ -1,13 +1,12 @@
-ghost use Rattle.std.specs.Prelude.{◌≡◌};
-ghost use Rattle.dg_game.specs.Schedule.{asked, asked_by};
-
-use crate::entry::{Plain, Request};
+use crate::entry::Plain;
 
 /// What a step of a schedule does.
 #[derive(Clone, Copy, PartialEq, Eq)]
 pub enum Command {
     /// A call of the game itself.
     Call(Plain),
+    /// Enter the verdict that was reckoned on the seat's last look, and use the look up.
+    Commit,
 }
 
 /// One step of a schedule: a seat and what it does.
@@ -17,27 +16,4 @@ pub struct Step {
     pub seat: u8,
     /// What it does.
     pub command: Command,
-}
-
-impl Command {
-    /// The plain call.
-    pub(crate) fn plain(&self) -> Plain
-        ensures { asked result ≡ asked_by self.now }
-    {
-        match self {
-            Command::Call(plain) => *plain,
-        }
-    }
-
-    /// What the entry of the call asks.
-    pub(crate) fn request(&self) -> Request
-        ensures { result ≡ asked_by self.now }
-    {
-        match self {
-            Command::Call(Plain::Move(play)) => Request::Move(*play),
-            Command::Call(Plain::Gift(v, dollars)) => Request::Gift(*v, *dollars),
-            Command::Call(Plain::Look) => Request::Look,
-            Command::Call(Plain::Claim) => Request::Claim,
-        }
-    }
 }

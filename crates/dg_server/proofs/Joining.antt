@@ -51,6 +51,16 @@ after_joined b (x ∷ xs) back e =
     → cond t (Some (xs ++ b ∷ back)) (after b (xs ++ b ∷ back)) ≡ Some back in
     (elim (x == b) as P [ true ↦ λ found. cc | false ↦ λ found. after_joined b xs back found ]) e
 
+pub no_cut_before : (b : ℕ) (xs : List ℕ) → after b (before b xs) ≡ None
+unfolding before after
+no_cut_before b [] = refl
+no_cut_before b (x ∷ xs) =
+    let P : Bool → Type 0 = λ t. (x == b) ≡ t → after b (cond t [] (x ∷ before b xs)) ≡ None in
+    (elim (x == b) as P [
+      | true ↦ λ same. refl
+      | false ↦ λ other. ap (λ t. cond t (Some (before b xs)) (after b (before b xs))) other ∙ no_cut_before b xs
+    ]) refl
+
 pub no_space_in_digits : (digits : List ℕ) → AllDigits 10 digits → after 32 digits ≡ None
 unfolding after
 no_space_in_digits [] each = refl

@@ -1,16 +1,16 @@
 -- What an accepted command means: its word is the keyword of the move, and the one word after it names the move's vertices.
 --   IsMeant names move keyword rest == the words `rest` are one word, and with the keyword they are the command of the move
-use Rattle.std.proofs.Common.{◌≡◌, ℕ, cond, true, false, Bool, List, Option, Some, None, Result, Ok, Err, refl, sym, subst, codes}
+use Rattle.std.proofs.Common.{◌≡◌, ℕ, cond, true, false, Bool, List, Option, Some, None, Result, Ok, refl, sym, subst, codes}
 use Rattle.std.specs.Prelude.{bytes_eq}
 use Rattle.std.proofs.lemmas.Slice.Eq.{bytes_eq-Decides}
 use Rattle.dg_chips.specs.declared.moves.Move.{Move}
 use Rattle.dg_chips.specs.declared.moves.Move.TheVariants.{Lend, Borrow, Fire}
 use Rattle.dg_game.specs.declared.step.Command.{Command}
 use Rattle.dg_server.specs.declared.line.LineFault.{LineFault}
-use Rattle.dg_server.specs.declared.line.LineFault.TheVariants.{Word}
 use Rattle.dg_server.specs.Cuts.{items}
 use Rattle.dg_server.specs.Names.{place_of}
-use Rattle.dg_server.specs.Commands.{play, only_word, at_vertex, at_named, lend_of, borrow_of, fire_of, fire_set, fire_items, set_of, command_of}
+use Rattle.dg_server.specs.Commands.{play, only_word, at_vertex, at_named, lend_of, borrow_of, fire_of, fire_set, fire_items, set_of, other_of, command_of}
+use Rattle.dg_server.proofs.Others.{other_meant}
 use Rattle.dg_server.specs.Spelling.{IsMoveWords}
 
 -- the one word, and that it means the move
@@ -72,17 +72,17 @@ pub meant : (names : List (List ℕ)) (move : Move) (word : List ℕ) (rest : Li
 unfolding command_of
 meant names move word rest e = first (bytes_eq word (codes "lend")) refl e
   where
-    third : (t : Bool) → bytes_eq word (codes "fire") ≡ t → cond t (fire_of names rest) (Err Word) ≡ Ok (play move) → IsMeant names move word rest
+    third : (t : Bool) → bytes_eq word (codes "fire") ≡ t → cond t (fire_of names rest) (other_of names word rest) ≡ Ok (play move) → IsMeant names move word rest
     third true same f = subst (λ k. IsMeant names move k rest) (sym ((bytes_eq-Decides word (codes "fire")).0 same)) (fire_meant names move rest f)
-    third false other f = cc
+    third false other f = absurd (other_meant names (play move) word rest f)
 
     second : (t : Bool) → bytes_eq word (codes "borrow") ≡ t
-        → cond t (borrow_of names rest) (cond (bytes_eq word (codes "fire")) (fire_of names rest) (Err Word)) ≡ Ok (play move) → IsMeant names move word rest
+        → cond t (borrow_of names rest) (cond (bytes_eq word (codes "fire")) (fire_of names rest) (other_of names word rest)) ≡ Ok (play move) → IsMeant names move word rest
     second true same f = subst (λ k. IsMeant names move k rest) (sym ((bytes_eq-Decides word (codes "borrow")).0 same)) (borrow_meant names move rest f)
     second false other f = third (bytes_eq word (codes "fire")) refl f
 
     first : (t : Bool) → bytes_eq word (codes "lend") ≡ t
-        → cond t (lend_of names rest) (cond (bytes_eq word (codes "borrow")) (borrow_of names rest) (cond (bytes_eq word (codes "fire")) (fire_of names rest) (Err Word))) ≡ Ok (play move)
+        → cond t (lend_of names rest) (cond (bytes_eq word (codes "borrow")) (borrow_of names rest) (cond (bytes_eq word (codes "fire")) (fire_of names rest) (other_of names word rest))) ≡ Ok (play move)
         → IsMeant names move word rest
     first true same f = subst (λ k. IsMeant names move k rest) (sym ((bytes_eq-Decides word (codes "lend")).0 same)) (lend_meant names move rest f)
     first false other f = second (bytes_eq word (codes "borrow")) refl f

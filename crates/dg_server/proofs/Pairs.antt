@@ -1,7 +1,8 @@
 -- The pairs of a divisor, written one after another.
 --   pairs_left names amounts v == what is still to be written before the vertex v
 -- Proved: the next pair is the vertex's, after a space but for the first; and nothing is left after the last.
-use Rattle.std.proofs.Common.{◌≡◌, ℕ, zero, suc, ◌+◌, ◌<◌, ◌≤◌, ◌==◌, ℤ, true, false, cond, List, [], ◌∷◌, ◌++◌, length, drop, refl, ap, sym, ◌∙◌, arith, add-one, append_assoc, codes, FitsSigned, w64, to_z, of_z, to_z-of_z}
+use Rattle.std.proofs.Common.{◌≡◌, ℕ, zero, suc, ◌+◌, ◌<◌, ◌≤◌, ◌==◌, ℤ, true, false, cond, List, [], ◌∷◌, ◌++◌, length, drop, refl, ap, sym, ◌∙◌, arith, add-one, append_assoc, codes, FitsSigned, to_z, of_z, to_z-of_z}
+use Rattle.std.specs.Int.{w128}
 use Rattle.std.proofs.Math.Seq.{drop-cons, drop-length}
 use Rattle.std.proofs.lemmas.List.{append-nil}
 use Rattle.std.proofs.lemmas.Bool.Decides.{nat_tests}
@@ -42,8 +43,8 @@ space_written text spaced v more e = e ∙ ap (λ space. text ++ space) (sym (sp
 pub space_left : (text spaced : List ℕ) (v : ℕ) → v ≤ 0 → spaced ≡ text → spaced ≡ text ++ space_before v
 space_left text spaced v first e = e ∙ sym (append-nil text) ∙ ap (λ space. text ++ space) (sym (space_first v first))
 
-pub pair_written : (spaced next : List ℕ) (name own : List ℕ) (shown amount : ℤ) → FitsSigned w64 shown
-    → next ≡ spaced ++ pair name (to_z w64 (of_z w64 shown)) → name ≡ own → shown ≡ amount → next ≡ spaced ++ pair own amount
+pub pair_written : (spaced next : List ℕ) (name own : List ℕ) (shown amount : ℤ) → FitsSigned w128 shown
+    → next ≡ spaced ++ pair name (to_z w128 (of_z w128 shown)) → name ≡ own → shown ≡ amount → next ≡ spaced ++ pair own amount
 pair_written spaced next name own shown amount held e f h =
     e ∙ ap (λ number. spaced ++ pair name number) (to_z-of_z held)
     ∙ ap (λ text. spaced ++ pair text shown) f ∙ ap (λ number. spaced ++ pair own number) h

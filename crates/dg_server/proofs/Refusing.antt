@@ -1,10 +1,9 @@
 -- Schedules that lines spell, and that are not played.
---   schedule_refused    such a schedule is too long: none of its steps lacks a seat
-use Rattle.std.proofs.Common.{◌≡◌, ℕ, ◌<◌, List, length, arith}
-use Rattle.std.proofs.lemmas.Option.{slice_get_within}
+--   schedule_refused    the first fault of such a schedule is none of its seats
+use Rattle.std.proofs.Common.{ℕ, List}
 use Rattle.dg_game.specs.ScheduleFaults.{IsFirstFault}
 use Rattle.dg_game.specs.declared.schedule.RehearseFault.{RehearseFault}
-use Rattle.dg_game.specs.declared.schedule.RehearseFault.TheVariants.{Seat, Full, OutOfMemory}
+use Rattle.dg_game.specs.declared.schedule.RehearseFault.TheVariants.{Seat, Full, NoLook, OutOfMemory}
 use Rattle.dg_game.specs.declared.step.Step.{Step}
 use Rattle.dg_server.specs.Faults.{fault_of_schedule}
 use Rattle.dg_server.specs.Refusals.{RefusesSchedule}
@@ -15,7 +14,6 @@ pub schedule_refused : (names lines : List (List ℕ)) (steps : List Step) (faul
     IsFirstFault steps fault → RefusesSchedule names lines (fault_of_schedule fault)
 schedule_refused names lines steps (Seat i) spelled (few, before, (step, at, unseated)) =
     absurd (unseated (spelled_seated names steps lines spelled.spelled i step at))
-schedule_refused names lines steps (Full i) spelled (last, before, (step, at, seated)) =
-    let within : i < length steps = slice_get_within steps i step at in
-    (last, (steps, spelled, omega arith))
+schedule_refused names lines steps (Full i) spelled first = (steps, spelled, first)
+schedule_refused names lines steps (NoLook i) spelled first = (steps, spelled, first)
 schedule_refused names lines steps OutOfMemory spelled first = tt

@@ -2,7 +2,7 @@
 --   seat_up_to_within   a seat up to n that a text spells is 1 to n
 --   step_seated         so is the seat of a step
 --   spelled_seated      and that of each step of a schedule
-use Rattle.std.proofs.Common.{◌≡◌, ℕ, zero, suc, ◌≤◌, Bool, true, false, List, [], ◌∷◌, Option, Some, None, Ok, Err, Result, map, slice_get, arith, refl, sym, ap, ◌∙◌, bytes_eq, decimal, cond}
+use Rattle.std.proofs.Common.{◌≡◌, ℕ, zero, suc, ◌≤◌, Bool, true, false, List, [], ◌∷◌, Option, Some, None, Ok, Err, Result, map, slice_get, arith, sym, ap, ◌∙◌, bytes_eq, decimal, cond}
 use Rattle.dg_game.specs.Legal.{IsSeat}
 use Rattle.dg_game.specs.declared.step.Command.{Command}
 use Rattle.dg_game.specs.declared.step.Step.{Step}

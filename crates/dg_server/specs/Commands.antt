@@ -6,19 +6,23 @@
 --   set_of names set items       == the set with the vertices that the items name, where each item names a vertex that is
 --                                   not in it yet
 --   fire_of names rest           == the command of the words after `fire`: names, with a comma between two
+--   bare command rest            == the command, where no words follow its own
+--   gift_of names rest           == the command of the words after `gift`: the name of a vertex and a whole number, which
+--                                   is read after the name is
 --   line_of names line           == the command that the line spells, or why it is refused: first its word, then its form,
---                                   then its names
-use Rattle.std.specs.Prelude.{ℕ, ◌+◌, ◌^◌, cond, List, [], ◌∷◌, Option, Some, None, Result, Ok, Err, bytes_eq, codes, option_and_then}
+--                                   then its names, then its number
+use Rattle.std.specs.Prelude.{ℕ, ◌+◌, ◌^◌, ℤ, cond, List, [], ◌∷◌, Option, Some, None, Result, Ok, Err, bytes_eq, codes, option_and_then}
 use Rattle.dg_chips.specs.Moves.{in_set}
 use Rattle.dg_chips.specs.declared.moves.Move.{Move}
 use Rattle.dg_chips.specs.declared.moves.Move.TheVariants.{Lend, Borrow, Fire}
 use Rattle.dg_game.specs.declared.step.Command.{Command}
-use Rattle.dg_game.specs.declared.step.Command.TheVariants.{Call}
-use Rattle.dg_game.specs.declared.entry.Plain.TheVariants.{Move as Play}
+use Rattle.dg_game.specs.declared.step.Command.TheVariants.{Call, Commit}
+use Rattle.dg_game.specs.declared.entry.Plain.TheVariants.{Move as Play, Gift, Look}
 use Rattle.dg_server.specs.declared.line.LineFault.{LineFault}
-use Rattle.dg_server.specs.declared.line.LineFault.TheVariants.{Word, Form, Name}
+use Rattle.dg_server.specs.declared.line.LineFault.TheVariants.{Word, Form, Name, Number}
 use Rattle.dg_server.specs.Cuts.{words, items}
 use Rattle.dg_server.specs.Names.{place_of}
+use Rattle.dg_server.specs.Numbers.{integer_of}
 
 unfoldable pub only_word : List (List ℕ) → Option (List ℕ)
 only_word [] = None
@@ -63,13 +67,41 @@ fire_items names (Some word) = fire_set (set_of names 0 (items word))
 unfoldable pub fire_of : List (List ℕ) → List (List ℕ) → Result Command LineFault
 fire_of names rest = fire_items names (only_word rest)
 
+unfoldable pub bare : Command → List (List ℕ) → Result Command LineFault
+bare command [] = Ok command
+bare command (word ∷ rest) = Err Form
+
+-- the gift to the vertex, or `Name` or `Number` where there is none
+abbrev pub gift_to : Option ℕ → Option ℤ → Result Command LineFault
+gift_to None dollars = Err Name
+gift_to (Some v) None = Err Number
+gift_to (Some v) (Some dollars) = Ok (Call (Gift v dollars))
+
+-- the gift to the vertex of that name, or `Form` where no second word follows, or more than one
+abbrev pub gift_named : List (List ℕ) → List ℕ → Option (List ℕ) → Result Command LineFault
+gift_named names name None = Err Form
+gift_named names name (Some number) = gift_to (place_of names name) (integer_of number)
+
+unfoldable pub gift_of : List (List ℕ) → List (List ℕ) → Result Command LineFault
+gift_of names [] = Err Form
+gift_of names ([] ∷ rest) = Err Form
+gift_of names ((x ∷ xs) ∷ rest) = gift_named names (x ∷ xs) (only_word rest)
+
+-- the command that a first word, which is no move's, and the rest of the words spell
+abbrev pub other_of : List (List ℕ) → List ℕ → List (List ℕ) → Result Command LineFault
+other_of names word rest =
+    cond (bytes_eq word (codes "look")) (bare (Call Look) rest)
+    (cond (bytes_eq word (codes "gift")) (gift_of names rest)
+    (cond (bytes_eq word (codes "commit")) (bare Commit rest)
+    (Err Word)))
+
 -- the command that the first word and the rest of the words spell
 unfoldable pub command_of : List (List ℕ) → List ℕ → List (List ℕ) → Result Command LineFault
 command_of names word rest =
     cond (bytes_eq word (codes "lend")) (lend_of names rest)
     (cond (bytes_eq word (codes "borrow")) (borrow_of names rest)
     (cond (bytes_eq word (codes "fire")) (fire_of names rest)
-    (Err Word)))
+    (other_of names word rest)))
 
 abbrev pub command_of_words : List (List ℕ) → List (List ℕ) → Result Command LineFault
 command_of_words names [] = Err Word

@@ -1,7 +1,6 @@
 -- The faults of readers and players, as faults of a run. Steps and lines are counted from 1 there.
 --   fault_of_steps fault      == that of a refused list of steps
 --   fault_of_schedule fault   == that of a schedule that is not played
-use Rattle.std.specs.Prelude.{ℕ, ◌+◌}
 use Rattle.dg_game.specs.declared.schedule.RehearseFault.{RehearseFault}
 use Rattle.dg_game.specs.declared.schedule.RehearseFault.TheVariants as schedule
 use Rattle.dg_server.specs.declared.fault.Fault.{Fault}
@@ -16,4 +15,5 @@ fault_of_steps steps.OutOfMemory = run.OutOfMemory
 abbrev pub fault_of_schedule : RehearseFault → Fault
 fault_of_schedule (schedule.Seat i) = run.Seat i
 fault_of_schedule (schedule.Full i) = run.Full i
+fault_of_schedule (schedule.NoLook i) = run.NoLook i
 fault_of_schedule schedule.OutOfMemory = run.OutOfMemory

@@ -1,7 +1,11 @@
 -- Numbers in texts.
 --   seat_up_to n text == the seat from 1 to n whose decimal is the text, where there is one
 --   seat_of text      == the same of the seats 1 to 64
-use Rattle.std.specs.Prelude.{ℕ, zero, suc, List, Option, Some, None, cond, bytes_eq, decimal}
+--   is_within z       == z is a whole number that 64 bits hold: from -2^63 to 2^63 - 1
+--   integer_of text   == the whole number that 64 bits hold whose decimal is the text, where there is one
+use Rattle.std.specs.Prelude.{ℕ, zero, suc, ◌&&◌, ◌^◌, ℤ, pos, negsuc, Bool, List, Option, Some, None, cond, bytes_eq, decimal, leb}
+use Rattle.std.specs.Fmt.{signed_decimal}
+use Rattle.std.specs.Str.Parse.{signed_digits_value}
 
 unfoldable pub seat_up_to : ℕ → List ℕ → Option ℕ
 seat_up_to zero text = None
@@ -9,3 +13,15 @@ seat_up_to (suc n) text = cond (bytes_eq text (decimal (suc n))) (Some (suc n)) 
 
 unfoldable pub seat_of : List ℕ → Option ℕ
 seat_of text = seat_up_to 64 text
+
+-- negsuc n is -(n + 1)
+abbrev pub is_within : ℤ → Bool
+is_within (pos n) = leb (suc n) (2 ^ 63)
+is_within (negsuc n) = leb (suc n) (2 ^ 63)
+
+-- the number, where the text is its decimal
+abbrev pub integer_if : List ℕ → ℤ → Option ℤ
+integer_if text z = cond (is_within z && bytes_eq text (signed_decimal z)) (Some z) None
+
+unfoldable pub integer_of : List ℕ → Option ℤ
+integer_of text = integer_if text (signed_digits_value 10 text)

@@ -1,21 +1,25 @@
 -- The texts of replies, over the names of the vertices, in vertex order.
---   HasNames names reply          == there are as many names as the divisor of the reply has vertices
+--   HasNames names reply          == there are as many names as the amounts of the reply, and its script, have vertices
 --   pair name amount              == `name=amount`
 --   pairs names amounts           == the pairs of all vertices, with one space between two
+--   verdict_text names verdict    == the word of the verdict, the pairs of its script and those of its reduced divisor
 --   text_of names reply           == the text of the reply, with no number and no newline
 --   entry_text names number reply == the line of an entry: its number, a space, the text and a newline
-use Rattle.std.specs.Prelude.{◌≡◌, ℕ, ◌+◌, ℤ, List, [], ◌∷◌, ◌++◌, length, codes, decimal}
+use Rattle.std.specs.Prelude.{◌≡◌, ℕ, ◌+◌, ℤ, Bool, true, false, List, [], ◌∷◌, ◌++◌, length, codes, decimal}
 use Rattle.std.specs.Fmt.{signed_decimal}
 use Rattle.dg_chips.specs.Vector.{at}
 use Rattle.dg_game.specs.declared.entry.Reply.{Reply}
-use Rattle.dg_game.specs.declared.entry.Reply.TheVariants.{Moved, Given, Looked, Won, NotWon, Refused}
+use Rattle.dg_game.specs.declared.entry.Reply.TheVariants.{Moved, Given, Looked, Verdict, Stale, Won, NotWon, Refused}
 use Rattle.dg_game.specs.declared.entry.Refusal.{Refusal}
 use Rattle.dg_game.specs.declared.entry.Refusal.TheVariants.{NoVertex, Empty, Script, Gift, Range}
+use Rattle.dg_verdict.specs.declared.verdict.Verdict.{Verdict as VerdictFound}
 
 abbrev pub HasNames : List (List ℕ) → Reply → Type 0
 HasNames names (Moved d) = length names ≡ d.size
 HasNames names (Given gifts d) = length names ≡ d.size
 HasNames names (Looked gifts d) = length names ≡ d.size
+HasNames names (Verdict x) = (length names ≡ x.script.size) × (length names ≡ x.reduced.size)
+HasNames names (Stale gifts) = Unit {0}
 HasNames names Won = Unit {0}
 HasNames names NotWon = Unit {0}
 HasNames names (Refused refusal) = Unit {0}
@@ -39,10 +43,19 @@ refusal_text Script = codes "refused script"
 refusal_text Gift = codes "refused gift"
 refusal_text Range = codes "refused range"
 
+abbrev pub verdict_word : Bool → List ℕ
+verdict_word true = codes "winnable by "
+verdict_word false = codes "unwinnable by "
+
+abbrev pub verdict_text : List (List ℕ) → VerdictFound → List ℕ
+verdict_text names x = verdict_word x.winnable ++ pairs names (at x.script) ++ codes " to " ++ pairs names (at x.reduced)
+
 abbrev pub text_of : List (List ℕ) → Reply → List ℕ
 text_of names (Moved d) = codes "moved " ++ pairs names (at d)
 text_of names (Given gifts d) = codes "given " ++ decimal gifts ++ codes " " ++ pairs names (at d)
 text_of names (Looked gifts d) = codes "looked " ++ decimal gifts ++ codes " " ++ pairs names (at d)
+text_of names (Verdict x) = verdict_text names x
+text_of names (Stale gifts) = codes "stale " ++ decimal gifts
 text_of names Won = codes "won"
 text_of names NotWon = codes "not won"
 text_of names (Refused refusal) = refusal_text refusal

@@ -18,6 +18,11 @@ pub enum Task<'a> {
         /// The name of the file of steps.
         steps: &'a str,
     },
+    /// Tell whether the position of a table is winnable, and print the verdict.
+    Judge {
+        /// The name of the table file.
+        file: &'a str,
+    },
 }
 
 /// What a command line that is not refused comes to.
@@ -80,16 +85,21 @@ fn task_in<'a>(matches: &ArgMatches<'a>) -> Option<Task<'a>> {
             file: inner.get_str("file")?,
             steps: inner.get_str("steps")?,
         }),
+        "judge" => Some(Task::Judge {
+            file: inner.get_str("file")?,
+        }),
         _ => None,
     }
 }
 
 fn dollar<'a>(alloc: Global) -> Result<Command<'a>, AllocError> {
     Command::new(alloc, "dollar")
-        .about("Plays the dollar game on a graph")
+        .about("Plays the dollar game on a graph, and tells whether a table is winnable")
+        .after_help(MORE)
         .subcommand_required(true)
         .arg_required_else_help(true)
-        .subcommand(rehearse(alloc)?)
+        .subcommand(rehearse(alloc)?)?
+        .subcommand(judge(alloc)?)
 }
 
 fn rehearse<'a>(alloc: Global) -> Result<Command<'a>, AllocError> {
@@ -107,6 +117,24 @@ fn rehearse<'a>(alloc: Global) -> Result<Command<'a>, AllocError> {
         .arg(file)?
         .arg(steps)
 }
+
+fn judge<'a>(alloc: Global) -> Result<Command<'a>, AllocError> {
+    let file = Arg::new(alloc, "file")
+        .value_name("FILE")
+        .required(true)
+        .help(FILE_HELP);
+    Command::new(alloc, "judge")
+        .about("Tells whether a table is winnable, and prints what shows it")
+        .after_help(JUDGE_MORE)
+        .arg(file)
+}
+
+const MORE: &str = "\
+The vertices of a graph hold dollars or owe them. A vertex that lends gives a dollar along each of its edges, and one
+that borrows takes a dollar along each. A table is winnable where this can clear all debts.
+
+`dollar rehearse --help` shows a table file and what can be played on it; `dollar judge --help` how a verdict is read.
+";
 
 const FILE_HELP: &str =
     "The table: a JSON file with the graph, the amounts at the start and the vertex q";
@@ -132,5 +160,22 @@ or a set of vertices lends at once:
     2 borrow b
     1 fire a,c
 
-Each step gives a line with its number, from 0 on, and what came of it, as `0 moved a=0 b=0 c=0`.
+A seat may also look at the amounts, give a vertex some dollars, or commit: reckon whether the table that it looked at
+last is winnable, and enter the verdict. Once a gift was accepted, an earlier look is stale:
+
+    1 look
+    2 gift b 1
+    1 commit
+
+Each step gives a line with its number, from 0 on, and what came of it, as `0 moved a=0 b=0 c=0` or `2 stale 1`.
+";
+
+const JUDGE_MORE: &str = "\
+FILE is a table file, as `dollar rehearse --help` shows it. The verdict comes with what shows it:
+
+    winnable by a=0 b=-1 c=-1 to a=0 b=0 c=0
+
+The first numbers say how often each vertex lends, a negative one how often it borrows; q does neither.
+The second are the dollars after that. Nobody but q is then in debt, and whichever of the others lend together, one of
+them comes into debt. So the table is winnable just where q is out of debt as well.
 ";

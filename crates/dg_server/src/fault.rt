@@ -34,6 +34,9 @@ pub enum Fault {
     /// A step, counted from 0, finds the history full. The text counts from 1.
     #[error("step {}: full", .0.saturating_add(1))]
     Full(usize),
+    /// A step, counted from 0, commits while its seat keeps no look. The text counts from 1.
+    #[error("step {}: no look", .0.saturating_add(1))]
+    NoLook(usize),
     /// There is not enough memory.
     #[error("out of memory")]
     OutOfMemory,
@@ -88,6 +91,7 @@ impl From<RehearseFault> for Fault {
         match fault {
             RehearseFault::Seat(i) => Fault::Seat(i),
             RehearseFault::Full(i) => Fault::Full(i),
+            RehearseFault::NoLook(i) => Fault::NoLook(i),
             RehearseFault::OutOfMemory => Fault::OutOfMemory,
         }
     }
@@ -105,7 +109,7 @@ pub fn status_of(fault: &Fault) -> u8
         Fault::Source(SourceFault::Unreadable) => 5,
         Fault::File(FileFault::OutOfMemory) => 4,
         Fault::File(_) => 3,
-        Fault::Line { .. } | Fault::Seat(_) | Fault::Full(_) => 3,
+        Fault::Line { .. } | Fault::Seat(_) | Fault::Full(_) | Fault::NoLook(_) => 3,
         Fault::OutOfMemory => 4,
         Fault::Write => 5,
     }

@@ -2,6 +2,7 @@
 //! the faults and what is printed.
 #![tactic(auto)]
 
+mod amounts;
 mod command_line;
 mod cuts;
 mod fault;
@@ -22,7 +23,7 @@ pub use fault::{Fault, report, status_of};
 pub use laws::steps_are_spelled;
 pub use line::{LineFault, parse_step};
 pub use names::{Names, is_name};
-pub use printed::rehearsal;
+pub use printed::{judgement, rehearsal};
 pub use program::run;
 pub use sources::{Disk, MAX_FILE, SourceFault, Sources, read_within};
 pub use steps::{StepsFault, parse_steps};

@@ -3,12 +3,12 @@ ghost use Rattle.std.specs.Prelude.{◌≡◌, ◌+◌, ◌<◌, ◌^◌, Bool, 
 ghost use Rattle.std.specs.Option.{option_copied};
 ghost use Rattle.dg_chips.specs.Moves.{in_set};
 ghost use Rattle.dg_server.specs.Cuts.{items, words_after};
-ghost use Rattle.dg_server.specs.Commands.{only_word, lend_of, borrow_of, set_of, fire_of, line_of};
+ghost use Rattle.dg_server.specs.Commands.{only_word, lend_of, borrow_of, set_of, fire_of, bare, gift_of, line_of};
 ghost use Rattle.dg_server.specs.Steps.{step_of};
 
 use crate::cuts::cut;
 use crate::names::Names;
-use crate::number::seat;
+use crate::number::{integer, seat};
 use dg_chips::Move;
 use dg_game::{Command, Plain, Step};
 use thiserror::Error;
@@ -35,7 +35,7 @@ pub enum LineFault {
 
 /// The step that a line spells: a seat from 1 to 64, one space, and a command line.
 ///
-/// Refused with `Seat` first, then as the command line is: with `Word`, `Form`, `Name`.
+/// Refused with `Seat` first, then as the command line is: with `Word`, `Form`, `Name`, `Number`.
 #[tactic(auto, unfolding(crate::specs::Steps::step_of))]
 pub fn parse_step(line: &[u8], names: &Names) -> Result<Step, LineFault>
     ensures { result ≡ step_of names.now line.now }
@@ -49,7 +49,7 @@ pub fn parse_step(line: &[u8], names: &Names) -> Result<Step, LineFault>
 
 /// The command that a line spells: a command word and what belongs to it.
 ///
-/// Refused with `Word` where the first word is no command, then with `Form`, then with `Name`.
+/// Refused with `Word` where the first word is no command, then with `Form`, then with `Name`, then with `Number`.
 #[tactic(auto, using(crate::proofs::Cutting::pieces_cut), unfolding(crate::specs::Commands::line_of, crate::specs::Commands::command_of))]
 pub fn parse_line(line: &[u8], names: &Names) -> Result<Command, LineFault>
     ensures { result ≡ line_of names.now line.now }
@@ -61,6 +61,12 @@ pub fn parse_line(line: &[u8], names: &Names) -> Result<Command, LineFault>
         borrow(rest, names)
     } else if word == b"fire".as_slice() {
         fire(rest, names)
+    } else if word == b"look".as_slice() {
+        bare(rest, Command::Call(Plain::Look))
+    } else if word == b"gift".as_slice() {
+        gift(rest, names)
+    } else if word == b"commit".as_slice() {
+        bare(rest, Command::Commit)
     } else {
         Err(LineFault::Word)
     }
@@ -91,6 +97,31 @@ fn fire(rest: Option<&[u8]>, names: &Names) -> Result<Command, LineFault>
     let word = single_word(rest).ok_or(LineFault::Form)?;
     let set = named_set(word, names).ok_or(LineFault::Name)?;
     Ok(Command::Call(Plain::Move(Move::Fire(set))))
+}
+
+/// The command, where nothing follows the command word.
+#[tactic(auto, using(crate::proofs::Cutting::pieces_cut), unfolding(crate::specs::Commands::bare))]
+fn bare(rest: Option<&[u8]>, command: Command) -> Result<Command, LineFault>
+    ensures { result ≡ bare command (words_after (option_copied rest.entry)) }
+{
+    match rest {
+        Some(_) => Err(LineFault::Form),
+        None => Ok(command),
+    }
+}
+
+#[tactic(auto, using(crate::proofs::Cutting::pieces_cut), unfolding(crate::specs::Commands::gift_of))]
+fn gift(rest: Option<&[u8]>, names: &Names) -> Result<Command, LineFault>
+    ensures { result ≡ gift_of names.now (words_after (option_copied rest.entry)) }
+{
+    let (name, more) = cut(rest.ok_or(LineFault::Form)?, b' ');
+    if name.is_empty() {
+        return Err(LineFault::Form);
+    }
+    let number = single_word(more).ok_or(LineFault::Form)?;
+    let v = names.place(name).ok_or(LineFault::Name)?;
+    let dollars = integer(number).ok_or(LineFault::Number)?;
+    Ok(Command::Call(Plain::Gift(v, dollars)))
 }
 
 /// The one word of what follows the command word, where there is just one and it is not empty.

@@ -1,6 +1,8 @@
-//! Schedules that are played and printed.
-ghost use Rattle.std.specs.Prelude.{IfOk, IfErr, ◌≡◌};
+//! Schedules that are played and printed, and tables that are judged.
+ghost use Rattle.std.specs.Prelude.{IfOk, IfErr, ◌≡◌, ◌++◌, codes};
 ghost use Rattle.dg_server.specs.Cuts.{lines};
+ghost use Rattle.dg_server.specs.Judgements.{IsJudgement};
+ghost use Rattle.dg_server.specs.Texts.{HasNames, text_of};
 ghost use Rattle.dg_server.specs.Rehearsals.{history_text, AllHaveNames, IsPrinted};
 ghost use Rattle.dg_server.specs.Refusals.{RefusesSchedule};
 
@@ -8,15 +10,17 @@ use crate::fault::Fault;
 use crate::names::Names;
 use crate::steps::parse_steps;
 use crate::table::TableFile;
-use crate::text::entry_line;
-use dg_game::{Entry, rehearse};
+use crate::text::{entry_line, reply_text};
+use dg_game::{Entry, Reply, rehearse};
+use dg_verdict::judge;
 use std::alloc::{AllocError, Global};
 
 /// The history of a schedule as text: a line for each entry, with its number, from 0 on, and the text of its reply. The
 /// history is the legal one that the steps make from the table's start.
 ///
-/// Refused with `Line` for the first line that spells no step, then with `Full` where there are more than 65,536 steps;
-/// `OutOfMemory` comes at the growth that was refused.
+/// Refused with `Line` for the first line that spells no step; then for the first step that is refused, with `Full` where
+/// it is the step after 65,536 others, or with `NoLook` where it commits while its seat keeps no look. `OutOfMemory` comes
+/// at the growth that was refused.
 pub fn rehearsal(alloc: Global, table: &TableFile, steps: &[u8]) -> Result<Vec<u8>, Fault>
     ensures printed { IfOk result (λ text. IsPrinted table.now.start table.now.names (lines steps.now) text.items) }
     ensures refused { IfErr result (RefusesSchedule table.now.names (lines steps.now)) }
@@ -34,6 +38,31 @@ pub fn rehearsal(alloc: Global, table: &TableFile, steps: &[u8]) -> Result<Vec<u
         Ok(text) => Ok(text),
         Err(_) => Err(Fault::OutOfMemory),
     }
+}
+
+/// The verdict on a table's amounts as text, reckoned from its vertex q: the text of a reply, and a newline.
+///
+/// Refused with `OutOfMemory` at the growth that was refused, and with nothing else.
+pub fn judgement(alloc: Global, table: &TableFile) -> Result<Vec<u8>, Fault>
+    ensures judged { IfOk result (λ text. IsJudgement table.now.start table.now.names text.items) }
+    ensures refused { IfErr result (λ fault. fault ≡ Fault.OutOfMemory) }
+{
+    let start = table.start();
+    let verdict = judge(start.graph(), usize::from(start.q()), start.divisor());
+    match reply_line(alloc, &Reply::Verdict(verdict), table.names()) {
+        Ok(text) => Ok(text),
+        Err(_) => Err(Fault::OutOfMemory),
+    }
+}
+
+/// The text of a reply, and a newline.
+fn reply_line(alloc: Global, reply: &Reply, names: &Names) -> Result<Vec<u8>, AllocError>
+    requires { HasNames names.now reply.now }
+    ensures { IfOk result (λ line. line.items ≡ text_of names.now reply.now ++ codes "\n") }
+{
+    let mut line = reply_text(alloc, reply, names)?;
+    line.extend_from_slice(b"\n")?;
+    Ok(line)
 }
 
 /// The lines of the entries, numbered from 0 on.

@@ -4,7 +4,7 @@ ghost use Rattle.dg_server.specs.Status.{IsStatus};
 
 use crate::command_line::{Asked, Task, asked_by};
 use crate::fault::{Fault, report};
-use crate::printed::rehearsal;
+use crate::printed::{judgement, rehearsal};
 use crate::sources::Sources;
 use crate::table::read_table;
 use std::io::{BufRead, Write};
@@ -61,6 +61,7 @@ fn answer<R: Files + AllocGlobal, S: Sources>(
     match asked_by(rt.alloc(), words)? {
         Asked::Text(text) => Ok(text.into_bytes()),
         Asked::Task(Task::Rehearse { file, steps }) => rehearsed(rt, sources, file, steps),
+        Asked::Task(Task::Judge { file }) => judged(rt, sources, file),
     }
 }
 
@@ -75,4 +76,15 @@ fn rehearsed<R: Files + AllocGlobal, S: Sources>(
     let table = read_table(alloc, file.as_slice())?;
     let steps = sources.bytes(rt, steps)?;
     rehearsal(alloc, &table, steps.as_slice())
+}
+
+fn judged<R: Files + AllocGlobal, S: Sources>(
+    rt: &R,
+    sources: &S,
+    file: &str,
+) -> Result<Vec<u8>, Fault> {
+    let alloc = rt.alloc();
+    let file = sources.bytes(rt, file)?;
+    let table = read_table(alloc, file.as_slice())?;
+    judgement(alloc, &table)
 }

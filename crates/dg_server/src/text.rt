@@ -2,11 +2,13 @@
 ghost use Rattle.std.specs.Prelude.{◌≡◌, ◌<◌, ◌++◌, length, codes, decimal, IfOk, OnOk};
 ghost use Rattle.std.specs.Fmt.{signed_decimal};
 ghost use Rattle.dg_chips.specs.Vector.{at};
-ghost use Rattle.dg_server.specs.Texts.{HasNames, pair, pairs, refusal_text, text_of, entry_text};
+ghost use Rattle.dg_server.specs.Texts.{HasNames, pair, pairs, refusal_text, verdict_word, verdict_text, text_of, entry_text};
 
+use crate::amounts::Amounts;
 use crate::names::Names;
 use dg_chips::Divisor;
 use dg_game::{Refusal, Reply};
+use dg_verdict::Verdict;
 use itoa::Buffer;
 use std::alloc::{AllocError, Allocator};
 
@@ -63,6 +65,11 @@ fn push_reply<A: Allocator>(
             text.extend_from_slice(b"looked ")?;
             push_counted(text, *gifts, names, divisor)?;
         }
+        Reply::Verdict(verdict) => push_verdict(text, names, verdict)?,
+        Reply::Stale(gifts) => {
+            text.extend_from_slice(b"stale ")?;
+            text.extend_from_slice(Buffer::new().format(*gifts).as_bytes())?;
+        }
         Reply::Won => text.extend_from_slice(b"won")?,
         Reply::NotWon => text.extend_from_slice(b"not won")?,
         Reply::Refused(refusal) => push_refusal(text, *refusal)?,
@@ -86,6 +93,34 @@ fn push_counted<A: Allocator>(
     Ok(())
 }
 
+/// The word of the verdict, the pairs of its script and those of its reduced divisor.
+fn push_verdict<A: Allocator>(
+    text: &mut Vec<u8, A>,
+    names: &Names,
+    verdict: &Verdict,
+) -> Result<(), AllocError>
+    requires script { length names.now ≡ verdict.now.script.size }
+    requires reduced { length names.now ≡ verdict.now.reduced.size }
+    ensures { OnOk result (text.new.items ≡ text.old.items ++ verdict_text names.now verdict.now) }
+{
+    push_word(text, verdict.winnable)?;
+    push_pairs(text, names, &verdict.script)?;
+    text.extend_from_slice(b" to ")?;
+    push_pairs(text, names, &verdict.reduced)?;
+    Ok(())
+}
+
+fn push_word<A: Allocator>(text: &mut Vec<u8, A>, winnable: bool) -> Result<(), AllocError>
+    ensures { OnOk result (text.new.items ≡ text.old.items ++ verdict_word winnable) }
+{
+    if winnable {
+        text.extend_from_slice(b"winnable by ")?;
+    } else {
+        text.extend_from_slice(b"unwinnable by ")?;
+    }
+    Ok(())
+}
+
 fn push_refusal<A: Allocator>(text: &mut Vec<u8, A>, refusal: Refusal) -> Result<(), AllocError>
     ensures { OnOk result (text.new.items ≡ text.old.items ++ refusal_text refusal) }
 {
@@ -100,24 +135,28 @@ fn push_refusal<A: Allocator>(text: &mut Vec<u8, A>, refusal: Refusal) -> Result
 }
 
 /// The pairs of all vertices, with one space between two.
-fn push_pairs<A: Allocator>(
+fn push_pairs<A: Allocator, N: Amounts>(
     text: &mut Vec<u8, A>,
     names: &Names,
-    divisor: &Divisor,
+    amounts: &N,
 ) -> Result<(), AllocError>
-    requires { length names.now ≡ divisor.now.size }
-    ensures { OnOk result (text.new.items ≡ text.old.items ++ pairs names.now (at divisor.now)) }
+    requires { length names.now ≡ (N.numbers amounts.now).size }
+    ensures { OnOk result (text.new.items ≡ text.old.items ++ pairs names.now (at (N.numbers amounts.now))) }
 {
-    'vertices: for v in 0..divisor.size() {
+    'vertices: for v in 0..amounts.count() {
         if v > 0 {
             text.extend_from_slice(b" ")?;
         }
-        push_pair(text, names.name(v), divisor.get(v))?;
+        push_pair(text, names.name(v), amounts.amount(v))?;
     }
     Ok(())
 }
 
-fn push_pair<A: Allocator>(text: &mut Vec<u8, A>, name: &str, amount: i64) -> Result<(), AllocError>
+fn push_pair<A: Allocator>(
+    text: &mut Vec<u8, A>,
+    name: &str,
+    amount: i128,
+) -> Result<(), AllocError>
     ensures { OnOk result (text.new.items ≡ text.old.items ++ pair name.now amount) }
 {
     text.extend_from_slice(name.as_bytes())?;

@@ -7,7 +7,16 @@ use dg_game::{Command, Plain, Step};
 use std::test::Fail;
 
 fn step(seat: u8, play: Move) -> Result<Step, LineFault> {
-    let command = Command::Call(Plain::Move(play));
+    call(seat, Plain::Move(play))
+}
+
+fn call(seat: u8, plain: Plain) -> Result<Step, LineFault> {
+    let command = Command::Call(plain);
+    Ok(Step { seat, command })
+}
+
+fn commit(seat: u8) -> Result<Step, LineFault> {
+    let command = Command::Commit;
     Ok(Step { seat, command })
 }
 
@@ -29,6 +38,40 @@ fn lines_are_steps_or_refused(rt: HostRuntime) -> Result<(), Fail> {
         ("1 lend a b", Err(LineFault::Form)),
         ("1 lend z", Err(LineFault::Name)),
         ("1 lend a\r", Err(LineFault::Name)),
+        ("1 look", call(1, Plain::Look)),
+        ("1 look ", Err(LineFault::Form)),
+        ("1 look a", Err(LineFault::Form)),
+        ("1 gift b 1", call(1, Plain::Gift(1, 1))),
+        ("1 gift a -5", call(1, Plain::Gift(0, -5))),
+        ("1 gift c 0", call(1, Plain::Gift(2, 0))),
+        (
+            "1 gift a 9223372036854775807",
+            call(1, Plain::Gift(0, i64::MAX)),
+        ),
+        ("1 gift a 9223372036854775808", Err(LineFault::Number)),
+        (
+            "1 gift a -9223372036854775808",
+            call(1, Plain::Gift(0, i64::MIN)),
+        ),
+        ("1 gift a -9223372036854775809", Err(LineFault::Number)),
+        ("1 gift a 01", Err(LineFault::Number)),
+        ("1 gift a -01", Err(LineFault::Number)),
+        ("1 gift a -0", Err(LineFault::Number)),
+        ("1 gift a +1", Err(LineFault::Number)),
+        ("1 gift a -", Err(LineFault::Number)),
+        ("1 gift a one", Err(LineFault::Number)),
+        ("1 gift z 01", Err(LineFault::Name)),
+        ("1 gift a,b 1", Err(LineFault::Name)),
+        ("1 gift", Err(LineFault::Form)),
+        ("1 gift a", Err(LineFault::Form)),
+        ("1 gift a ", Err(LineFault::Form)),
+        ("1 gift a 1 ", Err(LineFault::Form)),
+        ("1 gift a 1 2", Err(LineFault::Form)),
+        ("1 gift  1", Err(LineFault::Form)),
+        ("1 commit", commit(1)),
+        ("1 commit ", Err(LineFault::Form)),
+        ("1 commit a", Err(LineFault::Form)),
+        ("1 give a 1", Err(LineFault::Word)),
         ("1 ", Err(LineFault::Word)),
         ("1  lend a", Err(LineFault::Word)),
         ("0 lend a", Err(LineFault::Seat)),

@@ -1,8 +1,9 @@
 use crate::tests::triangle;
 use crate::text::{entry_line, reply_text};
-use dg_chips::Divisor;
+use dg_chips::{Divisor, Script, Wide};
 use dg_game::{Refusal, Reply};
 use dg_graph::Graph;
+use dg_verdict::Verdict;
 use std::test::Fail;
 
 #[test]
@@ -15,6 +16,7 @@ fn replies_are_written(rt: HostRuntime) -> Result<(), Fail> {
         (Reply::Moved(divisor), "moved a=2 b=-1 c=-10"),
         (Reply::Given(3, divisor), "given 3 a=2 b=-1 c=-10"),
         (Reply::Looked(0, divisor), "looked 0 a=2 b=-1 c=-10"),
+        (Reply::Stale(12), "stale 12"),
         (Reply::Won, "won"),
         (Reply::NotWon, "not won"),
         (Reply::Refused(Refusal::NoVertex), "refused vertex"),
@@ -29,5 +31,26 @@ fn replies_are_written(rt: HostRuntime) -> Result<(), Fail> {
     }
     let line = entry_line(rt.alloc(), 7, &Reply::Won, &names)?;
     assert!(rt; line.as_slice() == b"7 won\n".as_slice());
+    Ok(())
+}
+
+#[test]
+fn verdicts_are_written(rt: HostRuntime) -> Result<(), Fail> {
+    let names = triangle(rt.alloc())?;
+    let graph = Graph::new(3, &[(0, 1, 1), (1, 2, 1), (0, 2, 1)])?;
+    let script = Script::new(&graph, &[0, -1, 225_000_000])?;
+    let reduced = Wide::new(&graph, &[-100_000_000_000_000_000_000, 1, 0])?;
+    assert_eq!(rt; names.len(), script.size());
+    assert_eq!(rt; names.len(), reduced.size());
+    let order = [0; 16];
+    let verdict = Verdict {
+        winnable: false,
+        script,
+        reduced,
+        order,
+    };
+    let text = reply_text(rt.alloc(), &Reply::Verdict(verdict), &names)?;
+    let want = b"unwinnable by a=0 b=-1 c=225000000 to a=-100000000000000000000 b=1 c=0".as_slice();
+    assert!(rt; text.as_slice() == want);
     Ok(())
 }

@@ -1,4 +1,3 @@
-use Rattle.std.proofs.Common.{◌≡◌, ◌∙◌, sym, ap}
 use Rattle.dg_server.proofs.Printing.{legal_named}
 use Rattle.dg_server.proofs.Refusing.{schedule_refused}
 use Rattle.dg_server.proofs.printed.rehearsal.Goals as goal

@@ -6,4 +6,6 @@ use Rattle.dg_server.proofs.Pairs.{pairs_left}
 use Rattle.dg_server.proofs.text.push_pairs.Given as goal
 
 abbrev pub invariant-vertices : goal.invariant-vertices
-invariant-vertices g l = l.text.items ++ pairs_left l.names (at l.divisor) l.v ≡ l.fn.text.items ++ pairs l.names (at l.divisor)
+invariant-vertices g l =
+    l.text.items ++ pairs_left l.names (at (g.N.Amounts.numbers l.amounts)) l.v
+    ≡ l.fn.text.items ++ pairs l.names (at (g.N.Amounts.numbers l.amounts))

@@ -2,7 +2,7 @@ use Rattle.dg_game.proofs.StateLaws.{replies_after, leads_more}
 use Rattle.dg_game.proofs.game.Game.act.Goals as goal
 
 pub returns-clause-replies : goal.returns-clause-replies
-returns-clause-replies c = λ o H leads. replies_after o H _ _ _ leads c.reply_to-reply.ensures
+returns-clause-replies c = λ o H leads. replies_after o H _ _ _ leads c.answer.ensures.replies
 
 pub returns-clause-leads : goal.returns-clause-leads
-returns-clause-leads c = λ o H seat leads. rw c.enter.ensures (leads_more o H _ _ leads (replies_after o H _ _ _ leads c.reply_to-reply.ensures))
+returns-clause-leads c = λ o H seat leads. leads_more o H _ _ _ leads (replies_after o H _ _ _ leads c.answer.ensures.replies) c.answer.ensures.next

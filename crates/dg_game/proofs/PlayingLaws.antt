@@ -1,0 +1,180 @@
+-- A schedule goes on by a step.
+--   good_more      with one more good step all steps so far are good
+--   playing_none   before the first step
+--   playing_more   with one more entry that the next step asks for, and the looks kept after it
+--   looks_same     the looks are kept where the step uses none
+--   looks_set      where the seat's look is replaced, and the others stay
+--   looks_looked   after a call that is a look
+--   looks_left     and after one that is not
+--   called         the schedule after a call
+--   committed      and after a commit
+--   kept_there     the look that is read at the place of a seat is the one it keeps
+--   none_there     and where none is read it keeps none
+--   lookless       a commit without a look is the first fault
+--   told_ok_or     what an option tells, its `ok_or` tells as well
+--   told_err       and a refusal that is handed on tells what it told
+use Rattle.std.proofs.Common.{◌≡◌, ℕ, ◌+◌, ◌<◌, List, [], ◌∷◌, ◌++◌, length, length-append, slice_get, Option, Some, None, Result, Ok, Err, set, arith, refl, sym, ap, ◌∙◌, inl, inr, length-set, replicate}
+use Rattle.std.specs.List.{slice_index_or}
+use Rattle.std.specs.Option.{ok_or, MatchOption}
+use Rattle.std.specs.Result.{MatchResult, IsErrAnd}
+use Rattle.std.proofs.lemmas.Bool.{cases_lt, cases_eq}
+use Rattle.std.proofs.lemmas.List.{get_or-set_same, get_or-set_other, get_or-replicate, length-replicate}
+use Rattle.dg_chips.specs.Opening.{Opening}
+use Rattle.dg_game.specs.Legal.{IsSeat, LooksBack}
+use Rattle.dg_game.specs.Playing.{KeepsLook, IsPlaying}
+use Rattle.dg_game.specs.Replies.{Replies}
+use Rattle.dg_game.specs.Schedule.{asked, UsesLook, IsKept, IsEntryOf}
+use Rattle.dg_game.specs.ScheduleFaults.{IsGood, AreGoodBefore, IsFirstFault}
+use Rattle.dg_game.specs.State.{LeadsTo}
+use Rattle.dg_game.specs.declared.entry.Entry.{Entry}
+use Rattle.dg_game.specs.declared.entry.Plain.{Plain}
+use Rattle.dg_game.specs.declared.entry.Plain.TheVariants as plain
+use Rattle.dg_game.specs.declared.entry.Request.TheVariants.{Judge}
+use Rattle.dg_game.specs.declared.entry.Reply.{Reply}
+use Rattle.dg_game.specs.declared.look.LookData.{LookData}
+use Rattle.dg_game.specs.declared.schedule.Rehearsal.{Rehearsal}
+use Rattle.dg_game.specs.declared.schedule.RehearseFault.TheVariants.{NoLook}
+use Rattle.dg_game.specs.declared.step.Command.TheVariants.{Call, Commit}
+use Rattle.dg_game.specs.declared.step.Step.{Step}
+use Rattle.dg_game.proofs.LegalLaws.{legal_none, legal_more, entries_more}
+use Rattle.dg_game.proofs.KeptLaws.{keeps_more, keeps_new, keeps_none}
+use Rattle.dg_game.proofs.LookLaws.{look_new}
+use Rattle.dg_game.proofs.ListLaws.{get_or-inside}
+
+good_more : (steps : List Step) (n : ℕ) (step : Step) → slice_get steps n ≡ Some step → IsGood steps n step →
+    AreGoodBefore steps n → AreGoodBefore steps (n + 1)
+good_more steps n step there good before k s below at = elim (cases_lt k n) [
+  | inl earlier ↦ before k s earlier at
+  | inr now ↦
+      let here : k ≡ n = omega arith in
+      let both : Some s ≡ Some step = sym at ∙ ap (slice_get steps) here ∙ there in
+      let same : s ≡ step = (cc) in
+      rw (here, same) good
+]
+
+-- the looks kept after a history
+abbrev pub AreLooks : Opening → List Entry → List Step → List (Option LookData) → Type 0
+AreLooks o H steps looks = (seat : ℕ) → IsSeat seat → KeepsLook o H steps seat (slice_index_or looks seat None)
+
+pub playing_more : (o : Opening) (H : List Entry) (steps : List Step) (r t : Rehearsal) (step : Step) (e : Entry) → IsPlaying o steps H r →
+    slice_get steps (length H) ≡ Some step → IsGood steps (length H) step → IsEntryOf steps (length H) step e →
+    LooksBack H e.request → Replies o H e.request e.reply → LeadsTo o (H ++ e ∷ []) t.game → length t.looks ≡ 65 →
+    AreLooks o (H ++ e ∷ []) steps t.looks → IsPlaying o steps (H ++ e ∷ []) t
+playing_more o H steps r t step e playing there good asks back right leads places looks =
+    let longer : length (H ++ e ∷ []) ≡ length H + 1 = omega (arith, length-append H (e ∷ [])) in
+    record {
+      leads = leads;
+      legal = legal_more o H e playing.legal (rw asks.seat good.0) back right;
+      good = rw longer (good_more steps (length H) step there good playing.good);
+      entries = entries_more steps H step e there asks playing.entries;
+      places = places;
+      looks = looks;
+    }
+
+pub looks_same : (o : Opening) (H : List Entry) (e : Entry) (steps : List Step) (step : Step) (looks : List (Option LookData)) →
+    slice_get steps (length H) ≡ Some step → (¬ UsesLook step.command) → AreLooks o H steps looks → AreLooks o (H ++ e ∷ []) steps looks
+looks_same o H e steps step looks there leaves kept seat is =
+    keeps_more o H e steps seat step (slice_index_or looks seat None) there (λ its. leaves) (kept seat is)
+
+pub looks_set : (o : Opening) (H : List Entry) (e : Entry) (steps : List Step) (step : Step) (looks : List (Option LookData)) (x : Option LookData) →
+    slice_get steps (length H) ≡ Some step → length looks ≡ 65 → IsSeat step.seat → KeepsLook o (H ++ e ∷ []) steps step.seat x →
+    AreLooks o H steps looks → AreLooks o (H ++ e ∷ []) steps (set looks step.seat x)
+looks_set o H e steps step looks x there places its keeps kept seat is = elim (cases_eq seat step.seat) [
+  | inl same ↦ rw (same, get_or-set_same looks step.seat x None (omega (arith, places, its.1))) keeps
+  | inr other ↦
+      rw (get_or-set_other looks step.seat seat x None other)
+      (keeps_more o H e steps seat step (slice_index_or looks seat None) there (λ here. absurd (other (sym here))) (kept seat is))
+]
+
+-- a call that is no look uses none
+no_look : (p : Plain) → (p ≡ plain.Look → ⊥) → ¬ UsesLook (Call p)
+no_look (plain.Move m) other uses = uses
+no_look (plain.Gift v x) other uses = uses
+no_look plain.Look other uses = other refl
+no_look plain.Claim other uses = uses
+
+back_asked : (H : List Entry) (p : Plain) → LooksBack H (asked p)
+back_asked H (plain.Move m) = tt
+back_asked H (plain.Gift v x) = tt
+back_asked H plain.Look = tt
+back_asked H plain.Claim = tt
+
+-- the looks kept after a call that is a look, and after one that is not
+pub looks_looked : (o : Opening) (H : List Entry) (steps : List Step) (r : Rehearsal) (seat : ℕ) (p : Plain) (x : LookData) (reply : Reply) →
+    IsPlaying o steps H r → slice_get steps (length H) ≡ Some (record { seat = seat; command = Call p }) → IsSeat seat → p ≡ plain.Look →
+    x.number ≡ r.game.entries → x.gifts ≡ r.game.gifts → x.position ≡ r.game.amounts →
+    AreLooks o (H ++ (record { seat = seat; request = asked p; reply = reply }) ∷ []) steps (set r.looks seat (Some x))
+looks_looked o H steps r seat p x reply playing there is look number gifts position =
+    let e : Entry = record { seat = seat; request = asked p; reply = reply } in
+    let looks : slice_get steps (length H) ≡ Some (record { seat = seat; command = Call plain.Look }) = rw look at there in
+    looks_set o H e steps (record { seat = seat; command = Call p }) r.looks (Some x) there playing.places is
+    (keeps_new o H e steps seat x looks (number ∙ playing.leads.entries)
+    (look_new o H r.game e x playing.leads (ap asked look) number gifts position)) playing.looks
+
+pub looks_left : (o : Opening) (H : List Entry) (steps : List Step) (r : Rehearsal) (seat : ℕ) (p : Plain) (reply : Reply) →
+    IsPlaying o steps H r → slice_get steps (length H) ≡ Some (record { seat = seat; command = Call p }) → (p ≡ plain.Look → ⊥) →
+    AreLooks o (H ++ (record { seat = seat; request = asked p; reply = reply }) ∷ []) steps r.looks
+looks_left o H steps r seat p reply playing there other =
+    looks_same o H (record { seat = seat; request = asked p; reply = reply }) steps (record { seat = seat; command = Call p }) r.looks there
+    (no_look p other) playing.looks
+
+pub called : (o : Opening) (H : List Entry) (steps : List Step) (r t : Rehearsal) (seat : ℕ) (p : Plain) (reply : Reply) →
+    IsPlaying o steps H r → slice_get steps (length H) ≡ Some (record { seat = seat; command = Call p }) → IsSeat seat →
+    Replies o H (asked p) reply → LeadsTo o (H ++ (record { seat = seat; request = asked p; reply = reply }) ∷ []) t.game →
+    length t.looks ≡ 65 → AreLooks o (H ++ (record { seat = seat; request = asked p; reply = reply }) ∷ []) steps t.looks →
+    IsPlaying o steps (H ++ (record { seat = seat; request = asked p; reply = reply }) ∷ []) t
+called o H steps r t seat p reply playing there is right leads places looks =
+    playing_more o H steps r t (record { seat = seat; command = Call p }) (record { seat = seat; request = asked p; reply = reply })
+    playing there (is, tt) (record { seat = refl; request = refl }) (back_asked H p) right leads places looks
+
+pub committed : (o : Opening) (H : List Entry) (steps : List Step) (r t : Rehearsal) (seat : ℕ) (x : LookData) (reply : Reply) →
+    IsPlaying o steps H r → slice_get steps (length H) ≡ Some (record { seat = seat; command = Commit }) → IsSeat seat →
+    KeepsLook o H steps seat (Some x) → Replies o H (Judge x.number) reply →
+    LeadsTo o (H ++ (record { seat = seat; request = Judge x.number; reply = reply }) ∷ []) t.game →
+    t.looks ≡ set r.looks seat None → IsPlaying o steps (H ++ (record { seat = seat; request = Judge x.number; reply = reply }) ∷ []) t
+committed o H steps r t seat x reply playing there is (kept, look) right leads replaced =
+    let step : Step = record { seat = seat; command = Commit } in
+    let e : Entry = record { seat = seat; request = Judge x.number; reply = reply } in
+    playing_more o H steps r t step e playing there (is, (x.number, kept)) (record { seat = refl; request = (x.number, kept, refl) })
+    look.look right leads (ap length replaced ∙ length-set _ _ _ ∙ playing.places)
+    (rw replaced (looks_set o H e steps step r.looks None there playing.places is (keeps_none o H e steps seat there) playing.looks))
+
+pub playing_none : (o : Opening) (steps : List Step) (r : Rehearsal) → LeadsTo o [] r.game → r.looks ≡ replicate 65 None → IsPlaying o steps [] r
+playing_none o steps r leads empty = record {
+  leads = leads;
+  legal = legal_none o;
+  good = λ k step below at. absurd (omega arith);
+  entries = λ j step e at there. absurd (cc);
+  places = ap length empty ∙ length-replicate {A = Option LookData} 65 None;
+  looks = λ seat is. rw (empty, get_or-replicate {A = Option LookData} 65 seat None None (omega (arith, is.1))) (λ i kept. absurd (omega (arith, kept.before)));
+}
+
+pub kept_there : (o : Opening) (H : List Entry) (steps : List Step) (r : Rehearsal) (seat i : ℕ) (d : Option LookData) (x : LookData) →
+    IsPlaying o steps H r → IsSeat seat → i ≡ seat → slice_index_or r.looks i d ≡ Some x → KeepsLook o H steps seat (Some x)
+kept_there o H steps r seat i d x playing is place read =
+    let inside : i < length r.looks = omega (arith, playing.places, is.1) in
+    let here : slice_index_or r.looks seat None ≡ Some x = ap (λ k. slice_index_or r.looks k None) (sym place) ∙ get_or-inside r.looks i None d inside ∙ read in
+    rw here at (playing.looks seat is)
+
+pub none_there : (o : Opening) (H : List Entry) (steps : List Step) (r : Rehearsal) (seat i : ℕ) (d : Option LookData) →
+    IsPlaying o steps H r → IsSeat seat → i ≡ seat → slice_index_or r.looks i d ≡ None → KeepsLook o H steps seat None
+none_there o H steps r seat i d playing is place read =
+    let inside : i < length r.looks = omega (arith, playing.places, is.1) in
+    let here : slice_index_or r.looks seat None ≡ None = ap (λ k. slice_index_or r.looks k None) (sym place) ∙ get_or-inside r.looks i None d inside ∙ read in
+    rw here at (playing.looks seat is)
+
+pub lookless : (o : Opening) (H : List Entry) (steps : List Step) (r : Rehearsal) (step : Step) (i : ℕ) → IsPlaying o steps H r →
+    slice_get steps (length H) ≡ Some step → i ≡ length H → i < 65536 → IsSeat step.seat → step.command ≡ Commit →
+    ((k : ℕ) → ¬ IsKept steps step.seat (length H) k) → IsFirstFault steps (NoLook i)
+lookless o H steps r step i playing there here room seat commits none =
+    (room, rw here playing.good, (step, rw here there, (seat, rw (commits, here) (λ (k, kept). none k kept))))
+
+pub told_ok_or : {X E : Type 0} (r : Option X) (fault : E) (P : Type 0) (Q R : X → Type 0) (F : E → Type 0) → MatchOption r P Q →
+    (P → F fault) → ((x : X) → Q x → R x) → MatchResult (ok_or r fault) R F
+told_ok_or (Some x) fault P Q R F told none some = some x told
+told_ok_or None fault P Q R F told none some = none told
+
+pub told_err : {X E : Type 0} (r : Result X E) (fault : E) (P : X → Type 0) (Q : E → Type 0) → IsErrAnd r (λ e. e ≡ fault) →
+    Q fault → MatchResult r P Q
+told_err (Ok x) fault P Q err told = absurd err
+told_err (Err e) fault P Q err told = rw err told

@@ -1,0 +1,27 @@
+use Rattle.std.proofs.Common.{◌≡◌, length, length-set, ap, sym, subst, ◌∙◌}
+use Rattle.dg_game.specs.State.{State, LeadsTo}
+use Rattle.dg_game.specs.declared.schedule.Rehearsal.{Rehearsal}
+use Rattle.dg_game.proofs.PlayingLaws.{called, looks_looked, looks_left}
+use Rattle.dg_game.proofs.schedule.Rehearsal.call.Goals as goal
+use Rattle.dg_game.proofs.schedule.Rehearsal.call.Goals.{in-Look, in_default}
+
+pub returns : goal.returns
+returns c = λ o H steps playing there. rw c.request.ensures (elim c.match-plain.branch [
+  | in-Look w ↦
+      let game : c.args.self.now.game ≡ c.match-plain.self.game = ap (λ (r : Rehearsal). r.game) (sym w.self-is) in
+      let looks = ap (λ (r : Rehearsal). r.looks) w.self-is in
+      let leads : LeadsTo o H c.match-plain.self.game = subst (λ (s : State). LeadsTo o H s) game playing.leads in
+      called o H steps c.args.self.now _ c.args.seat c.args.plain.now c.act.result playing there c.requires.seat
+      (c.act.ensures.replies o H leads) (c.act.ensures.leads o H c.args.seat leads)
+      (ap length looks ∙ length-set _ _ _ ∙ playing.places)
+      (rw (looks, w.from.ensures) (looks_looked o H steps c.args.self.now c.args.seat c.args.plain.now w.look_data.result c.act.result playing there
+      c.requires.seat w.in-Look.is w.look_data.ensures.number w.look_data.ensures.gifts w.look_data.ensures.position))
+  | in_default w ↦
+      let game : c.args.self.now.game ≡ c.match-plain.self.game = ap (λ (r : Rehearsal). r.game) (sym w.self-is) in
+      let looks = ap (λ (r : Rehearsal). r.looks) w.self-is in
+      let leads : LeadsTo o H c.match-plain.self.game = subst (λ (s : State). LeadsTo o H s) game playing.leads in
+      called o H steps c.args.self.now _ c.args.seat c.args.plain.now c.act.result playing there c.requires.seat
+      (c.act.ensures.replies o H leads) (c.act.ensures.leads o H c.args.seat leads)
+      (ap length looks ∙ playing.places)
+      (rw looks (looks_left o H steps c.args.self.now c.args.seat c.args.plain.now c.act.result playing there w.in_default.not-Look))
+])

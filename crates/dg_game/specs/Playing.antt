@@ -1,0 +1,27 @@
+-- A schedule that is being played.
+--   KeepsLook o H steps seat x  == x is the look that the seat keeps after the history H, if it keeps one
+--   IsPlaying o steps H r       == after the first steps the history is H, and r holds the game and the looks kept
+use Rattle.std.specs.Prelude.{◌≡◌, ℕ, List, length, slice_get, Option, Some, None}
+use Rattle.std.specs.List.{slice_index_or}
+use Rattle.dg_chips.specs.Opening.{Opening}
+use Rattle.dg_game.specs.Legal.{IsSeat, IsLegal}
+use Rattle.dg_game.specs.Look.{IsLookAt}
+use Rattle.dg_game.specs.State.{LeadsTo}
+use Rattle.dg_game.specs.Schedule.{IsKept, IsEntryOf}
+use Rattle.dg_game.specs.ScheduleFaults.{AreGoodBefore}
+use Rattle.dg_game.specs.declared.entry.Entry.{Entry}
+use Rattle.dg_game.specs.declared.look.LookData.{LookData}
+use Rattle.dg_game.specs.declared.schedule.Rehearsal.{Rehearsal}
+use Rattle.dg_game.specs.declared.step.Step.{Step}
+
+abbrev pub KeepsLook : Opening → List Entry → List Step → ℕ → Option LookData → Type 0
+KeepsLook o H steps seat (Some x) = IsKept steps seat (length H) x.number × IsLookAt o H x
+KeepsLook o H steps seat None = (i : ℕ) → ¬ IsKept steps seat (length H) i
+
+pub record IsPlaying (o : Opening) (steps : List Step) (H : List Entry) (r : Rehearsal) : Type 0 where
+  pub leads : LeadsTo o H r.game
+  pub legal : IsLegal o H
+  pub good : AreGoodBefore steps (length H)
+  pub entries : (j : ℕ) (step : Step) (e : Entry) → slice_get steps j ≡ Some step → slice_get H j ≡ Some e → IsEntryOf steps j step e
+  pub places : length r.looks ≡ 65
+  pub looks : (seat : ℕ) → IsSeat seat → KeepsLook o H steps seat (slice_index_or r.looks seat None)
