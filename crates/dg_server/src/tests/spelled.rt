@@ -38,40 +38,6 @@ fn lines_are_steps_or_refused(rt: HostRuntime) -> Result<(), Fail> {
         ("1 lend a b", Err(LineFault::Form)),
         ("1 lend z", Err(LineFault::Name)),
         ("1 lend a\r", Err(LineFault::Name)),
-        ("1 look", call(1, Plain::Look)),
-        ("1 look ", Err(LineFault::Form)),
-        ("1 look a", Err(LineFault::Form)),
-        ("1 gift b 1", call(1, Plain::Gift(1, 1))),
-        ("1 gift a -5", call(1, Plain::Gift(0, -5))),
-        ("1 gift c 0", call(1, Plain::Gift(2, 0))),
-        (
-            "1 gift a 9223372036854775807",
-            call(1, Plain::Gift(0, i64::MAX)),
-        ),
-        ("1 gift a 9223372036854775808", Err(LineFault::Number)),
-        (
-            "1 gift a -9223372036854775808",
-            call(1, Plain::Gift(0, i64::MIN)),
-        ),
-        ("1 gift a -9223372036854775809", Err(LineFault::Number)),
-        ("1 gift a 01", Err(LineFault::Number)),
-        ("1 gift a -01", Err(LineFault::Number)),
-        ("1 gift a -0", Err(LineFault::Number)),
-        ("1 gift a +1", Err(LineFault::Number)),
-        ("1 gift a -", Err(LineFault::Number)),
-        ("1 gift a one", Err(LineFault::Number)),
-        ("1 gift z 01", Err(LineFault::Name)),
-        ("1 gift a,b 1", Err(LineFault::Name)),
-        ("1 gift", Err(LineFault::Form)),
-        ("1 gift a", Err(LineFault::Form)),
-        ("1 gift a ", Err(LineFault::Form)),
-        ("1 gift a 1 ", Err(LineFault::Form)),
-        ("1 gift a 1 2", Err(LineFault::Form)),
-        ("1 gift  1", Err(LineFault::Form)),
-        ("1 commit", commit(1)),
-        ("1 commit ", Err(LineFault::Form)),
-        ("1 commit a", Err(LineFault::Form)),
-        ("1 give a 1", Err(LineFault::Word)),
         ("1 ", Err(LineFault::Word)),
         ("1  lend a", Err(LineFault::Word)),
         ("0 lend a", Err(LineFault::Seat)),
@@ -87,6 +53,61 @@ fn lines_are_steps_or_refused(rt: HostRuntime) -> Result<(), Fail> {
     }
     Ok(())
 }
+
+#[test]
+fn lines_are_looks_gifts_and_commits(rt: HostRuntime) -> Result<(), Fail> {
+    let names = triangle(rt.alloc())?;
+    let table = [
+        ("1 look", call(1, Plain::Look)),
+        ("1 gift b 1", call(1, Plain::Gift(1, 1))),
+        ("1 gift a -5", call(1, Plain::Gift(0, -5))),
+        ("1 gift c 0", call(1, Plain::Gift(2, 0))),
+        (
+            "2 gift a 9223372036854775807",
+            call(2, Plain::Gift(0, i64::MAX)),
+        ),
+        (
+            "2 gift a -9223372036854775808",
+            call(2, Plain::Gift(0, i64::MIN)),
+        ),
+        ("64 commit", commit(64)),
+    ];
+    for (line, want) in table {
+        assert!(rt; parse_step(line.as_bytes(), &names) == want, "at {line:?}");
+    }
+    for (line, fault) in &REFUSED {
+        let want = Err(*fault);
+        assert!(rt; parse_step(line.as_bytes(), &names) == want, "at {line:?}");
+    }
+    Ok(())
+}
+
+// Lines that are no looks, gifts or commits, and why.
+static REFUSED: [(&str, LineFault); 23] = [
+    ("1 look ", LineFault::Form),
+    ("1 look a", LineFault::Form),
+    ("1 gift a 9223372036854775808", LineFault::Number),
+    ("1 gift a -9223372036854775809", LineFault::Number),
+    ("1 gift a 01", LineFault::Number),
+    ("1 gift a -01", LineFault::Number),
+    ("1 gift a -0", LineFault::Number),
+    ("1 gift a +1", LineFault::Number),
+    ("1 gift a -", LineFault::Number),
+    ("1 gift a one", LineFault::Number),
+    ("1 gift z 01", LineFault::Name),
+    ("1 gift a,b 1", LineFault::Name),
+    ("1 gift", LineFault::Form),
+    ("1 gift a", LineFault::Form),
+    ("1 gift a ", LineFault::Form),
+    ("1 gift a 1 ", LineFault::Form),
+    ("1 gift a 1 2", LineFault::Form),
+    ("1 gift  1", LineFault::Form),
+    ("1 gift z  01", LineFault::Form),
+    ("1 commit ", LineFault::Form),
+    ("1 commit a", LineFault::Form),
+    ("1 give a 1", LineFault::Word),
+    ("1 ", LineFault::Word),
+];
 
 #[test]
 fn a_file_is_its_lines(rt: HostRuntime) -> Result<(), Fail> {
