@@ -1,15 +1,15 @@
 -- A reply that is right at one position is right at another that has the same graph and the same amounts on it.
---   fired-here      firing depends on the amount at the vertex alone
 --   range-cong      the same amounts are in range, or out of it
 --   replies-cong    the law
 use Rattle.std.proofs.Common.{◌≡◌, ℕ, ◌<◌, arith, ◌∙◌}
 use Rattle.std.proofs.lemmas.Int.{ints}
 use Rattle.std.proofs.Math.IntN.{ℤ}
 use Rattle.dg_theory.specs.Multigraph.{Multigraph}
-use Rattle.dg_theory.specs.Firing.{Amounts, fired}
+use Rattle.dg_theory.specs.Firing.{Amounts}
 use Rattle.dg_chips.specs.Vector.{IsInRange, IsOutOfRange}
 use Rattle.dg_chips.specs.Moves.{script_of}
 use Rattle.dg_chips.specs.declared.moves.Move.{Move as AMove}
+use Rattle.dg_verdict.proofs.Agreement.{fired-here}
 use Rattle.dg_game.specs.Position.{with_gift}
 use Rattle.dg_game.specs.MoveReplies.{RepliesToMove}
 use Rattle.dg_game.specs.GiftReplies.{RepliesToGift}
@@ -23,9 +23,6 @@ use Rattle.dg_game.specs.declared.entry.Reply.TheVariants.{Moved, Given, Looked,
 -- the amounts D and E agree on n vertices
 abbrev pub Agree : ℕ → Amounts → Amounts → Type 0
 Agree n D E = (v : ℕ) → v < n → D v ≡ E v
-
-fired-here : (g : Multigraph) (D E s : Amounts) → Agree g.size D E → Agree g.size (fired g D s) (fired g E s)
-fired-here g D E s same v below = let here : D v ≡ E v = same v below in omega (arith, ints)
 
 in_range-cong : (n : ℕ) (D E : Amounts) → Agree n D E → IsInRange n D → IsInRange n E
 in_range-cong n D E same right v below = rw (← same v below) (right v below)

@@ -7,7 +7,7 @@ use Rattle.std.proofs.lemmas.Int.{ints}
 use Rattle.dg_theory.specs.Multigraph.{Multigraph}
 use Rattle.dg_theory.specs.Firing.{Amounts, fired}
 use Rattle.dg_theory.specs.Play.{IsWinnable}
-use Rattle.dg_theory.proofs.Winning.{effective-cong, script_of_win, win_of_script}
+use Rattle.dg_theory.proofs.Giving.{win_more}
 use Rattle.dg_chips.specs.Vector.{at}
 use Rattle.dg_verdict.specs.Right.{IsRight}
 use Rattle.dg_verdict.specs.declared.verdict.Verdict.{Verdict}
@@ -18,8 +18,7 @@ fired-here g D E s same v below = omega (arith, ints, same v below)
 
 pub winnable-cong : (g : Multigraph) (D E : Amounts) → ((v : ℕ) → v < g.size → D v ≡ E v) → IsWinnable g D → IsWinnable g E
 winnable-cong g D E same win =
-    let (s, effective) = script_of_win g D win in
-    win_of_script g E s (effective-cong g.size (fired g D s) (fired g E s) (fired-here g D E s same) effective)
+    win_more g D E (λ v below. let here : D v ≡ E v = same v below in omega (arith, ints)) win
 
 pub right-cong : (g : Multigraph) (q : ℕ) (D E : Amounts) (x : Verdict) → ((v : ℕ) → v < g.size → D v ≡ E v) →
     IsRight g q D x → IsRight g q E x
