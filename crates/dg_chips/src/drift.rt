@@ -2,7 +2,7 @@ ghost use Rattle.std.specs.Prelude.{◌≡◌, ℕ, ◌<◌, ◌≤◌, ◌+ℤ�
 ghost use Rattle.std.specs.Int.RustNames.{unsigned_abs};
 ghost use Rattle.dg_chips.specs.Vector.{at, IsDrift};
 ghost use Rattle.dg_chips.specs.Moves.{script_of, IsPlayable};
-ghost use Rattle.dg_chips.specs.Drifts.{IsPastDrift, LeadsTo};
+ghost use Rattle.dg_chips.specs.Drifts.{IsPastDrift, FiresTo};
 
 use crate::divisor::Divisor;
 use crate::firing::gained;
@@ -122,8 +122,8 @@ impl Drift {
         requires from { from.now.size ≡ graph.now.size }
         requires to { to.now.size ≡ graph.now.size }
         ensures { MatchBool result
-            (LeadsTo graph.now (at self.now) (at from.now) (at to.now))
-            (¬ LeadsTo graph.now (at self.now) (at from.now) (at to.now)) }
+            (FiresTo graph.now (at self.now) (at from.now) (at to.now))
+            (¬ FiresTo graph.now (at self.now) (at from.now) (at to.now)) }
     {
         for v in 0..graph.size() {
             if from.get(v) + gained(graph, self, v) != to.get(v) {

@@ -3,7 +3,7 @@ ghost use Rattle.std.specs.Int.RustNames.{unsigned_abs};
 ghost use Rattle.dg_theory.specs.Firing.{only_at, indicator};
 ghost use Rattle.dg_chips.specs.Vector.{at, HoldsNumbers, IsScript};
 ghost use Rattle.dg_chips.specs.Moves.{in_set};
-ghost use Rattle.dg_chips.specs.Drifts.{LeadsTo};
+ghost use Rattle.dg_chips.specs.Drifts.{FiresTo};
 ghost use Rattle.dg_chips.specs.ScriptFaults.{IsFirstScriptFault};
 
 use crate::divisor::Divisor;
@@ -139,8 +139,8 @@ impl Script {
         requires from { from.now.size ≡ graph.now.size }
         requires to { to.now.size ≡ graph.now.size }
         ensures { MatchBool result
-            (LeadsTo graph.now (at self.now) (at from.now) (at to.now))
-            (¬ LeadsTo graph.now (at self.now) (at from.now) (at to.now)) }
+            (FiresTo graph.now (at self.now) (at from.now) (at to.now))
+            (¬ FiresTo graph.now (at self.now) (at from.now) (at to.now)) }
     {
         let drift = Drift::of(self);
         for v in 0..graph.size() {

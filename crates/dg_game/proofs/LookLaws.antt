@@ -20,7 +20,7 @@ use Rattle.dg_theory.specs.Firing.{Amounts, gain, fired}
 use Rattle.dg_theory.proofs.FiringLaws.{gain-add}
 use Rattle.dg_chips.specs.Vector.{Vector, at, IsDivisor}
 use Rattle.dg_chips.specs.Opening.{Opening}
-use Rattle.dg_chips.specs.Drifts.{LeadsTo as LeadsByScript}
+use Rattle.dg_chips.specs.Drifts.{FiresTo}
 use Rattle.dg_verdict.specs.Right.{IsRight}
 use Rattle.dg_verdict.specs.Rebasing.{IsRebasable}
 use Rattle.dg_verdict.specs.declared.verdict.Verdict.{Verdict as AVerdict}
@@ -85,7 +85,7 @@ graph_is o H = refl
 
 -- a history after a look, as the part before the look and the rest
 pub moved_since : (o : Opening) (H : List Entry) (s : State) (x : LookData) → LeadsTo o H s → IsLookAt o H x → s.gifts ≡ x.gifts →
-    (t : Amounts) × LeadsByScript s.graph t (at x.position) (at s.amounts)
+    (t : Amounts) × FiresTo s.graph t (at x.position) (at s.amounts)
 moved_since o H s x leads look same =
     let K : List Entry = take x.number H in
     let L : List Entry = drop x.number H in
@@ -167,7 +167,7 @@ settled_next o H s i reply right = absurd right
 
 -- a verdict can be carried along a drift that leads to the amounts of a state
 pub carried : (s : State) (D : Amounts) (x : AVerdict) (m : Vector) → IsState s → IsDivisor s.amounts → IsRight s.graph s.q D x →
-    m.size ≡ s.graph.size → LeadsByScript s.graph (at m) D (at s.amounts) → IsRebasable s.q x m
+    m.size ≡ s.graph.size → FiresTo s.graph (at m) D (at s.amounts) → IsRebasable s.q x m
 carried s D x m state divisor right size leads = record {
   graph = s.graph;
   start = D;

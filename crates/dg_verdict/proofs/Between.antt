@@ -10,13 +10,13 @@ use Rattle.dg_theory.proofs.FiringLaws.{gain-add, fired-fired, fired-cong}
 use Rattle.dg_theory.proofs.ReducedLaws.{reduced_once}
 use Rattle.dg_theory.proofs.ExistenceLaws.{reduced-cong}
 use Rattle.dg_chips.specs.Vector.{at}
-use Rattle.dg_chips.specs.Drifts.{LeadsTo}
+use Rattle.dg_chips.specs.Drifts.{FiresTo}
 use Rattle.dg_verdict.specs.Right.{IsRight}
 use Rattle.dg_verdict.specs.declared.verdict.Verdict.{Verdict}
 use Rattle.dg_verdict.proofs.Agreement.{fired-here}
 
-pub between_leads : (g : Multigraph) (q : ℕ) (D E d : Amounts) (x y : Verdict) → q < g.size → (s : Amounts) × LeadsTo g s D E →
-    IsRight g q D x → IsRight g q E y → ((v : ℕ) → v < g.size → d v ≡ at x.script v -ℤ at y.script v) → LeadsTo g d D E
+pub between_leads : (g : Multigraph) (q : ℕ) (D E d : Amounts) (x y : Verdict) → q < g.size → (s : Amounts) × FiresTo g s D E →
+    IsRight g q D x → IsRight g q E y → ((v : ℕ) → v < g.size → d v ≡ at x.script v -ℤ at y.script v) → FiresTo g d D E
 between_leads g q D E d x y vertex (s, leads) first second apart v inside =
     let t : Amounts = λ w. s w +ℤ at y.script w in
     let both : (w : ℕ) → w < g.size → at y.reduced w ≡ fired g D t w = λ w below.

@@ -10,13 +10,13 @@ use Rattle.dg_theory.specs.Burning.{BurnsAll}
 use Rattle.dg_theory.specs.BurningLaws.{HasNoDebtOff}
 use Rattle.dg_theory.proofs.BurntWhole.{burns_to_reduced}
 use Rattle.dg_chips.specs.Vector.{at}
-use Rattle.dg_chips.specs.Drifts.{LeadsTo}
+use Rattle.dg_chips.specs.Drifts.{FiresTo}
 use Rattle.dg_verdict.proofs.Verdicts.{winnable_at_q, told_apart}
 use Rattle.dg_verdict.proofs.checking.check.Goals as goal
 
 pub returns : goal.returns
 returns c =
-    let leads : LeadsTo c.args.graph.now (at c.args.verdict.now.script) (at c.args.divisor.now) (at c.args.verdict.now.reduced) = search rules in
+    let leads : FiresTo c.args.graph.now (at c.args.verdict.now.script) (at c.args.divisor.now) (at c.args.verdict.now.reduced) = search rules in
     let solvent : HasNoDebtOff c.args.graph.now c.args.q (at c.args.verdict.now.reduced) = search rules in
     let burns : BurnsAll c.args.graph.now c.args.q (at c.args.verdict.now.reduced) (take c.args.graph.now.size c.args.verdict.now.order) =
     search rules in

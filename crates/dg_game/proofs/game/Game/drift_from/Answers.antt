@@ -1,16 +1,16 @@
 use Rattle.std.proofs.Common.{sym, subst}
 use Rattle.dg_theory.specs.Firing.{Amounts}
 use Rattle.dg_chips.specs.Vector.{at}
-use Rattle.dg_chips.specs.Drifts.{LeadsTo}
+use Rattle.dg_chips.specs.Drifts.{FiresTo}
 use Rattle.dg_game.specs.State.{State}
 use Rattle.dg_verdict.proofs.Between.{between_leads}
 use Rattle.dg_game.proofs.game.Game.drift_from.Goals as goal
 
 pub returns-2-clause-led : goal.returns-2-clause-led
 returns-2-clause-led c =
-    let led : (s : Amounts) × LeadsTo c.self.inside.graph s (at c.args.then.now) (at c.self.inside.amounts) =
-    subst (λ (t : State). (s : Amounts) × LeadsTo t.graph s (at c.args.then.now) (at t.amounts)) (sym c.self.view_is) c.requires.led in
-    subst (λ (t : State). LeadsTo t.graph (at c.between.result) (at c.args.then.now) (at t.amounts)) c.self.view_is
+    let led : (s : Amounts) × FiresTo c.self.inside.graph s (at c.args.then.now) (at c.self.inside.amounts) =
+    subst (λ (t : State). (s : Amounts) × FiresTo t.graph s (at c.args.then.now) (at t.amounts)) (sym c.self.view_is) c.requires.led in
+    subst (λ (t : State). FiresTo t.graph (at c.between.result) (at c.args.then.now) (at t.amounts)) c.self.view_is
     (between_leads c.self.inside.graph c.from-q.result (at c.args.then.now) (at c.self.inside.amounts) (at c.between.result)
     c.judge-before.result c.judge-now.result (rw c.from-q.ensures c.self.invariant.vertex) led
     c.judge-before.ensures.right c.judge-now.ensures.right
