@@ -1,8 +1,10 @@
-ghost use Rattle.std.specs.Prelude.{◌≡◌, ℕ, ◌<◌, ◌≤◌, ◌↔◌, IsTrue, MatchResult, MatchOption, ◌+ℤ◌};
+ghost use Rattle.std.specs.Prelude.{◌≡◌, ℕ, ◌<◌, ◌≤◌, ◌↔◌, IsTrue, MatchResult, MatchOption, length, pos, ◌+ℤ◌, ◌-ℤ◌};
+ghost use Rattle.std.specs.List.{slice_index_or};
 ghost use Rattle.std.specs.Int.RustNames.{unsigned_abs};
+ghost use Rattle.dg_theory.specs.Rank.{canonical};
 ghost use Rattle.dg_theory.specs.Firing.{degree, IsEffective, only_at};
 ghost use Rattle.dg_chips.specs.Vector.{at, HoldsNumbers, IsDivisor, IsInRange};
-ghost use Rattle.dg_chips.specs.DivisorFaults.{IsFirstChipFault};
+ghost use Rattle.dg_chips.specs.DivisorFaults.{IsFirstChipFault, IsFirstMinusFault};
 
 use crate::numbers::{first_past, padded};
 use dg_graph::Graph;
@@ -60,6 +62,57 @@ impl Divisor {
             return Err(ChipFault::Range(v));
         }
         let amounts = padded(amounts, 0);
+        Ok(Divisor { size, amounts })
+    }
+
+    /// The divisor with these amounts, in vertex order. The conditions are that there are at most 16, and that each is
+    /// within 1,000,000.
+    pub fn sized(amounts: &[i64]) -> Divisor
+        requires few { length amounts.now ≤ 16 }
+        requires range { (v : ℕ) → v < length amounts.now → unsigned_abs (slice_index_or amounts.now v (pos 0)) ≤ 1000000 }
+        ensures { HoldsNumbers amounts.now result }
+    {
+        Divisor {
+            size: amounts.len(),
+            amounts: padded(amounts, 0),
+        }
+    }
+
+    /// The canonical divisor of a graph: at each vertex two dollars less than it has edges.
+    pub fn canonical(graph: &Graph) -> Divisor
+        ensures size { result.size ≡ graph.now.size }
+        ensures amounts { (v : ℕ) → v < graph.now.size → at result v ≡ canonical graph.now v }
+    {
+        let size = graph.size();
+        let mut amounts = [0; 16];
+        for v in 0..size {
+            amounts[v] = i64::from(graph.valence(v)) - 2;
+        }
+        Divisor { size, amounts }
+    }
+
+    /// The divisor less another one: at each vertex the difference of the amounts.
+    ///
+    /// Refused with `Length` where the other has another number of vertices, then with `Range` for the first vertex at
+    /// which the difference is not within 1,000,000.
+    pub fn minus(&self, other: &Divisor) -> Result<Divisor, ChipFault>
+        ensures { MatchResult result
+            (λ d. (d.size ≡ self.now.size) × (other.now.size ≡ self.now.size)
+            × ((v : ℕ) → v < self.now.size → at d v ≡ at self.now v -ℤ at other.now v))
+            (IsFirstMinusFault self.now other.now) }
+    {
+        let size = self.size();
+        if other.size() != size {
+            return Err(ChipFault::Length);
+        }
+        let mut amounts = [0; 16];
+        for v in 0..size {
+            let amount = self.get(v) - other.get(v);
+            if amount.unsigned_abs() > MAX_AMOUNT {
+                return Err(ChipFault::Range(v));
+            }
+            amounts[v] = amount;
+        }
         Ok(Divisor { size, amounts })
     }
 

@@ -1,4 +1,5 @@
-ghost use Rattle.std.specs.Prelude.{◌≡◌, ℕ, ◌<◌, ◌≤◌, ◌+ℤ◌, ◌-ℤ◌, MatchResult, MatchBool};
+ghost use Rattle.std.specs.Prelude.{◌≡◌, ℕ, ◌<◌, ◌≤◌, pos, length, ◌+ℤ◌, ◌-ℤ◌, MatchResult, MatchBool};
+ghost use Rattle.std.specs.List.{slice_index_or};
 ghost use Rattle.std.specs.Int.RustNames.{unsigned_abs};
 ghost use Rattle.dg_theory.specs.Firing.{only_at, indicator};
 ghost use Rattle.dg_chips.specs.Vector.{at, HoldsNumbers, IsScript};
@@ -68,6 +69,19 @@ impl Script {
         }
         let entries = padded(entries, 0);
         Ok(Script { size, entries })
+    }
+
+    /// The script with these entries, in vertex order. The conditions are that there are at most 16, and that each is
+    /// within 1,000,000,000.
+    pub fn sized(entries: &[i64]) -> Script
+        requires few { length entries.now ≤ 16 }
+        requires limit { (v : ℕ) → v < length entries.now → unsigned_abs (slice_index_or entries.now v (pos 0)) ≤ 1000000000 }
+        ensures { HoldsNumbers entries.now result }
+    {
+        Script {
+            size: entries.len(),
+            entries: padded(entries, 0),
+        }
     }
 
     /// The script that is so much at one vertex and 0 elsewhere.

@@ -105,6 +105,53 @@ fn what_divisors_hold(rt: HostRuntime) -> Result<(), Fail> {
     Ok(())
 }
 
+// The canonical divisor: the triangle has two edges at each vertex, and the two of three edges have three.
+#[test]
+fn what_divisors_become(rt: HostRuntime) -> Result<(), Fail> {
+    let pair = Graph::new(2, &[(0, 1, 3)])?;
+    let triangle = Graph::new(3, &[(0, 1, 1), (1, 2, 1), (0, 2, 1)])?;
+    let star = Graph::new(3, &[(0, 1, 1), (0, 2, 4)])?;
+    assert!(rt; Divisor::canonical(&triangle) == Divisor::new(&triangle, &[0, 0, 0])?);
+    assert!(rt; Divisor::canonical(&pair) == Divisor::new(&pair, &[1, 1])?);
+    assert!(rt; Divisor::canonical(&star) == Divisor::new(&star, &[3, -1, 2])?);
+    assert!(rt; Divisor::sized(&[5, -7, 1]) == Divisor::new(&star, &[5, -7, 1])?);
+    assert!(rt; Script::sized(&[5, -7]) == Script::new(&pair, &[5, -7])?);
+    let sixteen = Divisor::sized(&[-1_000_000; 16]);
+    assert_eq!(rt; (sixteen.size(), sixteen.get(15)), (16, -1_000_000));
+    let cases: [([i64; 3], [i64; 3], Result<[i64; 3], ChipFault>); 5] = [
+        ([5, -7, 1], [1, 2, -3], Ok([4, -9, 4])),
+        (
+            [1_000_000, 0, -1_000_000],
+            [0, 0, 0],
+            Ok([1_000_000, 0, -1_000_000]),
+        ),
+        ([1_000_000, 0, 0], [-1, 0, 0], Err(ChipFault::Range(0))),
+        (
+            [0, -1_000_000, -1_000_000],
+            [0, 1, 1],
+            Err(ChipFault::Range(1)),
+        ),
+        (
+            [0, 0, 1_000_000],
+            [0, 0, -1_000_000],
+            Err(ChipFault::Range(2)),
+        ),
+    ];
+    for (amounts, others, left) in cases {
+        let divisor = Divisor::new(&star, &amounts)?;
+        let other = Divisor::new(&triangle, &others)?;
+        let held = match left {
+            Ok(amounts) => Ok(Divisor::new(&star, &amounts)?),
+            Err(fault) => Err(fault),
+        };
+        assert!(rt; divisor.minus(&other) == held, "{amounts:?}");
+    }
+    let divisor = Divisor::new(&star, &[1_000_000, 0, 0])?;
+    let other = Divisor::new(&pair, &[-1, 0])?;
+    assert!(rt; divisor.minus(&other) == Err(ChipFault::Length));
+    Ok(())
+}
+
 #[test]
 fn what_a_move_does(rt: HostRuntime) -> Result<(), Fail> {
     let one = Graph::new(1, &[])?;
@@ -442,6 +489,13 @@ fn what_wide_amounts_become(rt: HostRuntime) -> Result<(), Fail> {
             "one more {set}"
         );
     }
+    let chips = Wide::new(&triangle, &[1_000_000_000_000, -5, 0])?;
+    let divisor = Divisor::new(&triangle, &[-1_000_000, 2, 3])?;
+    assert!(rt; is_within(&chips, 85_070_591_730_234_615_865_843_651_857_942_052_864));
+    assert!(rt;
+        chips.less(&divisor) == Wide::new(&triangle, &[1_000_001_000_000, -7, -3])?,
+        "less"
+    );
     let relative: [(Graph, &[i128], usize, &[i64]); 4] = [
         (triangle, &[5, -7, 1], 0, &[0, -12, -4]),
         (triangle, &[5, -7, 1], 1, &[12, 0, 8]),

@@ -3,11 +3,14 @@
 -- k from 0 on; a divisor that is not winnable has the rank -1, and no rank test passes.
 --   less D E             == the divisor D less the divisor E: at each vertex the difference of the amounts
 --   HasRankAtLeast g D k == D less E is winnable for every effective divisor E of degree k
+--   IsRank g D r         == r is the rank of D: the greatest k of which it has a rank of at least k, and -1 where there is
+--                           none
+--   canonical g          == the canonical divisor: at each vertex two dollars less than it has edges
 --   IsBefore n E F       == E holds less than F at the first of n vertices at which they differ
 --   IsFirstLoss g D k E  == of the effective divisors of degree k whose loss leaves D unwinnable, E is the first in
 --                           that order
-use Rattle.std.specs.Prelude.{◌≡◌, ℕ, ◌<◌, pos, ◌-ℤ◌, ◌<ℤ◌}
-use Rattle.dg_theory.specs.Multigraph.{Multigraph}
+use Rattle.std.specs.Prelude.{◌≡◌, ℕ, ◌+◌, ◌<◌, ℤ, pos, negsuc, ◌-ℤ◌, ◌<ℤ◌}
+use Rattle.dg_theory.specs.Multigraph.{Multigraph, valence}
 use Rattle.dg_theory.specs.Firing.{Amounts, degree, IsEffective}
 use Rattle.dg_theory.specs.Play.{IsWinnable}
 
@@ -16,6 +19,14 @@ less D E v = D v -ℤ E v
 
 abbrev pub HasRankAtLeast : Multigraph → Amounts → ℕ → Type 0
 HasRankAtLeast g D k = (E : Amounts) → IsEffective g.size E → degree g.size E ≡ pos k → IsWinnable g (less D E)
+
+-- negsuc n is -(n + 1)
+abbrev pub IsRank : Multigraph → Amounts → ℤ → Type 0
+IsRank g D (pos k) = HasRankAtLeast g D k × (¬ HasRankAtLeast g D (k + 1))
+IsRank g D (negsuc n) = (n ≡ 0) × (¬ HasRankAtLeast g D 0)
+
+abbrev pub canonical : Multigraph → Amounts
+canonical g v = pos (valence g v) -ℤ pos 2
 
 pub record IsBefore (n : ℕ) (E F : Amounts) : Type 0 where
   pub place : ℕ
