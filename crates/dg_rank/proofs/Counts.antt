@@ -1,0 +1,22 @@
+-- How many trials there are.
+--   limits_count   within the limits it is the number that the numbering gives
+--   limits_trial   a number below that is one of a trial
+--   some_trial     on one place or more there is some trial of each degree
+use Rattle.std.proofs.Common.{◌≡◌, ℕ, ◌<◌, ◌≤◌, arith}
+use Rattle.dg_rank.specs.Trials.{IsTrial}
+use Rattle.dg_rank.specs.Limits.{IsWithinLimits}
+use Rattle.dg_rank.specs.Numbering.{trial_count, nth_trial}
+use Rattle.dg_rank.proofs.Numbered.{numbered}
+use Rattle.dg_rank.proofs.Once.{counted_once}
+use Rattle.dg_rank.proofs.Pascal.{one_place, count_grows}
+
+pub limits_count : (n k c : ℕ) → IsWithinLimits n k c → c ≡ trial_count n k
+limits_count n k c limits = counted_once n k _ c (trial_count n k) limits.counted (nth_trial n k, numbered n k)
+
+pub limits_trial : (n k c i : ℕ) → IsWithinLimits n k c → i < c → IsTrial n k (nth_trial n k i)
+limits_trial n k c i limits small =
+    let all : c ≡ trial_count n k = limits_count n k c limits in
+    ((numbered n k).each i (omega arith)).0
+
+pub some_trial : (n k : ℕ) → 0 < n → 0 < trial_count n k
+some_trial n k some = let more : trial_count 1 k ≤ trial_count n k = count_grows 1 n k some in omega (arith, one_place k)

@@ -1,0 +1,67 @@
+-- Trials as lists: their sums and their order.
+--   sum_cons       the sum of a list, by its first amount
+--   no_places      a list with no places is empty
+--   trial_cons     one amount before a trial makes a trial of so much more
+--   trial_tail     what follows the first amount of a trial is a trial of so much less
+--   before_cons    an order of trials stays with one amount put before both
+--   before_both    no two trials are each before the other
+--   heavier        a list that is before another and holds nothing after the place at which they differ has less in all
+use Rattle.std.proofs.Common.{◌≡◌, ℕ, zero, suc, ◌+◌, ◌<◌, ◌≤◌, List, [], ◌∷◌, length, arith, refl, sym, subst, ⊎_elim}
+use Rattle.std.specs.Prelude.{slice_index}
+use Rattle.std.specs.List.{sum}
+use Rattle.std.proofs.lemmas.Bool.{cases_lt}
+use Rattle.std.proofs.lemmas.List.Sums.{sum_by-cons}
+use Rattle.dg_rank.specs.Trials.{IsTrial, ComesBefore}
+
+pub sum_cons : (a : ℕ) (E : List ℕ) → sum (a ∷ E) ≡ a + sum E
+sum_cons a E = sum_by-cons (λ (x : ℕ). x) a E
+
+pub no_places : (E : List ℕ) → length E ≡ 0 → E ≡ []
+no_places [] none = refl
+no_places (a ∷ E) none = absurd (omega arith)
+
+pub trial_cons : (n k a m : ℕ) (E : List ℕ) → IsTrial n k E → m ≡ a + k → IsTrial (suc n) m (a ∷ E)
+trial_cons n k a m E trial whole = record { places = omega (arith, trial.places); amount = omega (arith, trial.amount, sum_cons a E) }
+
+pub trial_tail : (n k a m : ℕ) (E : List ℕ) → IsTrial (suc n) m (a ∷ E) → m ≡ a + k → IsTrial n k E
+trial_tail n k a m E trial whole = record { places = omega (arith, trial.places); amount = omega (arith, trial.amount, sum_cons a E) }
+
+pub before_cons : (a : ℕ) (E F : List ℕ) → ComesBefore E F → ComesBefore (a ∷ E) (a ∷ F)
+before_cons a E F before = record { place = suc before.place; same = same_cons before.place before.same; smaller = before.smaller } where
+  same_cons : (p : ℕ) → ((u : ℕ) → u < p → slice_index E u ≡ slice_index F u) → (u : ℕ) → u < suc p →
+      slice_index (a ∷ E) u ≡ slice_index (a ∷ F) u
+  same_cons p same zero low = refl
+  same_cons p same (suc u) low = same u (omega arith)
+
+pub before_both : (E F : List ℕ) → ComesBefore E F → ComesBefore F E → ⊥
+before_both E F one other = ⊎_elim
+    (λ (low : one.place < other.place). omega (arith, one.smaller, other.same one.place low))
+    (λ (high : other.place ≤ one.place). ⊎_elim
+    (λ (low : other.place < one.place). omega (arith, other.smaller, one.same other.place low))
+    (λ (low : one.place ≤ other.place).
+    let here : one.place ≡ other.place = omega arith in
+    omega (arith, one.smaller, subst (λ (p : ℕ). slice_index F p < slice_index E p) (sym here) other.smaller))
+    (cases_lt other.place one.place))
+    (cases_lt one.place other.place)
+
+no_sum : (E : List ℕ) → ((u : ℕ) → slice_index E u ≡ 0) → sum E ≡ 0
+no_sum [] none = refl
+no_sum (a ∷ E) none =
+    let rest : sum E ≡ 0 = no_sum E (λ u. none (suc u)) in
+    let head : a ≡ 0 = none 0 in
+    omega (arith, rest, head, sum_cons a E)
+
+pub heavier : (E F : List ℕ) (p : ℕ) → ((u : ℕ) → u < p → slice_index E u ≡ slice_index F u) → slice_index E p < slice_index F p →
+    ((u : ℕ) → p < u → slice_index E u ≡ 0) → sum E < sum F
+heavier E [] p same smaller none = absurd (omega (arith, smaller))
+heavier [] (b ∷ F) zero same smaller none = omega (arith, smaller, sum_cons b F)
+heavier [] (b ∷ F) (suc p) same smaller none =
+    let less : sum [] < sum F = heavier [] F p (λ u low. same (suc u) (omega arith)) smaller (λ u high. refl) in
+    omega (arith, less, sum_cons b F)
+heavier (a ∷ E) (b ∷ F) zero same smaller none =
+    let empty : sum E ≡ 0 = no_sum E (λ u. none (suc u) (omega arith)) in
+    omega (arith, smaller, empty, sum_cons a E, sum_cons b F)
+heavier (a ∷ E) (b ∷ F) (suc p) same smaller none =
+    let less : sum E < sum F = heavier E F p (λ u low. same (suc u) (omega arith)) smaller (λ u high. none (suc u) (omega arith)) in
+    let head : a ≡ b = same 0 (omega arith) in
+    omega (arith, less, head, sum_cons a E, sum_cons b F)

@@ -1,0 +1,30 @@
+-- A piece of the trials, from one number up to another, for the divisor D.
+--   WinsWithout g D E       == D less the trial E is winnable
+--   AllWin g D k i j        == so it is for every trial from number i up to, but not including, number j
+--   IsLossIn g D k i j E    == E is the first trial of the piece from i up to j for which it is not
+--   IsFound g D k i j found == what was found is the first loss of the piece, or nothing where all win
+use Rattle.std.specs.Prelude.{◌≡◌, ℕ, ◌<◌, ◌≤◌, List, Option, Some, None}
+use Rattle.dg_theory.specs.Multigraph.{Multigraph}
+use Rattle.dg_theory.specs.Firing.{Amounts}
+use Rattle.dg_theory.specs.Play.{IsWinnable}
+use Rattle.dg_theory.specs.Rank.{less}
+use Rattle.dg_rank.specs.Divisors.{amounts_of}
+use Rattle.dg_rank.specs.Numbering.{nth_trial}
+
+abbrev pub WinsWithout : Multigraph → Amounts → List ℕ → Type 0
+WinsWithout g D E = IsWinnable g (less D (amounts_of E))
+
+abbrev pub AllWin : Multigraph → Amounts → ℕ → ℕ → ℕ → Type 0
+AllWin g D k i j = (m : ℕ) → i ≤ m → m < j → WinsWithout g D (nth_trial g.size k m)
+
+pub record IsLossIn (g : Multigraph) (D : Amounts) (k i j : ℕ) (E : List ℕ) : Type 0 where
+  pub number : ℕ
+  pub from : i ≤ number
+  pub to : number < j
+  pub trial : E ≡ nth_trial g.size k number
+  pub loses : ¬ WinsWithout g D E
+  pub first : AllWin g D k i number
+
+abbrev pub IsFound : Multigraph → Amounts → ℕ → ℕ → ℕ → Option (List ℕ) → Type 0
+IsFound g D k i j (Some E) = IsLossIn g D k i j E
+IsFound g D k i j None = AllWin g D k i j
