@@ -2,21 +2,21 @@
 --   kept_more      a look that is kept before a step is kept after it, unless the step is the seat's and uses looks
 --   kept_less      and what is kept after such a step was kept before it
 --   kept_new       after a look by the seat that look is kept
---   kept_none      after a commit by the seat none is
+--   kept_none      after a step of the seat that uses its look up none is
 --   keeps_more     the look that a seat keeps stays, unless the step is the seat's and uses looks
 --   keeps_new      after a look by the seat it keeps that one
---   keeps_none     after a commit by the seat it keeps none
+--   keeps_none     after a step of the seat that uses its look up it keeps none
 use Rattle.std.proofs.Common.{◌≡◌, ℕ, ◌+◌, List, [], ◌∷◌, ◌++◌, length, length-append, slice_get, Option, Some, None, arith, refl, sym, ap, subst, ◌∙◌, inl, inr}
 use Rattle.std.proofs.lemmas.Bool.{cases_lt}
 use Rattle.dg_chips.specs.Opening.{Opening}
 use Rattle.dg_game.specs.Look.{IsLookAt}
 use Rattle.dg_game.specs.Playing.{KeepsLook}
-use Rattle.dg_game.specs.Schedule.{UsesLook, IsKept}
+use Rattle.dg_game.specs.Schedule.{UsesUp, UsesLook, IsKept}
 use Rattle.dg_game.specs.declared.entry.Entry.{Entry}
 use Rattle.dg_game.specs.declared.entry.Plain.TheVariants as plain
 use Rattle.dg_game.specs.declared.look.LookData.{LookData}
 use Rattle.dg_game.specs.declared.step.Command.{Command}
-use Rattle.dg_game.specs.declared.step.Command.TheVariants.{Call, Commit}
+use Rattle.dg_game.specs.declared.step.Command.TheVariants.{Call, Commit, Rank}
 use Rattle.dg_game.specs.declared.step.Step.{Step}
 use Rattle.dg_game.proofs.LookLaws.{look_kept}
 
@@ -64,21 +64,32 @@ kept_new steps seat n there = record {
   last = λ k s above below at its. absurd (omega arith);
 }
 
-abbrev is_commit : Command → ℕ
-is_commit (Call p) = 0
-is_commit Commit = 1
+abbrev is_call : Command → ℕ
+is_call (Call p) = 1
+is_call Commit = 0
+is_call (Rank k) = 0
 
-pub kept_none : (steps : List Step) (seat n i : ℕ) → slice_get steps n ≡ Some (record { seat = seat; command = Commit }) →
-    ¬ IsKept steps seat (n + 1) i
-kept_none steps seat n i there kept = elim (cases_lt i n) [
-  | inl earlier ↦ kept.last n _ earlier (omega arith) there refl tt
+no_call : (c : Command) → UsesUp c → is_call c ≡ 0
+no_call (Call p) up = absurd up
+no_call Commit up = refl
+no_call (Rank k) up = refl
+
+uses_look : (c : Command) → UsesUp c → UsesLook c
+uses_look (Call p) up = absurd up
+uses_look Commit up = tt
+uses_look (Rank k) up = tt
+
+pub kept_none : (steps : List Step) (seat n i : ℕ) (c : Command) → slice_get steps n ≡ Some (record { seat = seat; command = c }) →
+    UsesUp c → ¬ IsKept steps seat (n + 1) i
+kept_none steps seat n i c there up kept = elim (cases_lt i n) [
+  | inl earlier ↦ kept.last n _ earlier (omega arith) there refl (uses_look c up)
   | inr now ↦
       let here : i ≡ n = omega (arith, kept.before) in
-      let commits : Step = record { seat = seat; command = Commit } in
+      let uses : Step = record { seat = seat; command = c } in
       let looks : Step = record { seat = seat; command = Call plain.Look } in
-      let same : commits ≡ looks = one_step steps n commits looks there (ap (slice_get steps) (sym here) ∙ kept.look) in
-      let apart : 1 ≡ 0 = ap (λ (t : Step). is_commit t.command) same in
-      omega (arith, apart)
+      let same : uses ≡ looks = one_step steps n uses looks there (ap (slice_get steps) (sym here) ∙ kept.look) in
+      let apart : is_call c ≡ 1 = ap (λ (t : Step). is_call t.command) same in
+      omega (arith, apart, no_call c up)
 ]
 
 longer : (H : List Entry) (e : Entry) → length (H ++ e ∷ []) ≡ length H + 1
@@ -96,7 +107,7 @@ pub keeps_new : (o : Opening) (H : List Entry) (e : Entry) (steps : List Step) (
     IsLookAt o (H ++ e ∷ []) x → KeepsLook o (H ++ e ∷ []) steps seat (Some x)
 keeps_new o H e steps seat x there number look = (rw (longer H e, number) (kept_new steps seat (length H) there), look)
 
-pub keeps_none : (o : Opening) (H : List Entry) (e : Entry) (steps : List Step) (seat : ℕ) →
-    slice_get steps (length H) ≡ Some (record { seat = seat; command = Commit }) → KeepsLook o (H ++ e ∷ []) steps seat None
-keeps_none o H e steps seat there i kept =
-    kept_none steps seat (length H) i there (subst (λ n. IsKept steps seat n i) (longer H e) kept)
+pub keeps_none : (o : Opening) (H : List Entry) (e : Entry) (steps : List Step) (seat : ℕ) (c : Command) →
+    slice_get steps (length H) ≡ Some (record { seat = seat; command = c }) → UsesUp c → KeepsLook o (H ++ e ∷ []) steps seat None
+keeps_none o H e steps seat c there up i kept =
+    kept_none steps seat (length H) i c there up (subst (λ n. IsKept steps seat n i) (longer H e) kept)

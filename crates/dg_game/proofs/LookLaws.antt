@@ -6,10 +6,13 @@
 --   graph_is                entries leave the graph as it is
 --   moved_since             where the gift count is that of the look, moves lead from the look's amounts to those now
 --   judged_after            a verdict that is right in a state is a right reply after a history that leads to it
---   stale_after             where the gift count differs from that of the look, the verdict is stale
+--   ranked_after            the answer of a rank test that is right for the look is a right reply as well
 --   look_kept               a look stays a look of the history when an entry is added
 --   look_new                and an entry that is a look is one
-use Rattle.std.proofs.Common.{◌≡◌, ◌≢◌, ℕ, ◌+◌, ◌<◌, ◌≤◌, List, [], ◌∷◌, ◌++◌, length, take, drop, slice_get, arith, refl, sym, ap, subst, ◌∙◌}
+--   look_size               a look shows as many vertices as the state
+--   settled_next            the state after a reply about what was reckoned on a look: one entry more
+--   carried                 a verdict can be carried along a drift that leads to the amounts of a state
+use Rattle.std.proofs.Common.{◌≡◌, ℕ, ◌+◌, ◌<◌, ◌≤◌, List, [], ◌∷◌, ◌++◌, length, take, drop, slice_get, arith, refl, sym, ap, subst, ◌∙◌}
 use Rattle.std.proofs.Math.Seq.{take-append_seam}
 use Rattle.std.proofs.lemmas.Int.{ints}
 use Rattle.std.proofs.lemmas.List.{take-append-le, take-append-drop}
@@ -25,18 +28,23 @@ use Rattle.dg_verdict.specs.Right.{IsRight}
 use Rattle.dg_verdict.specs.Rebasing.{IsRebasable}
 use Rattle.dg_verdict.specs.declared.verdict.Verdict.{Verdict as AVerdict}
 use Rattle.dg_verdict.proofs.Agreement.{right-cong}
+use Rattle.dg_rank.specs.Ranks.{IsRankTest}
+use Rattle.dg_rank.specs.declared.verdicts.RankVerdict.{RankVerdict}
 use Rattle.dg_game.specs.Position.{Position}
-use Rattle.dg_game.specs.History.{position_after, gift_by, gifts_given, scripts_played, gifts_in, gift_counted}
-use Rattle.dg_game.specs.Look.{IsLookAt}
+use Rattle.dg_game.specs.History.{position_after, gift_by, script_by, gifts_given, scripts_played, gifts_in, gift_counted}
+use Rattle.dg_game.specs.Look.{IsLookAt, degree_of, asked_for}
 use Rattle.dg_game.specs.Replies.{Replies}
-use Rattle.dg_game.specs.State.{State, IsState, LeadsTo, IsNext}
+use Rattle.dg_game.specs.State.{State, IsState, LeadsTo, IsNext, amounts_after, gifts_after}
 use Rattle.dg_game.specs.declared.entry.Entry.{Entry}
 use Rattle.dg_game.specs.declared.entry.Request.{Request}
-use Rattle.dg_game.specs.declared.entry.Request.TheVariants.{Move, Gift, Look, Claim, Judge}
+use Rattle.dg_game.specs.declared.entry.Request.TheVariants.{Move, Gift, Look, Claim, Judge, Rank as RankRequest}
 use Rattle.dg_game.specs.declared.entry.Reply.{Reply}
-use Rattle.dg_game.specs.declared.entry.Reply.TheVariants.{Moved, Given, Looked, Verdict, Stale, Won, NotWon, Refused}
+use Rattle.dg_game.specs.declared.entry.Reply.TheVariants.{Moved, Given, Looked, Verdict, Rank as RankReply, Stale, Won, NotWon, Refused}
+use Rattle.dg_game.specs.declared.look.Finding.{Finding}
+use Rattle.dg_game.specs.declared.look.Finding.TheVariants.{Judged, Ranked}
 use Rattle.dg_game.specs.declared.look.LookData.{LookData}
 use Rattle.dg_game.proofs.ListLaws.{slice_get-append, slice_get-seam}
+use Rattle.dg_game.proofs.RankTests.{rank_test-cong, rank_test_led}
 
 scripts_played-append : (H L : List Entry) (v : ℕ) → scripts_played (H ++ L) v ≡ scripts_played H v +ℤ scripts_played L v
 scripts_played-append [] L v = omega (arith, ints)
@@ -56,6 +64,7 @@ gives_nothing (Move m) reply v none = refl
 gives_nothing (Gift u x) (Moved d) v none = refl
 gives_nothing (Gift u x) (Looked g d) v none = refl
 gives_nothing (Gift u x) (Verdict y) v none = refl
+gives_nothing (Gift u x) (RankReply y) v none = refl
 gives_nothing (Gift u x) (Stale g) v none = refl
 gives_nothing (Gift u x) Won v none = refl
 gives_nothing (Gift u x) NotWon v none = refl
@@ -63,6 +72,7 @@ gives_nothing (Gift u x) (Refused r) v none = refl
 gives_nothing Look reply v none = refl
 gives_nothing Claim reply v none = refl
 gives_nothing (Judge i) reply v none = refl
+gives_nothing (RankRequest i k) reply v none = refl
 
 none_given : (L : List Entry) (v : ℕ) → gifts_in L ≡ 0 → gifts_given L v ≡ pos 0
 none_given [] v none = refl
@@ -111,9 +121,15 @@ judged_after o H s x verdict leads look same right =
     (subst (λ (q : ℕ). IsRight s.graph q (at s.amounts) verdict) leads.q right) in
     (sym look.gifts ∙ sym same ∙ leads.gifts, right-cong p.graph o.q (at s.amounts) p.amounts verdict leads.amounts.amounts on_graph)
 
-pub stale_after : (o : Opening) (H : List Entry) (s : State) (x : LookData) → LeadsTo o H s → IsLookAt o H x → s.gifts ≢ x.gifts →
-    Replies o H (Judge x.number) (Stale s.gifts)
-stale_after o H s x leads look other = (λ same. other (leads.gifts ∙ sym same ∙ sym look.gifts), leads.gifts)
+pub ranked_after : (o : Opening) (H : List Entry) (s : State) (x : LookData) (k : ℕ) (verdict : RankVerdict) → LeadsTo o H s → IsLookAt o H x →
+    s.gifts ≡ x.gifts → IsRankTest s.graph (at x.position) k verdict → Replies o H (RankRequest x.number k) (RankReply verdict)
+ranked_after o H s x k verdict leads look same right =
+    let p : Position = position_after o H in
+    let (t, led) = moved_since o H s x leads look same in
+    let now : IsRankTest s.graph (at s.amounts) k verdict = rank_test_led s.graph (at x.position) (at s.amounts) t k verdict led right in
+    let on_graph : IsRankTest p.graph (at s.amounts) k verdict =
+    subst (λ (g : Multigraph). IsRankTest g (at s.amounts) k verdict) leads.graph now in
+    (sym look.gifts ∙ sym same ∙ leads.gifts, rank_test-cong p.graph (at s.amounts) p.amounts k verdict leads.amounts.amounts on_graph)
 
 -- a look stays what it was when an entry is added
 pub look_kept : (o : Opening) (H : List Entry) (e : Entry) (x : LookData) → IsLookAt o H x → IsLookAt o (H ++ e ∷ []) x
@@ -144,28 +160,30 @@ pub look_size : (o : Opening) (H : List Entry) (s : State) (x : LookData) → Le
 look_size o H s x leads look =
     look.amounts.size ∙ ap (λ (g : Multigraph). g.size) (graph_is o (take x.number H) ∙ sym (graph_is o H) ∙ sym leads.graph)
 
--- a reply about a verdict changes the number of entries alone
-pub settled_next : (o : Opening) (H : List Entry) (s : State) (i : ℕ) (reply : Reply) → Replies o H (Judge i) reply →
-    IsNext s (Judge i) reply (record { graph = s.graph; q = s.q; amounts = s.amounts; drift = s.drift; gifts = s.gifts; entries = s.entries + 1 })
-settled_next o H s i (Verdict x) right = record {
-  graph = refl;
-  q = refl;
-  amounts = refl;
-  drift = λ v below. omega (arith, ints);
-  gifts = refl;
-  entries = refl;
-}
-settled_next o H s i (Stale count) right = record {
-  graph = refl;
-  q = refl;
-  amounts = refl;
-  drift = λ v below. omega (arith, ints);
-  gifts = refl;
-  entries = refl;
-}
-settled_next o H s i reply right = absurd right
+-- the state with one entry more, and nothing else changed
+abbrev counted : State → State
+counted s = record { graph = s.graph; q = s.q; amounts = s.amounts; drift = s.drift; gifts = s.gifts; entries = s.entries + 1 }
 
--- a verdict can be carried along a drift that leads to the amounts of a state
+stays : (s : State) (request : Request) (reply : Reply) → amounts_after s.amounts reply ≡ s.amounts → gifts_after s.gifts reply ≡ s.gifts →
+    ((v : ℕ) → script_by request reply v ≡ pos 0) → IsNext s request reply (counted s)
+stays s request reply amounts gifts still = record {
+  graph = refl;
+  q = refl;
+  amounts = sym amounts;
+  drift = λ v below. omega (arith, ints, still v);
+  gifts = sym gifts;
+  entries = refl;
+}
+
+pub settled_next : (o : Opening) (H : List Entry) (s : State) (i : ℕ) (finding : Finding) (reply : Reply) →
+    Replies o H (asked_for i finding) reply → IsNext s (asked_for i finding) reply (counted s)
+settled_next o H s i (Judged v) (Verdict x) right = stays s (Judge i) (Verdict x) refl refl (λ v. refl)
+settled_next o H s i (Judged v) (Stale count) right = stays s (Judge i) (Stale count) refl refl (λ v. refl)
+settled_next o H s i (Judged v) reply right = absurd right
+settled_next o H s i (Ranked v) (RankReply x) right = stays s (RankRequest i (degree_of v)) (RankReply x) refl refl (λ v. refl)
+settled_next o H s i (Ranked v) (Stale count) right = stays s (RankRequest i (degree_of v)) (Stale count) refl refl (λ v. refl)
+settled_next o H s i (Ranked v) reply right = absurd right
+
 pub carried : (s : State) (D : Amounts) (x : AVerdict) (m : Vector) → IsState s → IsDivisor s.amounts → IsRight s.graph s.q D x →
     m.size ≡ s.graph.size → FiresTo s.graph (at m) D (at s.amounts) → IsRebasable s.q x m
 carried s D x m state divisor right size leads = record {

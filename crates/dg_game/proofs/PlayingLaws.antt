@@ -7,10 +7,10 @@
 --   looks_looked   after a call that is a look
 --   looks_left     and after one that is not
 --   called         the schedule after a call
---   committed      and after a commit
---   kept_there     the look that is read at the place of a seat is the one it keeps
---   none_there     and where none is read it keeps none
---   lookless       a commit without a look is the first fault
+--   entered        and after a finding is entered that was reckoned on the seat's look
+--   kept_there     what is read at the place of a seat is the look that it keeps, if it keeps one
+--   lookless       a step that wants a look that the seat does not keep is the first fault
+--   past_limits    and so is a rank test past the limits, where the seat keeps a look
 --   told_ok_or     what an option tells, its `ok_or` tells as well
 --   told_err       and a refusal that is handed on tells what it told
 use Rattle.std.proofs.Common.{◌≡◌, ℕ, ◌+◌, ◌<◌, List, [], ◌∷◌, ◌++◌, length, length-append, slice_get, Option, Some, None, Result, Ok, Err, set, arith, refl, sym, ap, ◌∙◌, inl, inr, length-set, replicate}
@@ -20,30 +20,34 @@ use Rattle.std.specs.Result.{MatchResult, IsErrAnd}
 use Rattle.std.proofs.lemmas.Bool.{cases_lt, cases_eq}
 use Rattle.std.proofs.lemmas.List.{get_or-set_same, get_or-set_other, get_or-replicate, length-replicate}
 use Rattle.dg_chips.specs.Opening.{Opening}
+use Rattle.dg_rank.specs.Limits.{IsPastLimits}
 use Rattle.dg_game.specs.Legal.{IsSeat, LooksBack}
+use Rattle.dg_game.specs.Look.{IsLookAt, asked_for}
 use Rattle.dg_game.specs.Playing.{KeepsLook, IsPlaying}
 use Rattle.dg_game.specs.Replies.{Replies}
-use Rattle.dg_game.specs.Schedule.{asked, UsesLook, IsKept, IsEntryOf}
-use Rattle.dg_game.specs.ScheduleFaults.{IsGood, AreGoodBefore, IsFirstFault}
+use Rattle.dg_game.specs.Schedule.{asked, UsesUp, UsesLook, IsKept, IsAsked, IsEntryOf}
+use Rattle.dg_game.specs.ScheduleFaults.{HasLook, HasTrials, IsGood, AreGoodBefore, IsFirstFault}
 use Rattle.dg_game.specs.State.{LeadsTo}
 use Rattle.dg_game.specs.declared.entry.Entry.{Entry}
 use Rattle.dg_game.specs.declared.entry.Plain.{Plain}
 use Rattle.dg_game.specs.declared.entry.Plain.TheVariants as plain
-use Rattle.dg_game.specs.declared.entry.Request.TheVariants.{Judge}
 use Rattle.dg_game.specs.declared.entry.Reply.{Reply}
+use Rattle.dg_game.specs.declared.look.Finding.{Finding}
+use Rattle.dg_game.specs.declared.look.Finding.TheVariants.{Judged, Ranked}
 use Rattle.dg_game.specs.declared.look.LookData.{LookData}
 use Rattle.dg_game.specs.declared.schedule.Rehearsal.{Rehearsal}
-use Rattle.dg_game.specs.declared.schedule.RehearseFault.TheVariants.{NoLook}
-use Rattle.dg_game.specs.declared.step.Command.TheVariants.{Call, Commit}
+use Rattle.dg_game.specs.declared.schedule.RehearseFault.TheVariants.{NoLook, TooMany}
+use Rattle.dg_game.specs.declared.step.Command.{Command}
+use Rattle.dg_game.specs.declared.step.Command.TheVariants.{Call, Commit, Rank}
 use Rattle.dg_game.specs.declared.step.Step.{Step}
 use Rattle.dg_game.proofs.LegalLaws.{legal_none, legal_more, entries_more}
 use Rattle.dg_game.proofs.KeptLaws.{keeps_more, keeps_new, keeps_none}
 use Rattle.dg_game.proofs.LookLaws.{look_new}
 use Rattle.dg_game.proofs.ListLaws.{get_or-inside}
 
-good_more : (steps : List Step) (n : ℕ) (step : Step) → slice_get steps n ≡ Some step → IsGood steps n step →
-    AreGoodBefore steps n → AreGoodBefore steps (n + 1)
-good_more steps n step there good before k s below at = elim (cases_lt k n) [
+good_more : (size : ℕ) (steps : List Step) (n : ℕ) (step : Step) → slice_get steps n ≡ Some step → IsGood size steps n step →
+    AreGoodBefore size steps n → AreGoodBefore size steps (n + 1)
+good_more size steps n step there good before k s below at = elim (cases_lt k n) [
   | inl earlier ↦ before k s earlier at
   | inr now ↦
       let here : k ≡ n = omega arith in
@@ -57,7 +61,7 @@ abbrev pub AreLooks : Opening → List Entry → List Step → List (Option Look
 AreLooks o H steps looks = (seat : ℕ) → IsSeat seat → KeepsLook o H steps seat (slice_index_or looks seat None)
 
 pub playing_more : (o : Opening) (H : List Entry) (steps : List Step) (r t : Rehearsal) (step : Step) (e : Entry) → IsPlaying o steps H r →
-    slice_get steps (length H) ≡ Some step → IsGood steps (length H) step → IsEntryOf steps (length H) step e →
+    slice_get steps (length H) ≡ Some step → IsGood o.graph.size steps (length H) step → IsEntryOf steps (length H) step e →
     LooksBack H e.request → Replies o H e.request e.reply → LeadsTo o (H ++ e ∷ []) t.game → length t.looks ≡ 65 →
     AreLooks o (H ++ e ∷ []) steps t.looks → IsPlaying o steps (H ++ e ∷ []) t
 playing_more o H steps r t step e playing there good asks back right leads places looks =
@@ -65,7 +69,7 @@ playing_more o H steps r t step e playing there good asks back right leads place
     record {
       leads = leads;
       legal = legal_more o H e playing.legal (rw asks.seat good.0) back right;
-      good = rw longer (good_more steps (length H) step there good playing.good);
+      good = rw longer (good_more o.graph.size steps (length H) step there good playing.good);
       entries = entries_more steps H step e there asks playing.entries;
       places = places;
       looks = looks;
@@ -125,19 +129,30 @@ pub called : (o : Opening) (H : List Entry) (steps : List Step) (r t : Rehearsal
     IsPlaying o steps (H ++ (record { seat = seat; request = asked p; reply = reply }) ∷ []) t
 called o H steps r t seat p reply playing there is right leads places looks =
     playing_more o H steps r t (record { seat = seat; command = Call p }) (record { seat = seat; request = asked p; reply = reply })
-    playing there (is, tt) (record { seat = refl; request = refl }) (back_asked H p) right leads places looks
+    playing there (is, tt, tt) (record { seat = refl; request = refl }) (back_asked H p) right leads places looks
 
-pub committed : (o : Opening) (H : List Entry) (steps : List Step) (r t : Rehearsal) (seat : ℕ) (x : LookData) (reply : Reply) →
-    IsPlaying o steps H r → slice_get steps (length H) ≡ Some (record { seat = seat; command = Commit }) → IsSeat seat →
-    KeepsLook o H steps seat (Some x) → Replies o H (Judge x.number) reply →
-    LeadsTo o (H ++ (record { seat = seat; request = Judge x.number; reply = reply }) ∷ []) t.game →
-    t.looks ≡ set r.looks seat None → IsPlaying o steps (H ++ (record { seat = seat; request = Judge x.number; reply = reply }) ∷ []) t
-committed o H steps r t seat x reply playing there is (kept, look) right leads replaced =
-    let step : Step = record { seat = seat; command = Commit } in
-    let e : Entry = record { seat = seat; request = Judge x.number; reply = reply } in
-    playing_more o H steps r t step e playing there (is, (x.number, kept)) (record { seat = refl; request = (x.number, kept, refl) })
-    look.look right leads (ap length replaced ∙ length-set _ _ _ ∙ playing.places)
-    (rw replaced (looks_set o H e steps step r.looks None there playing.places is (keeps_none o H e steps seat there) playing.looks))
+has_look : (steps : List Step) (seat j i : ℕ) (c : Command) → IsKept steps seat j i → HasLook steps seat j c
+has_look steps seat j i (Call p) kept = tt
+has_look steps seat j i Commit kept = (i, kept)
+has_look steps seat j i (Rank k) kept = (i, kept)
+
+back_for : (o : Opening) (H : List Entry) (x : LookData) (finding : Finding) → IsLookAt o H x → LooksBack H (asked_for x.number finding)
+back_for o H x (Judged v) look = look.look
+back_for o H x (Ranked v) look = look.look
+
+pub entered : (o : Opening) (H : List Entry) (steps : List Step) (r t : Rehearsal) (seat : ℕ) (c : Command) (x : LookData) (finding : Finding)
+    (reply : Reply) → IsPlaying o steps H r → slice_get steps (length H) ≡ Some (record { seat = seat; command = c }) → IsSeat seat →
+    KeepsLook o H steps seat (Some x) → UsesUp c → HasTrials o.graph.size c → IsAsked steps seat (length H) c (asked_for x.number finding) →
+    Replies o H (asked_for x.number finding) reply →
+    LeadsTo o (H ++ (record { seat = seat; request = asked_for x.number finding; reply = reply }) ∷ []) t.game →
+    t.looks ≡ set r.looks seat None →
+    IsPlaying o steps (H ++ (record { seat = seat; request = asked_for x.number finding; reply = reply }) ∷ []) t
+entered o H steps r t seat c x finding reply playing there is (kept, look) up trials asks right leads replaced =
+    let step : Step = record { seat = seat; command = c } in
+    let e : Entry = record { seat = seat; request = asked_for x.number finding; reply = reply } in
+    playing_more o H steps r t step e playing there (is, has_look steps seat (length H) x.number c kept, trials)
+    (record { seat = refl; request = asks }) (back_for o H x finding look) right leads (ap length replaced ∙ length-set _ _ _ ∙ playing.places)
+    (rw replaced (looks_set o H e steps step r.looks None there playing.places is (keeps_none o H e steps seat c there up) playing.looks))
 
 pub playing_none : (o : Opening) (steps : List Step) (r : Rehearsal) → LeadsTo o [] r.game → r.looks ≡ replicate 65 None → IsPlaying o steps [] r
 playing_none o steps r leads empty = record {
@@ -149,25 +164,25 @@ playing_none o steps r leads empty = record {
   looks = λ seat is. rw (empty, get_or-replicate {A = Option LookData} 65 seat None None (omega (arith, is.1))) (λ i kept. absurd (omega (arith, kept.before)));
 }
 
-pub kept_there : (o : Opening) (H : List Entry) (steps : List Step) (r : Rehearsal) (seat i : ℕ) (d : Option LookData) (x : LookData) →
-    IsPlaying o steps H r → IsSeat seat → i ≡ seat → slice_index_or r.looks i d ≡ Some x → KeepsLook o H steps seat (Some x)
-kept_there o H steps r seat i d x playing is place read =
+pub kept_there : (o : Opening) (H : List Entry) (steps : List Step) (r : Rehearsal) (seat i : ℕ) (d : Option LookData) →
+    IsPlaying o steps H r → IsSeat seat → i ≡ seat → KeepsLook o H steps seat (slice_index_or r.looks i d)
+kept_there o H steps r seat i d playing is place =
     let inside : i < length r.looks = omega (arith, playing.places, is.1) in
-    let here : slice_index_or r.looks seat None ≡ Some x = ap (λ k. slice_index_or r.looks k None) (sym place) ∙ get_or-inside r.looks i None d inside ∙ read in
-    rw here at (playing.looks seat is)
-
-pub none_there : (o : Opening) (H : List Entry) (steps : List Step) (r : Rehearsal) (seat i : ℕ) (d : Option LookData) →
-    IsPlaying o steps H r → IsSeat seat → i ≡ seat → slice_index_or r.looks i d ≡ None → KeepsLook o H steps seat None
-none_there o H steps r seat i d playing is place read =
-    let inside : i < length r.looks = omega (arith, playing.places, is.1) in
-    let here : slice_index_or r.looks seat None ≡ None = ap (λ k. slice_index_or r.looks k None) (sym place) ∙ get_or-inside r.looks i None d inside ∙ read in
+    let here : slice_index_or r.looks seat None ≡ slice_index_or r.looks i d =
+    ap (λ k. slice_index_or r.looks k None) (sym place) ∙ get_or-inside r.looks i None d inside in
     rw here at (playing.looks seat is)
 
 pub lookless : (o : Opening) (H : List Entry) (steps : List Step) (r : Rehearsal) (step : Step) (i : ℕ) → IsPlaying o steps H r →
-    slice_get steps (length H) ≡ Some step → i ≡ length H → i < 65536 → IsSeat step.seat → step.command ≡ Commit →
-    ((k : ℕ) → ¬ IsKept steps step.seat (length H) k) → IsFirstFault steps (NoLook i)
-lookless o H steps r step i playing there here room seat commits none =
-    (room, rw here playing.good, (step, rw here there, (seat, rw (commits, here) (λ (k, kept). none k kept))))
+    slice_get steps (length H) ≡ Some step → i ≡ length H → i < 65536 → IsSeat step.seat →
+    (¬ HasLook steps step.seat (length H) step.command) → IsFirstFault o.graph.size steps (NoLook i)
+lookless o H steps r step i playing there here room seat none =
+    (room, rw here playing.good, (step, rw here there, (seat, rw here none)))
+
+pub past_limits : (o : Opening) (H : List Entry) (steps : List Step) (r : Rehearsal) (seat k j i : ℕ) → IsPlaying o steps H r →
+    slice_get steps (length H) ≡ Some (record { seat = seat; command = Rank k }) → i ≡ length H → i < 65536 → IsSeat seat →
+    IsKept steps seat (length H) j → IsPastLimits o.graph.size k → IsFirstFault o.graph.size steps (TooMany i)
+past_limits o H steps r seat k j i playing there here room is kept past =
+    (room, rw here playing.good, (record { seat = seat; command = Rank k }, rw here there, (is, (j, rw here kept), past)))
 
 pub told_ok_or : {X E : Type 0} (r : Option X) (fault : E) (P : Type 0) (Q R : X → Type 0) (F : E → Type 0) → MatchOption r P Q →
     (P → F fault) → ((x : X) → Q x → R x) → MatchResult (ok_or r fault) R F

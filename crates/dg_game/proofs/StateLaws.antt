@@ -19,9 +19,9 @@ use Rattle.dg_game.specs.declared.entry.Entry.{Entry}
 use Rattle.dg_game.specs.declared.entry.Plain.{Plain}
 use Rattle.dg_game.specs.declared.entry.Plain.TheVariants as plain
 use Rattle.dg_game.specs.declared.entry.Request.{Request}
-use Rattle.dg_game.specs.declared.entry.Request.TheVariants.{Move, Gift, Look, Claim, Judge}
+use Rattle.dg_game.specs.declared.entry.Request.TheVariants.{Move, Gift, Look, Claim, Judge, Rank as RankRequest}
 use Rattle.dg_game.specs.declared.entry.Reply.{Reply}
-use Rattle.dg_game.specs.declared.entry.Reply.TheVariants.{Moved, Given, Looked, Verdict, Stale, Won, NotWon, Refused}
+use Rattle.dg_game.specs.declared.entry.Reply.TheVariants.{Moved, Given, Looked, Verdict, Rank as RankReply, Stale, Won, NotWon, Refused}
 use Rattle.dg_game.proofs.HistoryLaws.{gifts_in-more, scripts_played-more}
 use Rattle.dg_game.proofs.StepLaw.{one_more_entry}
 use Rattle.dg_game.proofs.ReplyLaws.{replies-cong}
@@ -54,6 +54,8 @@ shows_after o H d Claim Won shows right = shows
 shows_after o H d Claim NotWon shows right = shows
 shows_after o H d (Judge i) (Verdict x) shows right = shows
 shows_after o H d (Judge i) (Stale count) shows right = shows
+shows_after o H d (RankRequest i k) (RankReply x) shows right = shows
+shows_after o H d (RankRequest i k) (Stale count) shows right = shows
 shows_after o H d request reply shows right = absurd right
 
 graph_after : (o : Opening) (H : List Entry) (request : Request) (reply : Reply) → Replies o H request reply →
@@ -67,6 +69,8 @@ graph_after o H Claim Won right = refl
 graph_after o H Claim NotWon right = refl
 graph_after o H (Judge i) (Verdict x) right = refl
 graph_after o H (Judge i) (Stale count) right = refl
+graph_after o H (RankRequest i k) (RankReply x) right = refl
+graph_after o H (RankRequest i k) (Stale count) right = refl
 graph_after o H request reply right = absurd right
 
 gifts_counted : (o : Opening) (H : List Entry) (request : Request) (reply : Reply) → Replies o H request reply →
@@ -80,6 +84,8 @@ gifts_counted o H Claim Won right = omega arith
 gifts_counted o H Claim NotWon right = omega arith
 gifts_counted o H (Judge i) (Verdict x) right = omega arith
 gifts_counted o H (Judge i) (Stale count) right = omega arith
+gifts_counted o H (RankRequest i k) (RankReply x) right = omega arith
+gifts_counted o H (RankRequest i k) (Stale count) right = omega arith
 gifts_counted o H request reply right = absurd right
 
 pub leads_more : (o : Opening) (H : List Entry) (s t : State) (e : Entry) → LeadsTo o H s → Replies o H e.request e.reply →

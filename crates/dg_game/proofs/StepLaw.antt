@@ -15,9 +15,9 @@ use Rattle.dg_game.specs.History.{gift_by, script_by, scripts_played, position_a
 use Rattle.dg_game.specs.Step.{after_reply, OneMoreEntry}
 use Rattle.dg_game.specs.declared.entry.Entry.{Entry}
 use Rattle.dg_game.specs.declared.entry.Request.{Request}
-use Rattle.dg_game.specs.declared.entry.Request.TheVariants.{Move, Gift, Look, Claim, Judge}
+use Rattle.dg_game.specs.declared.entry.Request.TheVariants.{Move, Gift, Look, Claim, Judge, Rank as RankRequest}
 use Rattle.dg_game.specs.declared.entry.Reply.{Reply}
-use Rattle.dg_game.specs.declared.entry.Reply.TheVariants.{Moved, Given, Looked, Verdict, Stale, Won, NotWon, Refused}
+use Rattle.dg_game.specs.declared.entry.Reply.TheVariants.{Moved, Given, Looked, Verdict, Rank as RankReply, Stale, Won, NotWon, Refused}
 use Rattle.dg_game.proofs.HistoryLaws.{gifts_given-more, scripts_played-more}
 
 -- the position with the dollars and the script that an entry adds, whatever its kind
@@ -66,6 +66,7 @@ entry_is p (Gift v x) (Given g d) = given p (only_at v x)
 entry_is p (Move m) (Given g d) = same p
 entry_is p (Move m) (Looked g d) = same p
 entry_is p (Move m) (Verdict x) = same p
+entry_is p (Move m) (RankReply x) = same p
 entry_is p (Move m) (Stale g) = same p
 entry_is p (Move m) Won = same p
 entry_is p (Move m) NotWon = same p
@@ -73,6 +74,7 @@ entry_is p (Move m) (Refused r) = same p
 entry_is p (Gift v x) (Moved d) = same p
 entry_is p (Gift v x) (Looked g d) = same p
 entry_is p (Gift v x) (Verdict y) = same p
+entry_is p (Gift v x) (RankReply y) = same p
 entry_is p (Gift v x) (Stale g) = same p
 entry_is p (Gift v x) Won = same p
 entry_is p (Gift v x) NotWon = same p
@@ -80,6 +82,7 @@ entry_is p (Gift v x) (Refused r) = same p
 entry_is p Look reply = same p
 entry_is p Claim reply = same p
 entry_is p (Judge i) reply = same p
+entry_is p (RankRequest i k) reply = same p
 
 pub one_more_entry : OneMoreEntry
 one_more_entry o H e = position_more o H e ∙ entry_is (position_after o H) e.request e.reply

@@ -1,20 +1,25 @@
 -- Legal histories.
 --   IsSeat s              == a seat's number is 1 to 64
---   LooksBack H request   == a request for a verdict names an entry of H that is a look
---   IsLegal o H           == each entry is a seat's, looks back to an earlier look where it asks for a verdict, and is
---                            answered rightly after the entries before it
+--   IsLookIn H i          == entry i of H is a look
+--   LooksBack H request   == a request for a verdict or for a rank test names an entry of H that is a look
+--   IsLegal o H           == each entry is a seat's, looks back to an earlier look where it asks for a verdict or for a
+--                            rank test, and is answered rightly after the entries before it
 use Rattle.std.specs.Prelude.{◌≡◌, ℕ, ◌≤◌, List, take, slice_get, Some, ⊤}
 use Rattle.dg_chips.specs.Opening.{Opening}
 use Rattle.dg_game.specs.Replies.{Replies}
 use Rattle.dg_game.specs.declared.entry.Entry.{Entry}
 use Rattle.dg_game.specs.declared.entry.Request.{Request}
-use Rattle.dg_game.specs.declared.entry.Request.TheVariants.{Look, Judge}
+use Rattle.dg_game.specs.declared.entry.Request.TheVariants.{Look, Judge, Rank}
 
 abbrev pub IsSeat : ℕ → Type 0
 IsSeat s = (1 ≤ s) × (s ≤ 64)
 
+abbrev pub IsLookIn : List Entry → ℕ → Type 0
+IsLookIn H i = (e : Entry) × (slice_get H i ≡ Some e) × (e.request ≡ Look)
+
 abbrev pub LooksBack : List Entry → Request → Type 0
-LooksBack H (Judge i) = (e : Entry) × (slice_get H i ≡ Some e) × (e.request ≡ Look)
+LooksBack H (Judge i) = IsLookIn H i
+LooksBack H (Rank i k) = IsLookIn H i
 LooksBack H request = ⊤
 
 abbrev pub IsLegal : Opening → List Entry → Type 0

@@ -1,32 +1,49 @@
--- What a seat keeps of a look, and verdicts that were reckoned on it.
+-- What a seat keeps of a look, and what was reckoned on it.
 --   IsLookAt o H x       == x holds the number of a look of the history H, and the gift count and the amounts there. Its
 --                           drift may be any.
+--   degree_of v          == the degree of the rank test whose verdict v is
 --   IsFoundFor g q x f   == the finding f is right for the amounts of the look x
---   KeepsFinding f reply == a verdict entered keeps the reduced divisor and the burning order that were found
+--   asked_for i f        == the request by which the finding f on the look of number i is entered
+--   KeepsFinding f reply == a verdict entered keeps the reduced divisor and the burning order that were found, and that
+--                           of a rank test is entered as it was found
 use Rattle.std.specs.Prelude.{◌≡◌, ℕ, List, take, ⊤}
 use Rattle.dg_theory.specs.Multigraph.{Multigraph}
 use Rattle.dg_chips.specs.Vector.{at}
 use Rattle.dg_chips.specs.Opening.{Opening}
 use Rattle.dg_verdict.specs.Right.{IsRight}
+use Rattle.dg_rank.specs.Ranks.{IsRankTest}
+use Rattle.dg_rank.specs.declared.verdicts.RankVerdict.{RankVerdict}
+use Rattle.dg_rank.specs.declared.verdicts.RankVerdict.TheVariants.{AtLeast, Below}
 use Rattle.dg_game.specs.Position.{Shows}
 use Rattle.dg_game.specs.History.{position_after, gifts_in}
-use Rattle.dg_game.specs.Legal.{LooksBack}
+use Rattle.dg_game.specs.Legal.{IsLookIn}
 use Rattle.dg_game.specs.declared.entry.Entry.{Entry}
-use Rattle.dg_game.specs.declared.entry.Request.TheVariants.{Judge}
+use Rattle.dg_game.specs.declared.entry.Request.{Request}
+use Rattle.dg_game.specs.declared.entry.Request.TheVariants.{Judge, Rank as RankRequest}
 use Rattle.dg_game.specs.declared.entry.Reply.{Reply}
-use Rattle.dg_game.specs.declared.entry.Reply.TheVariants.{Verdict}
+use Rattle.dg_game.specs.declared.entry.Reply.TheVariants.{Verdict, Rank as RankReply}
 use Rattle.dg_game.specs.declared.look.LookData.{LookData}
 use Rattle.dg_game.specs.declared.look.Finding.{Finding}
-use Rattle.dg_game.specs.declared.look.Finding.TheVariants.{Judged}
+use Rattle.dg_game.specs.declared.look.Finding.TheVariants.{Judged, Ranked}
 
 pub record IsLookAt (o : Opening) (H : List Entry) (x : LookData) : Type 0 where
-  pub look : LooksBack H (Judge x.number)
+  pub look : IsLookIn H x.number
   pub gifts : x.gifts ≡ gifts_in (take x.number H)
   pub amounts : Shows (position_after o (take x.number H)) x.position
 
+abbrev pub degree_of : RankVerdict → ℕ
+degree_of (AtLeast k) = k
+degree_of (Below k E) = k
+
 abbrev pub IsFoundFor : Multigraph → ℕ → LookData → Finding → Type 0
 IsFoundFor g q x (Judged v) = IsRight g q (at x.position) v
+IsFoundFor g q x (Ranked v) = IsRankTest g (at x.position) (degree_of v) v
+
+abbrev pub asked_for : ℕ → Finding → Request
+asked_for i (Judged v) = Judge i
+asked_for i (Ranked v) = RankRequest i (degree_of v)
 
 abbrev pub KeepsFinding : Finding → Reply → Type 0
 KeepsFinding (Judged v) (Verdict w) = (w.reduced ≡ v.reduced) × (w.order ≡ v.order)
+KeepsFinding (Ranked v) (RankReply w) = w ≡ v
 KeepsFinding finding reply = ⊤

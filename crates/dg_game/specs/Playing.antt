@@ -21,7 +21,7 @@ KeepsLook o H steps seat None = (i : ℕ) → ¬ IsKept steps seat (length H) i
 pub record IsPlaying (o : Opening) (steps : List Step) (H : List Entry) (r : Rehearsal) : Type 0 where
   pub leads : LeadsTo o H r.game
   pub legal : IsLegal o H
-  pub good : AreGoodBefore steps (length H)
+  pub good : AreGoodBefore o.graph.size steps (length H)
   pub entries : (j : ℕ) (step : Step) (e : Entry) → slice_get steps j ≡ Some step → slice_get H j ≡ Some e → IsEntryOf steps j step e
   pub places : length r.looks ≡ 65
   pub looks : (seat : ℕ) → IsSeat seat → KeepsLook o H steps seat (slice_index_or r.looks seat None)

@@ -3,12 +3,15 @@
 --   RepliesToClaim p reply         == won where nobody is in debt, and not won where somebody is
 --   RepliesToJudge p q h g reply   == h gifts were accepted before the look: where there are as many now, a verdict that
 --                                     is right for the position; else stale, with the gift count now
+--   RepliesToRank p h g k reply    == there, a verdict of the rank test of degree k that is right for the position;
+--                                     else stale as well
 --   RepliesAt p g call reply       == the reply to the call is right at the position p, after g accepted gifts
 --   Replies o H request reply      == the reply is right after the history H from the opening o
 use Rattle.std.specs.Prelude.{◌≡◌, ◌≢◌, ℕ, List, take}
 use Rattle.dg_theory.specs.Firing.{IsEffective}
 use Rattle.dg_chips.specs.Opening.{Opening}
 use Rattle.dg_verdict.specs.Right.{IsRight}
+use Rattle.dg_rank.specs.Ranks.{IsRankTest}
 use Rattle.dg_game.specs.Position.{Position, Shows}
 use Rattle.dg_game.specs.History.{position_after, gifts_in}
 use Rattle.dg_game.specs.MoveReplies.{RepliesToMove}
@@ -17,9 +20,9 @@ use Rattle.dg_game.specs.declared.entry.Entry.{Entry}
 use Rattle.dg_game.specs.declared.entry.Plain.{Plain}
 use Rattle.dg_game.specs.declared.entry.Plain.TheVariants as plain
 use Rattle.dg_game.specs.declared.entry.Request.{Request}
-use Rattle.dg_game.specs.declared.entry.Request.TheVariants.{Move, Gift, Look, Claim, Judge}
+use Rattle.dg_game.specs.declared.entry.Request.TheVariants.{Move, Gift, Look, Claim, Judge, Rank as RankRequest}
 use Rattle.dg_game.specs.declared.entry.Reply.{Reply}
-use Rattle.dg_game.specs.declared.entry.Reply.TheVariants.{Looked, Won, NotWon, Verdict, Stale}
+use Rattle.dg_game.specs.declared.entry.Reply.TheVariants.{Looked, Won, NotWon, Verdict, Rank as RankReply, Stale}
 
 abbrev pub RepliesToLook : Position → ℕ → Reply → Type 0
 RepliesToLook p g (Looked count d) = (count ≡ g) × Shows p d
@@ -35,6 +38,11 @@ RepliesToJudge p q h g (Verdict x) = (h ≡ g) × IsRight p.graph q p.amounts x
 RepliesToJudge p q h g (Stale count) = (h ≢ g) × (count ≡ g)
 RepliesToJudge p q h g reply = ⊥
 
+abbrev pub RepliesToRank : Position → ℕ → ℕ → ℕ → Reply → Type 0
+RepliesToRank p h g k (RankReply x) = (h ≡ g) × IsRankTest p.graph p.amounts k x
+RepliesToRank p h g k (Stale count) = (h ≢ g) × (count ≡ g)
+RepliesToRank p h g k reply = ⊥
+
 abbrev pub RepliesAt : Position → ℕ → Plain → Reply → Type 0
 RepliesAt p g (plain.Move m) reply = RepliesToMove p m reply
 RepliesAt p g (plain.Gift v x) reply = RepliesToGift p g v x reply
@@ -47,3 +55,4 @@ Replies o H (Gift v x) reply = RepliesToGift (position_after o H) (gifts_in H) v
 Replies o H Look reply = RepliesToLook (position_after o H) (gifts_in H) reply
 Replies o H Claim reply = RepliesToClaim (position_after o H) reply
 Replies o H (Judge i) reply = RepliesToJudge (position_after o H) o.q (gifts_in (take i H)) (gifts_in H) reply
+Replies o H (RankRequest i k) reply = RepliesToRank (position_after o H) (gifts_in (take i H)) (gifts_in H) k reply

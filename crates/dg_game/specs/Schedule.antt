@@ -1,5 +1,6 @@
 -- Schedules: lists of steps, each a seat and a command.
 --   asked call                    == the request that a call of the game makes
+--   UsesUp command                == the command uses a look up
 --   UsesLook command              == the command takes a look, or uses one up
 --   IsKept steps seat j i         == before step j, step i is the last look that the seat has taken and not used up
 --   IsAsked steps seat j c r      == r is the request of the command c, where the seat gives it as step j
@@ -14,7 +15,7 @@ use Rattle.dg_game.specs.declared.entry.Plain.TheVariants as plain
 use Rattle.dg_game.specs.declared.entry.Request.{Request}
 use Rattle.dg_game.specs.declared.entry.Request.TheVariants as request
 use Rattle.dg_game.specs.declared.step.Command.{Command}
-use Rattle.dg_game.specs.declared.step.Command.TheVariants.{Call, Commit}
+use Rattle.dg_game.specs.declared.step.Command.TheVariants.{Call, Commit, Rank}
 use Rattle.dg_game.specs.declared.step.Step.{Step}
 
 abbrev pub asked : Plain → Request
@@ -27,9 +28,15 @@ abbrev pub IsLook : Plain → Type 0
 IsLook plain.Look = ⊤
 IsLook call = ⊥
 
+abbrev pub UsesUp : Command → Type 0
+UsesUp (Call p) = ⊥
+UsesUp Commit = ⊤
+UsesUp (Rank k) = ⊤
+
 abbrev pub UsesLook : Command → Type 0
 UsesLook (Call p) = IsLook p
 UsesLook Commit = ⊤
+UsesLook (Rank k) = ⊤
 
 pub record IsKept (steps : List Step) (seat j i : ℕ) : Type 0 where
   pub before : i < j
@@ -39,6 +46,7 @@ pub record IsKept (steps : List Step) (seat j i : ℕ) : Type 0 where
 abbrev pub IsAsked : List Step → ℕ → ℕ → Command → Request → Type 0
 IsAsked steps seat j (Call p) r = r ≡ asked p
 IsAsked steps seat j Commit r = (i : ℕ) × IsKept steps seat j i × (r ≡ request.Judge i)
+IsAsked steps seat j (Rank k) r = (i : ℕ) × IsKept steps seat j i × (r ≡ request.Rank i k)
 
 pub record IsEntryOf (steps : List Step) (j : ℕ) (step : Step) (e : Entry) : Type 0 where
   pub seat : e.seat ≡ step.seat

@@ -3,6 +3,7 @@ ghost use Rattle.dg_game.specs.Refusals.{refusal_for};
 ghost use Rattle.dg_game.specs.Schedule.{asked};
 
 use dg_chips::{Divisor, Move, MoveFault};
+use dg_rank::RankVerdict;
 use dg_verdict::Verdict;
 
 /// What a seat may ask of the game itself. Vertices are numbered from 0.
@@ -45,6 +46,8 @@ pub enum Request {
     Claim,
     /// A verdict that was reckoned on the look with this number.
     Judge(u32),
+    /// A rank test that was reckoned on the look with this number, and its degree.
+    Rank(u32, u32),
 }
 
 /// What an entry of the history was answered. Amounts are those after the entry, and so are the numbers of gifts.
@@ -58,6 +61,8 @@ pub enum Reply {
     Looked(u32, Divisor),
     /// Whether the position is winnable, with what shows it.
     Verdict(Verdict),
+    /// The answer of the rank test.
+    Rank(RankVerdict),
     /// Gifts were accepted since the look: their number now.
     Stale(u32),
     /// Nobody is in debt.

@@ -6,19 +6,22 @@ ghost use Rattle.dg_chips.specs.Moves.{script_of};
 ghost use Rattle.dg_chips.specs.Drifts.{FiresTo};
 ghost use Rattle.dg_theory.specs.Firing.{Amounts};
 ghost use Rattle.dg_verdict.specs.Right.{IsRight};
+ghost use Rattle.dg_rank.specs.Limits.{IsPastLimits};
+ghost use Rattle.dg_rank.specs.Ranks.{IsWithin};
 ghost use Rattle.dg_game.specs.MoveReplies.{RepliesToMove};
 ghost use Rattle.dg_game.specs.GiftReplies.{RepliesToGift};
 ghost use Rattle.dg_game.specs.Replies.{Replies, RepliesAt, RepliesToClaim};
-ghost use Rattle.dg_game.specs.Look.{IsLookAt, IsFoundFor, KeepsFinding};
+ghost use Rattle.dg_game.specs.Look.{IsLookAt, IsFoundFor, asked_for, KeepsFinding};
 ghost use Rattle.dg_game.specs.State.{State, IsState, LeadsTo, IsNext, position_of};
 ghost use Rattle.dg_game.specs.Schedule.{asked};
 ghost use Rattle.dg_game.specs.declared.entry.Entry.{Entry};
-ghost use Rattle.dg_game.specs.declared.entry.Request.TheVariants.{Move as MoveRequest, Gift as GiftRequest, Claim as ClaimRequest, Judge as JudgeRequest};
+ghost use Rattle.dg_game.specs.declared.entry.Request.TheVariants.{Move as MoveRequest, Gift as GiftRequest, Claim as ClaimRequest, Judge as JudgeRequest, Rank as RankRequest};
 
 use crate::entry::{Plain, Refusal, Reply};
 use crate::look::{Finding, LookData};
 use dg_chips::{Divisor, Drift, Move, Start, apply};
 use dg_graph::Graph;
+use dg_rank::rank_at_least;
 use dg_verdict::{Verdict, judge, rebase};
 use std::marker::Model;
 
@@ -114,17 +117,17 @@ impl Game {
     }
 
     /// Enters what was reckoned on a look: `Stale` where gifts were accepted since; otherwise a verdict that is right
-    /// for the position now, with the reduced divisor and the burning order that were found. The conditions are that
-    /// there are fewer than 65,536 entries, that the look is one of the history, whatever its drift, and that the
-    /// finding is right for the amounts that it showed.
+    /// for the position now, with the reduced divisor and the burning order that were found, or the answer of the rank
+    /// test as it was found. The conditions are that there are fewer than 65,536 entries, that the look is one of the
+    /// history, whatever its drift, and that the finding is right for the amounts that it showed.
     pub fn settle(&mut self, look: &LookData, finding: &Finding) -> Reply
         requires room { self.old.entries < 65536 }
         requires look { (o : Opening) × (H : List Entry) × LeadsTo o H self.old × IsLookAt o H look.now }
         requires found { IsFoundFor self.old.graph self.old.q look.now finding.now }
         ensures replies { (o : Opening) (H : List Entry) → LeadsTo o H self.old → IsLookAt o H look.now →
-            Replies o H (JudgeRequest look.now.number) result }
+            Replies o H (asked_for look.now.number finding.now) result }
         ensures leads { (o : Opening) (H : List Entry) (seat : ℕ) → LeadsTo o H self.old → IsLookAt o H look.now →
-            LeadsTo o (H ++ (record { seat = seat; request = JudgeRequest look.now.number; reply = result }) ∷ []) self.new }
+            LeadsTo o (H ++ (record { seat = seat; request = asked_for look.now.number finding.now; reply = result }) ∷ []) self.new }
         ensures kept { KeepsFinding finding.now result }
     {
         let reply = self.settled(look, finding);
@@ -132,13 +135,27 @@ impl Game {
         reply
     }
 
-    /// What is reckoned on a look: the verdict on the amounts that it showed.
-    pub(crate) fn found_on(&self, look: &LookData) -> Finding
+    /// What a verdict on a look finds: the verdict on the amounts that it showed.
+    pub(crate) fn judged_on(&self, look: &LookData) -> Finding
         requires { look.now.position.size ≡ self.now.graph.size }
-        ensures { IsFoundFor self.now.graph self.now.q look.now result }
+        ensures found { IsFoundFor self.now.graph self.now.q look.now result }
+        ensures asks { (i : ℕ) → asked_for i result ≡ JudgeRequest i }
     {
         let _size = look.position.size();
         Finding::Judged(judge(&self.graph, usize::from(self.q), &look.position))
+    }
+
+    /// What a rank test of degree k on a look finds; `None` where it is past the limits.
+    pub(crate) fn ranked_on(&self, look: &LookData, k: u32) -> Option<Finding>
+        requires { look.now.position.size ≡ self.now.graph.size }
+        ensures { MatchOption result
+            (IsPastLimits self.now.graph.size k)
+            (λ f. IsWithin self.now.graph.size k × IsFoundFor self.now.graph self.now.q look.now f ×
+            ((i : ℕ) → asked_for i f ≡ RankRequest i k)) }
+    {
+        let _size = look.position.size();
+        let verdict = rank_at_least(&self.graph, usize::from(self.q), &look.position, k).ok()?;
+        Some(Finding::Ranked(verdict))
     }
 
     /// The reply to what was reckoned on a look.
@@ -146,7 +163,7 @@ impl Game {
         requires look { (o : Opening) × (H : List Entry) × LeadsTo o H self.now × IsLookAt o H look.now }
         requires found { IsFoundFor self.now.graph self.now.q look.now finding.now }
         ensures replies { (o : Opening) (H : List Entry) → LeadsTo o H self.now → IsLookAt o H look.now →
-            Replies o H (JudgeRequest look.now.number) result }
+            Replies o H (asked_for look.now.number finding.now) result }
         ensures kept { KeepsFinding finding.now result }
     {
         if self.gifts != look.gifts {
@@ -157,6 +174,7 @@ impl Game {
                 let carried = self.rebased(&look.position, &look.drift, verdict);
                 Reply::Verdict(carried)
             }
+            Finding::Ranked(verdict) => Reply::Rank(*verdict),
         }
     }
 

@@ -6,6 +6,8 @@ ghost use Rattle.dg_game.specs.Step.{OneMoreEntry};
 mod entry;
 mod game;
 mod look;
+#[cfg(test)]
+mod rank_tests;
 mod schedule;
 mod step;
 #[cfg(test)]

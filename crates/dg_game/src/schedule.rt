@@ -1,16 +1,18 @@
 ghost use Rattle.std.specs.Prelude.{◌≡◌, ℕ, ◌<◌, ◌≤◌, List, [], ◌∷◌, ◌++◌, length, slice_get, Some, MatchResult, MatchOption};
 ghost use Rattle.dg_chips.specs.Opening.{Opening};
 ghost use Rattle.dg_game.specs.Legal.{IsSeat};
-ghost use Rattle.dg_game.specs.Schedule.{IsRehearsal, IsKept};
-ghost use Rattle.dg_game.specs.ScheduleFaults.{IsFirstFault};
-ghost use Rattle.dg_game.specs.Playing.{IsPlaying};
+ghost use Rattle.dg_game.specs.Look.{IsFoundFor, asked_for};
+ghost use Rattle.dg_game.specs.Schedule.{UsesUp, IsKept, IsAsked, IsRehearsal};
+ghost use Rattle.dg_game.specs.ScheduleFaults.{HasTrials, AreGoodBefore, IsFirstFault};
+ghost use Rattle.dg_game.specs.Playing.{KeepsLook, IsPlaying};
 ghost use Rattle.dg_game.specs.declared.entry.Entry.{Entry};
+ghost use Rattle.dg_game.specs.declared.step.Command.{Command};
 ghost use Rattle.dg_game.specs.declared.step.Step.{Step};
-ghost use Rattle.dg_game.specs.declared.step.Command.TheVariants.{Call, Commit};
+ghost use Rattle.dg_game.specs.declared.step.Command.TheVariants.{Call, Commit, Rank};
 
-use crate::entry::{Entry, Plain, Request};
+use crate::entry::{Entry, Plain};
 use crate::game::{Game, MAX_ENTRIES};
-use crate::look::LookData;
+use crate::look::{Finding, LookData};
 use crate::step::{Command, Step};
 use dg_chips::Start;
 use std::alloc::Allocator;
@@ -28,6 +30,9 @@ pub enum RehearseFault {
     /// The step wants a look, and its seat keeps none.
     #[error("step {0} has no look")]
     NoLook(usize),
+    /// The step is a rank test of a degree above 1,000, or with more than 200,000 trials.
+    #[error("step {0} asks for too many trials")]
+    TooMany(usize),
     /// There is not enough memory.
     #[error("out of memory")]
     OutOfMemory,
@@ -43,18 +48,20 @@ pub struct Rehearsal {
 }
 
 /// Plays the steps one after another from the start, and gives the history: entry j has the seat and the request of
-/// step j. A commit enters the verdict on the last look of its seat, and uses the look up.
+/// step j. A commit enters the verdict on the last look of its seat, and uses the look up; so does a rank test.
 ///
 /// Refused with `OutOfMemory`, and then step by step with `Seat` where a seat is not 1 to 64, with `Full` for the step
-/// of number 65,536, and with `NoLook` where a commit's seat keeps no look. A refusal gives no history.
+/// of number 65,536, with `NoLook` where the seat of a commit or of a rank test keeps no look, and with `TooMany` where
+/// a rank test is past the limits: a degree of 1,000, and 200,000 trials. A refusal gives no history.
 pub fn rehearse<A: Allocator + Drop>(
     alloc: A,
     start: &Start,
     steps: &[Step],
 ) -> Result<Vec<Entry, A>, RehearseFault>
     ensures { MatchResult result
-        (λ history. IsRehearsal start.now steps.now history.items × (length steps.now ≤ 65536))
-        (IsFirstFault steps.now) }
+        (λ history. IsRehearsal start.now steps.now history.items × (length steps.now ≤ 65536) ×
+        AreGoodBefore start.now.graph.size steps.now (length steps.now))
+        (IsFirstFault start.now.graph.size steps.now) }
 {
     let Ok(mut history) = Vec::with_capacity(alloc, steps.len().min(MAX_ENTRIES)) else {
         return Err(RehearseFault::OutOfMemory);
@@ -85,7 +92,7 @@ impl Rehearsal {
             (λ e. (o : Opening) (H : List Entry) (steps : List Step) → IsPlaying o steps H self.old →
             slice_get steps (length H) ≡ Some step.now → (length H < 65536) × IsPlaying o steps (H ++ e ∷ []) self.new)
             (λ fault. (o : Opening) (H : List Entry) (steps : List Step) → IsPlaying o steps H self.old →
-            slice_get steps (length H) ≡ Some step.now → IsFirstFault steps fault) }
+            slice_get steps (length H) ≡ Some step.now → IsFirstFault o.graph.size steps fault) }
     {
         let i = self.game.entries() as usize;
         if step.seat < 1 || step.seat > 64 {
@@ -97,6 +104,7 @@ impl Rehearsal {
         match &step.command {
             Command::Call(plain) => Ok(self.call(step.seat, plain)),
             Command::Commit => self.commit(step.seat).ok_or(RehearseFault::NoLook(i)),
+            Command::Rank(k) => self.rank(step.seat, *k),
         }
     }
 
@@ -131,17 +139,63 @@ impl Rehearsal {
             slice_get steps (length H) ≡ Some (record { seat = seat; command = Commit }) →
             IsPlaying o steps (H ++ e ∷ []) self.new) }
     {
-        let place = usize::from(seat);
-        let Some(look) = self.looks[place] else {
-            return None;
+        let look = self.kept(seat)?;
+        let finding = self.game.judged_on(&look);
+        Some(self.enter(seat, &look, &finding))
+    }
+
+    /// Enters the rank test of degree k on the look that a seat keeps, which is used up; or why it can't be entered.
+    fn rank(&mut self, seat: u8, k: u32) -> Result<Entry, RehearseFault>
+        requires playing { (o : Opening) × (H : List Entry) × (steps : List Step) × IsPlaying o steps H self.old }
+        requires room { self.old.game.entries < 65536 }
+        requires seat { IsSeat seat }
+        ensures { MatchResult result
+            (λ e. (o : Opening) (H : List Entry) (steps : List Step) → IsPlaying o steps H self.old →
+            slice_get steps (length H) ≡ Some (record { seat = seat; command = Rank k }) →
+            IsPlaying o steps (H ++ e ∷ []) self.new)
+            (λ fault. (o : Opening) (H : List Entry) (steps : List Step) → IsPlaying o steps H self.old →
+            slice_get steps (length H) ≡ Some (record { seat = seat; command = Rank k }) →
+            IsFirstFault o.graph.size steps fault) }
+    {
+        let i = self.game.entries() as usize;
+        let Some(look) = self.kept(seat) else {
+            return Err(RehearseFault::NoLook(i));
         };
-        self.looks[place] = None;
-        let finding = self.game.found_on(&look);
-        let reply = self.game.settle(&look, &finding);
-        Some(Entry {
+        let Some(finding) = self.game.ranked_on(&look, k) else {
+            return Err(RehearseFault::TooMany(i));
+        };
+        let entry = self.enter(seat, &look, &finding);
+        Ok(entry)
+    }
+
+    /// The look that a seat keeps, if it keeps one.
+    fn kept(&self, seat: u8) -> Option<LookData>
+        requires playing { (o : Opening) × (H : List Entry) × (steps : List Step) × IsPlaying o steps H self.now }
+        requires seat { IsSeat seat }
+        ensures { (o : Opening) (H : List Entry) (steps : List Step) → IsPlaying o steps H self.now →
+            KeepsLook o H steps seat result }
+    {
+        self.looks[usize::from(seat)]
+    }
+
+    /// Enters what was reckoned on the look that a seat keeps, and uses the look up.
+    fn enter(&mut self, seat: u8, look: &LookData, finding: &Finding) -> Entry
+        requires playing { (o : Opening) × (H : List Entry) × (steps : List Step) × IsPlaying o steps H self.old ×
+            KeepsLook o H steps seat (Some look.now) }
+        requires room { self.old.game.entries < 65536 }
+        requires seat { IsSeat seat }
+        requires found { IsFoundFor self.old.game.graph self.old.game.q look.now finding.now }
+        ensures { (o : Opening) (H : List Entry) (steps : List Step) (c : Command) → IsPlaying o steps H self.old →
+            KeepsLook o H steps seat (Some look.now) → slice_get steps (length H) ≡ Some (record { seat = seat; command = c }) →
+            UsesUp c → HasTrials o.graph.size c → IsAsked steps seat (length H) c (asked_for look.now.number finding.now) →
+            IsPlaying o steps (H ++ result ∷ []) self.new }
+    {
+        let reply = self.game.settle(look, finding);
+        self.looks[usize::from(seat)] = None;
+        Entry {
             seat,
-            request: Request::Judge(look.number),
+            request: finding.request(look.number),
             reply,
-        })
+        }
     }
 }

@@ -7,6 +7,8 @@ pub enum Command {
     Call(Plain),
     /// Enter the verdict that was reckoned on the seat's last look, and use the look up.
     Commit,
+    /// Enter the rank test of this degree that was reckoned on the seat's last look, and use the look up.
+    Rank(u32),
 }
 
 /// One step of a schedule: a seat and what it does.

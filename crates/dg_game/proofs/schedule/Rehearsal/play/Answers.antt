@@ -1,4 +1,5 @@
 use Rattle.std.proofs.Common.{◌≡◌, length, slice_get, Some, arith, ap, ◌∙◌}
+use Rattle.std.proofs.lemmas.Result.{MatchResult-weaker}
 use Rattle.dg_game.specs.declared.step.Command.{Command}
 use Rattle.dg_game.specs.declared.step.Command.TheVariants.{Call}
 use Rattle.dg_game.proofs.PlayingLaws.{lookless, told_ok_or}
@@ -15,10 +16,21 @@ returns-in-Commit c =
     rw c.ok_or.ensures.value (told_ok_or c.commit.result _ _ _ _ _ c.commit.ensures
     (λ none o H steps playing there. lookless o H steps c.args.self.now c.args.step.now _ playing there
     (omega (arith, playing.leads.entries, c.entries-i.ensures.entries))
-    (omega (arith, playing.leads.entries, c.entries-i.ensures.entries, c.entries-i.ensures.limit)) (c.if-step-lt1.false, c.if-step-gt64.false) c.in-Commit.is
-    (none o H steps playing))
+    (omega (arith, playing.leads.entries, c.entries-i.ensures.entries, c.entries-i.ensures.limit)) (c.if-step-lt1.false, c.if-step-gt64.false)
+    (rw c.in-Commit.is (λ (i, kept). none o H steps playing i kept)))
     (λ e goes o H steps playing there. (
       omega (arith, playing.leads.entries, c.entries-i.ensures.entries, c.entries-i.ensures.limit),
       goes o H steps playing
           (there ∙ ap (λ (k : Command). Some (record { seat = c.args.step.now.seat; command = k })) c.in-Commit.is),
     )))
+
+pub returns-in-Rank : goal.returns-in-Rank
+returns-in-Rank c =
+    MatchResult-weaker c.rank.result c.rank.ensures
+    (λ e goes o H steps playing there. (
+      omega (arith, playing.leads.entries, c.entries-i.ensures.entries, c.entries-i.ensures.limit),
+      goes o H steps playing
+          (there ∙ ap (λ (k : Command). Some (record { seat = c.args.step.now.seat; command = k })) c.in-Rank.is),
+    ))
+    (λ fault told o H steps playing there.
+    told o H steps playing (there ∙ ap (λ (k : Command). Some (record { seat = c.args.step.now.seat; command = k })) c.in-Rank.is))
