@@ -7,18 +7,19 @@ use Rattle.std.proofs.lemmas.Fmt.{decimal_is_IsNumeral}
 use Rattle.dg_chips.specs.declared.moves.Move.{Move}
 use Rattle.dg_chips.specs.declared.moves.Move.TheVariants.{Lend, Borrow, Fire, Script}
 use Rattle.dg_game.specs.declared.step.Command.{Command}
-use Rattle.dg_game.specs.declared.step.Command.TheVariants.{Call, Commit}
+use Rattle.dg_game.specs.declared.step.Command.TheVariants.{Call, Commit, Rank}
 use Rattle.dg_game.specs.declared.entry.Plain.TheVariants.{Move as Play, Gift, Look, Claim}
 use Rattle.dg_server.specs.Cuts.{before, after, pieces, words, words_after}
 use Rattle.dg_server.specs.Names.{place_of}
-use Rattle.dg_server.specs.Numbers.{integer_of}
-use Rattle.dg_server.specs.Commands.{play, only_word, lend_of, borrow_of, fire_of, bare, gift_of, command_of, command_of_words, line_of}
-use Rattle.dg_server.specs.Spelling.{IsWord, IsMoveWords, IsMoveLine, IsGiftLine, IsCommandLine}
+use Rattle.dg_server.specs.Numbers.{integer_of, degree_of}
+use Rattle.dg_server.specs.Commands.{play, only_word, lend_of, borrow_of, fire_of, bare, gift_of, rank_of, command_of, command_of_words, line_of}
+use Rattle.dg_server.specs.Spelling.{IsWord, IsMoveWords, IsMoveLine, IsGiftLine, IsRankLine, IsCommandLine}
 use Rattle.dg_server.proofs.Cutting.{pieces_cut}
 use Rattle.dg_server.proofs.Joining.{cut_joined, cut_whole, before_joined, after_joined, no_cut_before, no_space_in_digits, only_word-is, only_word-of}
 use Rattle.dg_server.proofs.Integers.{integer_is, is_integer}
+use Rattle.dg_server.proofs.Degrees.{degree_is, is_degree, degree_word}
 use Rattle.dg_server.proofs.Meant.{meant}
-use Rattle.dg_server.proofs.Others.{IsMove, IsAlone, AreGiftWords, IsMeantSo, other_found, other_meant}
+use Rattle.dg_server.proofs.Others.{IsMove, IsAlone, AreGiftWords, AreRankWords, IsMeantSo, other_found, other_meant}
 
 pub spaced : (front back : List ℕ) → front ++ 32 ∷ back ≡ front ++ codes " " ++ back
 spaced front back = sym (simp append_assoc)
@@ -73,6 +74,17 @@ gift_spelled names v dollars text known = go (after 32 text) refl known.parts
           number = value.0;
         }
 
+rank_spelled : (k : ℕ) (text : List ℕ) → AreRankWords k (before 32 text) (words_after (after 32 text)) → IsRankLine k text
+rank_spelled k text known =
+    let only = only_word-is (after 32 text) known.number known.only in
+    let value = is_degree known.number k known.value in
+    record {
+      whole =
+          cut_joined 32 text known.number only.0 ∙ ap (λ front. front ++ 32 ∷ known.number) known.keyword
+          ∙ ap (λ back. codes "rank" ++ 32 ∷ back) value.1 ∙ spaced (codes "rank") (decimal k);
+      number = value.0;
+    }
+
 other_spelled : (names : List (List ℕ)) (command : Command) (text : List ℕ) → (IsMove command → ⊥) → line_of names text ≡ Ok command
     → IsMeantSo names command (before 32 text) (words_after (after 32 text))
 unfolding line_of
@@ -88,6 +100,7 @@ line_spelled names (Call (Gift v dollars)) text e =
 line_spelled names (Call Look) text e = stands_alone (codes "look") text (other_spelled names (Call Look) text (λ x. x) e)
 line_spelled names (Call Claim) text e = other_spelled names (Call Claim) text (λ x. x) e
 line_spelled names Commit text e = stands_alone (codes "commit") text (other_spelled names Commit text (λ x. x) e)
+line_spelled names (Rank k) text e = rank_spelled k text (other_spelled names (Rank k) text (λ x. x) e)
 
 no_space_in_keyword : (names : List (List ℕ)) (move : Move) (keyword word : List ℕ) → IsMoveWords names move keyword word → after 32 keyword ≡ None
 unfolding after
@@ -142,6 +155,23 @@ gift_understood names v dollars text known =
     ∙ gift_read names v dollars known.name number known.is_word.not_empty (only_word-of number (number_word dollars known.number))
     known.vertex (integer_is number dollars known.number refl)
 
+rank_read : (k : ℕ) (number : List ℕ) → only_word (words number) ≡ Some number → degree_of number ≡ Some k →
+    rank_of (words number) ≡ Ok (Rank k)
+unfolding rank_of
+rank_read k number only value = rw (only, value) refl
+
+rank_keyword : (names rest : List (List ℕ)) → command_of names (codes "rank") rest ≡ rank_of rest
+unfolding command_of
+rank_keyword names rest = refl
+
+rank_understood : (names : List (List ℕ)) (k : ℕ) (text : List ℕ) → IsRankLine k text → line_of names text ≡ Ok (Rank k)
+unfolding line_of after
+rank_understood names k text known =
+    ap (line_of names) (known.whole ∙ sym (spaced (codes "rank") (decimal k)))
+    ∙ ap (command_of_words names) (words_joined (codes "rank") (decimal k) refl)
+    ∙ rank_keyword names (words (decimal k))
+    ∙ rank_read k (decimal k) (only_word-of (decimal k) (degree_word k known.number)) (degree_is (decimal k) k known.number refl)
+
 look_understood : (names : List (List ℕ)) → line_of names (codes "look") ≡ Ok (Call Look)
 unfolding line_of pieces command_of bare
 look_understood names = refl
@@ -162,3 +192,4 @@ line_understood names (Call (Gift v dollars)) text known = gift_understood names
 line_understood names (Call Look) text known = ap (line_of names) known ∙ look_understood names
 line_understood names (Call Claim) text known = absurd known
 line_understood names Commit text known = ap (line_of names) known ∙ commit_understood names
+line_understood names (Rank k) text known = rank_understood names k text known

@@ -3,6 +3,7 @@ pub mod Cutting
 pub mod Naming
 pub mod Numerals
 pub mod Integers
+pub mod Degrees
 pub mod Bits
 pub mod Schedule
 pub mod Pairs
@@ -15,3 +16,4 @@ mod Limited
 pub mod Seats
 pub mod Printing
 pub mod Refusing
+mod RanksFound

@@ -9,10 +9,11 @@ use Rattle.dg_game.specs.Replies.{Replies}
 use Rattle.dg_game.specs.Legal.{IsLegal}
 use Rattle.dg_game.specs.declared.entry.Entry.{Entry}
 use Rattle.dg_game.specs.declared.entry.Request.{Request}
-use Rattle.dg_game.specs.declared.entry.Request.TheVariants.{Move, Gift, Look, Claim, Judge}
+use Rattle.dg_game.specs.declared.entry.Request.TheVariants.{Move, Gift, Look, Claim, Judge, Rank}
 use Rattle.dg_game.specs.declared.entry.Reply.{Reply}
-use Rattle.dg_game.specs.declared.entry.Reply.TheVariants.{Moved, Given, Looked, Verdict, Stale, Won, NotWon, Refused}
+use Rattle.dg_game.specs.declared.entry.Reply.TheVariants.{Moved, Given, Looked, Verdict, Rank as Ranked, Stale, Won, NotWon, Refused}
 use Rattle.dg_game.proofs.StepLaw.{vertices_stay}
+use Rattle.dg_rank.specs.declared.verdicts.RankVerdict.TheVariants.{AtLeast, Below}
 use Rattle.dg_server.specs.Texts.{HasNames, entry_text}
 use Rattle.dg_server.specs.Rehearsals.{history_text, AllHaveNames}
 
@@ -27,6 +28,9 @@ replies_named names o H Claim Won fit right = tt
 replies_named names o H Claim NotWon fit right = tt
 replies_named names o H (Judge i) (Verdict x) fit right = (fit ∙ sym right.1.script_size, fit ∙ sym right.1.reduced_size)
 replies_named names o H (Judge i) (Stale count) fit right = tt
+replies_named names o H (Rank i k) (Ranked (AtLeast j)) fit right = tt
+replies_named names o H (Rank i k) (Ranked (Below j d)) fit right = fit ∙ sym right.1.1
+replies_named names o H (Rank i k) (Stale count) fit right = tt
 replies_named names o H request reply fit right = absurd right
 
 pub legal_named : (names : List (List ℕ)) (o : Opening) (H : List Entry) → length names ≡ o.graph.size → IsLegal o H → AllHaveNames names H

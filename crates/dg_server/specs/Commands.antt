@@ -9,6 +9,7 @@
 --   bare command rest            == the command, where no words follow its own
 --   gift_of names rest           == the command of the words after `gift`: the name of a vertex and a whole number, which
 --                                   is read after the name is
+--   rank_of rest                 == the command of the words after `rank`: a degree
 --   line_of names line           == the command that the line spells, or why it is refused: first its word, then its form,
 --                                   then its names, then its number
 use Rattle.std.specs.Prelude.{ℕ, ◌+◌, ◌^◌, ℤ, cond, List, [], ◌∷◌, Option, Some, None, Result, Ok, Err, bytes_eq, codes, option_and_then}
@@ -16,13 +17,13 @@ use Rattle.dg_chips.specs.Moves.{in_set}
 use Rattle.dg_chips.specs.declared.moves.Move.{Move}
 use Rattle.dg_chips.specs.declared.moves.Move.TheVariants.{Lend, Borrow, Fire}
 use Rattle.dg_game.specs.declared.step.Command.{Command}
-use Rattle.dg_game.specs.declared.step.Command.TheVariants.{Call, Commit}
+use Rattle.dg_game.specs.declared.step.Command.TheVariants.{Call, Commit, Rank}
 use Rattle.dg_game.specs.declared.entry.Plain.TheVariants.{Move as Play, Gift, Look}
 use Rattle.dg_server.specs.declared.line.LineFault.{LineFault}
 use Rattle.dg_server.specs.declared.line.LineFault.TheVariants.{Word, Form, Name, Number}
 use Rattle.dg_server.specs.Cuts.{words, items}
 use Rattle.dg_server.specs.Names.{place_of}
-use Rattle.dg_server.specs.Numbers.{integer_of}
+use Rattle.dg_server.specs.Numbers.{integer_of, degree_of}
 
 unfoldable pub only_word : List (List ℕ) → Option (List ℕ)
 only_word [] = None
@@ -87,13 +88,27 @@ gift_of names [] = Err Form
 gift_of names ([] ∷ rest) = Err Form
 gift_of names ((x ∷ xs) ∷ rest) = gift_named names (x ∷ xs) (only_word rest)
 
+-- the rank test of the degree, or `Number` where there is none
+abbrev pub rank_to : Option ℕ → Result Command LineFault
+rank_to None = Err Number
+rank_to (Some k) = Ok (Rank k)
+
+-- the rank test of the degree that the only word spells, or `Form` where there is no such word
+abbrev pub rank_word : Option (List ℕ) → Result Command LineFault
+rank_word None = Err Form
+rank_word (Some number) = rank_to (degree_of number)
+
+unfoldable pub rank_of : List (List ℕ) → Result Command LineFault
+rank_of rest = rank_word (only_word rest)
+
 -- the command that a first word, which is no move's, and the rest of the words spell
 abbrev pub other_of : List (List ℕ) → List ℕ → List (List ℕ) → Result Command LineFault
 other_of names word rest =
     cond (bytes_eq word (codes "look")) (bare (Call Look) rest)
     (cond (bytes_eq word (codes "gift")) (gift_of names rest)
     (cond (bytes_eq word (codes "commit")) (bare Commit rest)
-    (Err Word)))
+    (cond (bytes_eq word (codes "rank")) (rank_of rest)
+    (Err Word))))
 
 -- the command that the first word and the rest of the words spell
 unfoldable pub command_of : List (List ℕ) → List ℕ → List (List ℕ) → Result Command LineFault

@@ -16,4 +16,5 @@ abbrev pub fault_of_schedule : RehearseFault → Fault
 fault_of_schedule (schedule.Seat i) = run.Seat i
 fault_of_schedule (schedule.Full i) = run.Full i
 fault_of_schedule (schedule.NoLook i) = run.NoLook i
+fault_of_schedule (schedule.TooMany i) = run.StepTrials i
 fault_of_schedule schedule.OutOfMemory = run.OutOfMemory

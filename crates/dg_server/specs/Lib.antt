@@ -1,5 +1,5 @@
--- Names of vertices, the grammar of lines, the texts of replies, and what a rehearsal and a judgement print, all of them
--- on lists of bytes; and the exit statuses.
+-- Names of vertices, the grammar of lines, the texts of replies, what a rehearsal, a judgement and a rank test print,
+-- all of them on lists of bytes; and the exit statuses.
 pub mod Cuts
 pub mod Names
 pub mod Numbers
@@ -10,6 +10,7 @@ pub mod Texts
 pub mod Spelling
 pub mod Rehearsals
 pub mod Judgements
+pub mod RankTests
 pub mod Faults
 pub mod Refusals
 pub mod Status

@@ -3,7 +3,8 @@
 --   seat_of text      == the same of the seats 1 to 64
 --   is_within z       == z is a whole number that 64 bits hold: from -2^63 to 2^63 - 1
 --   integer_of text   == the whole number that 64 bits hold whose decimal is the text, where there is one
-use Rattle.std.specs.Prelude.{ℕ, zero, suc, ◌&&◌, ◌^◌, ℤ, pos, negsuc, Bool, List, Option, Some, None, cond, bytes_eq, decimal, leb}
+--   degree_of text    == the same of the numbers from 0 to 2^32 - 1
+use Rattle.std.specs.Prelude.{ℕ, zero, suc, ◌&&◌, ◌^◌, ℤ, pos, negsuc, Bool, List, Option, Some, None, cond, bytes_eq, decimal, leb, option_and_then}
 use Rattle.std.specs.Fmt.{signed_decimal}
 use Rattle.std.specs.Str.Parse.{signed_digits_value}
 
@@ -25,3 +26,11 @@ integer_if text z = cond (is_within z && bytes_eq text (signed_decimal z)) (Some
 
 unfoldable pub integer_of : List ℕ → Option ℤ
 integer_of text = integer_if text (signed_digits_value 10 text)
+
+-- the number, where it is one from 0 to 2^32 - 1
+abbrev pub as_degree : ℤ → Option ℕ
+as_degree (pos n) = cond (leb (suc n) (2 ^ 32)) (Some n) None
+as_degree (negsuc n) = None
+
+unfoldable pub degree_of : List ℕ → Option ℕ
+degree_of text = option_and_then as_degree (integer_of text)

@@ -1,8 +1,9 @@
 -- When a schedule is not played and printed.
---   IsFaultOf names lines fault       == the lines spell steps, and the fault is the first one of these
---   RefusesSchedule names lines fault == the first line that spells no step, with its fault; else the first step for which
---                                        there is no room or that commits while its seat keeps no look; of want of memory
---                                        nothing is said, and no other fault comes
+--   IsFaultOf n names lines fault       == the lines spell steps, and the fault is the first one of these on n vertices
+--   RefusesSchedule n names lines fault == the first line that spells no step, with its fault; else the first step for
+--                                          which there is no room, or that wants a look while its seat keeps none, or that
+--                                          asks for a rank test past the limits; of want of memory nothing is said, and no
+--                                          other fault comes
 use Rattle.std.specs.Prelude.{ℕ, List, ⊤}
 use Rattle.dg_game.specs.ScheduleFaults.{IsFirstFault}
 use Rattle.dg_game.specs.declared.schedule.RehearseFault.{RehearseFault}
@@ -10,19 +11,22 @@ use Rattle.dg_game.specs.declared.schedule.RehearseFault.TheVariants as schedule
 use Rattle.dg_game.specs.declared.step.Step.{Step}
 use Rattle.dg_server.specs.Schedules.{AreStepsOf, IsFirstRefused}
 use Rattle.dg_server.specs.declared.fault.Fault.{Fault}
-use Rattle.dg_server.specs.declared.fault.Fault.TheVariants.{CommandLine, Words, Source, File, Line, Seat, Full, NoLook, OutOfMemory, Write}
+use Rattle.dg_server.specs.declared.fault.Fault.TheVariants.{CommandLine, Words, Source, File, Line, Seat, Full, NoLook, StepTrials, TooMany, Chip, OutOfMemory, Write}
 
-abbrev pub IsFaultOf : List (List ℕ) → List (List ℕ) → RehearseFault → Type 0
-IsFaultOf names lines fault = (steps : List Step) × AreStepsOf names steps lines × IsFirstFault steps fault
+abbrev pub IsFaultOf : ℕ → List (List ℕ) → List (List ℕ) → RehearseFault → Type 0
+IsFaultOf n names lines fault = (steps : List Step) × AreStepsOf names steps lines × IsFirstFault n steps fault
 
-abbrev pub RefusesSchedule : List (List ℕ) → List (List ℕ) → Fault → Type 0
-RefusesSchedule names lines (CommandLine text) = ⊥
-RefusesSchedule names lines Words = ⊥
-RefusesSchedule names lines (Source fault) = ⊥
-RefusesSchedule names lines (File fault) = ⊥
-RefusesSchedule names lines (Line line fault) = IsFirstRefused names lines line fault
-RefusesSchedule names lines (Seat i) = ⊥
-RefusesSchedule names lines (Full i) = IsFaultOf names lines (schedule.Full i)
-RefusesSchedule names lines (NoLook i) = IsFaultOf names lines (schedule.NoLook i)
-RefusesSchedule names lines OutOfMemory = ⊤
-RefusesSchedule names lines Write = ⊥
+abbrev pub RefusesSchedule : ℕ → List (List ℕ) → List (List ℕ) → Fault → Type 0
+RefusesSchedule n names lines (CommandLine text) = ⊥
+RefusesSchedule n names lines Words = ⊥
+RefusesSchedule n names lines (Source fault) = ⊥
+RefusesSchedule n names lines (File fault) = ⊥
+RefusesSchedule n names lines (Line line fault) = IsFirstRefused names lines line fault
+RefusesSchedule n names lines (Seat i) = ⊥
+RefusesSchedule n names lines (Full i) = IsFaultOf n names lines (schedule.Full i)
+RefusesSchedule n names lines (NoLook i) = IsFaultOf n names lines (schedule.NoLook i)
+RefusesSchedule n names lines (StepTrials i) = IsFaultOf n names lines (schedule.TooMany i)
+RefusesSchedule n names lines TooMany = ⊥
+RefusesSchedule n names lines (Chip fault) = ⊥
+RefusesSchedule n names lines OutOfMemory = ⊤
+RefusesSchedule n names lines Write = ⊥

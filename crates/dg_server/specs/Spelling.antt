@@ -4,16 +4,18 @@
 --   IsMoveLine names move text           == the text is those two words, with a space between
 --   IsGiftLine names v dollars text      == the text is the word `gift`, a name of the vertex and the decimal of a number
 --                                           that 64 bits hold, with a space between two
---   IsCommandLine names command text     == the text is that of a move or a gift, or the word `look` or `commit`
+--   IsRankLine k text                    == the text is the word `rank`, a space and the decimal of the degree k
+--   IsCommandLine names command text     == the text is that of a move, a gift or a rank test, or the word `look` or
+--                                           `commit`
 --   IsSpelled names seat command line    == the line is the seat, a space, and the command's text
 --   StepsAreSpelled                      == the lines that are accepted as a step are just those that are spelled so
-use Rattle.std.specs.Prelude.{◌≡◌, ℕ, ℤ, FitsSigned, ◌≤◌, ◌↔◌, List, ◌++◌, length, Some, None, Ok, codes, decimal}
+use Rattle.std.specs.Prelude.{◌≡◌, ℕ, ◌^◌, ◌<◌, ℤ, FitsSigned, ◌≤◌, ◌↔◌, List, ◌++◌, length, Some, None, Ok, codes, decimal}
 use Rattle.std.specs.Fmt.{signed_decimal}
 use Rattle.std.specs.Int.{w64}
 use Rattle.dg_chips.specs.declared.moves.Move.{Move}
 use Rattle.dg_chips.specs.declared.moves.Move.TheVariants.{Lend, Borrow, Fire, Script}
 use Rattle.dg_game.specs.declared.step.Command.{Command}
-use Rattle.dg_game.specs.declared.step.Command.TheVariants.{Call, Commit}
+use Rattle.dg_game.specs.declared.step.Command.TheVariants.{Call, Commit, Rank}
 use Rattle.dg_game.specs.declared.entry.Plain.TheVariants.{Move as Play, Gift, Look, Claim}
 use Rattle.dg_server.specs.Cuts.{after, items}
 use Rattle.dg_server.specs.Names.{place_of}
@@ -44,12 +46,17 @@ pub record IsGiftLine (names : List (List ℕ)) (v : ℕ) (dollars : ℤ) (text 
   pub vertex : place_of names name ≡ Some v
   pub number : FitsSigned w64 dollars
 
+pub record IsRankLine (k : ℕ) (text : List ℕ) : Type 0 where
+  pub whole : text ≡ codes "rank" ++ codes " " ++ decimal k
+  pub number : k < 2 ^ 32
+
 abbrev pub IsCommandLine : List (List ℕ) → Command → List ℕ → Type 0
 IsCommandLine names (Call (Play move)) text = IsMoveLine names move text
 IsCommandLine names (Call (Gift v dollars)) text = IsGiftLine names v dollars text
 IsCommandLine names (Call Look) text = text ≡ codes "look"
 IsCommandLine names (Call Claim) text = ⊥
 IsCommandLine names Commit text = text ≡ codes "commit"
+IsCommandLine names (Rank k) text = IsRankLine k text
 
 pub record IsSpelled (names : List (List ℕ)) (seat : ℕ) (command : Command) (line : List ℕ) : Type 0 where
   pub text : List ℕ

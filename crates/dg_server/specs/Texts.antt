@@ -3,22 +3,27 @@
 --   pair name amount              == `name=amount`
 --   pairs names amounts           == the pairs of all vertices, with one space between two
 --   verdict_text names verdict    == the word of the verdict, the pairs of its script and those of its reduced divisor
+--   rank_text names x             == that the rank is at least k, or below k with the pairs of the first loss
 --   text_of names reply           == the text of the reply, with no number and no newline
 --   entry_text names number reply == the line of an entry: its number, a space, the text and a newline
 use Rattle.std.specs.Prelude.{◌≡◌, ℕ, ◌+◌, ℤ, Bool, true, false, List, [], ◌∷◌, ◌++◌, length, codes, decimal}
 use Rattle.std.specs.Fmt.{signed_decimal}
 use Rattle.dg_chips.specs.Vector.{at}
 use Rattle.dg_game.specs.declared.entry.Reply.{Reply}
-use Rattle.dg_game.specs.declared.entry.Reply.TheVariants.{Moved, Given, Looked, Verdict, Stale, Won, NotWon, Refused}
+use Rattle.dg_game.specs.declared.entry.Reply.TheVariants.{Moved, Given, Looked, Verdict, Rank, Stale, Won, NotWon, Refused}
 use Rattle.dg_game.specs.declared.entry.Refusal.{Refusal}
 use Rattle.dg_game.specs.declared.entry.Refusal.TheVariants.{NoVertex, Empty, Script, Gift, Range}
 use Rattle.dg_verdict.specs.declared.verdict.Verdict.{Verdict as VerdictFound}
+use Rattle.dg_rank.specs.declared.verdicts.RankVerdict.{RankVerdict}
+use Rattle.dg_rank.specs.declared.verdicts.RankVerdict.TheVariants.{AtLeast, Below}
 
 abbrev pub HasNames : List (List ℕ) → Reply → Type 0
 HasNames names (Moved d) = length names ≡ d.size
 HasNames names (Given gifts d) = length names ≡ d.size
 HasNames names (Looked gifts d) = length names ≡ d.size
 HasNames names (Verdict x) = (length names ≡ x.script.size) × (length names ≡ x.reduced.size)
+HasNames names (Rank (AtLeast k)) = Unit {0}
+HasNames names (Rank (Below k d)) = length names ≡ d.size
 HasNames names (Stale gifts) = Unit {0}
 HasNames names Won = Unit {0}
 HasNames names NotWon = Unit {0}
@@ -50,11 +55,16 @@ verdict_word false = codes "unwinnable by "
 abbrev pub verdict_text : List (List ℕ) → VerdictFound → List ℕ
 verdict_text names x = verdict_word x.winnable ++ pairs names (at x.script) ++ codes " to " ++ pairs names (at x.reduced)
 
+abbrev pub rank_text : List (List ℕ) → RankVerdict → List ℕ
+rank_text names (AtLeast k) = codes "rank at least " ++ decimal k
+rank_text names (Below k d) = codes "rank below " ++ decimal k ++ codes " at " ++ pairs names (at d)
+
 abbrev pub text_of : List (List ℕ) → Reply → List ℕ
 text_of names (Moved d) = codes "moved " ++ pairs names (at d)
 text_of names (Given gifts d) = codes "given " ++ decimal gifts ++ codes " " ++ pairs names (at d)
 text_of names (Looked gifts d) = codes "looked " ++ decimal gifts ++ codes " " ++ pairs names (at d)
 text_of names (Verdict x) = verdict_text names x
+text_of names (Rank x) = rank_text names x
 text_of names (Stale gifts) = codes "stale " ++ decimal gifts
 text_of names Won = codes "won"
 text_of names NotWon = codes "not won"

@@ -2,6 +2,7 @@ ghost use Rattle.std.specs.Prelude.{◌≡◌, ◌⊎◌, IfErr};
 ghost use Rattle.dg_server.specs.Status.{status};
 
 use crate::fault::Fault;
+use crate::number::{degree, natural};
 use clap::error::ErrorKind;
 use clap::{Arg, ArgMatches, Command};
 use std::alloc::{AllocError, Global};
@@ -20,6 +21,18 @@ pub enum Task<'a> {
     },
     /// Tell whether the position of a table is winnable, and print the verdict.
     Judge {
+        /// The name of the table file.
+        file: &'a str,
+    },
+    /// Test whether the rank of a table's position is at least a degree, and print the answer.
+    Rank {
+        /// The name of the table file.
+        file: &'a str,
+        /// The degree.
+        degree: u32,
+    },
+    /// Print both sides of Riemann-Roch for the position of a table.
+    RiemannRoch {
         /// The name of the table file.
         file: &'a str,
     },
@@ -69,23 +82,41 @@ pub fn asked_by<'a>(alloc: Global, words: &'a [String]) -> Result<Asked<'a>, Fau
 
 fn task_of<'a>(alloc: Global, words: &'a [String]) -> Result<Task<'a>, clap::Error> {
     let matches = dollar(alloc)?.try_get_matches_from(words)?;
-    match task_in(&matches) {
+    let Some((name, inner)) = matches.subcommand() else {
+        return Err(dollar(alloc)?.error(ErrorKind::MissingSubcommand, "a command is missing")?);
+    };
+    if !has_few_workers(inner) {
+        return Err(dollar(alloc)?.error(ErrorKind::ValueValidation, WORKERS_REFUSED)?);
+    }
+    match task_in(name, inner) {
         Some(task) => Ok(task),
-        None => {
-            let missing = ErrorKind::MissingSubcommand;
-            Err(dollar(alloc)?.error(missing, "a command is missing")?)
-        }
+        None => Err(dollar(alloc)?.error(ErrorKind::ValueValidation, DEGREE_REFUSED)?),
     }
 }
 
-fn task_in<'a>(matches: &ArgMatches<'a>) -> Option<Task<'a>> {
-    let (name, inner) = matches.subcommand()?;
+/// Whether the number of workers, where one is given, is 1 to 16.
+fn has_few_workers(matches: &ArgMatches) -> bool {
+    match matches.get_str("workers") {
+        Some(number) => matches!(natural(number.as_bytes()), Some(1..=16)),
+        None => true,
+    }
+}
+
+/// What a command with its arguments asks for; `None` where the degree of a rank test is none.
+fn task_in<'a>(name: &str, inner: &ArgMatches<'a>) -> Option<Task<'a>> {
     match name {
         "rehearse" => Some(Task::Rehearse {
             file: inner.get_str("file")?,
             steps: inner.get_str("steps")?,
         }),
         "judge" => Some(Task::Judge {
+            file: inner.get_str("file")?,
+        }),
+        "rank" => Some(Task::Rank {
+            file: inner.get_str("file")?,
+            degree: degree(inner.get_str("degree")?.as_bytes())?,
+        }),
+        "rr" => Some(Task::RiemannRoch {
             file: inner.get_str("file")?,
         }),
         _ => None,
@@ -99,14 +130,12 @@ fn dollar<'a>(alloc: Global) -> Result<Command<'a>, AllocError> {
         .subcommand_required(true)
         .arg_required_else_help(true)
         .subcommand(rehearse(alloc)?)?
-        .subcommand(judge(alloc)?)
+        .subcommand(judge(alloc)?)?
+        .subcommand(rank(alloc)?)?
+        .subcommand(riemann_roch(alloc)?)
 }
 
 fn rehearse<'a>(alloc: Global) -> Result<Command<'a>, AllocError> {
-    let file = Arg::new(alloc, "file")
-        .value_name("FILE")
-        .required(true)
-        .help(FILE_HELP);
     let steps = Arg::new(alloc, "steps")
         .value_name("STEPS")
         .required(true)
@@ -114,26 +143,54 @@ fn rehearse<'a>(alloc: Global) -> Result<Command<'a>, AllocError> {
     Command::new(alloc, "rehearse")
         .about("Plays a list of steps on a table, and prints what came of each")
         .after_help(REHEARSE_MORE)
-        .arg(file)?
+        .arg(table_file(alloc))?
         .arg(steps)
 }
 
 fn judge<'a>(alloc: Global) -> Result<Command<'a>, AllocError> {
-    let file = Arg::new(alloc, "file")
-        .value_name("FILE")
-        .required(true)
-        .help(FILE_HELP);
     Command::new(alloc, "judge")
         .about("Tells whether a table is winnable, and prints what shows it")
         .after_help(JUDGE_MORE)
-        .arg(file)
+        .arg(table_file(alloc))
+}
+
+fn rank<'a>(alloc: Global) -> Result<Command<'a>, AllocError> {
+    let degree = Arg::new(alloc, "degree")
+        .value_name("K")
+        .required(true)
+        .help(DEGREE_HELP);
+    let workers = Arg::new(alloc, "workers")
+        .long("workers")
+        .value_name("N")
+        .help(WORKERS_HELP);
+    Command::new(alloc, "rank")
+        .about("Tests whether a table stays winnable wherever K dollars are lost")
+        .after_help(RANK_MORE)
+        .arg(table_file(alloc))?
+        .arg(degree)?
+        .arg(workers)
+}
+
+fn riemann_roch<'a>(alloc: Global) -> Result<Command<'a>, AllocError> {
+    Command::new(alloc, "rr")
+        .about("Prints both sides of Riemann-Roch for a table")
+        .after_help(RIEMANN_ROCH_MORE)
+        .arg(table_file(alloc))
+}
+
+fn table_file<'a>(alloc: Global) -> Arg<'a> {
+    Arg::new(alloc, "file")
+        .value_name("FILE")
+        .required(true)
+        .help(FILE_HELP)
 }
 
 const MORE: &str = "\
 The vertices of a graph hold dollars or owe them. A vertex that lends gives a dollar along each of its edges, and one
 that borrows takes a dollar along each. A table is winnable where this can clear all debts.
 
-`dollar rehearse --help` shows a table file and what can be played on it; `dollar judge --help` how a verdict is read.
+`dollar rehearse --help` shows a table file and what can be played on it; `dollar judge --help` how a verdict is read;
+`dollar rank --help` and `dollar rr --help` how much a table can lose.
 ";
 
 const FILE_HELP: &str =
@@ -141,6 +198,15 @@ const FILE_HELP: &str =
 
 const STEPS_HELP: &str =
     "The steps: a text file with a line for each, a seat from 1 to 64 and what it does";
+
+const DEGREE_HELP: &str = "How many dollars are lost: a whole number from 0 to 4294967295";
+
+const DEGREE_REFUSED: &str = "K is a whole number from 0 to 4294967295";
+
+const WORKERS_HELP: &str =
+    "How many workers may share the trials, 1 to 16; for now one makes them all";
+
+const WORKERS_REFUSED: &str = "the number of workers is a whole number from 1 to 16";
 
 const REHEARSE_MORE: &str = "\
 FILE names the vertices, gives each edge as two names and how often it is there, and each vertex its dollars
@@ -161,11 +227,13 @@ or a set of vertices lends at once:
     1 fire a,c
 
 A seat may also look at the amounts, give a vertex some dollars, or commit: reckon whether the table that it looked at
-last is winnable, and enter the verdict. Once a gift was accepted, an earlier look is stale:
+last is winnable, and enter the verdict. Once a gift was accepted, an earlier look is stale. A rank test is entered like a commit:
 
     1 look
     2 gift b 1
     1 commit
+    1 look
+    1 rank 2
 
 Each step gives a line with its number, from 0 on, and what came of it, as `0 moved a=0 b=0 c=0` or `2 stale 1`.
 ";
@@ -178,4 +246,29 @@ FILE is a table file, as `dollar rehearse --help` shows it. The verdict comes wi
 The first numbers say how often each vertex lends, a negative one how often it borrows; q does neither.
 The second are the dollars after that. Nobody but q is then in debt, and whichever of the others lend together, one of
 them comes into debt. So the table is winnable just where q is out of debt as well.
+";
+
+const RANK_MORE: &str = "\
+FILE is a table file, as `dollar rehearse --help` shows it. Every way to take K dollars from the vertices is tried, from
+the last vertex to the first. Where all of them leave a winnable table, the rank is at least K; otherwise the first that
+does not is shown:
+
+    rank at least 1
+    rank below 2 at a=0 b=2
+
+K may be at most 1000, and there may be at most 200000 ways.
+";
+
+const RIEMANN_ROCH_MORE: &str = "\
+FILE is a table file, as `dollar rehearse --help` shows it. The sum of the dollars, the number of independent cycles of
+the graph, the rank of the table, and that of its dual, where each vertex holds two dollars less than it has edges, and
+less what it holds on the table:
+
+    degree 1
+    genus 1
+    rank 0
+    dual -1
+
+The rank is the most dollars that can be taken wherever one likes so that the table stays winnable, and -1 where it is
+not winnable as it is. By Riemann-Roch, rank less dual is degree plus 1 less genus.
 ";

@@ -5,6 +5,7 @@ use crate::line::LineFault;
 use crate::sources::SourceFault;
 use crate::steps::StepsFault;
 use crate::table::FileFault;
+use dg_chips::ChipFault;
 use dg_game::RehearseFault;
 use std::alloc::{AllocError, AllocFailed};
 use std::io::Write;
@@ -37,6 +38,15 @@ pub enum Fault {
     /// A step, counted from 0, commits while its seat keeps no look. The text counts from 1.
     #[error("step {}: no look", .0.saturating_add(1))]
     NoLook(usize),
+    /// A step, counted from 0, asks for a rank test past the limits. The text counts from 1.
+    #[error("step {}: too many trials", .0.saturating_add(1))]
+    StepTrials(usize),
+    /// A rank test is past the limits.
+    #[error("too many trials")]
+    TooMany,
+    /// The canonical divisor less that of the table is none.
+    #[error(transparent)]
+    Chip(#[from] ChipFault),
     /// There is not enough memory.
     #[error("out of memory")]
     OutOfMemory,
@@ -92,6 +102,7 @@ impl From<RehearseFault> for Fault {
             RehearseFault::Seat(i) => Fault::Seat(i),
             RehearseFault::Full(i) => Fault::Full(i),
             RehearseFault::NoLook(i) => Fault::NoLook(i),
+            RehearseFault::TooMany(i) => Fault::StepTrials(i),
             RehearseFault::OutOfMemory => Fault::OutOfMemory,
         }
     }
@@ -110,6 +121,7 @@ pub fn status_of(fault: &Fault) -> u8
         Fault::File(FileFault::OutOfMemory) => 4,
         Fault::File(_) => 3,
         Fault::Line { .. } | Fault::Seat(_) | Fault::Full(_) | Fault::NoLook(_) => 3,
+        Fault::StepTrials(_) | Fault::TooMany | Fault::Chip(_) => 3,
         Fault::OutOfMemory => 4,
         Fault::Write => 5,
     }

@@ -3,12 +3,12 @@ ghost use Rattle.std.specs.Prelude.{◌≡◌, ◌+◌, ◌<◌, ◌^◌, Bool, 
 ghost use Rattle.std.specs.Option.{option_copied};
 ghost use Rattle.dg_chips.specs.Moves.{in_set};
 ghost use Rattle.dg_server.specs.Cuts.{items, words_after};
-ghost use Rattle.dg_server.specs.Commands.{only_word, lend_of, borrow_of, set_of, fire_of, bare, gift_of, line_of};
+ghost use Rattle.dg_server.specs.Commands.{only_word, lend_of, borrow_of, set_of, fire_of, bare, gift_of, rank_of, line_of};
 ghost use Rattle.dg_server.specs.Steps.{step_of};
 
 use crate::cuts::cut;
 use crate::names::Names;
-use crate::number::{integer, seat};
+use crate::number::{degree, integer, seat};
 use dg_chips::Move;
 use dg_game::{Command, Plain, Step};
 use thiserror::Error;
@@ -67,6 +67,8 @@ pub fn parse_line(line: &[u8], names: &Names) -> Result<Command, LineFault>
         gift(rest, names)
     } else if word == b"commit".as_slice() {
         bare(rest, Command::Commit)
+    } else if word == b"rank".as_slice() {
+        rank(rest)
     } else {
         Err(LineFault::Word)
     }
@@ -122,6 +124,15 @@ fn gift(rest: Option<&[u8]>, names: &Names) -> Result<Command, LineFault>
     let v = names.place(name).ok_or(LineFault::Name)?;
     let dollars = integer(number).ok_or(LineFault::Number)?;
     Ok(Command::Call(Plain::Gift(v, dollars)))
+}
+
+#[tactic(auto, unfolding(crate::specs::Commands::rank_of))]
+fn rank(rest: Option<&[u8]>) -> Result<Command, LineFault>
+    ensures { result ≡ rank_of (words_after (option_copied rest.entry)) }
+{
+    let number = single_word(rest).ok_or(LineFault::Form)?;
+    let k = degree(number).ok_or(LineFault::Number)?;
+    Ok(Command::Rank(k))
 }
 
 /// The one word of what follows the command word, where there is just one and it is not empty.

@@ -3,7 +3,7 @@ ghost use Rattle.std.specs.Prelude.{◌≡◌, ◌≢◌, ℕ, ◌<◌, ◌^◌,
 ghost use Rattle.std.specs.Prelude.{ℤ, FitsSigned};
 ghost use Rattle.std.specs.Fmt.{signed_decimal};
 ghost use Rattle.std.specs.Int.{w64};
-ghost use Rattle.dg_server.specs.Numbers.{seat_of, integer_of};
+ghost use Rattle.dg_server.specs.Numbers.{seat_of, integer_of, degree_of};
 
 use itoa::Buffer;
 use std::str;
@@ -42,6 +42,15 @@ pub fn integer(text: &[u8]) -> Option<i64>
     } else {
         None
     }
+}
+
+/// The degree of a rank test, 0 to 4,294,967,295, whose decimal the text is.
+#[tactic(auto, unfolding(crate::specs::Numbers::degree_of))]
+pub fn degree(text: &[u8]) -> Option<u32>
+    ensures { result ≡ degree_of text.now }
+{
+    let number = integer(text)?;
+    u32::try_from(number).ok()
 }
 
 /// The seat, 1 to 64, whose decimal the text is.

@@ -19,11 +19,11 @@ use std::alloc::{AllocError, Global};
 /// history is the legal one that the steps make from the table's start.
 ///
 /// Refused with `Line` for the first line that spells no step; then for the first step that is refused, with `Full` where
-/// it is the step after 65,536 others, or with `NoLook` where it commits while its seat keeps no look. `OutOfMemory` comes
-/// at the growth that was refused.
+/// it is the step after 65,536 others, with `NoLook` where it wants a look while its seat keeps none, or with `StepTrials`
+/// where it asks for a rank test past the limits. `OutOfMemory` comes at the growth that was refused.
 pub fn rehearsal(alloc: Global, table: &TableFile, steps: &[u8]) -> Result<Vec<u8>, Fault>
     ensures printed { IfOk result (λ text. IsPrinted table.now.start table.now.names (lines steps.now) text.items) }
-    ensures refused { IfErr result (RefusesSchedule table.now.names (lines steps.now)) }
+    ensures refused { IfErr result (RefusesSchedule table.now.start.graph.size table.now.names (lines steps.now)) }
 {
     let names = table.names();
     let steps = match parse_steps(alloc, steps, names) {
@@ -56,7 +56,7 @@ pub fn judgement(alloc: Global, table: &TableFile) -> Result<Vec<u8>, Fault>
 }
 
 /// The text of a reply, and a newline.
-fn reply_line(alloc: Global, reply: &Reply, names: &Names) -> Result<Vec<u8>, AllocError>
+pub(crate) fn reply_line(alloc: Global, reply: &Reply, names: &Names) -> Result<Vec<u8>, AllocError>
     requires { HasNames names.now reply.now }
     ensures { IfOk result (λ line. line.items ≡ text_of names.now reply.now ++ codes "\n") }
 {

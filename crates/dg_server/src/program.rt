@@ -5,8 +5,9 @@ ghost use Rattle.dg_server.specs.Status.{IsStatus};
 use crate::command_line::{Asked, Task, asked_by};
 use crate::fault::{Fault, report};
 use crate::printed::{judgement, rehearsal};
+use crate::ranks::{rank_answer, riemann_roch};
 use crate::sources::Sources;
-use crate::table::read_table;
+use crate::table::{TableFile, read_table};
 use std::io::{BufRead, Write};
 use std::rt::Files;
 
@@ -61,7 +62,13 @@ fn answer<R: Files + AllocGlobal, S: Sources>(
     match asked_by(rt.alloc(), words)? {
         Asked::Text(text) => Ok(text.into_bytes()),
         Asked::Task(Task::Rehearse { file, steps }) => rehearsed(rt, sources, file, steps),
-        Asked::Task(Task::Judge { file }) => judged(rt, sources, file),
+        Asked::Task(Task::Judge { file }) => judgement(rt.alloc(), &table_in(rt, sources, file)?),
+        Asked::Task(Task::Rank { file, degree }) => {
+            rank_answer(rt.alloc(), &table_in(rt, sources, file)?, degree)
+        }
+        Asked::Task(Task::RiemannRoch { file }) => {
+            riemann_roch(rt.alloc(), &table_in(rt, sources, file)?)
+        }
     }
 }
 
@@ -71,20 +78,16 @@ fn rehearsed<R: Files + AllocGlobal, S: Sources>(
     file: &str,
     steps: &str,
 ) -> Result<Vec<u8>, Fault> {
-    let alloc = rt.alloc();
-    let file = sources.bytes(rt, file)?;
-    let table = read_table(alloc, file.as_slice())?;
+    let table = table_in(rt, sources, file)?;
     let steps = sources.bytes(rt, steps)?;
-    rehearsal(alloc, &table, steps.as_slice())
+    rehearsal(rt.alloc(), &table, steps.as_slice())
 }
 
-fn judged<R: Files + AllocGlobal, S: Sources>(
+fn table_in<R: Files + AllocGlobal, S: Sources>(
     rt: &R,
     sources: &S,
     file: &str,
-) -> Result<Vec<u8>, Fault> {
-    let alloc = rt.alloc();
+) -> Result<TableFile, Fault> {
     let file = sources.bytes(rt, file)?;
-    let table = read_table(alloc, file.as_slice())?;
-    judgement(alloc, &table)
+    Ok(read_table(rt.alloc(), file.as_slice())?)
 }

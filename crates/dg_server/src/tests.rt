@@ -1,4 +1,5 @@
 //! What lines spell and how replies are written, against the formats' own examples.
+mod ranks;
 mod runs;
 mod spelled;
 mod written;

@@ -2,12 +2,14 @@
 ghost use Rattle.std.specs.Prelude.{◌≡◌, ◌<◌, ◌++◌, length, codes, decimal, IfOk, OnOk};
 ghost use Rattle.std.specs.Fmt.{signed_decimal};
 ghost use Rattle.dg_chips.specs.Vector.{at};
-ghost use Rattle.dg_server.specs.Texts.{HasNames, pair, pairs, refusal_text, verdict_word, verdict_text, text_of, entry_text};
+ghost use Rattle.dg_server.specs.Texts.{HasNames, pair, pairs, refusal_text, verdict_word, verdict_text, rank_text, text_of, entry_text};
+ghost use Rattle.dg_game.specs.declared.entry.Reply.TheVariants.{Rank};
 
 use crate::amounts::Amounts;
 use crate::names::Names;
 use dg_chips::Divisor;
 use dg_game::{Refusal, Reply};
+use dg_rank::RankVerdict;
 use dg_verdict::Verdict;
 use itoa::Buffer;
 use std::alloc::{AllocError, Allocator};
@@ -66,6 +68,7 @@ fn push_reply<A: Allocator>(
             push_counted(text, *gifts, names, divisor)?;
         }
         Reply::Verdict(verdict) => push_verdict(text, names, verdict)?,
+        Reply::Rank(verdict) => push_rank(text, names, verdict)?,
         Reply::Stale(gifts) => {
             text.extend_from_slice(b"stale ")?;
             text.extend_from_slice(Buffer::new().format(*gifts).as_bytes())?;
@@ -107,6 +110,30 @@ fn push_verdict<A: Allocator>(
     push_pairs(text, names, &verdict.script)?;
     text.extend_from_slice(b" to ")?;
     push_pairs(text, names, &verdict.reduced)?;
+    Ok(())
+}
+
+/// That the rank is at least a degree, or below it, and then the pairs of the first loss.
+fn push_rank<A: Allocator>(
+    text: &mut Vec<u8, A>,
+    names: &Names,
+    verdict: &RankVerdict,
+) -> Result<(), AllocError>
+    requires { HasNames names.now (Rank verdict.now) }
+    ensures { OnOk result (text.new.items ≡ text.old.items ++ rank_text names.now verdict.now) }
+{
+    match verdict {
+        RankVerdict::AtLeast(k) => {
+            text.extend_from_slice(b"rank at least ")?;
+            text.extend_from_slice(Buffer::new().format(*k).as_bytes())?;
+        }
+        RankVerdict::Below(k, loss) => {
+            text.extend_from_slice(b"rank below ")?;
+            text.extend_from_slice(Buffer::new().format(*k).as_bytes())?;
+            text.extend_from_slice(b" at ")?;
+            push_pairs(text, names, loss)?;
+        }
+    }
     Ok(())
 }
 

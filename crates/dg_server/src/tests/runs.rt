@@ -7,9 +7,9 @@ use std::test::Fail;
 
 // A table file and a file of steps in memory, each of which may be missing.
 #[derive(Drop)]
-struct Shelf<'a> {
-    file: Option<&'a str>,
-    steps: Option<&'a str>,
+pub(super) struct Shelf<'a> {
+    pub(super) file: Option<&'a str>,
+    pub(super) steps: Option<&'a str>,
 }
 
 impl Sources for Shelf<'_> {
@@ -28,14 +28,18 @@ impl Sources for Shelf<'_> {
 
 // What a run leaves.
 #[derive(Drop)]
-struct Outcome {
-    output: Vec<u8>,
-    faults: Vec<u8>,
-    status: u8,
+pub(super) struct Outcome {
+    pub(super) output: Vec<u8>,
+    pub(super) faults: Vec<u8>,
+    pub(super) status: u8,
 }
 
 // The words stand in one line, with a space between two.
-fn outcome_of(rt: &HostRuntime, shelf: &Shelf<'_>, line: &str) -> Result<Outcome, AllocError> {
+pub(super) fn outcome_of(
+    rt: &HostRuntime,
+    shelf: &Shelf<'_>,
+    line: &str,
+) -> Result<Outcome, AllocError> {
     let alloc = rt.alloc();
     let words = words_in(alloc, line)?;
     let mut output = Vec::new(alloc);
@@ -61,7 +65,7 @@ fn words_in(alloc: Global, line: &str) -> Result<Vec<String>, AllocError> {
 
 const JUDGE: &str = "dollar judge table.json";
 
-const REHEARSE: &str = "dollar rehearse table.json steps.txt";
+pub(super) const REHEARSE: &str = "dollar rehearse table.json steps.txt";
 
 const TRIANGLE: &str =
     r#"{"vertices":["a","b","c"],"edges":[["a","b",1],["b","c",1],["a","c",1]],"amounts":[2,-1,-1],"q":"a"}"#;
@@ -579,6 +583,8 @@ fn a_call_for_help_is_answered(rt: HostRuntime) -> Result<(), Fail> {
         "dollar rehearse --help",
         "dollar help rehearse",
         "dollar judge --help",
+        "dollar rank --help",
+        "dollar rr --help",
     ] {
         let outcome = outcome_of(&rt, &shelf, line)?;
         assert!(rt;
@@ -601,6 +607,17 @@ fn command_lines_are_refused(rt: HostRuntime) -> Result<(), Fail> {
         "dollar gamble table.json",
         "dollar judge",
         "dollar judge table.json steps.txt",
+        "dollar judge table.json --workers 1",
+        "dollar rank table.json",
+        "dollar rank table.json 01",
+        "dollar rank table.json one",
+        "dollar rank table.json -1",
+        "dollar rank table.json 4294967296",
+        "dollar rank table.json 1 --workers 0",
+        "dollar rank table.json 1 --workers 17",
+        "dollar rank table.json 1 --workers",
+        "dollar rr",
+        "dollar rr table.json 1",
         "dollar rehearse table.json",
         "dollar rehearse table.json steps.txt more",
     ] {

@@ -20,6 +20,36 @@ fn commit(seat: u8) -> Result<Step, LineFault> {
     Ok(Step { seat, command })
 }
 
+fn rank(seat: u8, k: u32) -> Result<Step, LineFault> {
+    let command = Command::Rank(k);
+    Ok(Step { seat, command })
+}
+
+#[test]
+fn lines_are_rank_tests(rt: HostRuntime) -> Result<(), Fail> {
+    let names = triangle(rt.alloc())?;
+    let table = [
+        ("1 rank 0", rank(1, 0)),
+        ("64 rank 4294967295", rank(64, u32::MAX)),
+        ("2 rank 631", rank(2, 631)),
+        ("1 rank 4294967296", Err(LineFault::Number)),
+        ("1 rank 9223372036854775808", Err(LineFault::Number)),
+        ("1 rank -1", Err(LineFault::Number)),
+        ("1 rank 01", Err(LineFault::Number)),
+        ("1 rank +1", Err(LineFault::Number)),
+        ("1 rank a", Err(LineFault::Number)),
+        ("1 rank", Err(LineFault::Form)),
+        ("1 rank ", Err(LineFault::Form)),
+        ("1 rank 1 2", Err(LineFault::Form)),
+        ("1 rank 1 ", Err(LineFault::Form)),
+        ("1 ranks 1", Err(LineFault::Word)),
+    ];
+    for (line, want) in table {
+        assert!(rt; parse_step(line.as_bytes(), &names) == want, "at {line:?}");
+    }
+    Ok(())
+}
+
 #[test]
 fn lines_are_steps_or_refused(rt: HostRuntime) -> Result<(), Fail> {
     let names = triangle(rt.alloc())?;

@@ -3,6 +3,7 @@ use crate::text::{entry_line, reply_text};
 use dg_chips::{Divisor, Script, Wide};
 use dg_game::{Refusal, Reply};
 use dg_graph::Graph;
+use dg_rank::RankVerdict;
 use dg_verdict::Verdict;
 use std::test::Fail;
 
@@ -16,6 +17,14 @@ fn replies_are_written(rt: HostRuntime) -> Result<(), Fail> {
         (Reply::Moved(divisor), "moved a=2 b=-1 c=-10"),
         (Reply::Given(3, divisor), "given 3 a=2 b=-1 c=-10"),
         (Reply::Looked(0, divisor), "looked 0 a=2 b=-1 c=-10"),
+        (
+            Reply::Rank(RankVerdict::AtLeast(1000)),
+            "rank at least 1000",
+        ),
+        (
+            Reply::Rank(RankVerdict::Below(2, divisor)),
+            "rank below 2 at a=2 b=-1 c=-10",
+        ),
         (Reply::Stale(12), "stale 12"),
         (Reply::Won, "won"),
         (Reply::NotWon, "not won"),

@@ -5,7 +5,7 @@ use Rattle.dg_server.proofs.printed.rehearsal.Goals as goal
 pub returns-in-Err-rehearse-clause-refused : goal.returns-in-Err-rehearse-clause-refused
 returns-in-Err-rehearse-clause-refused c =
     rw (c.from-in-Err-rehearse.ensures, ← c.names-names.ensures.value)
-    (schedule_refused _ _ c.in-Ok.steps.items c.in-Err-rehearse.fault c.in-Ok.ensures.steps (rw (← c.as_slice.ensures.value) c.in-Err-rehearse.ensures))
+    (schedule_refused _ _ _ c.in-Ok.steps.items c.in-Err-rehearse.fault c.in-Ok.ensures.steps (rw (← c.as_slice.ensures.value, ← c.start.ensures) c.in-Err-rehearse.ensures))
 
 pub history_lines-requires : goal.history_lines-requires
 history_lines-requires c =
