@@ -1,8 +1,9 @@
 -- What rank tests answer.
 --   IsWithin n k           == a rank test of degree k on n vertices is within the limits
 --   IsRankTest g D k x     == the verdict x of the rank test of degree k is right for D
---   IsRankFault n k w e    == a rank test with w workers is refused for this cause, and for no earlier one; for want of
---                             memory and for a thread that did not start no condition is given
+--   MayHaveWorkers w       == a rank test may have so many workers
+--   IsRankFault n k w e    == a rank test with w workers is refused for this cause, and for no earlier one; whether memory
+--                             was really wanting, or a thread did not start, no definition can say
 use Rattle.std.specs.Prelude.{◌≡◌, ℕ, ◌≤◌}
 use Rattle.dg_theory.specs.Multigraph.{Multigraph}
 use Rattle.dg_theory.specs.Firing.{Amounts}
