@@ -2,3 +2,5 @@ pub mod Orders
 pub mod Steps
 pub mod Rests
 pub mod Told
+pub mod Fires
+pub mod Spreading

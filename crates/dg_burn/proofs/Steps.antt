@@ -1,7 +1,9 @@
 -- The state of burning, from step to step.
+--   none_in           a list of tests that all fail holds no vertex
 --   unreached-fewer   a vertex that is reached leaves one less that is not
 --   same-more         a set with one vertex more agrees with a list that has it at its end
---   burning-first     the state where q alone burns
+--   burning-lit       the state where q alone burns, from one where none does
+--   burning-first     the same from the list that holds no vertex
 --   burning-fewer     a vertex that burns leaves one less that is not reached
 --   burning-more      the state after one vertex more
 --   burning-done      the order is whole where no vertex may burn
@@ -39,14 +41,15 @@ unreached-fewer n reached v below within new = one_less n _ _ v below
     (λ w other. rw (get_or-set_other reached v w true false other) refl)
     (rw (new, get_or-set_same reached v true false within) refl)
 
-none_in : (k v : ℕ) → is_in (replicate k false) v ≡ false
+pub none_in : (k v : ℕ) → is_in (replicate k false) v ≡ false
 none_in zero v = refl
 none_in (suc k) zero = refl
 none_in (suc k) (suc v) = none_in k v
 
-all_unreached : (n k : ℕ) → unreached n (replicate k false) ≡ n
-all_unreached zero k = refl
-all_unreached (suc n) k = rw (none_in k n) (let front : unreached n (replicate k false) ≡ n = all_unreached n k in omega arith)
+all_unreached : (n : ℕ) (reached : List Bool) → ((v : ℕ) → is_in reached v ≡ false) → unreached n reached ≡ n
+all_unreached zero reached none = refl
+all_unreached (suc n) reached none =
+    rw (none n) (let front : unreached n reached ≡ n = all_unreached n reached none in omega arith)
 
 pub same-more : (l : List ℕ) (reached : List Bool) (v : ℕ) → v < length reached → ((w : ℕ) → is_in reached w ≡ among l w) →
     (w : ℕ) → is_in (set reached v true) w ≡ among (l ++ v ∷ []) w
@@ -61,17 +64,22 @@ same-more l reached v within same w = ⊎_elim
     or-false true = refl
     or-false false = refl
 
+pub burning-lit : (g : Multigraph) (q : ℕ) (D : Amounts) (reached : List Bool) → g.size ≤ 16 → q < g.size →
+    length reached ≡ 16 → ((v : ℕ) → is_in reached v ≡ false) → IsBurning g q D (q ∷ []) 1 (set reached q true)
+burning-lit g q D reached few vertex whole none =
+    let within : q < length reached = omega arith in
+    record {
+      so_far = so_far-first g q D;
+      same = same-more [] reached q within none;
+      count = refl;
+      whole = length-set reached q true ∙ whole;
+      left = omega (arith, unreached-fewer g.size reached q vertex within (none q), all_unreached g.size reached none);
+    }
+
 pub burning-first : (g : Multigraph) (q : ℕ) (D : Amounts) → g.size ≤ 16 → q < g.size →
     IsBurning g q D (q ∷ []) 1 (set (replicate 16 false) q true)
 burning-first g q D few vertex =
-    let within : q < length (replicate 16 false) = omega (arith, length-replicate 16 false) in
-    record {
-      so_far = so_far-first g q D;
-      same = same-more [] (replicate 16 false) q within (none_in 16);
-      count = refl;
-      whole = length-set (replicate 16 false) q true ∙ length-replicate 16 false;
-      left = omega (arith, unreached-fewer g.size (replicate 16 false) q vertex within (none_in 16 q), all_unreached g.size 16);
-    }
+    burning-lit g q D (replicate 16 false) few vertex (length-replicate 16 false) (none_in 16)
 
 pub burning-fewer : (g : Multigraph) (q : ℕ) (D : Amounts) (l : List ℕ) (n : ℕ) (reached : List Bool) (v : ℕ) →
     IsBurning g q D l n reached → g.size ≤ 16 → BurnsNext g D (is_in reached) v →

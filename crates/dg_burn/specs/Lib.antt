@@ -1,2 +1,3 @@
--- How far burning has come.
+-- How far burning has come, and the fire that keeps count of it.
 pub mod SoFar
+pub mod Fires

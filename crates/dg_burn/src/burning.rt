@@ -5,8 +5,8 @@ ghost use Rattle.dg_theory.specs.Reduced.{IsReduced};
 ghost use Rattle.dg_chips.specs.Vector.{at};
 ghost use Rattle.dg_chips.specs.Moves.{in_set};
 
+use crate::fire::Fire;
 use crate::rest::rest_of;
-use crate::search::next_to_burn;
 use dg_chips::Wide;
 use dg_graph::Graph;
 
@@ -36,19 +36,19 @@ pub fn burn(graph: &Graph, q: usize, chips: &Wide) -> Burnt
     ensures whole { (result.unburnt ≡ 0) ↔ (result.burnt ≡ graph.now.size) }
 {
     let size = graph.size();
+    let mut fire = Fire::new();
+    fire.burn_vertex(graph, chips, q);
     let mut order = [0; 16];
     order[0] = q as u8;
     let mut count = 1;
-    let mut reached = [false; 16];
-    reached[q] = true;
-    'burning: while let Some(v) = next_to_burn(graph, chips, &reached) {
+    'burning: while let Some(v) = fire.next_vertex() {
         order[count] = v as u8;
         count += 1;
-        reached[v] = true;
+        fire.burn_vertex(graph, chips, v);
     }
     Burnt {
         order,
         burnt: count as u8,
-        unburnt: rest_of(size, &reached),
+        unburnt: rest_of(size, &fire.reached),
     }
 }

@@ -2,8 +2,12 @@
 #![tactic(auto)]
 
 mod burning;
+mod fire;
+#[cfg(test)]
+mod reference;
 mod rest;
 mod search;
+mod sets;
 #[cfg(test)]
 mod tests;
 

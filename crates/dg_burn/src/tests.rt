@@ -3,6 +3,7 @@ ghost use Rattle.std.specs.Bool.{OnTrue};
 ghost use Rattle.dg_chips.specs.Vector.{at};
 
 use crate::burn;
+use crate::reference::burn_anew;
 use dg_chips::Wide;
 use dg_graph::Graph;
 use std::test::Fail;
@@ -46,6 +47,57 @@ fn what_burns(rt: HostRuntime) -> Result<(), Fail> {
         assert_eq!(rt; usize::from(burnt.burnt), order.len());
         assert!(rt; burnt.order.starts_with(order), "{order:?}");
         assert_eq!(rt; burnt.unburnt, unburnt);
+    }
+    Ok(())
+}
+
+/// The last sixteen digits of a number, the last one first.
+fn digits(number: u32, base: u32) -> [i128; 16]
+    requires { 0 < base }
+{
+    let mut digits = [0; 16];
+    let mut rest = number;
+    for digit in digits.iter_mut() {
+        *digit = i128::from(rest % base);
+        rest /= base;
+    }
+    digits
+}
+
+#[test]
+fn as_counted_anew(rt: HostRuntime) -> Result<(), Fail> {
+    let triangle = Graph::new(3, &[(0, 1, 1), (1, 2, 1), (0, 2, 1)])?;
+    let square = Graph::new(4, &[(0, 1, 1), (1, 2, 1), (2, 3, 1), (3, 0, 1)])?;
+    let multiple = Graph::new(
+        6,
+        &[
+            (0, 1, 2),
+            (1, 2, 1),
+            (2, 3, 3),
+            (3, 4, 1),
+            (4, 5, 2),
+            (5, 0, 1),
+            (0, 3, 1),
+            (1, 4, 2),
+        ],
+    )?;
+    // A graph, one more than the largest amount, how many lists of amounts are tried, and how far apart they are, read
+    // as the digits of a number. Of the first two graphs all are tried.
+    let cases: [(Graph, u32, u32, u32); 3] = [
+        (triangle, 5, 125, 1),
+        (square, 4, 256, 1),
+        (multiple, 7, 500, 235),
+    ];
+    for (graph, base, count, apart) in cases {
+        assert!(rt; base > 0);
+        for place in 0..count {
+            let amounts = digits(apart.wrapping_mul(place), base);
+            let chips = Wide::new(&graph, &amounts[..graph.size()])?;
+            for q in 0..graph.size() {
+                assert!(rt; is_free_off(q, &chips));
+                assert_eq!(rt; burn(&graph, q, &chips), burn_anew(&graph, q, &chips));
+            }
+        }
     }
     Ok(())
 }

@@ -1,0 +1,48 @@
+//! Burning as the reference for the tests: the least vertex that may burn is sought anew each time, and so is the number
+//! of its edges to burnt ones.
+
+ghost use Rattle.std.specs.Prelude.{◌≡◌, ◌<◌, IfSome};
+
+use crate::burning::Burnt;
+use crate::rest::rest_of;
+use crate::search::edges_to;
+use dg_chips::Wide;
+use dg_graph::Graph;
+
+/// Burns the graph from q.
+pub fn burn_anew(graph: &Graph, q: usize, chips: &Wide) -> Burnt
+    requires size { chips.now.size ≡ graph.now.size }
+    requires vertex { q < graph.now.size }
+{
+    let size = graph.size();
+    let mut order = [0; 16];
+    order[0] = q as u8;
+    let mut burnt = 1;
+    let mut reached = [false; 16];
+    reached[q] = true;
+    for count in 1..size {
+        if let Some(v) = next_to_burn(graph, chips, &reached) {
+            order[count] = v as u8;
+            burnt = count as u8 + 1;
+            reached[v] = true;
+        }
+    }
+    Burnt {
+        order,
+        burnt,
+        unburnt: rest_of(size, &reached),
+    }
+}
+
+/// The least vertex that may burn.
+fn next_to_burn(graph: &Graph, chips: &Wide, reached: &[bool; 16]) -> Option<usize>
+    requires { chips.now.size ≡ graph.now.size }
+    ensures { IfSome result (λ v. v < graph.now.size) }
+{
+    for v in 0..graph.size() {
+        if !reached[v] && chips.get(v) < i128::from(edges_to(graph, v, reached)) {
+            return Some(v);
+        }
+    }
+    None
+}
