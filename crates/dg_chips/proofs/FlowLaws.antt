@@ -2,11 +2,13 @@
 --   difference_limit   two such vertices differ by at most 2 * 10^14
 --   flow_limit         at most 255 edges between them carry at most 510 * 10^14 dollars
 --   flow_held          a machine's value of what flows is that value, within the limit
-use Rattle.std.proofs.Common.{◌≡◌, ℕ, ◌*◌, ◌≤◌, arith, w64, ◌∙◌, ap}
+--   times_held         a machine's value of a number within 2^120 is that number
+use Rattle.std.proofs.Common.{◌≡◌, ℕ, ◌*◌, ◌^◌, ◌≤◌, arith, w64, ◌∙◌, ap}
 use Rattle.std.proofs.lemmas.Int.{ints, unsigned_abs-mul}
 use Rattle.std.proofs.Math.IntN.{ℤ, pos, ◌-ℤ◌, ◌*ℤ◌}
 use Rattle.std.proofs.Math.Nat.{mul-le-mul}
 use Rattle.std.specs.Int.RustNames.{unsigned_abs}
+use Rattle.std.specs.Int.{w128}
 use mir.Val.{to_z, of_z}
 use Rattle.dg_theory.proofs.Absolute.{within_abs, abs_within}
 
@@ -34,3 +36,6 @@ flow_held edges there here flow few first second value =
     let here_is : to_z w64 (of_z w64 here) ≡ here = omega (arith, ints) in
     let plain : flow ≡ pos edges *ℤ (there -ℤ here) = value ∙ ap (λ x. pos edges *ℤ (x -ℤ to_z w64 (of_z w64 here))) there_is ∙ ap (λ x. pos edges *ℤ (there -ℤ x)) here_is in
     (plain, rw plain (flow_limit edges there here few first second))
+
+pub times_held : (z : ℤ) → unsigned_abs z ≤ 2 ^ 120 → to_z w128 (of_z w128 z) ≡ z
+times_held z small = let (low, high) = within_abs z (2 ^ 120) small in omega (arith, ints)

@@ -8,10 +8,13 @@ mod moves;
 mod numbers;
 mod script;
 mod scripts;
+mod set_firing;
 mod start;
 #[cfg(test)]
 mod tests;
 mod wide;
+#[cfg(test)]
+mod wide_tests;
 
 pub use divisor::{ChipFault, Divisor};
 pub use drift::Drift;
@@ -19,5 +22,6 @@ pub use firing::apply;
 pub use moves::{Move, MoveFault};
 pub use script::{Script, ScriptFault};
 pub use scripts::{contains, with_vertex};
+pub use set_firing::edges_out;
 pub use start::{Start, StartFault};
 pub use wide::Wide;

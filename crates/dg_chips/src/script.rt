@@ -128,6 +128,21 @@ impl Script {
         Script { size, entries }
     }
 
+    /// The script by which each vertex lends as often as by this one and another together.
+    pub fn plus(&self, other: &Script) -> Script
+        requires size { other.now.size ≡ self.now.size }
+        requires limit { (v : ℕ) → v < self.now.size → unsigned_abs (at self.now v +ℤ at other.now v) ≤ 1000000000 }
+        ensures size { result.size ≡ self.now.size }
+        ensures entries { (v : ℕ) → v < self.now.size → at result v ≡ at self.now v +ℤ at other.now v }
+    {
+        let size = self.size();
+        let mut entries = [0; 16];
+        for v in 0..size {
+            entries[v] = self.get(v) + other.get(v);
+        }
+        Script { size, entries }
+    }
+
     /// What this script lends more than a drift, with the drift's number for q added at each vertex: so q lends as often
     /// as by this script.
     pub fn rebased(&self, drift: &Drift, q: usize) -> Script

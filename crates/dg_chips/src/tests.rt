@@ -1,13 +1,14 @@
-ghost use Rattle.std.specs.Prelude.{◌≡◌, ℕ, ◌<◌, ◌≤◌, ◌^◌, ◌-ℤ◌, IfOk};
+ghost use Rattle.std.specs.Prelude.{◌≡◌, ℕ, ◌<◌, ◌≤◌, ◌^◌, ◌+ℤ◌, ◌-ℤ◌, IfOk};
 ghost use Rattle.std.specs.Bool.{OnTrue};
 ghost use Rattle.std.specs.Int.RustNames.{unsigned_abs};
 ghost use Rattle.dg_chips.specs.Vector.{at};
 
 use crate::drift::MAX_DRIFT;
+use crate::script::MAX_ENTRY;
 use crate::scripts::script_of;
 use crate::{
     ChipFault, Divisor, Drift, Move, MoveFault, Script, ScriptFault, Start, StartFault, Wide,
-    apply, contains, with_vertex,
+    apply, contains, edges_out, with_vertex,
 };
 use dg_graph::Graph;
 use std::test::Fail;
@@ -451,6 +452,69 @@ fn is_near(lendings: &Wide, q: usize) -> bool
 }
 
 #[test]
+fn where_sets_fire(rt: HostRuntime) -> Result<(), Fail> {
+    let triangle = Graph::new(3, &[(0, 1, 1), (1, 2, 1), (0, 2, 1)])?;
+    let square = Graph::new(4, &[(0, 1, 1), (1, 2, 1), (2, 3, 1), (0, 3, 1)])?;
+    // amounts, a set, how often it fires, what they are then, and with so many more on it
+    let cases: [(Graph, &[i128], u16, i128, &[i128], &[i128]); 5] = [
+        (triangle, &[3, 0, 0], 3, 1, &[2, -1, 2], &[4, 1, 0]),
+        (triangle, &[0, 0, 0], 12, 5, &[5, 5, -10], &[0, 0, 5]),
+        (
+            triangle,
+            &[7, 0, 0],
+            7,
+            1000,
+            &[7, 0, 0],
+            &[1007, 1000, 1000],
+        ),
+        (
+            square,
+            &[5, 0, -2, 9],
+            10,
+            -2,
+            &[1, 4, -6, 13],
+            &[5, -2, -2, 7],
+        ),
+        (
+            square,
+            &[1_000_000_000_000_000_000_000_000_000_000_000_000, 0, 0, -1],
+            9,
+            1_000_000_000_000_000_000_000_000_000_000_000_000,
+            &[
+                0,
+                1_000_000_000_000_000_000_000_000_000_000_000_000,
+                1_000_000_000_000_000_000_000_000_000_000_000_000,
+                -1_000_000_000_000_000_000_000_000_000_000_000_001,
+            ],
+            &[
+                2_000_000_000_000_000_000_000_000_000_000_000_000,
+                0,
+                0,
+                999_999_999_999_999_999_999_999_999_999_999_999,
+            ],
+        ),
+    ];
+    for (graph, amounts, set, times, fired, more) in cases {
+        let chips = Wide::new(&graph, amounts)?;
+        assert!(rt; times.unsigned_abs() <= 1_329_227_995_784_915_872_903_807_060_280_344_576);
+        assert!(rt; is_within(&chips, 1_329_227_995_784_915_872_903_807_060_280_344_576));
+        assert!(rt;
+            chips.fired(&graph, set, times) == Wide::new(&graph, fired)?,
+            "fired {set}"
+        );
+        assert!(rt; is_within(&chips, 85_070_591_730_234_615_865_843_651_857_942_052_864));
+        assert!(rt;
+            chips.more(set, times) == Wide::new(&graph, more)?,
+            "more {set}"
+        );
+    }
+    for (set, v, edges) in [(10, 0, 0), (10, 1, 2), (9, 0, 1), (9, 1, 1), (0, 3, 2)] {
+        assert_eq!(rt; edges_out(&square, set, v), edges);
+    }
+    Ok(())
+}
+
+#[test]
 fn what_wide_amounts_become(rt: HostRuntime) -> Result<(), Fail> {
     let triangle = Graph::new(3, &[(0, 1, 1), (1, 2, 1), (0, 2, 1)])?;
     let square = Graph::new(4, &[(0, 1, 1), (1, 2, 1), (2, 3, 1), (0, 3, 1)])?;
@@ -462,33 +526,6 @@ fn what_wide_amounts_become(rt: HostRuntime) -> Result<(), Fail> {
         Wide::zero(&square) == Wide::new(&square, &[0, 0, 0, 0])?,
         "zero"
     );
-    // amounts, a set, what they are after it has fired, and with one more on it
-    let cases: [(Graph, &[i128], u16, &[i128], &[i128]); 5] = [
-        (triangle, &[3, 0, 0], 3, &[2, -1, 2], &[4, 1, 0]),
-        (triangle, &[0, 0, 0], 12, &[1, 1, -2], &[0, 0, 1]),
-        (triangle, &[7, 0, 0], 7, &[7, 0, 0], &[8, 1, 1]),
-        (square, &[5, 0, -2, 9], 10, &[7, -2, 0, 7], &[5, 1, -2, 10]),
-        (
-            square,
-            &[1_000_000_000_000_000_000_000_000_000_000_000_000, 0, 0, -1],
-            9,
-            &[999_999_999_999_999_999_999_999_999_999_999_999, 1, 1, -2],
-            &[1_000_000_000_000_000_000_000_000_000_000_000_001, 0, 0, 0],
-        ),
-    ];
-    for (graph, amounts, set, fired, one_more) in cases {
-        let chips = Wide::new(&graph, amounts)?;
-        assert!(rt; is_within(&chips, 1_329_227_995_784_915_872_903_807_060_280_344_576));
-        assert!(rt;
-            chips.fired(&graph, set) == Wide::new(&graph, fired)?,
-            "fired {set}"
-        );
-        assert!(rt; is_within(&chips, 85_070_591_730_234_615_865_843_651_857_942_052_864));
-        assert!(rt;
-            chips.one_more(set) == Wide::new(&graph, one_more)?,
-            "one more {set}"
-        );
-    }
     let chips = Wide::new(&triangle, &[1_000_000_000_000, -5, 0])?;
     let divisor = Divisor::new(&triangle, &[-1_000_000, 2, 3])?;
     assert!(rt; is_within(&chips, 85_070_591_730_234_615_865_843_651_857_942_052_864));
@@ -496,6 +533,13 @@ fn what_wide_amounts_become(rt: HostRuntime) -> Result<(), Fail> {
         chips.less(&divisor) == Wide::new(&triangle, &[1_000_001_000_000, -7, -3])?,
         "less"
     );
+    Ok(())
+}
+
+#[test]
+fn lendings_relative_to_a_vertex(rt: HostRuntime) -> Result<(), Fail> {
+    let triangle = Graph::new(3, &[(0, 1, 1), (1, 2, 1), (0, 2, 1)])?;
+    let square = Graph::new(4, &[(0, 1, 1), (1, 2, 1), (2, 3, 1), (0, 3, 1)])?;
     let relative: [(Graph, &[i128], usize, &[i64]); 4] = [
         (triangle, &[5, -7, 1], 0, &[0, -12, -4]),
         (triangle, &[5, -7, 1], 1, &[12, 0, 8]),
@@ -518,6 +562,94 @@ fn what_wide_amounts_become(rt: HostRuntime) -> Result<(), Fail> {
         assert!(rt;
             Script::relative(&lendings, q) == Script::new(&graph, entries)?,
             "off {q}"
+        );
+    }
+    Ok(())
+}
+
+#[test]
+fn where_scripts_lead_wide_amounts(rt: HostRuntime) -> Result<(), Fail> {
+    let triangle = Graph::new(3, &[(0, 1, 1), (1, 2, 1), (0, 2, 1)])?;
+    let square = Graph::new(4, &[(0, 1, 1), (1, 2, 1), (2, 3, 1), (0, 3, 1)])?;
+    let cases: [(Graph, &[i128], &[i64], &[i128]); 4] = [
+        (triangle, &[3, 0, 0], &[1, 1, 0], &[2, -1, 2]),
+        (triangle, &[0, 0, 0], &[1, 0, -2], &[-4, -1, 5]),
+        (square, &[5, 0, -2, 9], &[-1, 1, 1, 2], &[10, -2, -1, 5]),
+        (
+            square,
+            &[1_000_000_000_000_000_000_000_000_000_000_000_000, 0, 0, -1],
+            &[1_000_000_000, 0, 0, -1_000_000_000],
+            &[
+                999_999_999_999_999_999_999_999_997_000_000_000,
+                1_000_000_000,
+                -1_000_000_000,
+                2_999_999_999,
+            ],
+        ),
+    ];
+    for (graph, amounts, entries, fired) in cases {
+        let chips = Wide::new(&graph, amounts)?;
+        let script = Script::new(&graph, entries)?;
+        assert!(rt; is_within(&chips, 1_329_227_995_784_915_872_903_807_060_280_344_576));
+        assert!(rt;
+            chips.fired_by(&graph, &script) == Wide::new(&graph, fired)?,
+            "{entries:?}"
+        );
+    }
+    Ok(())
+}
+
+#[test]
+fn other_amounts_at_one_vertex(rt: HostRuntime) -> Result<(), Fail> {
+    let triangle = Graph::new(3, &[(0, 1, 1), (1, 2, 1), (0, 2, 1)])?;
+    let chips = Wide::new(&triangle, &[5, -7, 1])?;
+    let cases: [(usize, i128, [i128; 3]); 3] = [
+        (0, 0, [0, -7, 1]),
+        (1, i128::MIN, [5, i128::MIN, 1]),
+        (2, -3, [5, -7, -3]),
+    ];
+    for (v, amount, amounts) in cases {
+        assert!(rt; v < chips.size());
+        assert!(rt;
+            chips.with_amount(v, amount) == Wide::new(&triangle, &amounts)?,
+            "{amount} at {v}"
+        );
+    }
+    Ok(())
+}
+
+fn make_a_script(first: &Script, second: &Script) -> bool
+    requires { second.now.size ≡ first.now.size }
+    ensures { OnTrue result ((v : ℕ) → v < first.now.size →
+        unsigned_abs (at first.now v +ℤ at second.now v) ≤ 1000000000) }
+{
+    for v in 0..first.size() {
+        if (first.get(v) + second.get(v)).unsigned_abs() > MAX_ENTRY {
+            return false;
+        }
+    }
+    true
+}
+
+#[test]
+fn sums_of_scripts(rt: HostRuntime) -> Result<(), Fail> {
+    let triangle = Graph::new(3, &[(0, 1, 1), (1, 2, 1), (0, 2, 1)])?;
+    let cases: [([i64; 3], [i64; 3], [i64; 3]); 3] = [
+        ([3, -4, 0], [0, 0, 0], [3, -4, 0]),
+        ([3, -4, 0], [5, 5, -6], [8, 1, -6]),
+        (
+            [600_000_000, -1_000_000_000, 1_000_000_000],
+            [400_000_000, 0, -1_000_000_000],
+            [1_000_000_000, -1_000_000_000, 0],
+        ),
+    ];
+    for (first, second, sum) in cases {
+        let first = Script::new(&triangle, &first)?;
+        let second = Script::new(&triangle, &second)?;
+        assert!(rt; make_a_script(&first, &second));
+        assert!(rt;
+            first.plus(&second) == Script::new(&triangle, &sum)?,
+            "{sum:?}"
         );
     }
     Ok(())

@@ -1,6 +1,6 @@
-ghost use Rattle.std.specs.Prelude.{◌≡◌, ℕ, ◌<◌, ◌≤◌, ◌^◌, ◌+ℤ◌, ◌-ℤ◌, pos, MatchResult};
+ghost use Rattle.std.specs.Prelude.{◌≡◌, ◌≢◌, ℕ, ◌<◌, ◌≤◌, ◌^◌, ◌+ℤ◌, ◌-ℤ◌, pos, MatchResult};
 ghost use Rattle.std.specs.Int.RustNames.{unsigned_abs};
-ghost use Rattle.dg_theory.specs.Firing.{fired, indicator};
+ghost use Rattle.dg_theory.specs.Firing.{fired, indicator, multiple};
 ghost use Rattle.dg_chips.specs.Vector.{at, HoldsNumbers, IsWide};
 ghost use Rattle.dg_chips.specs.Moves.{in_set};
 ghost use Rattle.dg_chips.specs.DivisorFaults.{IsWideFault};
@@ -10,7 +10,7 @@ use crate::drift::Drift;
 use crate::firing::gained;
 use crate::numbers::padded;
 use crate::script::Script;
-use crate::scripts::contains;
+use crate::set_firing::{gained_by_set, lendings};
 use dg_graph::Graph;
 use std::marker::Model;
 
@@ -74,33 +74,35 @@ impl Wide {
         }
     }
 
-    /// The amounts after each vertex of a set has lent once.
-    pub fn fired(&self, graph: &Graph, set: u16) -> Wide
+    /// The amounts after each vertex of a set has lent so often.
+    pub fn fired(&self, graph: &Graph, set: u16, times: i128) -> Wide
         requires size { self.now.size ≡ graph.now.size }
         requires range { (v : ℕ) → v < graph.now.size → unsigned_abs (at self.now v) ≤ 2 ^ 120 }
+        requires times { unsigned_abs times ≤ 2 ^ 120 }
         ensures size { result.size ≡ graph.now.size }
         ensures amounts { (v : ℕ) → v < graph.now.size →
-            at result v ≡ fired graph.now (at self.now) (indicator (in_set set)) v }
+            at result v ≡ fired graph.now (at self.now) (multiple times (indicator (in_set set))) v }
     {
         let size = graph.size();
-        let drift = Drift::of(&Script::indicator(size, set));
         let mut amounts = [0; 16];
         for v in 0..size {
-            amounts[v] = self.get(v) + i128::from(gained(graph, &drift, v));
+            amounts[v] = self.get(v) + gained_by_set(graph, set, times, v);
         }
         Wide { size, amounts }
     }
 
-    /// The amounts with 1 more at each vertex of a set.
-    pub fn one_more(&self, set: u16) -> Wide
-        requires { (v : ℕ) → v < self.now.size → unsigned_abs (at self.now v) ≤ 2 ^ 126 }
+    /// The amounts with so many more at each vertex of a set.
+    pub fn more(&self, set: u16, times: i128) -> Wide
+        requires range { (v : ℕ) → v < self.now.size → unsigned_abs (at self.now v) ≤ 2 ^ 126 }
+        requires times { unsigned_abs times ≤ 2 ^ 120 }
         ensures size { result.size ≡ self.now.size }
-        ensures amounts { (v : ℕ) → v < self.now.size → at result v ≡ at self.now v +ℤ indicator (in_set set) v }
+        ensures amounts { (v : ℕ) → v < self.now.size →
+            at result v ≡ at self.now v +ℤ multiple times (indicator (in_set set)) v }
     {
         let size = self.size();
         let mut amounts = [0; 16];
         for v in 0..size {
-            amounts[v] = self.get(v) + i128::from(contains(set, v));
+            amounts[v] = self.get(v) + lendings(set, times, v);
         }
         Wide { size, amounts }
     }
@@ -116,6 +118,53 @@ impl Wide {
         let mut amounts = [0; 16];
         for v in 0..size {
             amounts[v] = self.get(v) - i128::from(divisor.get(v));
+        }
+        Wide { size, amounts }
+    }
+
+    /// The amounts after the lendings of a script.
+    pub fn fired_by(&self, graph: &Graph, script: &Script) -> Wide
+        requires size { self.now.size ≡ graph.now.size }
+        requires script { script.now.size ≡ graph.now.size }
+        requires range { (v : ℕ) → v < graph.now.size → unsigned_abs (at self.now v) ≤ 2 ^ 120 }
+        ensures size { result.size ≡ graph.now.size }
+        ensures amounts { (v : ℕ) → v < graph.now.size →
+            at result v ≡ fired graph.now (at self.now) (at script.now) v }
+    {
+        let size = graph.size();
+        let drift = Drift::of(script);
+        let mut amounts = [0; 16];
+        for v in 0..size {
+            let gain = gained(graph, &drift, v);
+            amounts[v] = self.get(v) + i128::from(gain);
+        }
+        Wide { size, amounts }
+    }
+
+    /// The same amounts but at one vertex.
+    pub fn with_amount(&self, v: usize, amount: i128) -> Wide
+        requires { v < self.now.size }
+        ensures size { result.size ≡ self.now.size }
+        ensures same { at result v ≡ amount }
+        ensures others { (w : ℕ) → w ≢ v → at result w ≡ at self.now w }
+    {
+        let size = self.size();
+        let mut amounts = self.amounts;
+        amounts[v] = amount;
+        Wide { size, amounts }
+    }
+
+    /// The amounts and those of a divisor.
+    pub fn plus(&self, divisor: &Divisor) -> Wide
+        requires size { divisor.now.size ≡ self.now.size }
+        requires range { (v : ℕ) → v < self.now.size → unsigned_abs (at self.now v) ≤ 2 ^ 126 }
+        ensures size { result.size ≡ self.now.size }
+        ensures amounts { (v : ℕ) → v < self.now.size → at result v ≡ at self.now v +ℤ at divisor.now v }
+    {
+        let size = self.size();
+        let mut amounts = [0; 16];
+        for v in 0..size {
+            amounts[v] = self.get(v) + i128::from(divisor.get(v));
         }
         Wide { size, amounts }
     }

@@ -4,31 +4,35 @@
 --   burning_down-more         it holds after one more such set
 --   burning_down-falls        and the weight falls
 --   burning_down-chips, burning_down-script   amounts and script are within the limits of a firing
+--   burning_down-times        and so is how often a set fires
 --   unburnt_member            if burning leaves a set that is not empty, some vertex is in it
-use Rattle.std.proofs.Common.{◌≡◌, ◌≢◌, ℕ, ◌+◌, ◌*◌, ◌^◌, ◌<◌, ◌≤◌, Bool, true, false, List, arith, ap, sym, ◌∙◌, refl, ⊎_elim}
+use Rattle.std.proofs.Common.{◌≡◌, ◌≢◌, ℕ, ◌+◌, ◌*◌, ◌^◌, ◌<◌, ◌≤◌, Bool, true, false, List, arith, sym, ◌∙◌, refl, ⊎_elim}
 use Rattle.std.proofs.lemmas.Int.{ints}
 use Rattle.std.proofs.lemmas.Bool.{not-false}
 use Rattle.std.proofs.Math.IntN.{ℤ, pos, ◌+ℤ◌, ◌-ℤ◌}
-use Rattle.std.specs.Prelude.{if◌then◌else◌, ◌↔◌}
+use Rattle.std.specs.Prelude.{◌↔◌}
 use Rattle.std.specs.Int.RustNames.{unsigned_abs}
 use Rattle.dg_theory.specs.Multigraph.{Multigraph}
-use Rattle.dg_theory.specs.Firing.{Amounts, fired, indicator}
+use Rattle.dg_theory.specs.Firing.{Amounts, fired, indicator, multiple}
 use Rattle.dg_theory.specs.Distances.{IsDistance}
 use Rattle.dg_theory.specs.Reduced.{IsReduced}
-use Rattle.dg_theory.specs.Burning.{FiresFreely, BurnsInOrder, IsGreatestFree}
+use Rattle.dg_theory.specs.Burning.{BurnsInOrder, IsGreatestFree}
 use Rattle.dg_theory.specs.BurningLaws.{HasNoDebtOff, unburnt_by}
 use Rattle.dg_theory.proofs.Absolute.{within_abs, abs_within}
 use Rattle.dg_theory.proofs.Counting.{member_or_none}
 use Rattle.dg_theory.proofs.BurningLaws.{unburnt_by-below, rest_fires, burnt_reduced}
+use Rattle.dg_theory.proofs.Multiples.{multiple-off}
 use Rattle.dg_theory.proofs.Potential.{weights, levels_are_potential}
-use Rattle.dg_theory.proofs.Weights.{weight_of, weight_of-cong, weight_falls_by_set}
+use Rattle.dg_theory.proofs.Weights.{weight_of, weight_of-cong, weight_falls_by_firings}
 use Rattle.dg_theory.proofs.Range.{IsLed, clear_all, led_start, led_step, led-cong, led_limit, script_between}
 use Rattle.dg_graph.specs.Graph.{IsGraph}
 use Rattle.dg_chips.specs.Vector.{at}
 use Rattle.dg_chips.specs.Moves.{in_set}
 use Rattle.dg_reduce.specs.declared.led.Led.{Led}
 use Rattle.dg_reduce.specs.States.{IsTied, IsFired, limit_at, IsCleared}
+use Rattle.dg_reduce.specs.Firings.{IsMost}
 use Rattle.dg_reduce.proofs.Limits.{limit_at-small}
+use Rattle.dg_reduce.proofs.Most.{most_within}
 
 pub record IsBurningDown (g : Multigraph) (q : ℕ) (x y : Led) : Type 0 where
   pub tied : IsTied g y
@@ -45,30 +49,32 @@ burning_down-start g q level x distance cleared = record {
   kept = refl;
 }
 
-pub burning_down-more : (g : Multigraph) (q : ℕ) (S : ℕ → Bool) (x y z : Led) → IsGraph g → q < g.size →
-    IsBurningDown g q x y → FiresFreely g q (at y.chips) S → IsFired g S y z → IsBurningDown g q x z
-burning_down-more g q S x y z graph vertex state free fires = record {
+pub burning_down-more : (g : Multigraph) (q : ℕ) (S : ℕ → Bool) (m : ℤ) (x y z : Led) → IsGraph g → q < g.size →
+    IsBurningDown g q x y → S q ≡ false → IsMost g q (at y.chips) S m → IsFired g S m y z → IsBurningDown g q x z
+burning_down-more g q S m x y z graph vertex state without most fires = record {
   tied = fires.tied;
   begun = fires.begun ∙ state.begun;
-  led = led-cong g q (at x.chips) (fired g (at y.chips) (indicator S)) (at z.chips) vertex
+  led = led-cong g q (at x.chips) (fired g (at y.chips) (multiple m (indicator S))) (at z.chips) vertex
       (λ v inside. sym (fires.chips v inside))
-      (led_step g q (at x.chips) (at y.chips) S graph.multigraph state.led free);
+      (led_step g q (at x.chips) (at y.chips) S m graph.multigraph state.led without (omega (arith, ints, most.some)) most.no_debt);
   kept =
-      let more : at z.script q ≡ at y.script q +ℤ indicator S q = fires.script q vertex in
-      let none : indicator S q ≡ pos 0 = ap (λ (b : Bool). if b then pos 1 else pos 0) free.without in
+      let more : at z.script q ≡ at y.script q +ℤ multiple m (indicator S) q = fires.script q vertex in
+      let none : multiple m (indicator S) q ≡ pos 0 = multiple-off m S q without in
       let before : at y.script q ≡ at x.script q = state.kept in
       omega (arith, ints);
 }
 
-pub burning_down-falls : (g : Multigraph) (q : ℕ) (level : ℕ → ℕ) (S : ℕ → Bool) (x y z : Led) (v : ℕ) → IsGraph g →
-    IsDistance g q level → IsBurningDown g q x y → FiresFreely g q (at y.chips) S → v < g.size → S v ≡ true →
-    IsFired g S y z → weight_of g (weights level) (at z.chips) < weight_of g (weights level) (at y.chips)
-burning_down-falls g q level S x y z v graph distance state free inside member fires =
-    let less : weight_of g (weights level) (fired g (at y.chips) (indicator S)) < weight_of g (weights level) (at y.chips) =
-    weight_falls_by_set g q (weights level) (at y.chips) S v graph.multigraph
-    (levels_are_potential g q level graph.multigraph distance graph.few graph.valences) state.led.no_debt free inside member in
-    let now : weight_of g (weights level) (at z.chips) ≡ weight_of g (weights level) (fired g (at y.chips) (indicator S)) =
-    weight_of-cong g (weights level) (at z.chips) (fired g (at y.chips) (indicator S)) fires.chips in
+pub burning_down-falls : (g : Multigraph) (q : ℕ) (level : ℕ → ℕ) (S : ℕ → Bool) (m : ℤ) (x y z : Led) (v : ℕ) → IsGraph g →
+    IsDistance g q level → IsBurningDown g q x y → S q ≡ false → IsMost g q (at y.chips) S m → v < g.size → S v ≡ true →
+    IsFired g S m y z → weight_of g (weights level) (at z.chips) < weight_of g (weights level) (at y.chips)
+burning_down-falls g q level S m x y z v graph distance state without most inside member fires =
+    let less : weight_of g (weights level) (fired g (at y.chips) (multiple m (indicator S))) < weight_of g (weights level) (at y.chips) =
+    weight_falls_by_firings g q (weights level) (at y.chips) S m v graph.multigraph
+    (levels_are_potential g q level graph.multigraph distance graph.few graph.valences) state.led.no_debt without most.some
+    most.no_debt inside member in
+    let now : weight_of g (weights level) (at z.chips)
+    ≡ weight_of g (weights level) (fired g (at y.chips) (multiple m (indicator S))) =
+    weight_of-cong g (weights level) (at z.chips) (fired g (at y.chips) (multiple m (indicator S))) fires.chips in
     omega arith
 
 chips_limit : (g : Multigraph) (q : ℕ) (level : ℕ → ℕ) (x y : Led) → IsGraph g → q < g.size → IsCleared g level 1 x →
@@ -82,6 +88,12 @@ burning_down-chips g q level x y graph vertex cleared state v inside =
     let most : unsigned_abs (at y.chips v) ≤ 17 * limit_at 0 = chips_limit g q level x y graph vertex cleared state v inside in
     let small : limit_at 0 < 2 ^ 111 = limit_at-small 0 in
     omega arith
+
+pub burning_down-times : (g : Multigraph) (q : ℕ) (level : ℕ → ℕ) (S : ℕ → Bool) (m : ℤ) (x y : Led) → IsGraph g →
+    q < g.size → IsCleared g level 1 x → IsBurningDown g q x y → S q ≡ false → IsMost g q (at y.chips) S m →
+    unsigned_abs m ≤ 2 ^ 120
+burning_down-times g q level S m x y graph vertex cleared state without most =
+    most_within g q (at y.chips) S m (2 ^ 120) without most (burning_down-chips g q level x y graph vertex cleared state)
 
 near_both : (a b : ℤ) (m n : ℕ) → unsigned_abs (a -ℤ b) ≤ m → unsigned_abs b ≤ n → unsigned_abs a ≤ m + n
 near_both a b m n apart near =

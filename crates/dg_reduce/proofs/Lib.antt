@@ -1,10 +1,17 @@
 -- The distances from q.
-pub mod Few
 pub mod Gradual
-pub mod Raised
+pub mod Reaching
+-- How often a set can fire at once.
+pub mod Most
 -- Limits, and the steps of the two loops.
 pub mod Limits
 pub mod Ties
 pub mod LevelSteps
+pub mod Cleared
 pub mod BurningSteps
 pub mod Outcome
+-- A reduction after a guess.
+pub mod Joined
+-- Debts that are paid back.
+pub mod DebtSteps
+pub mod EffectiveForms

@@ -1,38 +1,38 @@
-ghost use Rattle.std.specs.Prelude.{◌≡◌, ◌≢◌, ℕ, ◌<◌, ◌≤◌, true, pos, ◌≤ℤ◌, slice_index, MatchOption};
+ghost use Rattle.std.specs.Prelude.{◌≡◌, ◌≢◌, ℕ, ◌<◌, ◌≤◌, true, pos, ◌≤ℤ◌, MatchOption};
 ghost use Rattle.std.specs.Int.RustNames.{unsigned_abs};
-ghost use Rattle.dg_theory.specs.Distances.{IsDistance};
 ghost use Rattle.dg_theory.specs.Reduced.{IsReduced};
 ghost use Rattle.dg_theory.specs.Burning.{FiresFreely};
 ghost use Rattle.dg_graph.specs.Graph.{IsGraph};
 ghost use Rattle.dg_chips.specs.Vector.{at};
 ghost use Rattle.dg_chips.specs.Moves.{in_set};
-ghost use Rattle.dg_reduce.specs.States.{IsTied, IsCleared};
+ghost use Rattle.dg_reduce.specs.States.{IsTied, IsClearedOff};
 
+use crate::firings::most_firings;
 use crate::led::Led;
 use dg_burn::burn;
 use dg_chips::Wide;
 use dg_graph::Graph;
 
-/// Lets the vertices that burning leaves lend, until all burn. That this ends is told by the distances from q.
-pub fn burn_down(graph: &Graph, q: usize, _levels: &[usize; 16], led: &Led) -> Led
+/// Lets the vertices that burning leaves lend, as often at once as they can, until all burn.
+pub fn burn_down(graph: &Graph, q: usize, led: &Led) -> Led
     requires graph { IsGraph graph.now }
     requires vertex { q < graph.now.size }
     requires range { (v : ℕ) → v < graph.now.size → unsigned_abs (at led.now.start v) ≤ 2000000 }
-    requires distance { IsDistance graph.now q (slice_index _levels.now) }
-    requires cleared { IsCleared graph.now (slice_index _levels.now) 1 led.now }
+    requires cleared { IsClearedOff graph.now q led.now }
     ensures reduced { IsReduced graph.now q (at result.chips) }
     ensures tied { IsTied graph.now result }
     ensures start { result.start ≡ led.now.start }
 {
     let mut now = *led;
     'burning: while let Some(set) = unburnt(graph, q, &now.chips) {
-        now = now.fired(graph, set);
+        let times = most_firings(graph, q, &now.chips, set);
+        now = now.fired(graph, set, times);
     }
     now
 }
 
 /// The set of the vertices that do not burn, if there are any.
-fn unburnt(graph: &Graph, q: usize, chips: &Wide) -> Option<u16>
+pub(crate) fn unburnt(graph: &Graph, q: usize, chips: &Wide) -> Option<u16>
     requires size { chips.now.size ≡ graph.now.size }
     requires vertex { q < graph.now.size }
     requires no_debt { (v : ℕ) → v < graph.now.size → v ≢ q → pos 0 ≤ℤ at chips.now v }

@@ -6,7 +6,7 @@ ghost use Rattle.dg_chips.specs.Vector.{at};
 ghost use Rattle.dg_reduce.specs.States.{IsCleared};
 
 use crate::led::Led;
-use crate::near::{has_debt, nearer_set};
+use crate::near::{largest_debt, nearer_set};
 use dg_chips::Wide;
 use dg_graph::Graph;
 
@@ -20,7 +20,7 @@ pub fn clear_levels(graph: &Graph, levels: &[usize; 16], chips: &Wide) -> Led
     ensures start { result.start ≡ chips.now }
 {
     let mut led = Led::new(graph, chips);
-    let mut level = 15;
+    let mut level = graph.size() - 1;
     'levels: while level > 0 {
         led = clear_level(graph, levels, level, &led);
         level -= 1;
@@ -28,7 +28,7 @@ pub fn clear_levels(graph: &Graph, levels: &[usize; 16], chips: &Wide) -> Led
     led
 }
 
-/// Clears the debts of a level: all nearer vertices lend until nobody of it is in debt.
+/// Clears the debts of a level: all nearer vertices lend as often as the largest of them.
 fn clear_level(graph: &Graph, levels: &[usize; 16], level: usize, led: &Led) -> Led
     requires some { 0 < level }
     requires few { level ≤ 15 }
@@ -37,10 +37,10 @@ fn clear_level(graph: &Graph, levels: &[usize; 16], level: usize, led: &Led) -> 
     ensures cleared { IsCleared graph.now (slice_index levels.now) level result }
     ensures start { result.start ≡ led.now.start }
 {
-    let set = nearer_set(graph.size(), levels, level);
-    let mut now = *led;
-    'debts: while has_debt(levels, level, &now.chips) {
-        now = now.fired(graph, set);
+    let debt = largest_debt(levels, level, &led.chips);
+    if debt == 0 {
+        return *led;
     }
-    now
+    let set = nearer_set(graph.size(), levels, level);
+    led.fired(graph, set, debt)
 }

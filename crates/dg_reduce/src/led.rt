@@ -34,17 +34,18 @@ impl Led {
         }
     }
 
-    /// The amounts after each vertex of a set has lent once more.
-    pub fn fired(&self, graph: &Graph, set: u16) -> Led
+    /// The amounts after each vertex of a set has lent so often.
+    pub fn fired(&self, graph: &Graph, set: u16, times: i128) -> Led
         requires tied { IsTied graph.now self.now }
         requires chips { (v : ℕ) → v < graph.now.size → unsigned_abs (at self.now.chips v) ≤ 2 ^ 120 }
         requires script { (v : ℕ) → v < graph.now.size → unsigned_abs (at self.now.script v) ≤ 2 ^ 126 }
-        ensures { IsFired graph.now (in_set set) self.now result }
+        requires times { unsigned_abs times ≤ 2 ^ 120 }
+        ensures { IsFired graph.now (in_set set) times self.now result }
     {
         Led {
             start: self.start,
-            chips: self.chips.fired(graph, set),
-            script: self.script.one_more(set),
+            chips: self.chips.fired(graph, set, times),
+            script: self.script.more(set, times),
         }
     }
 }

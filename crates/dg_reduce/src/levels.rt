@@ -1,6 +1,6 @@
-ghost use Rattle.std.specs.Prelude.{◌≡◌, ◌≢◌, ℕ, ◌<◌, ◌≤◌, MatchOption, MatchBool, slice_index};
+ghost use Rattle.std.specs.Prelude.{◌≡◌, ℕ, ◌+◌, ◌<◌, slice_index};
 ghost use Rattle.dg_theory.specs.Distances.{IsDistance};
-ghost use Rattle.dg_reduce.specs.Raising.{HasNearer, IsLow};
+ghost use Rattle.dg_reduce.specs.Reaching.{IsReached, spread};
 
 use dg_graph::Graph;
 
@@ -10,42 +10,41 @@ pub fn levels_from(graph: &Graph, q: usize) -> [usize; 16]
     ensures { IsDistance graph.now q (slice_index result) }
 {
     let size = graph.size();
-    let mut levels = [0; 16];
-    'raise: while let Some(v) = next_low(graph, size, q, &levels) {
-        levels[v] += 1;
+    let mut levels = [size; 16];
+    levels[q] = 0;
+    for level in 0..size - 1 {
+        levels = with_next_level(graph, &levels, level);
     }
     levels
 }
 
-/// The first vertex but q that has no nearer neighbour.
-fn next_low(graph: &Graph, size: usize, q: usize, levels: &[usize; 16]) -> Option<usize>
-    requires size { size ≡ graph.now.size }
-    requires few { size ≤ 16 }
-    ensures { MatchOption result
-        ((v : ℕ) → v < size → v ≢ q → HasNearer graph.now (slice_index levels.now) v)
-        (IsLow graph.now q (slice_index levels.now)) }
+/// The levels after the neighbours of each vertex of a level are reached.
+fn with_next_level(graph: &Graph, levels: &[usize; 16], level: usize) -> [usize; 16]
+    requires { level + 1 < graph.now.size }
+    ensures { (q : ℕ) → q < graph.now.size → IsReached graph.now q level 0 (slice_index levels.now) →
+        IsReached graph.now q (level + 1) 0 (slice_index result) }
 {
-    for v in 0..size {
-        if v != q && !has_nearer(graph, size, v, levels) {
-            return Some(v);
+    let mut reached = *levels;
+    for v in 0..graph.size() {
+        if reached[v] == level {
+            reached = with_neighbours(graph, v, &reached, level + 1);
         }
     }
-    None
+    reached
 }
 
-/// Whether an edge joins vertex v to one of a lower level.
-fn has_nearer(graph: &Graph, size: usize, v: usize, levels: &[usize; 16]) -> bool
-    requires size { size ≡ graph.now.size }
-    requires few { size ≤ 16 }
-    requires vertex { v < size }
-    ensures { MatchBool result
-        (HasNearer graph.now (slice_index levels.now) v)
-        (¬ HasNearer graph.now (slice_index levels.now) v) }
+/// The levels after the neighbours of a vertex that were not reached get a level.
+fn with_neighbours(graph: &Graph, v: usize, levels: &[usize; 16], level: usize) -> [usize; 16]
+    requires { v < graph.now.size }
+    ensures { (w : ℕ) → w < graph.now.size →
+        slice_index result w ≡ spread graph.now v level (slice_index levels.now) w }
 {
+    let size = graph.size();
+    let mut reached = *levels;
     for w in 0..size {
-        if graph.edges(v, w) > 0 && levels[w] < levels[v] {
-            return true;
+        if levels[w] == size && graph.edges(v, w) > 0 {
+            reached[w] = level;
         }
     }
-    false
+    reached
 }

@@ -1,23 +1,23 @@
-ghost use Rattle.std.specs.Prelude.{◌≡◌, ◌≢◌, ℕ, ◌<◌, ◌≤◌, true, pos, ◌≤ℤ◌, ◌<ℤ◌, nat_lt, slice_index};
-ghost use Rattle.std.specs.Bool.{OnTrue, OnFalse};
+ghost use Rattle.std.specs.Prelude.{◌≡◌, ℕ, ◌<◌, ◌≤◌, ◌^◌, nat_lt, slice_index};
+ghost use Rattle.std.specs.Int.RustNames.{unsigned_abs};
 ghost use Rattle.dg_chips.specs.Vector.{at};
 ghost use Rattle.dg_chips.specs.Moves.{in_set};
+ghost use Rattle.dg_reduce.specs.States.{IsLargestDebt};
 
 use dg_chips::{Wide, with_vertex};
 
-/// Whether a vertex of the level is in debt.
-pub fn has_debt(levels: &[usize; 16], level: usize, chips: &Wide) -> bool
-    ensures some { OnTrue result ((v : ℕ) × (v < chips.now.size) × (slice_index levels.now v ≡ level)
-        × (at chips.now v <ℤ pos 0)) }
-    ensures none { OnFalse result ((v : ℕ) → v < chips.now.size → slice_index levels.now v ≡ level →
-        pos 0 ≤ℤ at chips.now v) }
+/// The largest debt of a vertex of the level, 0 where there is none.
+pub fn largest_debt(levels: &[usize; 16], level: usize, chips: &Wide) -> i128
+    requires { (v : ℕ) → v < chips.now.size → unsigned_abs (at chips.now v) ≤ 2 ^ 120 }
+    ensures { IsLargestDebt chips.now.size (slice_index levels.now) level (at chips.now) result }
 {
+    let mut debt = 0;
     for v in 0..chips.size() {
-        if levels[v] == level && chips.get(v) < 0 {
-            return true;
+        if levels[v] == level && chips.get(v) < -debt {
+            debt = -chips.get(v);
         }
     }
-    false
+    debt
 }
 
 /// The set of the vertices that are nearer than the level.

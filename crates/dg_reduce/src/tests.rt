@@ -1,9 +1,8 @@
-ghost use Rattle.std.specs.Prelude.{◌≡◌, ◌≢◌, ℕ, ◌<◌, ◌≤◌};
-ghost use Rattle.std.specs.Bool.{OnTrue};
-ghost use Rattle.std.specs.Int.RustNames.{unsigned_abs};
-ghost use Rattle.dg_chips.specs.Vector.{at};
+ghost use Rattle.std.specs.Prelude.{◌≡◌, ◌≤◌};
 
-use crate::{reduce, reduce_wide};
+use crate::reducing::is_small;
+use crate::reference::{Single, reduce_singly};
+use crate::{Reduced, reduce, reduce_wide};
 use dg_chips::{Divisor, Script, Wide};
 use dg_graph::Graph;
 use std::test::Fail;
@@ -38,17 +37,6 @@ fn reduced_divisors(rt: HostRuntime) -> Result<(), Fail> {
     Ok(())
 }
 
-fn is_small(chips: &Wide) -> bool
-    ensures { OnTrue result ((v : ℕ) → v < chips.now.size → unsigned_abs (at chips.now v) ≤ 2000000) }
-{
-    for v in 0..chips.size() {
-        if chips.get(v).unsigned_abs() > 2_000_000 {
-            return false;
-        }
-    }
-    true
-}
-
 #[test]
 fn twice_the_range(rt: HostRuntime) -> Result<(), Fail> {
     let graph = Graph::new(2, &[(0, 1, 3)])?;
@@ -73,13 +61,134 @@ fn sixteen_vertices(rt: HostRuntime) -> Result<(), Fail> {
         }
     }
     let graph = Graph::new(16, &items)?;
-    let divisor = Divisor::new(&graph, &[1000; 16])?;
-    let reduced = reduce(&graph, 0, &divisor);
-    let mut amounts = [0; 16];
-    amounts[0] = 16000;
-    let mut entries = [250; 16];
-    entries[0] = 0;
-    assert!(rt; reduced.divisor == Wide::new(&graph, &amounts)?);
-    assert!(rt; reduced.script == Script::new(&graph, &entries)?);
+    // Each vertex has 4 edges to q, so all others lend together until they hold less than 4 dollars, or borrow so.
+    let cases = [
+        (1000, 16_000, 250),
+        (1_000_000, 16_000_000, 250_000),
+        (-1_000_000, -16_000_000, -250_000),
+    ];
+    for (amount, at_q, times) in cases {
+        let divisor = Divisor::new(&graph, &[amount; 16])?;
+        let reduced = reduce(&graph, 0, &divisor);
+        let mut amounts = [0; 16];
+        amounts[0] = at_q;
+        let mut entries = [times; 16];
+        entries[0] = 0;
+        assert!(rt; reduced.divisor == Wide::new(&graph, &amounts)?, "{amount}");
+        assert!(rt;
+            reduced.script == Script::new(&graph, &entries)?,
+            "{amount}"
+        );
+    }
+    Ok(())
+}
+
+#[test]
+fn many_dollars_far_away(rt: HostRuntime) -> Result<(), Fail> {
+    let mut items = [(0, 0, 1); 15];
+    for v in 0..15u8 {
+        items[usize::from(v)] = (v, v + 1, 1);
+    }
+    let path = Graph::new(16, &items)?;
+    let mut amounts = [1_000_000; 16];
+    amounts[0] = 0;
+    let reduced = reduce(&path, 0, &Divisor::new(&path, &amounts)?);
+    // The edge from j to j - 1 carries the dollars of j and all beyond: 1000000 times 16 - j.
+    let mut chips = [0; 16];
+    chips[0] = 15_000_000;
+    let script = [
+        0,
+        15_000_000,
+        29_000_000,
+        42_000_000,
+        54_000_000,
+        65_000_000,
+        75_000_000,
+        84_000_000,
+        92_000_000,
+        99_000_000,
+        105_000_000,
+        110_000_000,
+        114_000_000,
+        117_000_000,
+        119_000_000,
+        120_000_000,
+    ];
+    assert!(rt; reduced.divisor == Wide::new(&path, &chips)?);
+    assert!(rt; reduced.script == Script::new(&path, &script)?);
+    // 63 goes 15873 times into 1000000 and leaves 1.
+    let pair = Graph::new(2, &[(0, 1, 63)])?;
+    let reduced = reduce(&pair, 0, &Divisor::new(&pair, &[-1_000_000, 1_000_000])?);
+    assert!(rt; reduced.divisor == Wide::new(&pair, &[-1, 1])?);
+    assert!(rt; reduced.script == Script::new(&pair, &[0, 15_873])?);
+    Ok(())
+}
+
+/// Whether two reductions of so many vertices are the same.
+fn agrees(size: usize, reduced: &Reduced, single: &Single) -> bool
+    requires few { size ≤ 16 }
+    requires divisor { reduced.now.divisor.size ≡ size }
+    requires script { reduced.now.script.size ≡ size }
+{
+    for v in 0..size {
+        if reduced.divisor.get(v) != i128::from(single.chips[v])
+            || reduced.script.get(v) != single.script[v]
+        {
+            return false;
+        }
+    }
+    true
+}
+
+/// Whether the reductions for all vertices are those by single firings.
+fn is_as_singly(graph: &Graph, divisor: &Divisor) -> bool
+    requires { divisor.now.size ≡ graph.now.size }
+{
+    for q in 0..graph.size() {
+        if !agrees(
+            graph.size(),
+            &reduce(graph, q, divisor),
+            &reduce_singly(graph, q, divisor),
+        ) {
+            return false;
+        }
+    }
+    true
+}
+
+#[test]
+fn all_small_divisors_of_the_triangle(rt: HostRuntime) -> Result<(), Fail> {
+    let triangle = Graph::new(3, &[(0, 1, 1), (1, 2, 1), (0, 2, 1)])?;
+    let amounts = [-5, -4, -3, -2, -1, 0, 1, 2, 3, 4, 5];
+    for code in 0..1331usize {
+        let divisor = Divisor::new(
+            &triangle,
+            &[
+                amounts[code % 11],
+                amounts[code / 11 % 11],
+                amounts[code / 121 % 11],
+            ],
+        )?;
+        assert!(rt; is_as_singly(&triangle, &divisor), "{code}");
+    }
+    Ok(())
+}
+
+#[test]
+fn all_small_divisors_of_the_square(rt: HostRuntime) -> Result<(), Fail> {
+    let square = Graph::new(4, &[(0, 1, 1), (1, 2, 1), (2, 3, 1), (3, 0, 1)])?;
+    let amounts = [-3, -2, -1, 0, 1, 2, 3];
+    for code in 0..2401usize {
+        let divisor = Divisor::new(
+            &square,
+            &[
+                amounts[code % 7],
+                amounts[code / 7 % 7],
+                amounts[code / 49 % 7],
+                amounts[code / 343 % 7],
+            ],
+        )?;
+        assert!(rt; is_as_singly(&square, &divisor), "{code}");
+    }
     Ok(())
 }

@@ -12,6 +12,7 @@ pub mod FiringLaws
 pub mod SetFiring
 pub mod Scripts
 pub mod Exchange
+pub mod Multiples
 -- Winning, reduced divisors and burning.
 pub mod Plays
 pub mod Winning
@@ -33,6 +34,9 @@ pub mod Leaving
 pub mod GenusLaws
 -- That reductions end, and how large their amounts get on the way.
 pub mod Distances
+pub mod Few
+pub mod Waits
+pub mod Reach
 pub mod Debts
 pub mod Potential
 pub mod Weights

@@ -1,51 +1,46 @@
 -- How large amounts become.
 -- While the vertices nearer to q than a level fire, to clear the debts of that level:
---   firing_left          c firings so far, each giving at least 1, leave a debt only where the debt before exceeds c
---   within_level         after c ≤ B firings, each changing an amount by at most 63, an amount within B is within 64 B
---   IsClearing ..        c firings so far, with amounts within B before
---   clearing_start       it holds before the first firing
---   clearing_step        it holds after one more, where some vertex of the level was in debt
---   clearing-cong        it holds of every divisor that agrees on the vertices
---   clearing_limit       so amounts stay within 64 B
+--   within_level         an amount within B that changes by at most 63 c, where c ≤ B, is within 64 B
+--   level_limit          so if those nearer fire k ≤ B times, amounts within B stay within 64 B
+--   level_paid           nobody of the level is in debt after as many firings as its largest debt
 --   IsClear g level j D  nobody of level j or farther is in debt
 --   clear_stays          it stays so of the farther levels while those nearer than j fire
 --   clear_step           it goes on from one level to the next nearer one, once nobody of that is in debt
 --   clear_all            at level 1 it says that nobody off q is in debt
 --   limit_step, limit_last    the bounds of the levels in a row, and the last of them
 -- While sets without q fire and leave nobody off q in debt:
+--   sum_below-at_most    where no term is more than M, a sum of n terms is at most n M
 --   sum_below-one, sum_below-two   where terms but one are not negative, a sum is at least that one, and one more
 --   IsLed g q D E        from the divisor D such sets led to E: E has the degree of D, nobody off q is in debt, and
 --                        q holds no less
---   led_start, led_step  it holds at first, and after one more such set
+--   led_start, led_step  it holds at first, and after a set without q has fired k times and left nobody off q in debt
 --   led-cong             it holds of every divisor that agrees on the vertices
 --   led_between          amounts off q are from 0 to the degree less what q held
 --   led_limit            if amounts were within M, they stay within 17 M
 -- For any firing:
 --   script_between       a script that takes amounts off q within A to amounts within B has all its entries within
 --                        225 (A + B) of that at q, for at most 16 vertices
-use Rattle.std.proofs.Common.{◌≡◌, ◌≢◌, ℕ, zero, suc, ◌+◌, ◌-◌, ◌*◌, ◌^◌, ◌<◌, ◌≤◌, Bool, arith, refl, ap, sym, ◌∙◌, ⊎_elim, suc-mul, pow-suc, mul_assoc, mul_comm}
+use Rattle.std.proofs.Common.{◌≡◌, ◌≢◌, ℕ, zero, suc, ◌+◌, ◌-◌, ◌*◌, ◌^◌, ◌<◌, ◌≤◌, Bool, false, arith, refl, ap, sym, ◌∙◌, ⊎_elim, suc-mul, pow-suc, mul_assoc, mul_comm}
 use Rattle.std.proofs.lemmas.Bool.{cases_eq}
 use Rattle.std.proofs.lemmas.Int.{ints}
 use Rattle.std.proofs.lemmas.Nat.{mul-le}
-use Rattle.std.proofs.Math.IntN.{ℤ, pos, ◌+ℤ◌, ◌-ℤ◌}
-use Rattle.std.specs.Prelude.{◌≤ℤ◌, ◌<ℤ◌}
+use Rattle.std.proofs.Math.IntN.{ℤ, pos, ◌+ℤ◌, ◌-ℤ◌, ◌*ℤ◌, *ℤ-zero}
+use Rattle.std.specs.Prelude.{◌≤ℤ◌}
 use Rattle.std.specs.Int.RustNames.{unsigned_abs}
 use Rattle.dg_theory.specs.Sums.{sum_below}
 use Rattle.dg_theory.specs.Multigraph.{Multigraph, IsMultigraph, valence}
-use Rattle.dg_theory.specs.Firing.{Amounts, degree, gain, fired, indicator}
-use Rattle.dg_theory.specs.Burning.{edges_into, FiresFreely}
+use Rattle.dg_theory.specs.Firing.{Amounts, degree, gain, fired, indicator, multiple}
+use Rattle.dg_theory.specs.Burning.{edges_into}
 use Rattle.dg_theory.specs.BurningLaws.{HasNoDebtOff}
 use Rattle.dg_theory.specs.Distances.{IsDistance}
 use Rattle.dg_theory.proofs.Absolute.{within_abs, abs_within}
 use Rattle.dg_theory.proofs.Bounds.{gentle_between}
-use Rattle.dg_theory.proofs.SetFiring.{gain-outside}
+use Rattle.dg_theory.proofs.Multiples.{gain-all_outside}
+use Rattle.dg_theory.proofs.SumBounds.{mul-mono}
 use Rattle.dg_theory.proofs.Exchange.{degree_stays}
 use Rattle.dg_theory.proofs.SumLaws.{sum_below-cong}
 use Rattle.dg_theory.proofs.Distances.{level_positive}
 use Rattle.dg_theory.proofs.Debts.{fired_nearer, farther_stays, level_gains, changes_little}
-
-pub firing_left : (c B : ℕ) (x z : ℤ) → unsigned_abs x ≤ B → (x +ℤ pos c) ≤ℤ z → z <ℤ pos 0 → c + 1 ≤ B
-firing_left c B x z small more debt = let (low, high) = within_abs x B small in omega (arith, ints)
 
 pub within_level : (c B : ℕ) (x z : ℤ) → unsigned_abs x ≤ B → c ≤ B → x ≤ℤ (z +ℤ pos (63 * c)) → z ≤ℤ (x +ℤ pos (63 * c)) →
     unsigned_abs z ≤ 64 * B
@@ -53,47 +48,16 @@ within_level c B x z small few up down =
     let (low, high) = within_abs x B small in
     abs_within z (64 * B) (omega (arith, ints)) (omega (arith, ints))
 
-pub record IsClearing (g : Multigraph) (level : ℕ → ℕ) (j B c : ℕ) (D : Amounts) : Type 0 where
-  pub few : c ≤ B
-  pub near : (v : ℕ) → v < g.size → unsigned_abs (D v) ≤ B + 63 * c
-  pub gained : (v : ℕ) → v < g.size → level v ≡ j → pos c ≤ℤ (D v +ℤ pos B)
+pub level_limit : (g : Multigraph) (level : ℕ → ℕ) (j k B : ℕ) (D : Amounts) (v : ℕ) → valence g v ≤ 63 → k ≤ B →
+    unsigned_abs (D v) ≤ B → unsigned_abs (fired_nearer g level j k D v) ≤ 64 * B
+level_limit g level j k B D v few often small =
+    let (up, down) = changes_little g level j k D v few in
+    within_level k B (D v) (fired_nearer g level j k D v) small often down up
 
-pub clearing_start : (g : Multigraph) (level : ℕ → ℕ) (j B : ℕ) (D : Amounts) →
-    ((v : ℕ) → v < g.size → unsigned_abs (D v) ≤ B) → IsClearing g level j B 0 D
-clearing_start g level j B D small = record {
-  few = omega arith;
-  near = λ v inside. let at : unsigned_abs (D v) ≤ B = small v inside in omega arith;
-  gained = λ v inside at. let (low, high) = within_abs (D v) B (small v inside) in omega (arith, ints);
-}
-
-pub clearing_step : (g : Multigraph) (q : ℕ) (level : ℕ → ℕ) (j B c : ℕ) (D : Amounts) (v : ℕ) → IsDistance g q level →
-    ((w : ℕ) → w < g.size → valence g w ≤ 63) → 0 < j → IsClearing g level j B c D →
-    v < g.size → level v ≡ j → D v <ℤ pos 0 → IsClearing g level j B (c + 1) (fired_nearer g level j D)
-clearing_step g q level j B c D v distance few some clearing inside at debt =
-    let got : pos c ≤ℤ (D v +ℤ pos B) = clearing.gained v inside at in
-    record {
-      few = omega (arith, ints);
-      near = λ w below.
-          let (low, high) = within_abs (D w) (B + 63 * c) (clearing.near w below) in
-          let (up, down) = changes_little g level j D w (few w below) in
-          abs_within (fired_nearer g level j D w) (B + 63 * (c + 1)) (omega (arith, ints)) (omega (arith, ints));
-      gained = λ w below same.
-          let (more, most) = level_gains g q level j D w distance below (few w below) some same in
-          let before : pos c ≤ℤ (D w +ℤ pos B) = clearing.gained w below same in
-          omega (arith, ints);
-    }
-
-pub clearing-cong : (g : Multigraph) (level : ℕ → ℕ) (j B c : ℕ) (D E : Amounts) → ((v : ℕ) → v < g.size → D v ≡ E v) →
-    IsClearing g level j B c D → IsClearing g level j B c E
-clearing-cong g level j B c D E same clearing = record {
-  few = clearing.few;
-  near = λ v inside. rw (← same v inside) (clearing.near v inside);
-  gained = λ v inside at. rw (← same v inside) (clearing.gained v inside at);
-}
-
-pub clearing_limit : (g : Multigraph) (level : ℕ → ℕ) (j B c : ℕ) (D : Amounts) (v : ℕ) → IsClearing g level j B c D →
-    v < g.size → unsigned_abs (D v) ≤ 64 * B
-clearing_limit g level j B c D v clearing inside = omega (arith, clearing.few, clearing.near v inside)
+pub level_paid : (g : Multigraph) (q : ℕ) (level : ℕ → ℕ) (j k : ℕ) (D : Amounts) (v : ℕ) → IsDistance g q level → v < g.size →
+    valence g v ≤ 63 → 0 < j → level v ≡ j → pos 0 ≤ℤ (D v +ℤ pos k) → pos 0 ≤ℤ fired_nearer g level j k D v
+level_paid g q level j k D v distance inside few some at enough =
+    let (more, most) = level_gains g q level j k D v distance inside few some at in omega (arith, ints)
 
 abbrev pub IsClear : Multigraph → (ℕ → ℕ) → ℕ → Amounts → Type 0
 IsClear g level j D = (v : ℕ) → v < g.size → j ≤ level v → pos 0 ≤ℤ D v
@@ -106,10 +70,10 @@ clear_step g level j D farther paid v inside far =
     (λ (other : level v ≡ j → ⊥). farther v inside (omega arith))
     (cases_eq (level v) j)
 
-pub clear_stays : (g : Multigraph) (q : ℕ) (level : ℕ → ℕ) (j : ℕ) (D : Amounts) → IsDistance g q level →
-    IsClear g level (j + 1) D → IsClear g level (j + 1) (fired_nearer g level j D)
-clear_stays g q level j D distance clear v inside far =
-    farther_stays g q level j D v distance inside (omega arith) (clear v inside far)
+pub clear_stays : (g : Multigraph) (q : ℕ) (level : ℕ → ℕ) (j k : ℕ) (D : Amounts) → IsDistance g q level →
+    IsClear g level (j + 1) D → IsClear g level (j + 1) (fired_nearer g level j k D)
+clear_stays g q level j k D distance clear v inside far =
+    farther_stays g q level j k D v distance inside (omega arith) (clear v inside far)
 
 pub clear_all : (g : Multigraph) (q : ℕ) (level : ℕ → ℕ) (D : Amounts) → IsDistance g q level → IsClear g level 1 D →
     HasNoDebtOff g q D
@@ -170,7 +134,7 @@ sum_below-two (suc n) q v f vertex inside apart rich =
     (cases_eq q n))
     (cases_eq v n)
 
-sum_below-at_most : (n M : ℕ) (f : ℕ → ℤ) → ((w : ℕ) → w < n → f w ≤ℤ pos M) → sum_below n f ≤ℤ pos (n * M)
+pub sum_below-at_most : (n M : ℕ) (f : ℕ → ℤ) → ((w : ℕ) → w < n → f w ≤ℤ pos M) → sum_below n f ≤ℤ pos (n * M)
 sum_below-at_most zero M f high = omega (arith, ints)
 sum_below-at_most (suc n) M f high =
     let before : sum_below n f ≤ℤ pos (n * M) = sum_below-at_most n M f (λ w below. high w (omega arith)) in
@@ -185,13 +149,16 @@ pub record IsLed (g : Multigraph) (q : ℕ) (D E : Amounts) : Type 0 where
 pub led_start : (g : Multigraph) (q : ℕ) (D : Amounts) → HasNoDebtOff g q D → IsLed g q D D
 led_start g q D solvent = record { no_debt = solvent; sum = refl; rises = omega (arith, ints) }
 
-pub led_step : (g : Multigraph) (q : ℕ) (D E : Amounts) (S : ℕ → Bool) → IsMultigraph g → IsLed g q D E →
-    FiresFreely g q E S → IsLed g q D (fired g E (indicator S))
-led_step g q D E S graph led free = record {
-  no_debt = free.no_debt;
-  sum = degree_stays g E (indicator S) graph ∙ led.sum;
+pub led_step : (g : Multigraph) (q : ℕ) (D E : Amounts) (S : ℕ → Bool) (k : ℤ) → IsMultigraph g → IsLed g q D E →
+    S q ≡ false → pos 0 ≤ℤ k → HasNoDebtOff g q (fired g E (multiple k (indicator S))) →
+    IsLed g q D (fired g E (multiple k (indicator S)))
+led_step g q D E S k graph led without often solvent = record {
+  no_debt = solvent;
+  sum = degree_stays g E (multiple k (indicator S)) graph ∙ led.sum;
   rises =
-      let got : gain g (indicator S) q ≡ pos (edges_into g S q) = gain-outside g S q free.without in
+      let got : gain g (multiple k (indicator S)) q ≡ pos (edges_into g S q) *ℤ k = gain-all_outside g k S q without in
+      let some : (pos (edges_into g S q) *ℤ pos 0) ≤ℤ (pos (edges_into g S q) *ℤ k) = mul-mono (edges_into g S q) (pos 0) k often in
+      let none : pos (edges_into g S q) *ℤ pos 0 ≡ pos 0 = *ℤ-zero (pos (edges_into g S q)) in
       let before : D q ≤ℤ E q = led.rises in
       omega (arith, ints);
 }

@@ -4,6 +4,8 @@
 --   mul-cancel          if k times x is at least 0 and k is positive, x is at least 0
 --   sum_below-nonpos    a sum of terms that are at most 0 is at most 0
 --   mul-once            a positive number times one that is at most 0 is at most that one
+--   mul-mono            k times x is at most k times a larger number
+--   mul-grows           a positive number times one that is at least 0 is at least that one
 --   sum_below-le_term   a sum of terms that are at most 0 is at most each of them
 --   sum_below-at_least  a sum of n terms that are at least - K is at least - n K
 --   sum_below-but_one   if one of the terms is at least 0, the sum is at least - (n - 1) K
@@ -38,6 +40,15 @@ sum_below-nonpos (suc n) f low =
 pub mul-once : (k : ℕ) (x : ℤ) → 0 < k → x ≤ℤ pos 0 → (pos k *ℤ x) ≤ℤ x
 mul-once zero x some low = absurd (omega arith)
 mul-once (suc k) x some low = omega (arith, ints, suc_ℤ-*ℤ (pos k) x, mul-nonpos k x low)
+
+pub mul-mono : (k : ℕ) (x y : ℤ) → x ≤ℤ y → (pos k *ℤ x) ≤ℤ (pos k *ℤ y)
+mul-mono zero x y less = omega (arith, ints, zero-*ℤ x, zero-*ℤ y)
+mul-mono (suc k) x y less = omega (arith, ints, suc_ℤ-*ℤ (pos k) x, suc_ℤ-*ℤ (pos k) y, mul-mono k x y less)
+
+pub mul-grows : (k : ℕ) (x : ℤ) → 0 < k → pos 0 ≤ℤ x → x ≤ℤ (pos k *ℤ x)
+mul-grows zero x some high = absurd (omega arith)
+mul-grows (suc zero) x some high = omega (arith, ints, suc_ℤ-*ℤ (pos 0) x, zero-*ℤ x)
+mul-grows (suc (suc k)) x some high = omega (arith, ints, suc_ℤ-*ℤ (pos (suc k)) x, mul-grows (suc k) x (omega arith) high)
 
 pub sum_below-le_term : (n : ℕ) (f : ℕ → ℤ) → ((w : ℕ) → w < n → f w ≤ℤ pos 0) → (v : ℕ) → v < n → sum_below n f ≤ℤ f v
 sum_below-le_term zero f low v inside = absurd (omega arith)

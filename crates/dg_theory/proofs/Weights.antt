@@ -5,8 +5,10 @@
 --   weight_falls        if off q nobody is in debt before and after, and q does not lend, the weight falls by at least
 --                       the number of lendings
 --   weight_of-cong      divisors that agree on the vertices weigh the same
---   weight_falls_by_set if a set with a member fires freely, the weight falls
-use Rattle.std.proofs.Common.{◌≡◌, ℕ, zero, suc, ◌+◌, ◌*◌, ◌<◌, ◌≤◌, Bool, true, false, arith, refl, ap, sym, ◌∙◌, ⊎_elim, zero-mul}
+--   weight_falls_by_firings   if a set without q that has a member fires at least once, and nobody off q is in debt
+--                       before and after, the weight falls
+--   weight_falls_by_set so it does where a set with a member fires freely
+use Rattle.std.proofs.Common.{◌≡◌, ℕ, zero, suc, ◌+◌, ◌*◌, ◌<◌, ◌≤◌, Bool, true, false, arith, refl, ap, sym, ◌∙◌, ⊎_elim, zero-mul, mul-zero, mul-one}
 use Rattle.std.proofs.lemmas.Bool.{cases_eq}
 use Rattle.std.proofs.lemmas.Int.{ints}
 use Rattle.std.proofs.Math.IntN.{ℤ, pos, negsuc, ◌+ℤ◌, ◌*ℤ◌, zero-*ℤ}
@@ -14,17 +16,18 @@ use Rattle.std.specs.Prelude.{◌≤ℤ◌, if◌then◌else◌}
 use borrow.Author.Differences.{up}
 use Rattle.dg_theory.specs.Sums.{sum_below, total_below}
 use Rattle.dg_theory.specs.Multigraph.{Multigraph, IsMultigraph}
-use Rattle.dg_theory.specs.Firing.{Amounts, gain, fired, indicator}
+use Rattle.dg_theory.specs.Firing.{Amounts, gain, fired, indicator, multiple}
 use Rattle.dg_theory.specs.Burning.{FiresFreely}
 use Rattle.dg_theory.specs.BurningLaws.{HasNoDebtOff}
 use Rattle.dg_theory.proofs.Products.{mulz-add}
 use Rattle.dg_theory.proofs.SumLaws.{sum_below-cong, sum_below-add}
 use Rattle.dg_theory.proofs.SumBounds.{mul-negative, sum_below-nonpos}
 use Rattle.dg_theory.proofs.SumTotals.{sum_below-total}
-use Rattle.dg_theory.proofs.TotalLaws.{total_below-cong}
+use Rattle.dg_theory.proofs.TotalLaws.{total_below-cong, total_below-term}
 use Rattle.dg_theory.proofs.FiringLaws.{fired-cong}
 use Rattle.dg_theory.proofs.Exchange.{gain-symmetric}
-use Rattle.dg_theory.proofs.Counting.{one_if, count_of-some}
+use Rattle.dg_theory.proofs.Counting.{one_if}
+use Rattle.dg_theory.proofs.Multiples.{multiple-once}
 use Rattle.dg_theory.proofs.Potential.{IsPotential, as_script}
 
 abbrev pub weight_of : Multigraph → (ℕ → ℕ) → Amounts → ℕ
@@ -91,20 +94,37 @@ one_if-script : (b : Bool) → (if b then pos 1 else pos 0) ≡ pos (one_if b)
 one_if-script true = refl
 one_if-script false = refl
 
+pub weight_falls_by_firings : (g : Multigraph) (q : ℕ) (c : ℕ → ℕ) (D : Amounts) (S : ℕ → Bool) (k : ℤ) (v : ℕ) →
+    IsMultigraph g → IsPotential g q c → HasNoDebtOff g q D → S q ≡ false → pos 1 ≤ℤ k →
+    HasNoDebtOff g q (fired g D (multiple k (indicator S))) → v < g.size → S v ≡ true →
+    weight_of g c (fired g D (multiple k (indicator S))) < weight_of g c D
+weight_falls_by_firings g q c D S (negsuc n) v graph potential solvent without often after inside member = absurd (omega (arith, ints))
+weight_falls_by_firings g q c D S (pos n) v graph potential solvent without often after inside member =
+    let k : ℕ → ℕ = λ w. n * one_if (S w) in
+    let same : (w : ℕ) → w < g.size → fired g D (multiple (pos n) (indicator S)) w ≡ fired g D (as_script k) w =
+    λ w below. fired-cong g D (multiple (pos n) (indicator S)) (as_script k) w below
+    (λ u _. ap (λ (z : ℤ). pos n *ℤ z) (one_if-script (S u))) in
+    let none : one_if (S q) ≡ 0 = ap one_if without in
+    let one : one_if (S v) ≡ 1 = ap one_if member in
+    let falls : weight_of g c (fired g D (as_script k)) + total_below g.size k ≤ weight_of g c D =
+    weight_falls g q c k D graph potential (ap (λ (x : ℕ). n * x) none ∙ mul-zero n) solvent
+    (λ w below other. rw (← same w below) (after w below other)) in
+    let term : n * one_if (S v) ≤ total_below g.size k = total_below-term g.size k v inside in
+    let at : n * one_if (S v) ≡ n = ap (λ (x : ℕ). n * x) one ∙ mul-one n in
+    let some : 1 ≤ n = omega (arith, ints) in
+    let weigh : weight_of g c (fired g D (multiple (pos n) (indicator S))) ≡ weight_of g c (fired g D (as_script k)) =
+    weight_of-cong g c _ _ same in
+    omega arith
+
 pub weight_falls_by_set : (g : Multigraph) (q : ℕ) (c : ℕ → ℕ) (D : Amounts) (S : ℕ → Bool) (v : ℕ) →
     IsMultigraph g → IsPotential g q c → HasNoDebtOff g q D → FiresFreely g q D S → v < g.size → S v ≡ true →
     weight_of g c (fired g D (indicator S)) < weight_of g c D
 weight_falls_by_set g q c D S v graph potential solvent free inside member =
-    let k : ℕ → ℕ = λ w. one_if (S w) in
-    let same : (w : ℕ) → w < g.size → fired g D (indicator S) w ≡ fired g D (as_script k) w =
-    λ w below. fired-cong g D (indicator S) (as_script k) w below (λ u _. one_if-script (S u)) in
-    let after : HasNoDebtOff g q (fired g D (as_script k)) = λ w below other.
-    let rich : pos 0 ≤ℤ fired g D (indicator S) w = free.no_debt w below other in
-    let at : fired g D (indicator S) w ≡ fired g D (as_script k) w = same w below in
-    omega (arith, ints) in
-    let falls : weight_of g c (fired g D (as_script k)) + total_below g.size k ≤ weight_of g c D =
-    weight_falls g q c k D graph potential (ap one_if free.without) solvent after in
-    let some : 1 ≤ total_below g.size k = count_of-some g.size S v inside member in
-    let weigh : weight_of g c (fired g D (indicator S)) ≡ weight_of g c (fired g D (as_script k)) =
+    let same : (w : ℕ) → w < g.size → fired g D (multiple (pos 1) (indicator S)) w ≡ fired g D (indicator S) w =
+    λ w below. fired-cong g D (multiple (pos 1) (indicator S)) (indicator S) w below (λ u _. multiple-once (indicator S) u) in
+    let falls : weight_of g c (fired g D (multiple (pos 1) (indicator S))) < weight_of g c D =
+    weight_falls_by_firings g q c D S (pos 1) v graph potential solvent free.without (omega (arith, ints))
+    (λ w below other. rw (same w below) (free.no_debt w below other)) inside member in
+    let weigh : weight_of g c (fired g D (multiple (pos 1) (indicator S))) ≡ weight_of g c (fired g D (indicator S)) =
     weight_of-cong g c _ _ same in
     omega arith

@@ -7,6 +7,7 @@
 --   fired g D s     == the divisor after every vertex has lent as often as the script s says
 --   only_at v x     == the script that is x at v and 0 elsewhere
 --   indicator S     == the script by which each vertex of the set S lends once
+--   multiple k s    == the script s taken k times
 use Rattle.std.specs.Prelude.{ℕ, ◌<◌, ◌==◌, Bool, if◌then◌else◌, ℤ, pos, ◌+ℤ◌, ◌-ℤ◌, ◌*ℤ◌, ◌≤ℤ◌}
 use Rattle.dg_theory.specs.Sums.{sum_below}
 use Rattle.dg_theory.specs.Multigraph.{Multigraph, edges_between}
@@ -31,3 +32,6 @@ only_at v x w = if w == v then x else pos 0
 
 abbrev pub indicator : (ℕ → Bool) → Amounts
 indicator S w = if S w then pos 1 else pos 0
+
+abbrev pub multiple : ℤ → Amounts → Amounts
+multiple k s w = k *ℤ s w

@@ -1,5 +1,5 @@
-use Rattle.std.specs.Prelude.{slice_index}
 use Rattle.dg_theory.proofs.Potential.{weights}
+use Rattle.dg_theory.proofs.Reach.{distance_from}
 use Rattle.dg_theory.proofs.Weights.{weight_of}
 use Rattle.dg_chips.specs.Vector.{at}
 use Rattle.dg_reduce.proofs.BurningSteps.{IsBurningDown}
@@ -9,4 +9,4 @@ abbrev pub invariant-burning : goal.invariant-burning
 invariant-burning l = IsBurningDown l.graph l.q l.led l.now
 
 abbrev pub decreases-burning : goal.decreases-burning
-decreases-burning l = weight_of l.graph (weights (slice_index l._levels)) (at l.now.chips)
+decreases-burning l = weight_of l.graph (weights (distance_from l.graph l.q)) (at l.now.chips)

@@ -1,43 +1,62 @@
-use Rattle.std.proofs.Common.{arith, refl, ◌∙◌}
+use Rattle.std.proofs.Common.{◌≡◌, ◌+◌, ◌≤◌, ◌^◌, arith, subst}
 use Rattle.std.specs.Prelude.{slice_index}
+use Rattle.std.specs.Int.{w128}
+use Rattle.std.specs.Int.RustNames.{unsigned_abs}
+use mir.Val.{to_z, of_z}
+use Rattle.std.proofs.lemmas.Int.{ints}
+use Rattle.std.proofs.Math.IntN.{pos}
+use Rattle.dg_chips.specs.Vector.{at}
 use Rattle.dg_chips.specs.Moves.{in_set}
-use Rattle.dg_reduce.proofs.LevelSteps.{clearing_by-start, clearing_by-more, clearing_by-falls, clearing_by-chips, clearing_by-script, clearing_by-done}
+use Rattle.dg_chips.proofs.FlowLaws.{times_held}
+use Rattle.dg_reduce.specs.States.{IsFired, IsLargestDebt}
+use Rattle.dg_reduce.proofs.LevelSteps.{chips_small, script_small, debt_small, cleared_free, cleared_paid}
 use Rattle.dg_reduce.proofs.clearing.clear_level.Goals as goal
+use Rattle.dg_reduce.proofs.clearing.clear_level.Goals.{After-largest_debt-debt}
 
-pub debts-init : goal.debts-init
-debts-init c = record {
-  state = clearing_by-start c.args.graph.now (slice_index c.args.levels.now) c.args.level c.args.led.now c.requires.cleared;
-  begun = refl;
-}
+pub largest_debt-debt-requires : goal.largest_debt-debt-requires
+largest_debt-debt-requires c = λ v inside.
+    chips_small c.args.graph.now (slice_index c.args.levels.now) (c.args.level + 1) c.args.led.now c.requires.cleared v
+    (omega (arith, c.requires.cleared.tied.chips_size))
 
-pub fired-now-requires-clause-chips : goal.fired-now-requires-clause-chips
-fired-now-requires-clause-chips c =
-    clearing_by-chips c.args.graph.now (slice_index c.args.levels.now) c.args.level c.debts.now c.debts.invariant.state
+largest : (c : After-largest_debt-debt) →
+    IsLargestDebt c.args.graph.now.size (slice_index c.args.levels.now) c.args.level (at c.args.led.now.chips) c.largest_debt-debt.result
+largest c = rw (c.requires.cleared.tied.chips_size) at (c.largest_debt-debt.ensures)
 
-pub fired-now-requires-clause-script : goal.fired-now-requires-clause-script
-fired-now-requires-clause-script c =
-    clearing_by-script c.args.graph.now (slice_index c.args.levels.now) c.args.level c.debts.now c.debts.invariant.state
+few : (c : After-largest_debt-debt) → unsigned_abs c.largest_debt-debt.result ≤ 2 ^ 120
+few c =
+    debt_small c.args.graph.now (slice_index c.args.levels.now) c.args.level c.args.led.now c.largest_debt-debt.result
+    c.requires.cleared (largest c)
 
-pub debts-smaller : goal.debts-smaller
-debts-smaller c =
-    let (v, inside, on, debt) = c.debts-test.ensures.some in
-    clearing_by-falls c.args.graph.now c.requires.distance.0 (slice_index c.args.levels.now) c.args.level
-    (in_set c.nearer_set-set.result) c.debts.now c.fired-now.result v c.size.ensures.graph c.requires.distance.1 c.requires.some
-    (omega (arith, c.debts.invariant.state.tied.chips_size)) on debt c.fired-now.ensures
-    (λ w below. c.nearer_set-set.ensures w (omega (arith, c.size.ensures.size)))
+held : (c : After-largest_debt-debt) → to_z w128 (of_z w128 c.largest_debt-debt.result) ≡ c.largest_debt-debt.result
+held c = times_held c.largest_debt-debt.result (few c)
 
-pub debts-preserved : goal.debts-preserved
-debts-preserved c =
-    let (v, inside, on, debt) = c.debts-test.ensures.some in
-    record {
-      state = clearing_by-more c.args.graph.now c.requires.distance.0 (slice_index c.args.levels.now) c.args.level
-          (in_set c.nearer_set-set.result) c.debts.now c.fired-now.result v c.size.ensures.graph c.requires.distance.1 c.requires.some
-          c.debts.invariant.state (omega (arith, c.debts.invariant.state.tied.chips_size)) on debt c.fired-now.ensures
-          (λ w below. c.nearer_set-set.ensures w (omega (arith, c.size.ensures.size)));
-      begun = c.fired-now.ensures.begun ∙ c.debts.invariant.begun;
-    }
+pub returns-then-debt-eq0-clause-cleared : goal.returns-then-debt-eq0-clause-cleared
+returns-then-debt-eq0-clause-cleared c =
+    let none : c.largest_debt-debt.result ≡ pos 0 =
+    omega (arith, ints, held (goal.at.returns-then-debt-eq0-clause-cleared c).After-largest_debt-debt, c.if-debt-eq0.true) in
+    cleared_free c.args.graph.now (slice_index c.args.levels.now) c.args.level c.args.led.now c.requires.some c.requires.few
+    c.requires.cleared (rw none at (largest (goal.at.returns-then-debt-eq0-clause-cleared c).After-largest_debt-debt))
+
+pub fired-requires-clause-chips : goal.fired-requires-clause-chips
+fired-requires-clause-chips c =
+    chips_small c.args.graph.now (slice_index c.args.levels.now) (c.args.level + 1) c.args.led.now c.requires.cleared
+
+pub fired-requires-clause-script : goal.fired-requires-clause-script
+fired-requires-clause-script c =
+    script_small c.args.graph.now (slice_index c.args.levels.now) (c.args.level + 1) c.args.led.now c.requires.cleared
+
+pub fired-requires-clause-times : goal.fired-requires-clause-times
+fired-requires-clause-times c =
+    let small : unsigned_abs (to_z w128 (of_z w128 c.largest_debt-debt.result)) ≤ 2 ^ 120 =
+    rw (held (goal.at.fired-requires-clause-times c).After-largest_debt-debt)
+    (few (goal.at.fired-requires-clause-times c).After-largest_debt-debt) in
+    omega (arith, small)
 
 pub returns-clause-cleared : goal.returns-clause-cleared
 returns-clause-cleared c =
-    clearing_by-done c.args.graph.now (slice_index c.args.levels.now) c.args.level c.debts.now c.requires.some c.requires.few
-    c.debts.invariant.state (λ v inside. c.debts-test.ensures.none v (omega (arith, c.debts.invariant.state.tied.chips_size)))
+    cleared_paid c.args.graph.now c.requires.distance.0 (slice_index c.args.levels.now) c.args.level (in_set c.nearer_set-set.result)
+    c.largest_debt-debt.result c.args.led.now c.fired.result c.size.ensures.graph c.requires.distance.1 c.requires.some
+    c.requires.few c.requires.cleared (largest (goal.at.returns-clause-cleared c).After-largest_debt-debt)
+    (subst (λ k. IsFired c.args.graph.now (in_set c.nearer_set-set.result) k c.args.led.now c.fired.result)
+    (held (goal.at.returns-clause-cleared c).After-largest_debt-debt) c.fired.ensures)
+    (λ w below. c.nearer_set-set.ensures w (omega (arith, c.size.ensures.size)))

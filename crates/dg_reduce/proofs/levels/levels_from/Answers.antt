@@ -1,41 +1,20 @@
-use Rattle.std.proofs.Common.{arith, refl, rules, slice_index}
-use Rattle.dg_reduce.proofs.Few.{gradual-few}
+use Rattle.std.proofs.Common.{arith, slice_index}
+use Rattle.dg_theory.proofs.Few.{IsGradual, gradual-few}
 use Rattle.dg_reduce.proofs.Gradual.{gradual-distance}
-use Rattle.dg_reduce.proofs.Raised.{levels-first, levels-raised, levels-less}
+use Rattle.dg_reduce.proofs.Reaching.{levels-first, reached-gradual}
 use Rattle.dg_reduce.proofs.levels.levels_from.Goals as goal
 
-pub raise-init : goal.raise-init
-raise-init c = record {
-  whole = refl;
-  gradual = levels-first c.args.graph.now c.args.q 16;
-}
-
-pub overflow_add-levels : goal.overflow_add-levels
-overflow_add-levels c =
-    omega (
-      arith,
-      gradual-few c.args.graph.now c.args.q (slice_index c.raise.levels) c.in-Some.v
-          c.size-size.ensures.graph.multigraph c.raise.invariant.gradual c.requires c.in-Some.ensures.vertex,
-    )
-
-pub raise-preserved : goal.raise-preserved
-raise-preserved c = record {
-  whole = search rules;
-  gradual = levels-raised c.args.graph.now c.args.q c.raise.levels c.in-Some.v c.raise.invariant.gradual
-      c.in-Some.ensures (omega (arith, c.in-Some.ensures.vertex));
-}
-
-pub raise-smaller : goal.raise-smaller
-raise-smaller c =
-    levels-less c.raise.levels c.in-Some.v (omega (arith, c.in-Some.ensures.vertex))
-    (omega (
-      arith,
-      gradual-few c.args.graph.now c.args.q (slice_index c.raise.levels) c.in-Some.v
-          c.size-size.ensures.graph.multigraph c.raise.invariant.gradual c.requires c.in-Some.ensures.vertex,
-    ))
+pub loop-level-init : goal.loop-level-init
+loop-level-init c =
+    levels-first c.args.graph.now c.args.q c.size-size.result c.requires c.size-size.ensures.size
+    (omega (arith, c.size-size.ensures.size, c.size-size.ensures.graph.few))
 
 pub returns : goal.returns
 returns c =
-    gradual-distance c.args.graph.now c.args.q (slice_index c.raise.levels) c.size-size.ensures.graph.multigraph
-    c.raise.invariant.gradual c.requires
-    (λ v vertex other. c.in_default.ensures v (omega arith) other)
+    let gradual : IsGradual c.args.graph.now c.args.q (slice_index c.loop-level.levels) =
+    reached-gradual c.args.graph.now c.args.q c.loop-level.level 0 (slice_index c.loop-level.levels) c.loop-level.invariant (omega arith) in
+    gradual-distance c.args.graph.now c.args.q (slice_index c.loop-level.levels) c.size-size.ensures.graph.multigraph
+    gradual c.requires
+    (λ v vertex other. c.loop-level.invariant.nearer v vertex other
+    (gradual-few c.args.graph.now c.args.q (slice_index c.loop-level.levels) v c.size-size.ensures.graph.multigraph gradual
+    c.requires vertex))

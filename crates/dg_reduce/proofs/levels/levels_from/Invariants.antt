@@ -1,12 +1,6 @@
-use Rattle.std.proofs.Common.{◌≡◌, ◌-◌, length, slice_index, sum_by}
-use Rattle.dg_reduce.specs.Raising.{IsGradual}
+use Rattle.std.proofs.Common.{slice_index}
+use Rattle.dg_reduce.specs.Reaching.{IsReached}
 use Rattle.dg_reduce.proofs.levels.levels_from.Given as goal
 
-abbrev pub invariant-raise : goal.invariant-raise
-invariant-raise l = record {
-  whole : length l.levels ≡ 16;
-  gradual : IsGradual l.graph l.q (slice_index l.levels);
-}
-
-abbrev pub decreases-raise : goal.decreases-raise
-decreases-raise l = sum_by (λ x. 16 - x) l.levels
+abbrev pub invariant-loop-level : goal.invariant-loop-level
+invariant-loop-level l = IsReached l.graph l.q l.level 0 (slice_index l.levels)

@@ -1,8 +1,9 @@
 use Rattle.std.proofs.Common.{◌≤◌, ◌<◌, ◌^◌, length, length-set, arith, ◌∙◌}
+use Rattle.std.specs.Int.{w128}
 use Rattle.std.specs.Int.RustNames.{unsigned_abs}
+use mir.Val.{to_z, of_z}
 use Rattle.std.proofs.lemmas.Int.{ints}
-use Rattle.dg_theory.specs.Firing.{fired, indicator}
-use Rattle.dg_theory.proofs.FiringLaws.{fired-cong}
+use Rattle.dg_theory.specs.Firing.{fired, indicator, multiple}
 use Rattle.dg_chips.specs.Vector.{at}
 use Rattle.dg_chips.specs.Moves.{in_set}
 use Rattle.dg_chips.proofs.VectorLaws.{filled-set, rest-set}
@@ -14,13 +15,8 @@ loop-v-preserved c =
     let small : unsigned_abs (at c.args.self.now c.loop-v.v) ≤ 2 ^ 120 = c.requires.range c.loop-v.v (omega arith) in
     record {
       size = length-set _ _ _ ∙ c.loop-v.invariant.size;
-      same = filled-set c.loop-v.amounts c.loop-v.v _ (fired c.args.graph.now (at c.args.self.now) (at c.of-drift.result)) within
+      same = filled-set c.loop-v.amounts c.loop-v.v _
+          (fired c.args.graph.now (at c.args.self.now) (multiple (to_z w128 (of_z w128 c.args.times)) (indicator (in_set c.args.set)))) within
           (omega (arith, ints)) c.loop-v.invariant.same;
       zero = rest-set c.loop-v.amounts c.loop-v.v _ c.loop-v.invariant.zero;
     }
-
-pub returns-clause-amounts : goal.returns-clause-amounts
-returns-clause-amounts c = λ v below.
-    c.loop-v.invariant.same v (omega arith)
-    ∙ fired-cong c.args.graph.now (at c.args.self.now) (at c.of-drift.result) (indicator (in_set c.args.set)) v below
-    (λ w inside. c.of-drift.ensures.entries w (omega arith) ∙ c.indicator.ensures.entries w (omega arith))

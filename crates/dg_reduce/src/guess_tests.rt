@@ -1,0 +1,179 @@
+use crate::guess::{guess, is_small_off};
+use crate::reducing::{is_small, reduce_from};
+use dg_chips::{Script, Wide};
+use dg_graph::Graph;
+use std::test::Fail;
+
+// The answers come from a program that borrows and burns vertex by vertex, without any guess. The guesses: none, the
+// script itself, one lending more, some lendings, alternating ones, and the most that a script holds.
+#[test]
+fn wrong_guesses(rt: HostRuntime) -> Result<(), Fail> {
+    let triangle = Graph::new(3, &[(0, 1, 1), (1, 2, 1), (0, 2, 1)])?;
+    let square = Graph::new(4, &[(0, 1, 1), (1, 2, 1), (2, 3, 1), (3, 0, 1)])?;
+    let path = Graph::new(4, &[(0, 1, 1), (1, 2, 1), (2, 3, 1)])?;
+    let house = Graph::new(
+        5,
+        &[
+            (0, 1, 2),
+            (1, 2, 1),
+            (2, 3, 3),
+            (3, 4, 1),
+            (4, 0, 1),
+            (1, 3, 5),
+        ],
+    )?;
+    let cases: [(Graph, usize, &[i128], &[i128], &[i64], [&[i64]; 7]); 5] = [
+        (
+            triangle,
+            2,
+            &[40, -70, 25],
+            &[0, 1, -6],
+            &[3, -34, 0],
+            [
+                &[0, 0, 0],
+                &[3, -34, 0],
+                &[4, -34, 0],
+                &[1, -5, 0],
+                &[21, -28, 0],
+                &[1_000_000_000, -1_000_000_000, 0],
+                &[1_000_000_000, 1_000_000_000, 0],
+            ],
+        ),
+        (
+            square,
+            0,
+            &[-300, 100, 90, 80],
+            &[-30, 0, 0, 0],
+            &[0, 140, 180, 130],
+            [
+                &[0, 0, 0, 0],
+                &[0, 140, 180, 130],
+                &[0, 141, 180, 130],
+                &[0, 3, -8, -7],
+                &[0, -28, 35, -42],
+                &[0, -1_000_000_000, 1_000_000_000, -1_000_000_000],
+                &[0, 1_000_000_000, 1_000_000_000, 1_000_000_000],
+            ],
+        ),
+        (
+            house,
+            1,
+            &[17, -3, -90, 100, -6],
+            &[1, 15, 1, 0, 1],
+            &[6, 0, -19, 5, 2],
+            [
+                &[0, 0, 0, 0, 0],
+                &[6, 0, -19, 5, 2],
+                &[6, 0, -18, 5, 2],
+                &[8, 0, -6, 2, 9],
+                &[21, 0, 35, -42, 49],
+                &[
+                    1_000_000_000,
+                    0,
+                    1_000_000_000,
+                    -1_000_000_000,
+                    1_000_000_000,
+                ],
+                &[
+                    1_000_000_000,
+                    0,
+                    1_000_000_000,
+                    1_000_000_000,
+                    1_000_000_000,
+                ],
+            ],
+        ),
+        (
+            house,
+            4,
+            &[17, -3, -90, 100, -6],
+            &[1, 5, 2, 0, 10],
+            &[8, 4, -16, 8, 0],
+            [
+                &[0, 0, 0, 0, 0],
+                &[8, 4, -16, 8, 0],
+                &[9, 4, -16, 8, 0],
+                &[-8, 7, -3, -8, 0],
+                &[21, -28, 35, -42, 0],
+                &[
+                    1_000_000_000,
+                    -1_000_000_000,
+                    1_000_000_000,
+                    -1_000_000_000,
+                    0,
+                ],
+                &[
+                    1_000_000_000,
+                    1_000_000_000,
+                    1_000_000_000,
+                    1_000_000_000,
+                    0,
+                ],
+            ],
+        ),
+        (
+            path,
+            3,
+            &[500, -400, 300, -200],
+            &[0, 0, 0, 200],
+            &[1_000, 500, 400, 0],
+            [
+                &[0, 0, 0, 0],
+                &[1_000, 500, 400, 0],
+                &[1_001, 500, 400, 0],
+                &[-7, 4, 4, 0],
+                &[21, -28, 35, 0],
+                &[1_000_000_000, -1_000_000_000, 1_000_000_000, 0],
+                &[1_000_000_000, 1_000_000_000, 1_000_000_000, 0],
+            ],
+        ),
+    ];
+    for (graph, q, amounts, chips, script, guesses) in cases {
+        let start = Wide::new(&graph, amounts)?;
+        assert!(rt; q < graph.size() && is_small(&start));
+        let divisor = Wide::new(&graph, chips)?;
+        let script = Script::new(&graph, script)?;
+        for guess in guesses {
+            let guessed = Script::new(&graph, guess)?;
+            assert!(rt; guessed.get(q) == 0);
+            let reduced = reduce_from(&graph, q, &start, &guessed);
+            assert!(rt; reduced.divisor == divisor, "{guess:?}");
+            assert!(rt; reduced.script == script, "{guess:?}");
+        }
+    }
+    Ok(())
+}
+
+// By exact lendings nobody off q would hold anything. They are rounded down, so that a vertex holds less than it has
+// edges.
+#[test]
+fn guesses_leave_little(rt: HostRuntime) -> Result<(), Fail> {
+    let mut items = [(0, 0, 1); 15];
+    for v in 0..15u8 {
+        items[usize::from(v)] = (v, v + 1, 1);
+    }
+    let path = Graph::new(16, &items)?;
+    let cases: [(usize, &[i128]); 4] = [
+        (0, &[1_000_000; 16]),
+        (15, &[-2_000_000; 16]),
+        (7, &[1_999_999; 16]),
+        (
+            3,
+            &[
+                -1_000_000, 900_000, -1, 0, 8, 2_000_000, -65, 70_000, -7, 0, 0, -999_999, 5, 5,
+                123_456, -1_000_000,
+            ],
+        ),
+    ];
+    for (q, amounts) in cases {
+        let chips = Wide::new(&path, amounts)?;
+        assert!(rt; q < path.size() && is_small(&chips));
+        assert!(rt; !is_small_off(q, &chips));
+        let Some(script) = guess(&path, q, &chips) else {
+            panic!(rt; "no guess at {q}");
+        };
+        let left = chips.fired_by(&path, &script);
+        assert!(rt; is_small_off(q, &left), "for {q}");
+    }
+    Ok(())
+}
