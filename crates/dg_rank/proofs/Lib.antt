@@ -12,6 +12,7 @@ pub mod Listed
 -- What the search over all trials finds.
 pub mod Found
 pub mod Searched
+pub mod Borne
 -- The reduced divisor in place of the one given.
 pub mod SmallAmounts
 pub mod Carried

@@ -1,29 +1,22 @@
-ghost use Rattle.std.specs.Prelude.{◌≡◌, ℕ, ◌<◌, ◌≤◌, MatchBool};
+ghost use Rattle.std.specs.Prelude.{◌≡◌, ℕ, ◌<◌, ◌≤◌, MatchOption};
 ghost use Rattle.std.specs.Int.RustNames.{unsigned_abs};
+ghost use Rattle.dg_graph.specs.Graph.{IsGraph};
 ghost use Rattle.dg_chips.specs.Vector.{at};
 ghost use Rattle.dg_rank.specs.Limits.{IsWithinLimits};
 ghost use Rattle.dg_rank.specs.Trials.{IsTrial};
-ghost use Rattle.dg_rank.specs.Pieces.{WinsWithout, IsFound};
+ghost use Rattle.dg_rank.specs.Pieces.{WinsWithout, Bears, IsFound};
 
 use crate::divisors::divisor_of;
 use crate::numbering::{Trial, trial_of_number};
 use crate::walking::advance;
 use dg_chips::Wide;
 use dg_graph::Graph;
-use dg_reduce::reduce_wide;
+use dg_reduce::effective;
 
 /// The first trial of degree k, of those from one number up to another, whose loss leaves what can't be won; `None`
-/// where there is none.
-pub fn first_loss(
-    graph: &Graph,
-    q: usize,
-    chips: &Wide,
-    k: u32,
-    from: u32,
-    to: u32,
-) -> Option<Trial>
+/// where there is none. What bears one trial's loss often bears the next one's, so each starts from it.
+pub fn first_loss(graph: &Graph, chips: &Wide, k: u32, from: u32, to: u32) -> Option<Trial>
     requires size { chips.now.size ≡ graph.now.size }
-    requires vertex { q < graph.now.size }
     requires range { (v : ℕ) → v < graph.now.size → unsigned_abs (at chips.now v) ≤ 1999000 }
     requires limits { (c : ℕ) × IsWithinLimits graph.now.size k c × (to ≤ c) }
     ensures { IsFound graph.now (at chips.now) k from to result }
@@ -32,10 +25,12 @@ pub fn first_loss(
         return None;
     }
     let mut trial = trial_of_number(graph.size(), k, from);
+    let mut base = *chips;
     for i in from..to {
-        if !wins_without(graph, q, chips, &trial) {
+        let Some(next) = bearing(graph, &base, &trial) else {
             return Some(trial);
-        }
+        };
+        base = next;
         if i + 1 < to {
             advance(&mut trial);
         }
@@ -43,17 +38,18 @@ pub fn first_loss(
     None
 }
 
-/// Whether the amounts without a trial's are winnable.
-fn wins_without(graph: &Graph, q: usize, chips: &Wide, trial: &Trial) -> bool
-    requires size { chips.now.size ≡ graph.now.size }
-    requires vertex { q < graph.now.size }
-    requires range { (v : ℕ) → v < graph.now.size → unsigned_abs (at chips.now v) ≤ 1999000 }
+/// Amounts that these can be fired to and that bear the loss of a trial with no debt; `None` where these without the
+/// trial's can't be won.
+fn bearing(graph: &Graph, base: &Wide, trial: &Trial) -> Option<Wide>
+    requires graph { IsGraph graph.now }
+    requires size { base.now.size ≡ graph.now.size }
+    requires range { (v : ℕ) → v < graph.now.size → unsigned_abs (at base.now v) ≤ 32000000 }
     requires trial { (k : ℕ) × (c : ℕ) × IsWithinLimits graph.now.size k c × IsTrial graph.now.size k trial.now }
-    ensures { MatchBool result
-        (WinsWithout graph.now (at chips.now) trial.now)
-        (¬ WinsWithout graph.now (at chips.now) trial.now) }
+    ensures { MatchOption result
+        (¬ WinsWithout graph.now (at base.now) trial.now)
+        (Bears graph.now (at base.now) trial.now) }
 {
-    let left = chips.less(&divisor_of(trial));
-    let reduced = reduce_wide(graph, q, &left);
-    reduced.divisor.get(q) >= 0
+    let lost = divisor_of(trial);
+    let left = effective(graph, &base.less(&lost))?;
+    Some(left.plus(&lost))
 }

@@ -43,7 +43,7 @@ pub fn rank_at_least(
         return Ok(RankVerdict::Below(k, first));
     }
     let chips = reduce(graph, q, divisor).divisor;
-    match first_loss(graph, q, &chips, k, 0, count) {
+    match first_loss(graph, &chips, k, 0, count) {
         Some(trial) => Ok(RankVerdict::Below(k, divisor_of(&trial))),
         None => Ok(RankVerdict::AtLeast(k)),
     }
