@@ -57,9 +57,8 @@ pub fn edges_out(graph: &Graph, set: u16, v: usize) -> u32
 {
     let mut sum = 0u32;
     for w in 0..graph.size() {
-        if !contains(set, w) {
-            sum += u32::from(graph.edges(v, w));
-        }
+        let edges = u32::from(graph.edges(v, w));
+        sum += if contains(set, w) { 0 } else { edges };
     }
     sum
 }
@@ -72,9 +71,8 @@ fn edges_into(graph: &Graph, set: u16, v: usize) -> u32
 {
     let mut sum = 0u32;
     for w in 0..graph.size() {
-        if contains(set, w) {
-            sum += u32::from(graph.edges(v, w));
-        }
+        let edges = u32::from(graph.edges(v, w));
+        sum += if contains(set, w) { edges } else { 0 };
     }
     sum
 }
