@@ -1,5 +1,5 @@
 ghost use Rattle.std.specs.Prelude.{◌≡◌, ℕ, ◌<◌, ◌≤◌, pos};
-ghost use Rattle.std.specs.Bool.{OnTrue};
+ghost use Rattle.std.specs.Bool.{OnTrue, OnFalse};
 ghost use Rattle.std.specs.Int.RustNames.{unsigned_abs};
 ghost use Rattle.dg_theory.specs.Firing.{fired};
 ghost use Rattle.dg_theory.specs.Reduced.{IsReduced};
@@ -88,7 +88,8 @@ pub(crate) fn reduce_from(graph: &Graph, q: usize, chips: &Wide, script: &Script
 
 /// Whether all amounts are within 2,000,000.
 pub(crate) fn is_small(chips: &Wide) -> bool
-    ensures { OnTrue result ((v : ℕ) → v < chips.now.size → unsigned_abs (at chips.now v) ≤ 2000000) }
+    ensures small { OnTrue result ((v : ℕ) → v < chips.now.size → unsigned_abs (at chips.now v) ≤ 2000000) }
+    ensures large { OnFalse result ((v : ℕ) × (v < chips.now.size) × (2000000 < unsigned_abs (at chips.now v))) }
 {
     for v in 0..chips.size() {
         if chips.get(v).unsigned_abs() > 2_000_000 {
