@@ -1,6 +1,8 @@
--- Amounts without debts that a divisor can be fired to.
+-- The effective divisors that a divisor can be fired to: its complete linear system (Baker and Norine 2007, section 1;
+-- Corry and Perkinson, chapter 2).
 --   without_debt z        == the amount z, and 0 in place of a debt
---   IsEffectiveForm g D x == x holds such amounts: nobody of x is in debt, and some script leads from D to x
+--   IsEffectiveForm g D x == x is in the complete linear system of D: nobody is in debt, and some script leads from D
+--                            to x
 use Rattle.std.specs.Prelude.{◌≡◌, ℤ, pos, negsuc}
 use Rattle.dg_theory.specs.Multigraph.{Multigraph}
 use Rattle.dg_theory.specs.Firing.{Amounts, IsEffective}

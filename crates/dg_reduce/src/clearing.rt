@@ -28,7 +28,7 @@ pub fn clear_levels(graph: &Graph, levels: &[usize; 16], chips: &Wide) -> Led
     led
 }
 
-/// Clears the debts of a level: all nearer vertices lend as often as the largest of them.
+/// Clears the debts of a level: all nearer vertices lend as often as the largest of these debts has dollars.
 fn clear_level(graph: &Graph, levels: &[usize; 16], level: usize, led: &Led) -> Led
     requires some { 0 < level }
     requires few { level ≤ 15 }
