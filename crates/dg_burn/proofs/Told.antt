@@ -9,10 +9,10 @@ use Rattle.std.proofs.Common.{◌≡◌, ℕ, zero, suc, ◌<◌, ◌≤◌, Boo
 use Rattle.std.specs.Prelude.{nat_lt, ◌↔◌, if◌then◌else◌}
 use Rattle.std.proofs.lemmas.Bool.{cases_lt, lt-ltb, le-ltb, and_left, and_right, not-false, not_from_true, true_from_ne_false}
 use Rattle.dg_theory.specs.Multigraph.{Multigraph, IsMultigraph}
-use Rattle.dg_theory.specs.Firing.{Amounts}
+use Rattle.dg_theory.specs.Firing.{Amounts, HasNoDebtOff}
 use Rattle.dg_theory.specs.Reduced.{IsReduced}
 use Rattle.dg_theory.specs.Burning.{among, BurnsInOrder, IsGreatestFree}
-use Rattle.dg_theory.specs.BurningLaws.{HasNoDebtOff, unburnt_by}
+use Rattle.dg_theory.specs.BurningLaws.{unburnt_by}
 use Rattle.dg_theory.proofs.BurningLaws.{unburnt_by-below, unburnt_fires, burnt_reduced, reduced_burnt}
 use Rattle.dg_theory.proofs.TotalLaws.{total_below-term}
 use Rattle.dg_graph.specs.Search.{is_in}

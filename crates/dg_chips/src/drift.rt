@@ -2,7 +2,8 @@ ghost use Rattle.std.specs.Prelude.{◌≡◌, ℕ, ◌<◌, ◌≤◌, ◌+ℤ�
 ghost use Rattle.std.specs.Int.RustNames.{unsigned_abs};
 ghost use Rattle.dg_chips.specs.Vector.{at, IsDrift};
 ghost use Rattle.dg_chips.specs.Moves.{script_of, IsPlayable};
-ghost use Rattle.dg_chips.specs.Drifts.{IsPastDrift, FiresTo};
+ghost use Rattle.dg_theory.specs.Firing.{FiresTo};
+ghost use Rattle.dg_chips.specs.Drifts.{IsPastDrift};
 
 use crate::divisor::Divisor;
 use crate::firing::gained;

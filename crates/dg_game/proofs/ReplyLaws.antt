@@ -5,11 +5,11 @@ use Rattle.std.proofs.Common.{◌≡◌, ℕ, ◌<◌, arith, ◌∙◌}
 use Rattle.std.proofs.lemmas.Int.{ints}
 use Rattle.std.proofs.Math.IntN.{ℤ}
 use Rattle.dg_theory.specs.Multigraph.{Multigraph}
-use Rattle.dg_theory.specs.Firing.{Amounts}
+use Rattle.dg_theory.specs.Firing.{Amounts, AgreeOn}
 use Rattle.dg_chips.specs.Vector.{IsInRange, IsOutOfRange}
 use Rattle.dg_chips.specs.Moves.{script_of}
 use Rattle.dg_chips.specs.declared.moves.Move.{Move as AMove}
-use Rattle.dg_verdict.proofs.Agreement.{fired-here}
+use Rattle.dg_theory.proofs.Agreement.{fired-here}
 use Rattle.dg_game.specs.Position.{with_gift}
 use Rattle.dg_game.specs.MoveReplies.{RepliesToMove}
 use Rattle.dg_game.specs.GiftReplies.{RepliesToGift}
@@ -20,17 +20,13 @@ use Rattle.dg_game.specs.declared.entry.Plain.TheVariants as plain
 use Rattle.dg_game.specs.declared.entry.Reply.{Reply}
 use Rattle.dg_game.specs.declared.entry.Reply.TheVariants.{Moved, Given, Looked, Won, NotWon, Refused}
 
--- the amounts D and E agree on n vertices
-abbrev pub Agree : ℕ → Amounts → Amounts → Type 0
-Agree n D E = (v : ℕ) → v < n → D v ≡ E v
-
-in_range-cong : (n : ℕ) (D E : Amounts) → Agree n D E → IsInRange n D → IsInRange n E
+in_range-cong : (n : ℕ) (D E : Amounts) → AgreeOn n D E → IsInRange n D → IsInRange n E
 in_range-cong n D E same right v below = rw (← same v below) (right v below)
 
-out_of_range-cong : (n : ℕ) (D E : Amounts) → Agree n D E → IsOutOfRange n D → IsOutOfRange n E
+out_of_range-cong : (n : ℕ) (D E : Amounts) → AgreeOn n D E → IsOutOfRange n D → IsOutOfRange n E
 out_of_range-cong n D E same (v, below, past) = (v, below, rw (← same v below) past)
 
-moved-cong : (g : Multigraph) (D E : Amounts) (m : AMove) (reply : Reply) → Agree g.size D E →
+moved-cong : (g : Multigraph) (D E : Amounts) (m : AMove) (reply : Reply) → AgreeOn g.size D E →
     RepliesToMove (record { graph = g; amounts = D }) m reply → RepliesToMove (record { graph = g; amounts = E }) m reply
 moved-cong g D E m (Moved d) same right = record {
   playable = right.playable;
@@ -45,11 +41,11 @@ moved-cong g D E m (Refused refusal.Range) same right =
     (right.0, out_of_range-cong g.size _ _ (fired-here g D E (script_of m) same) right.1)
 moved-cong g D E m reply same right = absurd right
 
-given-here : (g : Multigraph) (D E : Amounts) (v : ℕ) → Agree g.size D E → (x : ℤ) →
-    Agree g.size (with_gift (record { graph = g; amounts = D }) v x) (with_gift (record { graph = g; amounts = E }) v x)
+given-here : (g : Multigraph) (D E : Amounts) (v : ℕ) → AgreeOn g.size D E → (x : ℤ) →
+    AgreeOn g.size (with_gift (record { graph = g; amounts = D }) v x) (with_gift (record { graph = g; amounts = E }) v x)
 given-here g D E v same x w below = let here : D w ≡ E w = same w below in omega (arith, ints)
 
-given-cong : (g : Multigraph) (D E : Amounts) (n v : ℕ) (x : ℤ) (reply : Reply) → Agree g.size D E →
+given-cong : (g : Multigraph) (D E : Amounts) (n v : ℕ) (x : ℤ) (reply : Reply) → AgreeOn g.size D E →
     RepliesToGift (record { graph = g; amounts = D }) n v x reply → RepliesToGift (record { graph = g; amounts = E }) n v x reply
 given-cong g D E n v x (Given count d) same right = record {
   vertex = right.vertex;
@@ -65,19 +61,19 @@ given-cong g D E n v x (Refused refusal.Range) same right =
     (right.0, right.1, out_of_range-cong g.size _ _ (given-here g D E v same x) right.2)
 given-cong g D E n v x reply same right = absurd right
 
-looked-cong : (g : Multigraph) (D E : Amounts) (n : ℕ) (reply : Reply) → Agree g.size D E →
+looked-cong : (g : Multigraph) (D E : Amounts) (n : ℕ) (reply : Reply) → AgreeOn g.size D E →
     RepliesToLook (record { graph = g; amounts = D }) n reply → RepliesToLook (record { graph = g; amounts = E }) n reply
 looked-cong g D E n (Looked count d) same right =
     (right.0, record { size = right.1.size; amounts = λ v below. right.1.amounts v below ∙ same v below })
 looked-cong g D E n reply same right = absurd right
 
-claimed-cong : (g : Multigraph) (D E : Amounts) (reply : Reply) → Agree g.size D E →
+claimed-cong : (g : Multigraph) (D E : Amounts) (reply : Reply) → AgreeOn g.size D E →
     RepliesToClaim (record { graph = g; amounts = D }) reply → RepliesToClaim (record { graph = g; amounts = E }) reply
 claimed-cong g D E Won same right = λ v below. rw (← same v below) (right v below)
 claimed-cong g D E NotWon same right = λ effective. right (λ v below. rw (same v below) (effective v below))
 claimed-cong g D E reply same right = absurd right
 
-pub replies-cong : (g : Multigraph) (D E : Amounts) (n : ℕ) (call : Plain) (reply : Reply) → Agree g.size D E →
+pub replies-cong : (g : Multigraph) (D E : Amounts) (n : ℕ) (call : Plain) (reply : Reply) → AgreeOn g.size D E →
     RepliesAt (record { graph = g; amounts = D }) n call reply → RepliesAt (record { graph = g; amounts = E }) n call reply
 replies-cong g D E n (plain.Move m) reply same right = moved-cong g D E m reply same right
 replies-cong g D E n (plain.Gift v x) reply same right = given-cong g D E n v x reply same right

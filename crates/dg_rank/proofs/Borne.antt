@@ -1,14 +1,14 @@
 -- Amounts from which the trials of a piece are lost, one after another.
---   IsBase g D x     x holds amounts that D can be fired to, none of them past 32,000,000
+--   IsBase g D x     x holds amounts that are equivalent to D, none of them past 32,000,000
 --   base-start       D itself is such amounts
---   base-next        what bears a trial's loss is
---   bears-win        and then D without the trial wins
---   bears-lost       where such amounts without a trial can't be won, D without it can't
+--   base-next        what bears a trial's loss is such amounts
+--   bears-win        where such amounts bear a trial's loss, D less the trial is winnable
+--   bears-lost       where such amounts less a trial can't be won, D less the trial can't
 --   trial_small      a trial's amounts are at most 1,000
---   left_small       so such amounts without a trial's are within 32,001,000
---   left_held        and what they are fired to with no debt is within the limit of a sum
+--   left_small       such amounts less a trial's are within 32,001,000
+--   left_held        an effective form of amounts within 32,001,000 is within the limit of a sum
 --   bears-left       effective amounts that these without a trial are fired to bear its loss once its amounts are added
-use Rattle.std.proofs.Common.{◌≡◌, ℕ, ◌*◌, ◌<◌, ◌≤◌, ◌^◌, List, [], slice_index, arith, sym, ap, ◌∙◌}
+use Rattle.std.proofs.Common.{◌≡◌, ℕ, ◌*◌, ◌<◌, ◌≤◌, ◌^◌, List, [], slice_index, arith, refl}
 use Rattle.std.specs.List.{sum}
 use Rattle.std.proofs.lemmas.Int.{ints}
 use Rattle.std.proofs.lemmas.List.Sums.{get_or-le-sum_by}
@@ -16,16 +16,13 @@ use Rattle.std.proofs.Math.IntN.{ℤ, pos, ◌+ℤ◌}
 use Rattle.std.specs.Prelude.{◌≤ℤ◌}
 use Rattle.std.specs.Int.RustNames.{unsigned_abs}
 use Rattle.dg_theory.specs.Multigraph.{Multigraph}
-use Rattle.dg_theory.specs.Firing.{Amounts, gain, fired, IsEffective}
-use Rattle.dg_theory.specs.Play.{IsWinnable}
+use Rattle.dg_theory.specs.Firing.{Amounts, gain, fired, IsEffective, AreEquivalent}
 use Rattle.dg_theory.specs.Rank.{less}
 use Rattle.dg_theory.proofs.Absolute.{within_abs, abs_within}
-use Rattle.dg_theory.proofs.FiringLaws.{fired-fired, fired-constant}
-use Rattle.dg_theory.proofs.Giving.{win_more}
-use Rattle.dg_theory.proofs.RankLaws.{win_less_fired, win_fired_less}
+use Rattle.dg_theory.proofs.Equivalence.{equivalent-refl, equivalent-trans}
+use Rattle.dg_theory.proofs.RankLaws.{less_winnable}
 use Rattle.dg_graph.specs.Graph.{IsGraph}
 use Rattle.dg_chips.specs.Vector.{Vector, at}
-use Rattle.dg_chips.specs.Drifts.{FiresTo}
 use Rattle.dg_reduce.specs.Effective.{IsEffectiveForm}
 use Rattle.dg_reduce.proofs.EffectiveForms.{form_limit}
 use Rattle.dg_rank.specs.Trials.{IsTrial}
@@ -35,16 +32,14 @@ use Rattle.dg_rank.specs.Pieces.{WinsWithout, Bears}
 
 pub record IsBase (g : Multigraph) (D : Amounts) (x : Vector) : Type 0 where
   pub size : x.size ≡ g.size
-  pub script : Amounts
-  pub fires : FiresTo g script D (at x)
+  pub equivalent : AreEquivalent g D (at x)
   pub small : (v : ℕ) → v < g.size → unsigned_abs (at x v) ≤ 32000000
 
 pub base-start : (g : Multigraph) (x : Vector) → x.size ≡ g.size →
     ((v : ℕ) → v < g.size → unsigned_abs (at x v) ≤ 1999000) → IsBase g (at x) x
 base-start g x size range = record {
   size = size;
-  script = λ _. pos 0;
-  fires = λ v _. sym (fired-constant g (at x) (pos 0) v);
+  equivalent = equivalent-refl g (at x) (at x) (λ v _. refl);
   small = λ v inside. omega (arith, range v inside);
 }
 
@@ -56,16 +51,11 @@ base-next g D E x y graph range base bears =
     let form : IsEffectiveForm g D y = record {
       size = bears.size;
       effective = rich;
-      script = λ w. base.script w +ℤ bears.script w;
-      fires = λ v inside.
-          bears.fires v inside
-          ∙ ap (λ (a : ℤ). a +ℤ gain g bears.script v) (base.fires v inside)
-          ∙ fired-fired g D base.script bears.script v;
+      led = equivalent-trans g D (at x) (at y) base.equivalent bears.equivalent;
     } in
     record {
       size = bears.size;
-      script = form.script;
-      fires = form.fires;
+      equivalent = form.led;
       small = λ v inside.
           let high : at y v ≤ℤ pos (16 * 1999000) = form_limit g D y 1999000 v graph
           (λ w below. (within_abs (D w) 1999000 (range w below)).1) form inside in
@@ -74,21 +64,12 @@ base-next g D E x y graph range base bears =
     }
 
 pub bears-lost : (g : Multigraph) (D : Amounts) (E : List ℕ) (x : Vector) → IsBase g D x → ¬ WinsWithout g (at x) E → ¬ WinsWithout g D E
-bears-lost g D E x base lost win =
-    lost (win_more g (less (fired g D base.script) (amounts_of E)) (less (at x) (amounts_of E))
-    (λ v inside. let same : at x v ≡ fired g D base.script v = base.fires v inside in omega (arith, ints))
-    (win_less_fired g D base.script (amounts_of E) win))
+bears-lost g D E x base lost win = lost ((less_winnable g D (at x) (amounts_of E) base.equivalent).0 win)
 
 pub bears-win : (g : Multigraph) (D : Amounts) (E : List ℕ) (x y : Vector) → IsBase g D x → Bears g (at x) E y → WinsWithout g D E
 bears-win g D E x y base bears =
-    let there : IsWinnable g (less (at y) (amounts_of E)) = ([], bears.enough) in
-    let here : IsWinnable g (less (fired g (at x) bears.script) (amounts_of E)) =
-    win_more g (less (at y) (amounts_of E)) (less (fired g (at x) bears.script) (amounts_of E))
-    (λ v inside. let same : at y v ≡ fired g (at x) bears.script v = bears.fires v inside in omega (arith, ints)) there in
-    let before : WinsWithout g (at x) E = win_fired_less g (at x) bears.script (amounts_of E) here in
-    win_fired_less g D base.script (amounts_of E)
-    (win_more g (less (at x) (amounts_of E)) (less (fired g D base.script) (amounts_of E))
-    (λ v inside. let same : at x v ≡ fired g D base.script v = base.fires v inside in omega (arith, ints)) before)
+    (less_winnable g D (at y) (amounts_of E) (equivalent-trans g D (at x) (at y) base.equivalent bears.equivalent)).1
+    ([], bears.enough)
 
 trial_small : (n k c : ℕ) (E : List ℕ) (v : ℕ) → IsWithinLimits n k c → IsTrial n k E → v < n → slice_index E v ≤ 1000
 trial_small n k c E v within trial inside =
@@ -112,12 +93,11 @@ left_held g F y v graph small form inside =
 
 pub bears-left : (g : Multigraph) (B : Amounts) (E : List ℕ) (y z : Vector) (F : Amounts) → ((v : ℕ) → v < g.size → F v ≡ less B (amounts_of E) v) →
     IsEffectiveForm g F y → z.size ≡ g.size → ((v : ℕ) → v < g.size → at z v ≡ at y v +ℤ amounts_of E v) → Bears g B E z
-bears-left g B E y z F left form size more = record {
+bears-left g B E y z F left form size more = let (script, fires) = form.led in record {
   size = size;
-  script = form.script;
-  fires = λ v inside.
-      let now : at y v ≡ fired g F form.script v = form.fires v inside in
-      omega (arith, ints, more v inside, left v inside);
+  equivalent = (script, λ v inside.
+      let now : at y v ≡ fired g F script v = fires v inside in
+      omega (arith, ints, more v inside, left v inside));
   enough = λ v inside.
       let rich : pos 0 ≤ℤ at y v = form.effective v inside in
       omega (arith, ints, more v inside);

@@ -15,4 +15,3 @@ pub mod Searched
 pub mod Borne
 -- The reduced divisor in place of the one given.
 pub mod SmallAmounts
-pub mod Carried

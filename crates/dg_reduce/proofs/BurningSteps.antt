@@ -13,11 +13,11 @@ use Rattle.std.proofs.Math.IntN.{ℤ, pos, ◌+ℤ◌, ◌-ℤ◌}
 use Rattle.std.specs.Prelude.{◌↔◌}
 use Rattle.std.specs.Int.RustNames.{unsigned_abs}
 use Rattle.dg_theory.specs.Multigraph.{Multigraph}
-use Rattle.dg_theory.specs.Firing.{Amounts, fired, indicator, multiple}
+use Rattle.dg_theory.specs.Firing.{Amounts, fired, indicator, multiple, HasNoDebtOff}
 use Rattle.dg_theory.specs.Distances.{IsDistance}
 use Rattle.dg_theory.specs.Reduced.{IsReduced}
 use Rattle.dg_theory.specs.Burning.{BurnsInOrder, IsGreatestFree}
-use Rattle.dg_theory.specs.BurningLaws.{HasNoDebtOff, unburnt_by}
+use Rattle.dg_theory.specs.BurningLaws.{unburnt_by}
 use Rattle.dg_theory.proofs.Absolute.{within_abs, abs_within}
 use Rattle.dg_theory.proofs.Counting.{member_or_none}
 use Rattle.dg_theory.proofs.BurningLaws.{unburnt_by-below, rest_fires, burnt_reduced}

@@ -1,34 +1,30 @@
 -- How a vertex v, which alone is in debt, is paid back by sets without v that lend.
---   IsRepaying g v x y   such sets led from the amounts x to y, by some script
---   repaying-start       they do at first, by the script of zeros
---   repaying-more        and after one more set has lent as often as it can
---   repaying-falls       and the weight falls
+--   IsRepaying g v x y   such sets led from the amounts x to y
+--   repaying-start       no set has lent at first
+--   repaying-more        after one more set has lent as often as it can, such sets led there
+--   repaying-falls       the weight falls where one more set lends
 --   repaying-limit       amounts stay within the limit of a firing
---   repaying-times       and so does how often a set can lend
+--   repaying-times       how often a set can lend stays within the limit of a firing
 --   repaying-done        once v is out of debt, nobody is in debt
 --   repaying-lost        if the amounts are reduced for v while v is in debt, they can't be won
-use Rattle.std.proofs.Common.{◌≡◌, ℕ, ◌*◌, ◌^◌, ◌<◌, ◌≤◌, Bool, true, false, arith, sym, ap, ◌∙◌, ⊎_elim}
+use Rattle.std.proofs.Common.{◌≡◌, ℕ, ◌*◌, ◌^◌, ◌<◌, ◌≤◌, Bool, true, false, arith, refl, sym, ap, ◌∙◌, ⊎_elim}
 use Rattle.std.proofs.lemmas.Int.{ints}
 use Rattle.std.proofs.lemmas.Bool.{cases_eq}
 use Rattle.std.proofs.Math.IntN.{ℤ, pos, ◌+ℤ◌}
 use Rattle.std.specs.Prelude.{◌≤ℤ◌, ◌<ℤ◌}
 use Rattle.std.specs.Int.RustNames.{unsigned_abs}
 use Rattle.dg_theory.specs.Multigraph.{Multigraph}
-use Rattle.dg_theory.specs.Firing.{Amounts, gain, fired, indicator, multiple}
+use Rattle.dg_theory.specs.Firing.{Amounts, gain, fired, indicator, multiple, HasNoDebtOff, FiresTo, AreEquivalent}
 use Rattle.dg_theory.specs.Play.{IsWinnable}
 use Rattle.dg_theory.specs.Reduced.{IsReduced}
-use Rattle.dg_theory.specs.BurningLaws.{HasNoDebtOff}
-use Rattle.dg_theory.proofs.ExistenceLaws.{reduced-cong}
-use Rattle.dg_theory.proofs.FiringLaws.{fired-fired, fired-constant}
+use Rattle.dg_theory.proofs.Equivalence.{equivalent-refl, equivalent-trans}
 use Rattle.dg_theory.proofs.Potential.{weights, levels_are_potential}
 use Rattle.dg_theory.proofs.Range.{IsLed, led_start, led_step, led-cong, led_limit}
 use Rattle.dg_theory.proofs.Reach.{distance_from, distance_from-is}
 use Rattle.dg_theory.proofs.ReducedLaws.{reduced_decides}
 use Rattle.dg_theory.proofs.Weights.{weight_of, weight_of-cong, weight_falls_by_firings}
-use Rattle.dg_theory.proofs.Winning.{winnable_by_script}
 use Rattle.dg_graph.specs.Graph.{IsGraph}
 use Rattle.dg_chips.specs.Vector.{Vector, at}
-use Rattle.dg_chips.specs.Drifts.{FiresTo}
 use Rattle.dg_reduce.specs.Firings.{IsMost}
 use Rattle.dg_reduce.specs.Effective.{IsEffectiveForm}
 use Rattle.dg_reduce.proofs.Most.{most_within}
@@ -36,15 +32,13 @@ use Rattle.dg_reduce.proofs.Most.{most_within}
 pub record IsRepaying (g : Multigraph) (v : ℕ) (x y : Vector) : Type 0 where
   pub size : y.size ≡ g.size
   pub led : IsLed g v (at x) (at y)
-  pub script : Amounts
-  pub fires : FiresTo g script (at x) (at y)
+  pub equivalent : AreEquivalent g (at x) (at y)
 
 pub repaying-start : (g : Multigraph) (v : ℕ) (x : Vector) → x.size ≡ g.size → HasNoDebtOff g v (at x) → IsRepaying g v x x
 repaying-start g v x size no_debt = record {
   size = size;
   led = led_start g v (at x) no_debt;
-  script = λ _. pos 0;
-  fires = λ w _. sym (fired-constant g (at x) (pos 0) w);
+  equivalent = equivalent-refl g (at x) (at x) (λ w _. refl);
 }
 
 pub repaying-more : (g : Multigraph) (v : ℕ) (S : ℕ → Bool) (m : ℤ) (x y z : Vector) → IsGraph g → v < g.size →
@@ -54,11 +48,7 @@ repaying-more g v S m x y z graph vertex state without most size fires = record 
   size = size;
   led = led-cong g v (at x) (fired g (at y) (multiple m (indicator S))) (at z) vertex (λ w below. sym (fires w below))
       (led_step g v (at x) (at y) S m graph.multigraph state.led without (omega (arith, ints, most.some)) most.no_debt);
-  script = λ w. state.script w +ℤ multiple m (indicator S) w;
-  fires = λ w below.
-      fires w below
-      ∙ ap (λ (a : ℤ). a +ℤ gain g (multiple m (indicator S)) w) (state.fires w below)
-      ∙ fired-fired g (at x) state.script (multiple m (indicator S)) w;
+  equivalent = equivalent-trans g (at x) (at y) (at z) state.equivalent (multiple m (indicator S), fires);
 }
 
 pub repaying-falls : (g : Multigraph) (v : ℕ) (S : ℕ → Bool) (m : ℤ) (x y z : Vector) (u : ℕ) → IsGraph g → v < g.size →
@@ -95,15 +85,11 @@ repaying-done g v x y state paid = record {
       (λ (same : w ≡ v). let at_v : at y w ≡ at y v = ap (at y) same in omega (arith, ints))
       (λ (other : w ≡ v → ⊥). state.led.no_debt w below other)
       (cases_eq w v);
-  script = state.script;
-  fires = state.fires;
+  led = state.equivalent;
 }
 
 pub repaying-lost : (g : Multigraph) (v : ℕ) (x y : Vector) → v < g.size → IsRepaying g v x y → IsReduced g v (at y) →
     at y v <ℤ pos 0 → ¬ IsWinnable g (at x)
 repaying-lost g v x y vertex state reduced debt win =
-    let here : IsReduced g v (fired g (at x) state.script) = reduced-cong g v (at y) (fired g (at x) state.script) state.fires reduced in
-    let paid : pos 0 ≤ℤ fired g (at x) state.script v =
-    (reduced_decides winnable_by_script g v (at x) state.script vertex here).0 win in
-    let same : at y v ≡ fired g (at x) state.script v = state.fires v vertex in
+    let paid : pos 0 ≤ℤ at y v = (reduced_decides g v (at x) (at y) vertex state.equivalent reduced).0 win in
     absurd (omega (arith, ints))

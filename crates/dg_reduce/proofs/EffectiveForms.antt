@@ -1,14 +1,14 @@
 -- How all debts are paid back, one vertex after another. The debts of the vertices from v on are left out at first.
 --   partly D v         the amounts of the vertices before v, and those from v on with 0 in place of a debt
---   partly-more        they are at least the amounts
+--   partly-more        partly D v is at least D at every vertex
 --   form-cong          divisors that agree on the vertices have the same effective forms
 --   form_limit         from amounts within M come amounts within 16 M
 --   forms-start        the amounts without debts are a form of those where all debts are left out
 --   forms-paid         where v is not in debt, nothing changes
---   forms-owing        with the debt of v, a form becomes amounts that those with this debt can be fired to
---   forms-repaid       and a form of these is one of those
---   forms-lost         and if these can't be won, the amounts can't
---   forms-limit        and these are within the limit of a repayment
+--   forms-owing        a form with the debt of v added is equivalent to the amounts with that debt
+--   forms-repaid       an effective form of such amounts is one of the amounts with that debt
+--   forms-lost         if such amounts can't be won, neither can the divisor
+--   forms-limit        such amounts are within the limit of a repayment
 --   forms-done         in the end no debt is left out
 use Rattle.std.proofs.Common.{◌≡◌, ◌≢◌, ℕ, ◌+◌, ◌*◌, ◌^◌, ◌<◌, ◌≤◌, Bool, true, false, arith, sym, ap, ◌∙◌, refl, ⊎_elim}
 use Rattle.std.proofs.lemmas.Int.{ints}
@@ -18,18 +18,16 @@ use Rattle.std.proofs.Math.IntN.{ℤ, pos, negsuc, ◌+ℤ◌}
 use Rattle.std.specs.Prelude.{◌≤ℤ◌, ◌<ℤ◌, nat_lt, if◌then◌else◌}
 use Rattle.std.specs.Int.RustNames.{unsigned_abs}
 use Rattle.dg_theory.specs.Multigraph.{Multigraph}
-use Rattle.dg_theory.specs.Firing.{Amounts, degree, gain, fired}
+use Rattle.dg_theory.specs.Firing.{Amounts, AgreeOn, AreEquivalent, degree, gain}
 use Rattle.dg_theory.specs.Play.{IsWinnable}
 use Rattle.dg_theory.proofs.Absolute.{within_abs, abs_within}
-use Rattle.dg_theory.proofs.Exchange.{degree_stays}
-use Rattle.dg_theory.proofs.FiringLaws.{fired-fired, fired-constant}
+use Rattle.dg_theory.proofs.Agreement.{agree-sym}
+use Rattle.dg_theory.proofs.Equivalence.{equivalent-refl, equivalent-trans, equivalent-degree}
 use Rattle.dg_theory.proofs.Giving.{win_more}
 use Rattle.dg_theory.proofs.Range.{sum_below-one, sum_below-at_most}
-use Rattle.dg_theory.proofs.SumLaws.{sum_below-cong}
-use Rattle.dg_theory.proofs.Winning.{winnable_together}
+use Rattle.dg_theory.proofs.Winning.{equivalent-winnable}
 use Rattle.dg_graph.specs.Graph.{IsGraph}
 use Rattle.dg_chips.specs.Vector.{Vector, at}
-use Rattle.dg_chips.specs.Drifts.{FiresTo}
 use Rattle.dg_reduce.specs.Effective.{without_debt, IsEffectiveForm}
 
 abbrev pub partly : Amounts → ℕ → Amounts
@@ -72,20 +70,17 @@ if-limit false z M small = without_debt-limit z M small
 pub partly-more : (D : Amounts) (v w : ℕ) → D w ≤ℤ partly D v w
 partly-more D v w = if-more (nat_lt w v) (D w)
 
-pub form-cong : (g : Multigraph) (D E : Amounts) (x : Vector) → ((v : ℕ) → v < g.size → D v ≡ E v) →
-    IsEffectiveForm g D x → IsEffectiveForm g E x
+pub form-cong : (g : Multigraph) (D E : Amounts) (x : Vector) → AgreeOn g.size D E → IsEffectiveForm g D x → IsEffectiveForm g E x
 form-cong g D E x same form = record {
   size = form.size;
   effective = form.effective;
-  script = form.script;
-  fires = λ v inside. form.fires v inside ∙ ap (λ (a : ℤ). a +ℤ gain g form.script v) (same v inside);
+  led = equivalent-trans g E D (at x) (equivalent-refl g E D (agree-sym g.size D E same)) form.led;
 }
 
 pub form_limit : (g : Multigraph) (D : Amounts) (x : Vector) (M v : ℕ) → IsGraph g → ((w : ℕ) → w < g.size → D w ≤ℤ pos M) →
     IsEffectiveForm g D x → v < g.size → at x v ≤ℤ pos (16 * M)
 form_limit g D x M v graph small form inside =
-    let sum : degree g.size (at x) ≡ degree g.size D =
-    sum_below-cong g.size (at x) (fired g D form.script) form.fires ∙ degree_stays g D form.script graph.multigraph in
+    let sum : degree g.size D ≡ degree g.size (at x) = equivalent-degree g D (at x) graph.multigraph form.led in
     let total : degree g.size D ≤ℤ pos (g.size * M) = sum_below-at_most g.size M D small in
     let few : g.size * M ≤ 16 * M = mul-le g.size M 16 M graph.few (omega arith) in
     let part : at x v ≤ℤ degree g.size (at x) = sum_below-one g.size v (at x) inside (λ w below _. form.effective w below) in
@@ -96,9 +91,7 @@ pub forms-start : (g : Multigraph) (D : Amounts) (x : Vector) → x.size ≡ g.s
 forms-start g D x size amounts = record {
   size = size;
   effective = λ v inside. rw (amounts v inside) (without_debt-rich (D v));
-  script = λ _. pos 0;
-  fires = λ v inside.
-      amounts v inside ∙ sym (partly-after D 0 v (omega arith)) ∙ sym (fired-constant g (partly D 0) (pos 0) v);
+  led = equivalent-refl g (partly D 0) (at x) (λ v inside. partly-after D 0 v (omega arith) ∙ sym (amounts v inside));
 }
 
 partly-same : (D : Amounts) (v w : ℕ) → w ≢ v → partly D v w ≡ partly D (v + 1) w
@@ -115,38 +108,31 @@ forms-paid g D v x paid form = form-cong g (partly D v) (partly D (v + 1)) x (λ
     (λ (other : w ≡ v → ⊥). partly-same D v w other)
     (cases_eq w v)) form
 
-pub forms-owing : (g : Multigraph) (D : Amounts) (v : ℕ) (x y : Vector) (form : IsEffectiveForm g (partly D v) x) → v < g.size →
-    D v <ℤ pos 0 → at y v ≡ at x v +ℤ D v → ((w : ℕ) → w ≢ v → at y w ≡ at x w) → FiresTo g form.script (partly D (v + 1)) (at y)
-forms-owing g D v x y form vertex debt at_v others w inside = ⊎_elim
+pub forms-owing : (g : Multigraph) (D : Amounts) (v : ℕ) (x y : Vector) → IsEffectiveForm g (partly D v) x → v < g.size →
+    D v <ℤ pos 0 → at y v ≡ at x v +ℤ D v → ((w : ℕ) → w ≢ v → at y w ≡ at x w) → AreEquivalent g (partly D (v + 1)) (at y)
+forms-owing g D v x y form vertex debt at_v others = let (script, fires) = form.led in (script, λ w inside. ⊎_elim
     (λ (same : w ≡ v). rw same
-    (let here : at x v ≡ partly D v v +ℤ gain g form.script v = form.fires v vertex in
+    (let here : at x v ≡ partly D v v +ℤ gain g script v = fires v vertex in
     let none : partly D v v ≡ pos 0 = partly-after D v v (omega arith) ∙ without_debt-owing (D v) debt in
     let owed : partly D (v + 1) v ≡ D v = partly-before D (v + 1) v (omega arith) in
     omega (arith, ints, at_v)))
     (λ (other : w ≡ v → ⊥).
-    others w other ∙ form.fires w inside ∙ ap (λ (a : ℤ). a +ℤ gain g form.script w) (partly-same D v w other))
-    (cases_eq w v)
+    others w other ∙ fires w inside ∙ ap (λ (a : ℤ). a +ℤ gain g script w) (partly-same D v w other))
+    (cases_eq w v))
 
-pub forms-repaid : (g : Multigraph) (D : Amounts) (v : ℕ) (x y z : Vector) (form : IsEffectiveForm g (partly D v) x) →
-    FiresTo g form.script (partly D (v + 1)) (at y) → IsEffectiveForm g (at y) z → IsEffectiveForm g (partly D (v + 1)) z
-forms-repaid g D v x y z form leads paid = record {
+pub forms-repaid : (g : Multigraph) (D : Amounts) (v : ℕ) (y z : Vector) → AreEquivalent g (partly D (v + 1)) (at y) →
+    IsEffectiveForm g (at y) z → IsEffectiveForm g (partly D (v + 1)) z
+forms-repaid g D v y z owing paid = record {
   size = paid.size;
   effective = paid.effective;
-  script = λ w. form.script w +ℤ paid.script w;
-  fires = λ w inside.
-      paid.fires w inside
-      ∙ ap (λ (a : ℤ). a +ℤ gain g paid.script w) (leads w inside)
-      ∙ fired-fired g (partly D (v + 1)) form.script paid.script w;
+  led = equivalent-trans g (partly D (v + 1)) (at y) (at z) owing paid.led;
 }
 
-pub forms-lost : (g : Multigraph) (D : Amounts) (v : ℕ) (x y : Vector) (form : IsEffectiveForm g (partly D v) x) →
-    FiresTo g form.script (partly D (v + 1)) (at y) → ¬ IsWinnable g (at y) → ¬ IsWinnable g D
-forms-lost g D v x y form leads lost win =
-    let more : IsWinnable g (partly D (v + 1)) = win_more g D (partly D (v + 1)) (λ w _. partly-more D (v + 1) w) win in
-    let there : IsWinnable g (fired g (partly D (v + 1)) form.script) =
-    (winnable_together g (partly D (v + 1)) form.script).0 more in
-    lost (win_more g (fired g (partly D (v + 1)) form.script) (at y)
-    (λ w inside. let same : at y w ≡ fired g (partly D (v + 1)) form.script w = leads w inside in omega (arith, ints)) there)
+pub forms-lost : (g : Multigraph) (D : Amounts) (v : ℕ) (y : Vector) → AreEquivalent g (partly D (v + 1)) (at y) →
+    ¬ IsWinnable g (at y) → ¬ IsWinnable g D
+forms-lost g D v y owing lost win =
+    lost ((equivalent-winnable g (partly D (v + 1)) (at y) owing).0
+    (win_more g D (partly D (v + 1)) (λ w _. partly-more D (v + 1) w) win))
 
 pub forms-limit : (g : Multigraph) (D : Amounts) (v : ℕ) (x y : Vector) → IsGraph g → IsEffectiveForm g (partly D v) x →
     v < g.size → at y v ≡ at x v +ℤ D v → ((w : ℕ) → w ≢ v → at y w ≡ at x w) →

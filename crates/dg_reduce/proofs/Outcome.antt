@@ -11,12 +11,13 @@ use Rattle.std.proofs.Math.IntN.{ℤ, pos, ◌+ℤ◌, ◌-ℤ◌}
 use Rattle.std.specs.Prelude.{◌≤ℤ◌}
 use Rattle.std.specs.Int.RustNames.{unsigned_abs}
 use Rattle.dg_theory.specs.Multigraph.{Multigraph, valence}
-use Rattle.dg_theory.specs.Firing.{Amounts, gain, fired}
+use Rattle.dg_theory.specs.Firing.{Amounts, AgreeOn, AreEquivalent, gain, fired}
 use Rattle.dg_theory.specs.Reduced.{edges_out, IsReduced}
 use Rattle.dg_theory.proofs.Bounds.{script_bound}
 use Rattle.dg_theory.proofs.ConstantLaws.{same_by_constant}
 use Rattle.dg_theory.proofs.Debts.{out-le-valence}
-use Rattle.dg_theory.proofs.ExistenceLaws.{reduced-cong}
+use Rattle.dg_theory.proofs.Agreement.{agree-trans, reduced-cong}
+use Rattle.dg_theory.proofs.Equivalence.{equivalent-fired, equivalent-sym, equivalent-trans}
 use Rattle.dg_theory.proofs.ReducedLaws.{reduced_once}
 use Rattle.dg_theory.proofs.Scripts.{fired-shifted}
 use Rattle.dg_graph.specs.Graph.{IsGraph}
@@ -47,14 +48,16 @@ relative_leads g q D R s t leads relative v inside =
 pub reduced_only : (g : Multigraph) (q : ℕ) (D R s : Amounts) → IsGraph g → q < g.size → IsReduced g q R →
     ((v : ℕ) → v < g.size → R v ≡ fired g D s v) → s q ≡ pos 0 → IsOnly g q D R s
 reduced_only g q D R s graph vertex reduced leads at_q t also_q other v inside =
-    let here : IsReduced g q (fired g D s) = reduced-cong g q R (fired g D s) leads reduced in
-    let same : (w : ℕ) → w < g.size → fired g D t w ≡ fired g D s w = reduced_once g q D t s vertex other here in
+    let class : AreEquivalent g (fired g D t) R =
+    equivalent-trans g (fired g D t) D R (equivalent-sym g D (fired g D t) (equivalent-fired g D t)) (s, leads) in
+    let once : AgreeOn g.size (fired g D t) R = reduced_once g q (fired g D t) R vertex class other reduced in
+    let same : AgreeOn g.size (fired g D t) (fired g D s) = agree-trans g.size (fired g D t) R (fired g D s) once leads in
     let (x, shift) = (same_by_constant g D t s graph.multigraph).0 same in
     let at_v : t v ≡ s v +ℤ x = shift v inside in
     let there : t q ≡ s q +ℤ x = shift q vertex in
-    (omega (arith, ints), same v inside ∙ sym (leads v inside))
+    (omega (arith, ints), once v inside)
 
-pub only-cong : (g : Multigraph) (q : ℕ) (D E R s : Amounts) → ((v : ℕ) → v < g.size → D v ≡ E v) → IsOnly g q D R s → IsOnly g q E R s
+pub only-cong : (g : Multigraph) (q : ℕ) (D E R s : Amounts) → AgreeOn g.size D E → IsOnly g q D R s → IsOnly g q E R s
 only-cong g q D E R s same only t at_q reduced v inside =
     let alike : (w : ℕ) → w < g.size → fired g E t w ≡ fired g D t w =
     λ w below. ap (λ (z : ℤ). z +ℤ gain g t w) (sym (same w below)) in

@@ -1,21 +1,17 @@
 -- The effective divisors that a divisor can be fired to: its complete linear system (Baker and Norine 2007, section 1;
 -- Corry and Perkinson, chapter 2).
+--   IsEffectiveForm g D x == x is in the complete linear system of D: nobody is in debt, and x is equivalent to D
 --   without_debt z        == the amount z, and 0 in place of a debt
---   IsEffectiveForm g D x == x is in the complete linear system of D: nobody is in debt, and some script leads from D
---                            to x
 use Rattle.std.specs.Prelude.{◌≡◌, ℤ, pos, negsuc}
 use Rattle.dg_theory.specs.Multigraph.{Multigraph}
-use Rattle.dg_theory.specs.Firing.{Amounts, IsEffective}
+use Rattle.dg_theory.specs.Firing.{Amounts, IsEffective, AreEquivalent}
 use Rattle.dg_chips.specs.Vector.{Vector, at}
-use Rattle.dg_chips.specs.Drifts.{FiresTo}
 
 pub record IsEffectiveForm (g : Multigraph) (D : Amounts) (x : Vector) : Type 0 where
   pub size : x.size ≡ g.size
   pub effective : IsEffective g.size (at x)
-  pub script : Amounts
-  pub fires : FiresTo g script D (at x)
+  pub led : AreEquivalent g D (at x)
 
--- an amount, and 0 in place of a debt
 abbrev pub without_debt : ℤ → ℤ
 without_debt (pos n) = pos n
 without_debt (negsuc n) = pos 0

@@ -8,9 +8,8 @@
 --                            be the largest number
 use Rattle.std.specs.Prelude.{◌≡◌, ℕ, ◌<◌, Bool, true, ℤ, pos, ◌+ℤ◌, ◌*ℤ◌, ◌≤ℤ◌, ◌<ℤ◌, ◌⊎◌}
 use Rattle.dg_theory.specs.Multigraph.{Multigraph}
-use Rattle.dg_theory.specs.Firing.{Amounts, fired, indicator, multiple}
+use Rattle.dg_theory.specs.Firing.{Amounts, fired, indicator, multiple, HasNoDebtOff}
 use Rattle.dg_theory.specs.Reduced.{edges_out}
-use Rattle.dg_theory.specs.BurningLaws.{HasNoDebtOff}
 
 pub record IsMost (g : Multigraph) (q : ℕ) (D : Amounts) (S : ℕ → Bool) (m : ℤ) : Type 0 where
   pub some : pos 1 ≤ℤ m

@@ -12,10 +12,10 @@ use Rattle.std.specs.Prelude.{nat_lt, pos, ◌≤ℤ◌, if◌then◌else◌}
 use Rattle.std.proofs.lemmas.Int.{ints, by_lt_z}
 use Rattle.std.proofs.lemmas.Bool.{cases_Bool, lt-ltb, and_parts, and_right, not_from_true, not_from_false, not-true, false_from_ne_true, true_from_ne_false, both_ways}
 use Rattle.dg_theory.specs.Multigraph.{Multigraph, edges_between}
-use Rattle.dg_theory.specs.Firing.{Amounts}
+use Rattle.dg_theory.specs.Firing.{Amounts, HasNoDebtOff}
 use Rattle.dg_theory.specs.Reduced.{edges_out, IsReduced}
 use Rattle.dg_theory.specs.Burning.{among, edges_into, BurnsInOrder, FiresFreely}
-use Rattle.dg_theory.specs.BurningLaws.{HasNoDebtOff, unburnt_by, UnburntFires, BurntIsReduced}
+use Rattle.dg_theory.specs.BurningLaws.{unburnt_by, UnburntFires, BurntIsReduced}
 use Rattle.dg_theory.proofs.TotalLaws.{total_below-cong}
 use Rattle.dg_theory.proofs.SetFiring.{fired-inside, inside-fired, outside-fired}
 use Rattle.dg_theory.proofs.BurningOrder.{burnt_of_set, may_burn, q_burns}

@@ -11,8 +11,7 @@ use Rattle.std.specs.Prelude.{◌≤ℤ◌}
 use borrow.Author.Differences.{down}
 use Rattle.dg_theory.specs.Sums.{total_below}
 use Rattle.dg_theory.specs.Multigraph.{Multigraph}
-use Rattle.dg_theory.specs.Firing.{Amounts, gain, fired}
-use Rattle.dg_theory.specs.BurningLaws.{HasNoDebtOff}
+use Rattle.dg_theory.specs.Firing.{Amounts, gain, fired, HasNoDebtOff}
 use Rattle.dg_theory.proofs.TotalLaws.{total_below-term}
 use Rattle.dg_theory.proofs.FiringLaws.{fired-fired, fired-constant}
 use Rattle.dg_theory.proofs.Bounds.{opposite, gain-opposite}

@@ -8,7 +8,7 @@ use Rattle.std.proofs.Math.IntN.{ℤ, pos, ◌+ℤ◌, ◌-ℤ◌, ◌*ℤ◌}
 use Rattle.std.specs.Prelude.{◌≤ℤ◌}
 use Rattle.dg_theory.specs.Multigraph.{Multigraph, IsMultigraph, edges_between}
 use Rattle.dg_theory.specs.Firing.{Amounts, gain, fired}
-use Rattle.dg_theory.specs.WinningLaws.{SameByConstant}
+use Rattle.dg_theory.specs.FiringLaws.{SameByConstant}
 use Rattle.dg_theory.proofs.SumBounds.{mul-nonpos, mul-cancel, sum_below-le_term}
 use Rattle.dg_theory.proofs.Chains.{JoinedIn-stays}
 use Rattle.dg_theory.proofs.Largest.{largest, IsLargest}

@@ -16,7 +16,7 @@ use Rattle.std.proofs.Math.IntN.{ℤ, pos, ◌-ℤ◌, ◌*ℤ◌, *ℤ-zero, *�
 use Rattle.dg_theory.specs.Sums.{sum_below}
 use Rattle.dg_theory.specs.Multigraph.{Multigraph, IsMultigraph, edges_between}
 use Rattle.dg_theory.specs.Firing.{Amounts, gain}
-use Rattle.dg_theory.specs.WinningLaws.{DegreeStays}
+use Rattle.dg_theory.specs.FiringLaws.{FiringKeepsDegree}
 use Rattle.dg_theory.proofs.Products.{mulz-sub, mul-swap, one-mul}
 use Rattle.dg_theory.proofs.SumLaws.{sum_below-add, sum_below-cong, sum_below-zero}
 use Rattle.dg_theory.proofs.FiringLaws.{gain-constant}
@@ -70,5 +70,5 @@ gains_cancel g s graph =
     ∙ gain-symmetric g (λ _. pos 1) s graph
     ∙ sum_below-zero g.size _ (λ v _. rw (gain-constant g (pos 1) v) (*ℤ-zero (s v)))
 
-pub degree_stays : DegreeStays
+pub degree_stays : FiringKeepsDegree
 degree_stays g D s graph = omega (arith, ints, sum_below-add g.size D (gain g s), gains_cancel g s graph)

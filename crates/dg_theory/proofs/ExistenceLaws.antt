@@ -1,5 +1,4 @@
 -- That every divisor can be fired to a reduced one, and that rich divisors are winnable.
---   reduced-cong       a divisor that agrees on the vertices with a reduced one is reduced
 --   reduced_by_weight  from no debt off q and a weight below m, some script leads to a reduced divisor
 --   reduced_somewhere  from any divisor some script does
 --   reduced_exists     and so does one that is 0 at q
@@ -9,14 +8,14 @@ use Rattle.std.proofs.lemmas.Int.{ints, by_lt_z}
 use Rattle.std.proofs.Math.IntN.{pos, ◌+ℤ◌, ◌-ℤ◌}
 use Rattle.std.specs.Prelude.{◌≤ℤ◌, ◌<ℤ◌}
 use Rattle.dg_theory.specs.Multigraph.{Multigraph, IsMultigraph, genus}
-use Rattle.dg_theory.specs.Firing.{Amounts, degree, fired, indicator}
+use Rattle.dg_theory.specs.Firing.{Amounts, degree, HasNoDebtOff, fired, indicator}
 use Rattle.dg_theory.specs.Reduced.{IsReduced}
-use Rattle.dg_theory.specs.BurningLaws.{HasNoDebtOff}
 use Rattle.dg_theory.specs.ExistenceLaws.{ReducedExists, RichIsWinnable}
 use Rattle.dg_theory.proofs.FiringLaws.{fired-fired, fired-constant}
 use Rattle.dg_theory.proofs.Scripts.{fired-shifted}
 use Rattle.dg_theory.proofs.Exchange.{degree_stays}
-use Rattle.dg_theory.proofs.Winning.{winnable_by_script}
+use Rattle.dg_theory.proofs.Agreement.{reduced-cong}
+use Rattle.dg_theory.proofs.Equivalence.{equivalent-fired}
 use Rattle.dg_theory.proofs.ReducedLaws.{reduced_decides}
 use Rattle.dg_theory.proofs.GenusLaws.{reduced_below_genus}
 use Rattle.dg_theory.proofs.Potential.{IsPotential}
@@ -24,15 +23,6 @@ use Rattle.dg_theory.proofs.Weights.{weight_of, weight_falls_by_set}
 use Rattle.dg_theory.proofs.Heights.{has_potential}
 use Rattle.dg_theory.proofs.Clearing.{can_be_cleared}
 use Rattle.dg_theory.proofs.Unburnt.{FiresSome, reduced_or_fires}
-
-pub reduced-cong : (g : Multigraph) (q : ℕ) (D E : Amounts) → ((v : ℕ) → v < g.size → D v ≡ E v) →
-    IsReduced g q D → IsReduced g q E
-reduced-cong g q D E same reduced = record {
-  no_debt = λ v below other. omega (arith, ints, same v below, reduced.no_debt v below other);
-  none_fires = λ S without u below member.
-      let (v, inside, in_v, less) = reduced.none_fires S without u below member in
-      (v, inside, in_v, omega (arith, ints, same v inside));
-}
 
 abbrev CanBeReduced : Multigraph → ℕ → Amounts → Type 0
 CanBeReduced g q D = (s : Amounts) × IsReduced g q (fired g D s)
@@ -81,4 +71,4 @@ rich_is_winnable g D graph some rich =
     let low : degree g.size (fired g D s) <ℤ genus g = reduced_below_genus g 0 (fired g D s) graph some reduced debt in
     let same : degree g.size (fired g D s) ≡ degree g.size D = degree_stays g D s graph in
     absurd (omega (arith, ints)))
-    (λ (paid : pos 0 ≤ℤ fired g D s 0). (reduced_decides winnable_by_script g 0 D s some reduced).1 paid)
+    (λ (paid : pos 0 ≤ℤ fired g D s 0). (reduced_decides g 0 D (fired g D s) some (equivalent-fired g D s) reduced).1 paid)

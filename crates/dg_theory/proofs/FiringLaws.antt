@@ -10,7 +10,7 @@ use Rattle.std.proofs.lemmas.Int.{ints}
 use Rattle.std.proofs.Math.IntN.{ℤ, pos, ◌+ℤ◌, ◌-ℤ◌, ◌*ℤ◌, *ℤ-zero}
 use Rattle.dg_theory.specs.Multigraph.{Multigraph, edges_between}
 use Rattle.dg_theory.specs.Firing.{Amounts, gain, fired}
-use Rattle.dg_theory.specs.Laws.{FiringAddsUp, ConstantScriptsDoNothing}
+use Rattle.dg_theory.specs.FiringLaws.{FiringAddsUp, ConstantScriptsDoNothing}
 use Rattle.dg_theory.proofs.Products.{mul-change}
 use Rattle.dg_theory.proofs.SumLaws.{sum_below-add, sum_below-cong, sum_below-zero}
 

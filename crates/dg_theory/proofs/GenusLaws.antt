@@ -5,7 +5,6 @@
 --   paid_next             so it stays if a vertex leaves that holds fewer dollars than it has edges out of S
 --   paid_to_end           if the divisor is reduced, so it is for a set without vertices
 --   reduced_below_genus   the law: then the degree and the number of vertices are at most R q + 1 and the number of edges
---   burnt_below_genus     the law for a divisor from which every vertex burns, which is reduced
 use Rattle.std.proofs.Common.{◌≡◌, ℕ, zero, suc, ◌+◌, ◌<◌, ◌≤◌, Bool, true, false, arith, refl, ⊎_elim}
 use Rattle.std.specs.Prelude.{◌≤ℤ◌, ◌<ℤ◌}
 use Rattle.std.proofs.lemmas.Int.{ints}
@@ -14,11 +13,10 @@ use Rattle.std.proofs.Math.IntN.{pos, ◌+ℤ◌}
 use Rattle.dg_theory.specs.Multigraph.{Multigraph, IsMultigraph, edges_between, edge_count}
 use Rattle.dg_theory.specs.Firing.{Amounts, degree}
 use Rattle.dg_theory.specs.Reduced.{edges_out, IsReduced}
-use Rattle.dg_theory.specs.GenusLaws.{ReducedBelowGenus, BurntBelowGenus}
+use Rattle.dg_theory.specs.GenusLaws.{ReducedBelowGenus}
 use Rattle.dg_theory.proofs.SumLaws.{sum_below-zero}
 use Rattle.dg_theory.proofs.Counting.{count_of, count_of-some, count_of-more, member_or_none}
 use Rattle.dg_theory.proofs.Leaving.{removed, removed-here, removed-of, burnt_edges, burnt_weight, burnt_edges-removed, burnt_weight-removed, burnt_edges-all, burnt_weight-all}
-use Rattle.dg_theory.proofs.BurningLaws.{burnt_reduced}
 
 pub record IsPaid (g : Multigraph) (q : ℕ) (R : Amounts) (S : ℕ → Bool) : Type 0 where
   pub without : S q ≡ false
@@ -73,7 +71,3 @@ reduced_below_genus g q R graph vertex reduced debt =
     let edges : burnt_edges g.size (edges_between g) T ≡ edge_count g =
     burnt_edges-all g.size (edges_between g) T none in
     omega (arith, ints)
-
-pub burnt_below_genus : BurntBelowGenus
-burnt_below_genus g q R l graph vertex solvent order all debt =
-    reduced_below_genus g q R graph vertex (burnt_reduced g q R l solvent order all) debt

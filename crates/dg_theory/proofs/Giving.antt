@@ -1,6 +1,5 @@
 -- Divisors less others, and dollars at one vertex.
 --   win_more          who has at least as much at every vertex as in a winnable divisor wins too
---   less-fired        firing before or after a loss comes to the same
 --   degree-less       the degree of D less E is the degree of D less that of E
 --   degree-only_at    x dollars at one vertex have the degree x
 --   effective-only_at k dollars at one vertex are no debt
@@ -28,9 +27,6 @@ pub win_more : (g : Multigraph) (D E : Amounts) → ((v : ℕ) → v < g.size �
 win_more g D E more win =
     let (s, effective) = script_of_win g D win in
     win_of_script g E s (λ v below. omega (arith, ints, more v below, effective v below))
-
-pub less-fired : (g : Multigraph) (D s E : Amounts) (v : ℕ) → less (fired g D s) E v ≡ fired g (less D E) s v
-less-fired g D s E v = omega (arith, ints)
 
 pub degree-less : (n : ℕ) (D E : Amounts) → degree n (less D E) ≡ degree n D -ℤ degree n E
 degree-less n D E = sum_below-sub n D E

@@ -8,6 +8,7 @@ pub mod SumTotals
 pub mod TotalLaws
 -- Graphs and firing.
 pub mod Chains
+pub mod Agreement
 pub mod FiringLaws
 pub mod SetFiring
 pub mod Scripts
@@ -15,6 +16,7 @@ pub mod Exchange
 pub mod Multiples
 -- Winning, reduced divisors and burning.
 pub mod Plays
+pub mod Equivalence
 pub mod Winning
 pub mod Largest
 pub mod Levels

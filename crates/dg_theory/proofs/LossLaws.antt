@@ -1,44 +1,36 @@
 -- The laws of the first loss.
---   loss_after      a first loss of a divisor is one after a firing
---   loss_before     and the other way round
---   loss_together   the law that says both
+--   loss_carried    a first loss of a divisor is one of each that is equivalent to it
+--   equivalent-loss equivalent divisors have the same first loss
 --   OneIsBefore     of two divisors E and F one is before the other
 --   SameOrBefore    they are the same at n vertices, or one is before the other
 --   before_in_more  who is before another at n vertices is so at n + 1
 --   differ_last     who is the same at n vertices and holds less at the next is before the other
 --   same_last       two divisors that are the same at n vertices and at the next are so at n + 1
---   compare_last    so, the same at n vertices, they are the same at n + 1, or one is before the other
+--   compare_last    divisors that agree at n vertices agree at n + 1, or one is before the other
 --   same_or_before  any two divisors are the same at n vertices, or one is before the other
 --   loss_once       there is at most one first loss
---   rank_or_loss    where there is a first loss of degree k, the rank is not at least k
-use Rattle.std.proofs.Common.{◌≡◌, ℕ, zero, suc, ◌<◌, ◌⊎◌, arith, sym, ap, inl, inr, ⊎_elim}
+--   loss_bounds_rank    where there is a first loss of degree k, the rank is not at least k
+use Rattle.std.proofs.Common.{◌≡◌, ℕ, zero, suc, ◌⊎◌, arith, sym, ap, inl, inr, ⊎_elim}
 use Rattle.std.proofs.lemmas.Bool.{cases_eq}
 use Rattle.std.proofs.lemmas.Int.{ints, by_lt_z}
 use Rattle.std.specs.Prelude.{◌≤ℤ◌, ◌<ℤ◌}
 use Rattle.dg_theory.specs.Multigraph.{Multigraph}
-use Rattle.dg_theory.specs.Firing.{Amounts, fired}
+use Rattle.dg_theory.specs.Firing.{Amounts, AgreeOn, AreEquivalent}
 use Rattle.dg_theory.specs.Rank.{IsBefore, IsFirstLoss}
-use Rattle.dg_theory.specs.RankLaws.{LossTogether, LossOnce, RankOrLoss}
-use Rattle.dg_theory.proofs.RankLaws.{win_less_fired, win_fired_less}
+use Rattle.dg_theory.specs.RankLaws.{EquivalentLoss, LossOnce, LossBoundsRank}
+use Rattle.dg_theory.proofs.RankLaws.{less_winnable}
+use Rattle.dg_theory.proofs.Equivalence.{equivalent-sym}
 
-loss_after : (g : Multigraph) (D s : Amounts) (k : ℕ) (E : Amounts) → IsFirstLoss g D k E → IsFirstLoss g (fired g D s) k E
-loss_after g D s k E loss = record {
+loss_carried : (g : Multigraph) (D E : Amounts) (k : ℕ) (F : Amounts) → AreEquivalent g D E → IsFirstLoss g D k F → IsFirstLoss g E k F
+loss_carried g D E k F same loss = record {
   effective = loss.effective;
   of_degree = loss.of_degree;
-  loses = λ win. loss.loses (win_fired_less g D s E win);
-  first = λ F effective of_degree before. win_less_fired g D s F (loss.first F effective of_degree before);
+  loses = λ win. loss.loses ((less_winnable g D E F same).1 win);
+  first = λ G effective of_degree before. (less_winnable g D E G same).0 (loss.first G effective of_degree before);
 }
 
-loss_before : (g : Multigraph) (D s : Amounts) (k : ℕ) (E : Amounts) → IsFirstLoss g (fired g D s) k E → IsFirstLoss g D k E
-loss_before g D s k E loss = record {
-  effective = loss.effective;
-  of_degree = loss.of_degree;
-  loses = λ win. loss.loses (win_less_fired g D s E win);
-  first = λ F effective of_degree before. win_fired_less g D s F (loss.first F effective of_degree before);
-}
-
-pub loss_together : LossTogether
-loss_together g D s k E = (loss_after g D s k E, loss_before g D s k E)
+pub equivalent-loss : EquivalentLoss
+equivalent-loss g D E k F same = (loss_carried g D E k F same, loss_carried g E D k F (equivalent-sym g D E same))
 
 before_in_more : (n : ℕ) (E F : Amounts) → IsBefore n E F → IsBefore (suc n) E F
 before_in_more n E F before = record {
@@ -51,7 +43,7 @@ before_in_more n E F before = record {
 abbrev OneIsBefore : ℕ → Amounts → Amounts → Type 0
 OneIsBefore n E F = IsBefore n E F ⊎ IsBefore n F E
 
-differ_last : (n : ℕ) (E F : Amounts) → ((v : ℕ) → v < n → E v ≡ F v) → E n <ℤ F n → IsBefore (suc n) E F
+differ_last : (n : ℕ) (E F : Amounts) → AgreeOn n E F → E n <ℤ F n → IsBefore (suc n) E F
 differ_last n E F same smaller = record {
   place = n;
   inside = omega arith;
@@ -59,7 +51,7 @@ differ_last n E F same smaller = record {
   smaller = smaller;
 }
 
-same_last : (n : ℕ) (E F : Amounts) → ((v : ℕ) → v < n → E v ≡ F v) → E n ≡ F n → (v : ℕ) → v < suc n → E v ≡ F v
+same_last : (n : ℕ) (E F : Amounts) → AgreeOn n E F → E n ≡ F n → AgreeOn (suc n) E F
 same_last n E F same last v below =
     ⊎_elim
     (λ (at : v ≡ n). let E_at : E v ≡ E n = ap E at in let F_at : F v ≡ F n = ap F at in omega (arith, ints))
@@ -67,9 +59,9 @@ same_last n E F same last v below =
     (cases_eq v n)
 
 abbrev SameOrBefore : ℕ → Amounts → Amounts → Type 0
-SameOrBefore n E F = ((v : ℕ) → v < n → E v ≡ F v) ⊎ OneIsBefore n E F
+SameOrBefore n E F = AgreeOn n E F ⊎ OneIsBefore n E F
 
-compare_last : (n : ℕ) (E F : Amounts) → ((v : ℕ) → v < n → E v ≡ F v) → SameOrBefore (suc n) E F
+compare_last : (n : ℕ) (E F : Amounts) → AgreeOn n E F → SameOrBefore (suc n) E F
 compare_last n E F same =
     by_lt_z (E n) (F n)
     (λ (smaller : E n <ℤ F n). inr (inl (differ_last n E F same smaller)))
@@ -82,7 +74,7 @@ same_or_before : (n : ℕ) (E F : Amounts) → SameOrBefore n E F
 same_or_before zero E F = inl (λ v below. absurd (omega arith))
 same_or_before (suc n) E F =
     ⊎_elim
-    (λ (same : (v : ℕ) → v < n → E v ≡ F v). compare_last n E F same)
+    (λ (same : AgreeOn n E F). compare_last n E F same)
     (λ (one : OneIsBefore n E F).
     ⊎_elim
     (λ (before : IsBefore n E F). inr (inl (before_in_more n E F before)))
@@ -93,12 +85,12 @@ same_or_before (suc n) E F =
 pub loss_once : LossOnce
 loss_once g D k E F one other v inside =
     ⊎_elim
-    (λ (same : (v : ℕ) → v < g.size → E v ≡ F v). same v inside)
+    (λ (same : AgreeOn g.size E F). same v inside)
     (λ (either : OneIsBefore g.size E F). absurd (⊎_elim
     (λ (before : IsBefore g.size E F). one.loses (other.first E one.effective one.of_degree before))
     (λ (after : IsBefore g.size F E). other.loses (one.first F other.effective other.of_degree after))
     either))
     (same_or_before g.size E F)
 
-pub rank_or_loss : RankOrLoss
-rank_or_loss g D k E loss rank = loss.loses (rank E loss.effective loss.of_degree)
+pub loss_bounds_rank : LossBoundsRank
+loss_bounds_rank g D k E loss rank = loss.loses (rank E loss.effective loss.of_degree)

@@ -13,6 +13,7 @@
 --   plays_at-other       and change it nowhere else
 --   plays_for-past       the plays for the vertices below n have a total script that is 0 from n on
 --   plays_for-total      and below n it is the script that they are for
+--   played-plays_for     to play the plays for a script is to fire by it
 use Rattle.std.proofs.Common.{◌≡◌, ◌≢◌, ℕ, zero, suc, ◌<◌, ◌≤◌, List, [], ◌∷◌, arith, refl, sym, ◌∙◌, ⊎_elim}
 use Rattle.std.proofs.lemmas.Int.{ints}
 use Rattle.std.proofs.lemmas.Bool.{cases_eq}
@@ -21,7 +22,7 @@ use Rattle.std.proofs.Math.IntN.{ℤ, pos, negsuc, ◌+ℤ◌}
 use Rattle.dg_theory.specs.Multigraph.{Multigraph}
 use Rattle.dg_theory.specs.Firing.{Amounts, fired, only_at}
 use Rattle.dg_theory.specs.Play.{Play, lend, borrow, script_of_play, played}
-use Rattle.dg_theory.proofs.FiringLaws.{fired-fired, fired-constant}
+use Rattle.dg_theory.proofs.FiringLaws.{fired-fired, fired-cong, fired-constant}
 
 abbrev pub total_script : List Play → Amounts
 total_script [] w = pos 0
@@ -88,3 +89,10 @@ plays_for-total (suc n) s w below =
     (λ (same : w ≡ n). rw same last)
     (λ (other : w ≢ n). plays_at-other n (s n) (plays_for n s) w other ∙ plays_for-total n s w (omega arith))
     (cases_eq w n)
+
+pub played-plays_for : (g : Multigraph) (D s : Amounts) (v : ℕ) → v < g.size →
+    fired g D s v ≡ played g D (plays_for g.size s) v
+played-plays_for g D s v below =
+    let l = plays_for g.size s in
+    fired-cong g D s (total_script l) v below (λ w inside. sym (plays_for-total g.size s w inside))
+    ∙ sym (played-total g D l v)

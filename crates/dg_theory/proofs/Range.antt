@@ -29,9 +29,8 @@ use Rattle.std.specs.Prelude.{◌≤ℤ◌}
 use Rattle.std.specs.Int.RustNames.{unsigned_abs}
 use Rattle.dg_theory.specs.Sums.{sum_below}
 use Rattle.dg_theory.specs.Multigraph.{Multigraph, IsMultigraph, valence}
-use Rattle.dg_theory.specs.Firing.{Amounts, degree, gain, fired, indicator, multiple}
+use Rattle.dg_theory.specs.Firing.{Amounts, degree, gain, fired, indicator, multiple, HasNoDebtOff}
 use Rattle.dg_theory.specs.Burning.{edges_into}
-use Rattle.dg_theory.specs.BurningLaws.{HasNoDebtOff}
 use Rattle.dg_theory.specs.Distances.{IsDistance}
 use Rattle.dg_theory.proofs.Absolute.{within_abs, abs_within}
 use Rattle.dg_theory.proofs.Bounds.{gentle_between}

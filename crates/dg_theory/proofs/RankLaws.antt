@@ -1,42 +1,35 @@
 -- The laws of rank tests.
---   win_less_fired  where D less E is winnable, so is D less E after a firing of D
---   win_fired_less  and the other way round
---   rank_together   two divisors with a firing between them agree in each rank test
---   win_one_more    where there is a vertex, a rank of at least k + 1 makes D less E winnable for every effective E of
---                   degree k: with a dollar more E has the degree k + 1
---   rank_below      a rank of at least k + 1 is one of at least k
---   rank_zero       the rank is at least 0 exactly where the divisor is winnable
---   rich_rank       a divisor whose degree is at least the genus and k more has a rank of at least k
---   poor_rank       a divisor whose degree is less than k has no rank of at least k
+--   less_winnable    of equivalent divisors, each less F, either both are winnable or neither is
+--   equivalent-rank  of equivalent divisors either both have a rank of at least k or neither has
+--   win_one_more     where there is a vertex, a rank of at least k + 1 makes D less E winnable for every effective E of
+--                    degree k: with a dollar more E has the degree k + 1
+--   rank_below       a rank of at least k + 1 is one of at least k
+--   rank_zero        the rank is at least 0 exactly where the divisor is winnable
+--   rich_rank        a divisor whose degree is at least the genus and k more has a rank of at least k
+--   poor_rank        a divisor whose degree is less than k has no rank of at least k
 use Rattle.std.proofs.Common.{◌≡◌, ℕ, ◌+◌, ◌<◌, [], arith, refl, ⊎_elim}
 use Rattle.std.proofs.lemmas.Bool.{cases_eq}
 use Rattle.std.proofs.lemmas.Int.{ints}
 use Rattle.std.proofs.Math.IntN.{pos, ◌+ℤ◌}
-use Rattle.std.specs.Prelude.{◌≤ℤ◌}
+use Rattle.std.specs.Prelude.{◌↔◌, ◌≤ℤ◌}
 use Rattle.dg_theory.specs.Multigraph.{Multigraph}
-use Rattle.dg_theory.specs.Firing.{Amounts, degree, fired, only_at, IsEffective}
+use Rattle.dg_theory.specs.Firing.{Amounts, degree, only_at, IsEffective, AreEquivalent}
 use Rattle.dg_theory.specs.Play.{IsWinnable}
 use Rattle.dg_theory.specs.Rank.{less, HasRankAtLeast}
-use Rattle.dg_theory.specs.RankLaws.{RankTogether, RankBelow, RankZero, RichRank, PoorRank}
+use Rattle.dg_theory.specs.RankLaws.{EquivalentRank, RankBelow, RankZero, RichRank, PoorRank}
 use Rattle.dg_theory.proofs.SumLaws.{sum_below-add, sum_below-zero}
-use Rattle.dg_theory.proofs.Winning.{win_after, win_before}
+use Rattle.dg_theory.proofs.Winning.{equivalent-winnable}
+use Rattle.dg_theory.proofs.Equivalence.{equivalent-less}
 use Rattle.dg_theory.proofs.ExistenceLaws.{rich_is_winnable}
-use Rattle.dg_theory.proofs.Giving.{win_more, less-fired, degree-less, degree-only_at, effective-only_at, none_of_degree_0, degree-winnable}
+use Rattle.dg_theory.proofs.Giving.{win_more, degree-less, degree-only_at, effective-only_at, none_of_degree_0, degree-winnable}
 
-pub win_less_fired : (g : Multigraph) (D s E : Amounts) → IsWinnable g (less D E) → IsWinnable g (less (fired g D s) E)
-win_less_fired g D s E win =
-    win_more g (fired g (less D E) s) (less (fired g D s) E) (λ v _. omega (arith, ints, less-fired g D s E v))
-    (win_after g (less D E) s win)
+pub less_winnable : (g : Multigraph) (D E F : Amounts) → AreEquivalent g D E → IsWinnable g (less D F) ↔ IsWinnable g (less E F)
+less_winnable g D E F same = equivalent-winnable g (less D F) (less E F) (equivalent-less g D E F same)
 
-pub win_fired_less : (g : Multigraph) (D s E : Amounts) → IsWinnable g (less (fired g D s) E) → IsWinnable g (less D E)
-win_fired_less g D s E win =
-    win_before g (less D E) s
-    (win_more g (less (fired g D s) E) (fired g (less D E) s) (λ v _. omega (arith, ints, less-fired g D s E v)) win)
-
-pub rank_together : RankTogether
-rank_together g D s k = (
-  λ rank E effective of_degree. win_less_fired g D s E (rank E effective of_degree),
-  λ rank E effective of_degree. win_fired_less g D s E (rank E effective of_degree),
+pub equivalent-rank : EquivalentRank
+equivalent-rank g D E k same = (
+  λ rank F effective of_degree. (less_winnable g D E F same).0 (rank F effective of_degree),
+  λ rank F effective of_degree. (less_winnable g D E F same).1 (rank F effective of_degree),
 )
 
 win_one_more : (g : Multigraph) (D : Amounts) (k : ℕ) (E : Amounts) → 0 < g.size → HasRankAtLeast g D (k + 1) →

@@ -11,10 +11,9 @@ use Rattle.std.specs.Int.Signed.{le_z}
 use Rattle.std.proofs.lemmas.Int.{ints, by_lt_z}
 use Rattle.std.proofs.lemmas.Bool.{cases_Bool, and_parts, and_from, false_from_ne_true, both_ways}
 use Rattle.dg_theory.specs.Multigraph.{Multigraph, edges_between}
-use Rattle.dg_theory.specs.Firing.{Amounts}
+use Rattle.dg_theory.specs.Firing.{Amounts, HasNoDebtOff}
 use Rattle.dg_theory.specs.Reduced.{edges_out, IsReduced}
 use Rattle.dg_theory.specs.Burning.{FiresFreely}
-use Rattle.dg_theory.specs.BurningLaws.{HasNoDebtOff}
 use Rattle.dg_theory.proofs.TotalLaws.{total_below-le}
 use Rattle.dg_theory.proofs.SetFiring.{inside-fired, outside-fired}
 use Rattle.dg_theory.proofs.Counting.{count_of, count_of-some, count_of-more, member_or_none}

@@ -16,9 +16,8 @@ use Rattle.std.specs.Prelude.{◌≤ℤ◌, if◌then◌else◌}
 use borrow.Author.Differences.{up}
 use Rattle.dg_theory.specs.Sums.{sum_below, total_below}
 use Rattle.dg_theory.specs.Multigraph.{Multigraph, IsMultigraph}
-use Rattle.dg_theory.specs.Firing.{Amounts, gain, fired, indicator, multiple}
+use Rattle.dg_theory.specs.Firing.{Amounts, gain, fired, indicator, multiple, HasNoDebtOff}
 use Rattle.dg_theory.specs.Burning.{FiresFreely}
-use Rattle.dg_theory.specs.BurningLaws.{HasNoDebtOff}
 use Rattle.dg_theory.proofs.Products.{mulz-add}
 use Rattle.dg_theory.proofs.SumLaws.{sum_below-cong, sum_below-add}
 use Rattle.dg_theory.proofs.SumBounds.{mul-negative, sum_below-nonpos}

@@ -1,32 +1,17 @@
--- Winnability in terms of scripts.
---   effective-cong       a divisor that agrees on the vertices with one without debts has none either
---   played-plays_for     to play the plays for a script is to fire by it
+-- Winnability in terms of scripts and of equivalence.
 --   script_of_win        from plays that clear all debts, a script that does
 --   win_of_script        from a script that clears all debts, plays that do
 --   winnable_by_script   the law that says both
---   win_after            what is winnable stays so by firing
---   win_before           and what firing makes winnable was so before
---   winnable_together    the law that firing does not change winnability
-use Rattle.std.proofs.Common.{◌≡◌, ℕ, ◌<◌, arith, sym, ◌∙◌}
-use Rattle.std.proofs.lemmas.Int.{ints}
-use Rattle.std.proofs.Math.IntN.{◌+ℤ◌}
+--   winnable_by_class    a divisor is winnable exactly where it is equivalent to an effective one
+--   win_carried          what is equivalent to a winnable divisor is winnable
+--   equivalent-winnable  of equivalent divisors either both are winnable or neither is
 use Rattle.dg_theory.specs.Multigraph.{Multigraph}
-use Rattle.dg_theory.specs.Firing.{Amounts, fired, IsEffective}
+use Rattle.dg_theory.specs.Firing.{Amounts, IsEffective, fired, AreEquivalent}
 use Rattle.dg_theory.specs.Play.{played, IsWinnable}
-use Rattle.dg_theory.specs.WinningLaws.{WinnableByScript, WinnableTogether}
-use Rattle.dg_theory.proofs.FiringLaws.{fired-fired, fired-cong}
-use Rattle.dg_theory.proofs.Scripts.{difference, fired-difference}
-use Rattle.dg_theory.proofs.Plays.{total_script, plays_for, played-total, plays_for-total}
-
-pub effective-cong : (n : ℕ) (D E : Amounts) → ((v : ℕ) → v < n → D v ≡ E v) → IsEffective n D → IsEffective n E
-effective-cong n D E same effective v below = omega (arith, ints, same v below, effective v below)
-
-pub played-plays_for : (g : Multigraph) (D s : Amounts) (v : ℕ) → v < g.size →
-    fired g D s v ≡ played g D (plays_for g.size s) v
-played-plays_for g D s v below =
-    let l = plays_for g.size s in
-    fired-cong g D s (total_script l) v below (λ w inside. sym (plays_for-total g.size s w inside))
-    ∙ sym (played-total g D l v)
+use Rattle.dg_theory.specs.WinningLaws.{WinnableByScript, WinnableByClass, EquivalentWinnable}
+use Rattle.dg_theory.proofs.Agreement.{effective-cong}
+use Rattle.dg_theory.proofs.Equivalence.{equivalent-fired, equivalent-sym, equivalent-trans}
+use Rattle.dg_theory.proofs.Plays.{total_script, plays_for, played-total, played-plays_for}
 
 pub script_of_win : (g : Multigraph) (D : Amounts) → IsWinnable g D → (s : Amounts) × IsEffective g.size (fired g D s)
 script_of_win g D (l, effective) =
@@ -41,18 +26,16 @@ win_of_script g D s effective =
 pub winnable_by_script : WinnableByScript
 winnable_by_script g D = (script_of_win g D, λ (s, effective). win_of_script g D s effective)
 
-pub win_after : (g : Multigraph) (D s : Amounts) → IsWinnable g D → IsWinnable g (fired g D s)
-win_after g D s win =
-    let (t, effective) = script_of_win g D win in
-    win_of_script g (fired g D s) (difference t s)
-    (effective-cong g.size (fired g D t) _ (λ v below. sym (fired-difference g D s t v below)) effective)
+pub winnable_by_class : WinnableByClass
+winnable_by_class g D = (
+  λ win. let (s, effective) = script_of_win g D win in (fired g D s, equivalent-fired g D s, effective),
+  λ (E, (s, leads), effective). win_of_script g D s (effective-cong g.size E (fired g D s) leads effective),
+)
 
-pub win_before : (g : Multigraph) (D s : Amounts) → IsWinnable g (fired g D s) → IsWinnable g D
-win_before g D s win =
-    let (t, effective) = script_of_win g (fired g D s) win in
-    let both : Amounts = λ w. s w +ℤ t w in
-    win_of_script g D both
-    (effective-cong g.size (fired g (fired g D s) t) _ (λ v _. fired-fired g D s t v) effective)
+pub win_carried : (g : Multigraph) (D E : Amounts) → AreEquivalent g D E → IsWinnable g D → IsWinnable g E
+win_carried g D E same win =
+    let (F, to, effective) = (winnable_by_class g D).0 win in
+    (winnable_by_class g E).1 (F, equivalent-trans g E D F (equivalent-sym g D E same) to, effective)
 
-pub winnable_together : WinnableTogether
-winnable_together g D s = (win_after g D s, win_before g D s)
+pub equivalent-winnable : EquivalentWinnable
+equivalent-winnable g D E same = (win_carried g D E same, win_carried g E D (equivalent-sym g D E same))

@@ -10,11 +10,11 @@
 --                             whether or not it is the least
 --   FiresFreely g q D S    == S is without q, and nobody off q is in debt once S has fired
 --   IsGreatestFree g q D S == S fires freely, and holds every vertex of every set that does
-use Rattle.std.specs.Prelude.{◌≡◌, ◌≢◌, ℕ, suc, ◌<◌, ◌==◌, Bool, true, false, if◌then◌else◌, List, slice_get, take, Some, pos, ◌≤ℤ◌, ◌<ℤ◌}
+use Rattle.std.specs.Prelude.{◌≡◌, ℕ, suc, ◌<◌, ◌==◌, Bool, true, false, if◌then◌else◌, List, slice_get, take, Some, pos, ◌<ℤ◌}
 use Rattle.std.specs.List.{list_any}
 use Rattle.dg_theory.specs.Sums.{total_below}
 use Rattle.dg_theory.specs.Multigraph.{Multigraph, edges_between}
-use Rattle.dg_theory.specs.Firing.{Amounts, fired, indicator}
+use Rattle.dg_theory.specs.Firing.{Amounts, HasNoDebtOff, fired, indicator}
 
 abbrev pub among : List ℕ → ℕ → Bool
 among l v = list_any (λ w. w == v) l
@@ -43,7 +43,7 @@ pub record BurnsAll (g : Multigraph) (q : ℕ) (D : Amounts) (l : List ℕ) : Ty
 
 pub record FiresFreely (g : Multigraph) (q : ℕ) (D : Amounts) (S : ℕ → Bool) : Type 0 where
   pub without : S q ≡ false
-  pub no_debt : (v : ℕ) → v < g.size → v ≢ q → pos 0 ≤ℤ fired g D (indicator S) v
+  pub no_debt : HasNoDebtOff g q (fired g D (indicator S))
 
 pub record IsGreatestFree (g : Multigraph) (q : ℕ) (D : Amounts) (S : ℕ → Bool) : Type 0 where
   pub free : FiresFreely g q D S

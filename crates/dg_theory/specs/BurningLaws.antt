@@ -2,14 +2,11 @@
 --   UnburntFires    == what burning leaves is the greatest set that fires freely
 --   BurntIsReduced  == burning leaves nothing exactly where the divisor is reduced
 --   BurnsToReduced  == a divisor from which all vertices burn, in any order, is reduced
-use Rattle.std.specs.Prelude.{◌≡◌, ◌≢◌, ℕ, ◌<◌, ◌↔◌, Bool, true, not, ◌&&◌, nat_lt, List, pos, ◌≤ℤ◌}
+use Rattle.std.specs.Prelude.{◌≡◌, ℕ, ◌<◌, ◌↔◌, Bool, true, not, ◌&&◌, nat_lt, List}
 use Rattle.dg_theory.specs.Multigraph.{Multigraph, IsMultigraph}
-use Rattle.dg_theory.specs.Firing.{Amounts}
+use Rattle.dg_theory.specs.Firing.{Amounts, HasNoDebtOff}
 use Rattle.dg_theory.specs.Reduced.{IsReduced}
 use Rattle.dg_theory.specs.Burning.{among, BurnsInOrder, BurnsAll, IsGreatestFree}
-
-abbrev pub HasNoDebtOff : Multigraph → ℕ → Amounts → Type 0
-HasNoDebtOff g q D = (v : ℕ) → v < g.size → v ≢ q → pos 0 ≤ℤ D v
 
 -- the vertices that are not in the list
 abbrev pub unburnt_by : Multigraph → List ℕ → ℕ → Bool

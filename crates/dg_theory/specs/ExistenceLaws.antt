@@ -1,5 +1,5 @@
 -- What exists in every multigraph, for amounts of any size (Baker and Norine 2007, section 3; Corry and Perkinson,
--- chapters 3 and 5). The functions of src/lib.rt promise it.
+-- chapters 3 and 5). The functions of src/laws.rt promise it.
 --   ReducedExists   == every divisor can be fired to one that is reduced for q, by a script that is 0 at q
 --   RichIsWinnable  == a divisor whose degree is at least the genus is winnable
 use Rattle.std.specs.Prelude.{◌≡◌, ℕ, ◌<◌, pos, ◌≤ℤ◌}

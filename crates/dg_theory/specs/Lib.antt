@@ -1,15 +1,19 @@
--- The definitions of the dollar game, in reading order.
+-- The definitions of the dollar game, in reading order: what has to be believed.
 pub mod Sums
 pub mod Multigraph
 pub mod Firing
 pub mod Play
 pub mod Reduced
-pub mod Laws
-pub mod WinningLaws
 pub mod Burning
+pub mod Rank
+-- The laws, which are proved.
+pub mod FiringLaws
+pub mod EquivalenceLaws
+pub mod WinningLaws
+pub mod ReducedLaws
 pub mod BurningLaws
 pub mod GenusLaws
 pub mod ExistenceLaws
-pub mod Rank
 pub mod RankLaws
+-- For the proofs of other crates.
 pub mod Distances

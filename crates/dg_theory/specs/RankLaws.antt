@@ -1,25 +1,25 @@
--- The laws of rank (Baker and Norine 2007, section 1; Corry and Perkinson, chapter 5). The functions of src/lib.rt
+-- The laws of rank (Baker and Norine 2007, section 1; Corry and Perkinson, chapter 5). The functions of src/laws.rt
 -- promise them.
---   RankTogether  == two divisors with a firing between them agree in each rank test
---   LossTogether  == and in the first loss
---   RankBelow     == a divisor whose rank is at least k + 1 has a rank of at least k
---   RankZero      == the rank is at least 0 exactly where the divisor is winnable
---   RichRank      == a divisor whose degree is at least the genus and k more has a rank of at least k
---   PoorRank      == a divisor whose degree is less than k has no rank of at least k
---   LossOnce      == there is at most one first loss
---   RankOrLoss    == where there is a first loss of degree k, the rank is not at least k
-use Rattle.std.specs.Prelude.{◌≡◌, ℕ, ◌+◌, ◌<◌, ◌↔◌, pos, ◌+ℤ◌, ◌≤ℤ◌, ◌<ℤ◌}
+--   EquivalentRank  == of equivalent divisors either both have a rank of at least k or neither has
+--   EquivalentLoss  == the first loss of a divisor is the first loss of each that is equivalent to it
+--   RankBelow       == a divisor whose rank is at least k + 1 has a rank of at least k
+--   RankZero        == the rank is at least 0 exactly where the divisor is winnable
+--   RichRank        == a divisor whose degree is at least the genus and k more has a rank of at least k
+--   PoorRank        == a divisor whose degree is less than k has no rank of at least k
+--   LossOnce        == two first losses of degree k of one divisor agree on the vertices
+--   LossBoundsRank  == where there is a first loss of degree k, the rank is not at least k
+use Rattle.std.specs.Prelude.{ℕ, ◌+◌, ◌<◌, ◌↔◌, pos, ◌+ℤ◌, ◌≤ℤ◌, ◌<ℤ◌}
 use Rattle.dg_theory.specs.Multigraph.{Multigraph, IsMultigraph, genus}
-use Rattle.dg_theory.specs.Firing.{Amounts, degree, fired}
+use Rattle.dg_theory.specs.Firing.{Amounts, degree, AgreeOn, AreEquivalent}
 use Rattle.dg_theory.specs.Play.{IsWinnable}
 use Rattle.dg_theory.specs.Rank.{HasRankAtLeast, IsFirstLoss}
 
-abbrev pub RankTogether : Type 0
-RankTogether = (g : Multigraph) (D s : Amounts) (k : ℕ) → HasRankAtLeast g D k ↔ HasRankAtLeast g (fired g D s) k
+abbrev pub EquivalentRank : Type 0
+EquivalentRank = (g : Multigraph) (D E : Amounts) (k : ℕ) → AreEquivalent g D E → (HasRankAtLeast g D k ↔ HasRankAtLeast g E k)
 
-abbrev pub LossTogether : Type 0
-LossTogether = (g : Multigraph) (D s : Amounts) (k : ℕ) (E : Amounts) →
-    IsFirstLoss g D k E ↔ IsFirstLoss g (fired g D s) k E
+abbrev pub EquivalentLoss : Type 0
+EquivalentLoss = (g : Multigraph) (D E : Amounts) (k : ℕ) (F : Amounts) → AreEquivalent g D E →
+    (IsFirstLoss g D k F ↔ IsFirstLoss g E k F)
 
 abbrev pub RankBelow : Type 0
 RankBelow = (g : Multigraph) (D : Amounts) (k : ℕ) → HasRankAtLeast g D (k + 1) → HasRankAtLeast g D k
@@ -37,7 +37,7 @@ PoorRank = (g : Multigraph) (D : Amounts) (k : ℕ) → IsMultigraph g → 0 < g
 
 abbrev pub LossOnce : Type 0
 LossOnce = (g : Multigraph) (D : Amounts) (k : ℕ) (E F : Amounts) → IsFirstLoss g D k E → IsFirstLoss g D k F →
-    (v : ℕ) → v < g.size → E v ≡ F v
+    AgreeOn g.size E F
 
-abbrev pub RankOrLoss : Type 0
-RankOrLoss = (g : Multigraph) (D : Amounts) (k : ℕ) (E : Amounts) → IsFirstLoss g D k E → ¬ HasRankAtLeast g D k
+abbrev pub LossBoundsRank : Type 0
+LossBoundsRank = (g : Multigraph) (D : Amounts) (k : ℕ) (E : Amounts) → IsFirstLoss g D k E → ¬ HasRankAtLeast g D k

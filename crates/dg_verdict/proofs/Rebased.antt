@@ -7,18 +7,19 @@ use Rattle.std.specs.Int.RustNames.{unsigned_abs}
 use Rattle.std.proofs.lemmas.Int.{ints}
 use Rattle.std.proofs.Math.IntN.{pos, ◌+ℤ◌, ◌-ℤ◌}
 use Rattle.dg_theory.specs.Multigraph.{Multigraph}
-use Rattle.dg_theory.specs.Firing.{Amounts, fired}
+use Rattle.dg_theory.specs.Firing.{Amounts, AgreeOn, fired, FiresTo}
 use Rattle.dg_theory.proofs.FiringLaws.{fired-fired}
 use Rattle.dg_theory.proofs.Scripts.{fired-shifted}
-use Rattle.dg_theory.proofs.Winning.{win_after, win_before}
+use Rattle.dg_theory.proofs.Equivalence.{equivalent-fired}
+use Rattle.dg_theory.proofs.Winning.{equivalent-winnable}
 use Rattle.dg_chips.specs.Vector.{Vector, at}
 use Rattle.dg_reduce.proofs.Outcome.{script_near}
 use Rattle.dg_verdict.specs.declared.verdict.Verdict.{Verdict}
 use Rattle.dg_verdict.specs.Right.{IsRight}
 use Rattle.dg_verdict.specs.Rebasing.{IsRebasable}
 
-pub rebased_leads : (g : Multigraph) (q : ℕ) (D R s m t : Amounts) → ((v : ℕ) → v < g.size → R v ≡ fired g D s v) →
-    ((v : ℕ) → v < g.size → t v ≡ s v -ℤ m v +ℤ m q) → (v : ℕ) → v < g.size → R v ≡ fired g (fired g D m) t v
+pub rebased_leads : (g : Multigraph) (q : ℕ) (D R s m t : Amounts) → FiresTo g s D R →
+    AgreeOn g.size t (λ v. s v -ℤ m v +ℤ m q) → FiresTo g t (fired g D m) R
 rebased_leads g q D R s m t leads rebased v inside =
     leads v inside
     ∙ sym (fired-fired g D m t v
@@ -57,7 +58,7 @@ rebased_right g q D x m t vertex right drift size rebased =
       reduced = right.reduced;
       order = right.order;
       winnable = (
-        λ told. win_after g D (at m) (right.winnable.0 told),
-        λ winnable. right.winnable.1 (win_before g D (at m) winnable),
+        λ told. (equivalent-winnable g D (fired g D (at m)) (equivalent-fired g D (at m))).0 (right.winnable.0 told),
+        λ win. right.winnable.1 ((equivalent-winnable g D (fired g D (at m)) (equivalent-fired g D (at m))).1 win),
       );
     }

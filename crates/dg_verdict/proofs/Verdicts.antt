@@ -1,5 +1,4 @@
 -- What makes a verdict right.
---   winnable_at_q   a divisor is winnable exactly where the reduced one that a script leads to is not in debt at q
 --   all_in_order    where the order in which vertices burn is that of a reduced divisor, all burn
 --   told_apart      a flag and a test that is right tell by their being equal whether the flag is right
 use Rattle.std.proofs.Common.{◌≡◌, ℕ, ◌<◌, Bool, true, false, List, arith, refl}
@@ -12,20 +11,8 @@ use Rattle.dg_theory.specs.Firing.{Amounts, fired}
 use Rattle.dg_theory.specs.Play.{IsWinnable}
 use Rattle.dg_theory.specs.Reduced.{IsReduced}
 use Rattle.dg_theory.specs.Burning.{BurnsInOrder, BurnsAll}
-use Rattle.dg_theory.proofs.Winning.{winnable_by_script}
-use Rattle.dg_theory.proofs.ReducedLaws.{reduced_decides}
 use Rattle.dg_theory.proofs.BurningOrder.{may_burn}
 use Rattle.dg_theory.proofs.BurningLaws.{reduced_burnt}
-use Rattle.dg_theory.proofs.ExistenceLaws.{reduced-cong}
-
-pub winnable_at_q : (g : Multigraph) (q : ℕ) (D R s : Amounts) → q < g.size →
-    ((v : ℕ) → v < g.size → R v ≡ fired g D s v) → IsReduced g q R → IsWinnable g D ↔ (pos 0 ≤ℤ R q)
-winnable_at_q g q D R s vertex led reduced =
-    let (to, from) = reduced_decides winnable_by_script g q D s vertex (reduced-cong g q R (fired g D s) led reduced) in
-    let same : R q ≡ fired g D s q = led q vertex in (
-      λ winnable. let paid : pos 0 ≤ℤ fired g D s q = to winnable in omega (arith, ints),
-      λ paid. from (omega (arith, ints)),
-    )
 
 pub all_in_order : (g : Multigraph) (q : ℕ) (D : Amounts) (l : List ℕ) → BurnsInOrder g q D l → IsReduced g q D → BurnsAll g q D l
 all_in_order g q D l order reduced = record {

@@ -2,9 +2,9 @@
 -- which the script leads, and an order in which all vertices burn.
 --   IsRight g q D x == the script is 0 at q and leads from D to a divisor that is reduced for q; the first vertices of
 --                      the order show that it is; and the verdict says winnable exactly where D is
-use Rattle.std.specs.Prelude.{◌≡◌, ℕ, ◌<◌, ◌↔◌, true, take, pos}
+use Rattle.std.specs.Prelude.{◌≡◌, ℕ, ◌↔◌, true, take, pos}
 use Rattle.dg_theory.specs.Multigraph.{Multigraph}
-use Rattle.dg_theory.specs.Firing.{Amounts, fired}
+use Rattle.dg_theory.specs.Firing.{Amounts, FiresTo}
 use Rattle.dg_theory.specs.Play.{IsWinnable}
 use Rattle.dg_theory.specs.Reduced.{IsReduced}
 use Rattle.dg_theory.specs.Burning.{BurnsAll}
@@ -15,7 +15,7 @@ pub record IsRight (g : Multigraph) (q : ℕ) (D : Amounts) (x : Verdict) : Type
   pub script_size : x.script.size ≡ g.size
   pub reduced_size : x.reduced.size ≡ g.size
   pub at_q : at x.script q ≡ pos 0
-  pub led : (v : ℕ) → v < g.size → at x.reduced v ≡ fired g D (at x.script) v
+  pub led : FiresTo g (at x.script) D (at x.reduced)
   pub reduced : IsReduced g q (at x.reduced)
   pub order : BurnsAll g q (at x.reduced) (take g.size x.order)
   pub winnable : (x.winnable ≡ true) ↔ IsWinnable g D

@@ -1,6 +1,6 @@
 ghost use Rattle.std.specs.Prelude.{◌≡◌, ℕ, ◌<◌, take, MatchBool};
 ghost use Rattle.dg_theory.specs.Burning.{MayBurn, BurnsAll};
-ghost use Rattle.dg_theory.specs.BurningLaws.{HasNoDebtOff};
+ghost use Rattle.dg_theory.specs.Firing.{HasNoDebtOff};
 ghost use Rattle.dg_graph.specs.Search.{is_in};
 ghost use Rattle.dg_chips.specs.Vector.{at};
 ghost use Rattle.dg_verdict.specs.Right.{IsRight};

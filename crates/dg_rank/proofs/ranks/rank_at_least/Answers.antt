@@ -11,7 +11,9 @@ use Rattle.dg_rank.specs.Numbering.{nth_trial}
 use Rattle.dg_rank.specs.Pieces.{IsLossIn}
 use Rattle.dg_rank.proofs.Found.{nth-trial, loss-trial, found_rank, found_loss, some_number, poor_loss}
 use Rattle.dg_rank.proofs.SmallAmounts.{reduced_small}
-use Rattle.dg_rank.proofs.Carried.{rank_carried, loss_carried, degree_carried}
+use Rattle.dg_theory.proofs.Equivalence.{equivalent-degree}
+use Rattle.dg_theory.proofs.LossLaws.{equivalent-loss}
+use Rattle.dg_theory.proofs.RankLaws.{equivalent-rank}
 use Rattle.dg_rank.proofs.ranks.rank_at_least.Goals as goal
 
 pub returns-then-rest-from : goal.returns-then-rest-from
@@ -59,11 +61,11 @@ first_loss-requires-clause-range c =
     rw c.requires.size at c.degree_left-rest.ensures in
     let least : pos 0 ≤ℤ degree c.args.graph.now.size (at c.args.divisor.now) = omega (arith, ints) in
     let most : degree c.args.graph.now.size (at c.args.divisor.now) <ℤ (genus c.args.graph.now +ℤ pos c.args.k) = omega (arith, ints) in
-    let same : degree c.args.graph.now.size (at c.reduce-chips.result.divisor) ≡ degree c.args.graph.now.size (at c.args.divisor.now) =
-    degree_carried c.args.graph.now (at c.args.divisor.now) (at c.reduce-chips.result.divisor) (at c.reduce-chips.result.script)
-    c.size-size.ensures.graph.multigraph c.reduce-chips.ensures.led in
+    let same : degree c.args.graph.now.size (at c.args.divisor.now) ≡ degree c.args.graph.now.size (at c.reduce-chips.result.divisor) =
+    equivalent-degree c.args.graph.now (at c.args.divisor.now) (at c.reduce-chips.result.divisor)
+    c.size-size.ensures.graph.multigraph (at c.reduce-chips.result.script, c.reduce-chips.ensures.led) in
     reduced_small c.args.graph.now c.args.q (at c.reduce-chips.result.divisor) c.size-size.ensures.graph c.requires.vertex
-    c.reduce-chips.ensures.reduced c.args.k c.in-Some.ensures.small (rw same least) (rw same most)
+    c.reduce-chips.ensures.reduced c.args.k c.in-Some.ensures.small (rw (← same) least) (rw (← same) most)
 
 pub divisor_of-requires : goal.divisor_of-requires
 divisor_of-requires c =
@@ -86,8 +88,8 @@ returns-in-Some-first_loss c =
       (
         refl,
         size,
-        loss_carried c.args.graph.now (at c.args.divisor.now) (at c.reduce-chips.result.divisor) (at c.reduce-chips.result.script)
-            c.args.k (at c.divisor_of.result) c.reduce-chips.ensures.led found,
+        (equivalent-loss c.args.graph.now (at c.args.divisor.now) (at c.reduce-chips.result.divisor) c.args.k (at c.divisor_of.result)
+            (at c.reduce-chips.result.script, c.reduce-chips.ensures.led)).1 found,
       ),
     )
 
@@ -97,8 +99,8 @@ returns-in-None c =
       (c.in-Some.count, within),
       (
         refl,
-        rank_carried c.args.graph.now (at c.args.divisor.now) (at c.reduce-chips.result.divisor) (at c.reduce-chips.result.script)
-            c.args.k c.reduce-chips.ensures.led
+        (equivalent-rank c.args.graph.now (at c.args.divisor.now) (at c.reduce-chips.result.divisor) c.args.k
+            (at c.reduce-chips.result.script, c.reduce-chips.ensures.led)).1
             (found_rank c.args.graph.now (at c.reduce-chips.result.divisor) c.args.k c.in-Some.count within c.in-None.ensures),
       ),
     )

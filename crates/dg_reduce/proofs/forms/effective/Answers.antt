@@ -3,7 +3,7 @@ use Rattle.std.proofs.lemmas.Int.{ints}
 use Rattle.std.proofs.Math.IntN.{pos}
 use Rattle.std.specs.Prelude.{◌<ℤ◌}
 use Rattle.dg_chips.specs.Vector.{at}
-use Rattle.dg_chips.specs.Drifts.{FiresTo}
+use Rattle.dg_theory.specs.Firing.{AreEquivalent}
 use Rattle.dg_reduce.proofs.EffectiveForms.{partly, forms-start, forms-paid, forms-owing, forms-repaid, forms-lost, forms-limit, forms-done}
 use Rattle.dg_reduce.proofs.forms.effective.Goals as goal
 use Rattle.dg_reduce.proofs.forms.effective.Goals.{then-amount-lt0+in_ok-now, else-amount-lt0}
@@ -21,23 +21,21 @@ repay-requires-clause-range c =
 pub returns-in_err-now : goal.returns-in_err-now
 returns-in_err-now c =
     let debt : at c.args.chips.now c.loop-v.v <ℤ pos 0 = omega (arith, ints) in
-    let leads : FiresTo c.args.graph.now c.loop-v.invariant.script (partly (at c.args.chips.now) (c.loop-v.v + 1)) (at c.with_amount.result) =
+    let owing : AreEquivalent c.args.graph.now (partly (at c.args.chips.now) (c.loop-v.v + 1)) (at c.with_amount.result) =
     forms-owing c.args.graph.now (at c.args.chips.now) c.loop-v.v c.loop-v.now c.with_amount.result c.loop-v.invariant (omega arith)
     debt (omega (arith, ints, c.with_amount.ensures.same, c.loop-v.invariant.effective c.loop-v.v (omega arith))) c.with_amount.ensures.others in
     rw c.from_residual.ensures
-    (forms-lost c.args.graph.now (at c.args.chips.now) c.loop-v.v c.loop-v.now c.with_amount.result c.loop-v.invariant leads
-    c.in_err-now.ensures)
+    (forms-lost c.args.graph.now (at c.args.chips.now) c.loop-v.v c.with_amount.result owing c.in_err-now.ensures)
 
 pub loop-v-preserved : goal.loop-v-preserved
 loop-v-preserved c = elim c.if-amount-lt0.branch [
   | then-amount-lt0+in_ok-now w ↦
       let debt : at c.args.chips.now c.loop-v.v <ℤ pos 0 = omega (arith, ints) in
-      let leads : FiresTo c.args.graph.now c.loop-v.invariant.script (partly (at c.args.chips.now) (c.loop-v.v + 1)) (at w.with_amount.result) =
+      let owing : AreEquivalent c.args.graph.now (partly (at c.args.chips.now) (c.loop-v.v + 1)) (at w.with_amount.result) =
       forms-owing c.args.graph.now (at c.args.chips.now) c.loop-v.v c.loop-v.now w.with_amount.result c.loop-v.invariant (omega arith)
       debt (omega (arith, ints, w.with_amount.ensures.same, c.loop-v.invariant.effective c.loop-v.v (omega arith))) w.with_amount.ensures.others in
       rw w.now-is
-      (forms-repaid c.args.graph.now (at c.args.chips.now) c.loop-v.v c.loop-v.now w.with_amount.result w.in_ok-now.now
-      c.loop-v.invariant leads w.in_ok-now.ensures)
+      (forms-repaid c.args.graph.now (at c.args.chips.now) c.loop-v.v w.with_amount.result w.in_ok-now.now owing w.in_ok-now.ensures)
   | else-amount-lt0 w ↦
       rw w.now-is (forms-paid c.args.graph.now (at c.args.chips.now) c.loop-v.v c.loop-v.now (omega (arith, ints)) c.loop-v.invariant)
 ]

@@ -3,7 +3,7 @@ use Rattle.std.proofs.lemmas.Int.{ints}
 use Rattle.std.proofs.Math.IntN.{◌+ℤ◌}
 use Rattle.std.specs.Int.RustNames.{unsigned_abs}
 use Rattle.dg_theory.specs.Reduced.{IsReduced}
-use Rattle.dg_theory.proofs.ExistenceLaws.{reduced-cong}
+use Rattle.dg_theory.proofs.Agreement.{reduced-cong}
 use Rattle.dg_theory.proofs.FiringLaws.{fired-cong}
 use Rattle.dg_chips.specs.Vector.{at}
 use Rattle.dg_reduce.proofs.Joined.{IsContinued, continued, continued_near}

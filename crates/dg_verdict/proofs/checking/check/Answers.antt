@@ -7,11 +7,11 @@ use Rattle.std.proofs.lemmas.Int.{ints}
 use Rattle.std.proofs.Math.IntN.{pos}
 use Rattle.dg_theory.specs.Reduced.{IsReduced}
 use Rattle.dg_theory.specs.Burning.{BurnsAll}
-use Rattle.dg_theory.specs.BurningLaws.{HasNoDebtOff}
+use Rattle.dg_theory.specs.Firing.{HasNoDebtOff, FiresTo}
 use Rattle.dg_theory.proofs.BurntWhole.{burns_to_reduced}
 use Rattle.dg_chips.specs.Vector.{at}
-use Rattle.dg_chips.specs.Drifts.{FiresTo}
-use Rattle.dg_verdict.proofs.Verdicts.{winnable_at_q, told_apart}
+use Rattle.dg_theory.proofs.ReducedLaws.{reduced_decides}
+use Rattle.dg_verdict.proofs.Verdicts.{told_apart}
 use Rattle.dg_verdict.proofs.checking.check.Goals as goal
 
 pub returns : goal.returns
@@ -23,8 +23,8 @@ returns c =
     let reduced : IsReduced c.args.graph.now c.args.q (at c.args.verdict.now.reduced) =
     burns_to_reduced c.args.graph.now c.args.q (at c.args.verdict.now.reduced) _ c.size-size.ensures.graph.multigraph
     c.requires.vertex solvent burns in
-    let (to, from) = winnable_at_q c.args.graph.now c.args.q (at c.args.divisor.now) (at c.args.verdict.now.reduced)
-    (at c.args.verdict.now.script) c.requires.vertex leads reduced in
+    let (to, from) = reduced_decides c.args.graph.now c.args.q (at c.args.divisor.now) (at c.args.verdict.now.reduced)
+    c.requires.vertex (at c.args.verdict.now.script, leads) reduced in
     told_apart _ _ _ _ (
       λ (told : le_z (pos 0) (to_z w128 (of_z w128 c.get-2.result)) ≡ true). from (omega (arith, ints)),
       λ winnable. let paid : pos 0 ≤ℤ at c.args.verdict.now.reduced c.args.q = to winnable in sym (omega (arith, ints)),

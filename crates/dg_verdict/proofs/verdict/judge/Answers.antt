@@ -4,7 +4,8 @@ use Rattle.std.proofs.lemmas.Int.{ints}
 use Rattle.std.proofs.Math.IntN.{pos}
 use Rattle.dg_theory.specs.Burning.{BurnsInOrder}
 use Rattle.dg_chips.specs.Vector.{at}
-use Rattle.dg_verdict.proofs.Verdicts.{winnable_at_q, all_in_order}
+use Rattle.dg_theory.proofs.ReducedLaws.{reduced_decides}
+use Rattle.dg_verdict.proofs.Verdicts.{all_in_order}
 use Rattle.dg_verdict.proofs.verdict.judge.Goals as goal
 
 pub returns-clause-right : goal.returns-clause-right
@@ -14,8 +15,8 @@ returns-clause-right c =
     let order : BurnsInOrder c.args.graph.now c.args.q (at c.reduce-reduced.result.divisor) (take c.args.graph.now.size c.burn-burnt.result.order) =
     subst (λ (k : ℕ). BurnsInOrder c.args.graph.now c.args.q (at c.reduce-reduced.result.divisor) (take k c.burn-burnt.result.order))
     burnt c.burn-burnt.ensures.order in
-    let (to, from) = winnable_at_q c.args.graph.now c.args.q (at c.args.divisor.now) (at c.reduce-reduced.result.divisor)
-    (at c.reduce-reduced.result.script) c.requires.vertex c.reduce-reduced.ensures.led c.reduce-reduced.ensures.reduced in
+    let (to, from) = reduced_decides c.args.graph.now c.args.q (at c.args.divisor.now) (at c.reduce-reduced.result.divisor)
+    c.requires.vertex (at c.reduce-reduced.result.script, c.reduce-reduced.ensures.led) c.reduce-reduced.ensures.reduced in
     record {
       script_size = c.reduce-reduced.ensures.sizes.1;
       reduced_size = c.reduce-reduced.ensures.sizes.0;

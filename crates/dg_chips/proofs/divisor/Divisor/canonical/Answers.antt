@@ -1,7 +1,5 @@
-use Rattle.std.proofs.Common.{ℕ, ◌≤◌, ◌<◌, length, length-set, arith, below_more, ◌∙◌}
-use Rattle.std.specs.Int.RustNames.{unsigned_abs}
+use Rattle.std.proofs.Common.{◌<◌, length, length-set, arith, below_more, ◌∙◌}
 use Rattle.std.proofs.lemmas.Int.{ints}
-use Rattle.std.proofs.Math.IntN.{pos, ◌-ℤ◌}
 use Rattle.dg_theory.specs.Rank.{canonical}
 use Rattle.dg_chips.proofs.VectorLaws.{filled-set, rest-set}
 use Rattle.dg_chips.proofs.divisor.Divisor.canonical.Goals as goal

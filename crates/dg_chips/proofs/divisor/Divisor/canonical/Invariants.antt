@@ -1,7 +1,7 @@
 use Rattle.std.proofs.Common.{◌≡◌, ℕ, ◌<◌, ◌≤◌, length}
 use Rattle.std.specs.List.{slice_index_or}
 use Rattle.std.specs.Int.RustNames.{unsigned_abs}
-use Rattle.std.proofs.Math.IntN.{pos, ◌-ℤ◌}
+use Rattle.std.proofs.Math.IntN.{pos}
 use Rattle.dg_theory.specs.Rank.{canonical}
 use Rattle.dg_chips.proofs.divisor.Divisor.canonical.Given as goal
 

@@ -1,5 +1,4 @@
-use Rattle.std.proofs.Common.{◌<◌, ◌≤◌, length, length-set, arith, below_more, ◌∙◌}
-use Rattle.std.specs.Int.RustNames.{unsigned_abs}
+use Rattle.std.proofs.Common.{◌<◌, length, length-set, arith, below_more, ◌∙◌}
 use Rattle.std.proofs.lemmas.Int.{ints}
 use Rattle.std.proofs.Math.IntN.{◌-ℤ◌}
 use Rattle.dg_chips.specs.Vector.{at}

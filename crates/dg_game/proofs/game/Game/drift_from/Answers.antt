@@ -1,7 +1,6 @@
 use Rattle.std.proofs.Common.{sym, subst}
-use Rattle.dg_theory.specs.Firing.{Amounts}
+use Rattle.dg_theory.specs.Firing.{Amounts, FiresTo}
 use Rattle.dg_chips.specs.Vector.{at}
-use Rattle.dg_chips.specs.Drifts.{FiresTo}
 use Rattle.dg_game.specs.State.{State}
 use Rattle.dg_verdict.proofs.Between.{between_leads}
 use Rattle.dg_game.proofs.game.Game.drift_from.Goals as goal

@@ -1,6 +1,6 @@
 use Rattle.dg_theory.proofs.BurningLaws.{unburnt_fires, burnt_is_reduced}
 use Rattle.dg_theory.proofs.BurntWhole.{burns_to_reduced}
-use Rattle.dg_theory.proofs.laws_of_burning.Goals as goal
+use Rattle.dg_theory.proofs.laws.laws_of_burning.Goals as goal
 
 pub returns-clause-unburnt : goal.returns-clause-unburnt
 returns-clause-unburnt c = unburnt_fires
