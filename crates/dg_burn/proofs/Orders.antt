@@ -10,8 +10,7 @@ use Rattle.std.specs.Prelude.{slice_get, Some}
 use Rattle.std.proofs.lemmas.List.{take-append-le, take_all}
 use Rattle.dg_theory.specs.Multigraph.{Multigraph}
 use Rattle.dg_theory.specs.Firing.{Amounts}
-use Rattle.dg_theory.specs.Burning.{among, MayBurn, BurnsNext, BurnsInOrder}
-use Rattle.dg_burn.specs.SoFar.{BurnsSoFar}
+use Rattle.dg_theory.specs.Burning.{among, MayBurn, BurnsNext, BurnsSoFar, BurnsInOrder}
 
 pub get-push : (l : List ℕ) (v i w : ℕ) → slice_get (l ++ v ∷ []) i ≡ Some w →
     ((i < length l) × (slice_get l i ≡ Some w)) ⊎ ((i ≡ length l) × (v ≡ w))
@@ -49,4 +48,4 @@ so_far-more g q D l v so_far burns = record {
 
 pub so_far-done : (g : Multigraph) (q : ℕ) (D : Amounts) (l : List ℕ) → BurnsSoFar g q D l →
     ((v : ℕ) → ¬ MayBurn g D (among l) v) → BurnsInOrder g q D l
-so_far-done g q D l so_far none = record { first = so_far.first; next = so_far.next; last = none }
+so_far-done g q D l so_far none = record { begun = so_far; last = none }

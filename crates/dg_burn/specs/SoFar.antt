@@ -1,17 +1,12 @@
 -- The state of burning before it ends.
---   BurnsSoFar g q D l        == l is q, and then vertices each of which is the least that may burn after those before it
 --   unreached n set           == how many of n vertices are not in the set, which is a list of tests
 --   IsBurning g q D l n set   == the set holds the n vertices of l, which burn so far, and those alone
-use Rattle.std.specs.Prelude.{◌≡◌, ℕ, suc, ◌+◌, Bool, if◌then◌else◌, List, length, slice_get, take, Some}
+use Rattle.std.specs.Prelude.{◌≡◌, ℕ, ◌+◌, Bool, if◌then◌else◌, List, length}
 use Rattle.dg_theory.specs.Sums.{total_below}
 use Rattle.dg_theory.specs.Multigraph.{Multigraph}
 use Rattle.dg_theory.specs.Firing.{Amounts}
-use Rattle.dg_theory.specs.Burning.{among, BurnsNext}
+use Rattle.dg_theory.specs.Burning.{among, BurnsSoFar}
 use Rattle.dg_graph.specs.Search.{is_in}
-
-pub record BurnsSoFar (g : Multigraph) (q : ℕ) (D : Amounts) (l : List ℕ) : Type 0 where
-  pub first : slice_get l 0 ≡ Some q
-  pub next : (i v : ℕ) → slice_get l (suc i) ≡ Some v → BurnsNext g D (among (take (suc i) l)) v
 
 abbrev pub unreached : ℕ → List Bool → ℕ
 unreached n set = total_below n (λ v. if is_in set v then 0 else 1)

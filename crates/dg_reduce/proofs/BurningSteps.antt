@@ -120,7 +120,7 @@ pub unburnt_member : (g : Multigraph) (q : ℕ) (D : Amounts) (l : List ℕ) (m 
     IsGreatestFree g q D (in_set m) → ((m ≡ 0) ↔ IsReduced g q D) → m ≢ 0 → (v : ℕ) × (v < g.size) × (in_set m v ≡ true)
 unburnt_member g q D l m solvent order rest reduced some = ⊎_elim
     (λ (found : (v : ℕ) × (v < g.size) × (unburnt_by g l v ≡ true)).
-    (found.0, found.1, rest.greatest (unburnt_by g l) (rest_fires g q D l solvent order) found.0 found.1 found.2))
+    (found.0, found.1, rest.greatest (unburnt_by g l) (rest_fires g q D l solvent order) found.0 found.2))
     (λ (none : (v : ℕ) → v < g.size → unburnt_by g l v ≡ false).
     absurd (some (reduced.1 (burnt_reduced g q D l solvent order
     (λ v below. not-false _ (sym (unburnt_by-below g l v below) ∙ none v below))))))

@@ -4,18 +4,19 @@
 --   rest_fires         the rest that burning leaves fires freely
 --   never_burns        a vertex of a set that fires freely never burns
 --   unburnt_fires      what burning leaves is the greatest set that fires freely
+--   greatest_is_one    two greatest sets that fire freely hold the same vertices
 --   burnt_reduced      if burning leaves nothing, the divisor is reduced
 --   reduced_burnt      if the divisor is reduced, burning leaves nothing
---   burnt_is_reduced   both
+--   burnt_is_reduced   burning leaves nothing exactly where the divisor is reduced
 use Rattle.std.proofs.Common.{◌≡◌, ◌≢◌, ℕ, ◌<◌, Bool, true, false, not, List, arith, refl, sym, ap, ◌∙◌, ⊎_elim}
 use Rattle.std.specs.Prelude.{nat_lt, pos, ◌≤ℤ◌, if◌then◌else◌}
 use Rattle.std.proofs.lemmas.Int.{ints, by_lt_z}
-use Rattle.std.proofs.lemmas.Bool.{cases_Bool, lt-ltb, and_parts, and_right, not_from_true, not_from_false, not-true, false_from_ne_true, true_from_ne_false, both_ways}
+use Rattle.std.proofs.lemmas.Bool.{cases_Bool, lt-ltb, ltb-true, and_parts, and_right, not_from_true, not_from_false, not-true, false_from_ne_true, true_from_ne_false, both_ways}
 use Rattle.dg_theory.specs.Multigraph.{Multigraph, edges_between}
 use Rattle.dg_theory.specs.Firing.{Amounts, HasNoDebtOff}
 use Rattle.dg_theory.specs.Reduced.{edges_out, IsReduced}
 use Rattle.dg_theory.specs.Burning.{among, edges_into, BurnsInOrder, FiresFreely}
-use Rattle.dg_theory.specs.BurningLaws.{unburnt_by, UnburntFires, BurntIsReduced}
+use Rattle.dg_theory.specs.BurningLaws.{unburnt_by, UnburntFires, GreatestIsOne, BurntIsReduced}
 use Rattle.dg_theory.proofs.TotalLaws.{total_below-cong}
 use Rattle.dg_theory.proofs.SetFiring.{fired-inside, inside-fired, outside-fired}
 use Rattle.dg_theory.proofs.BurningOrder.{burnt_of_set, may_burn, q_burns}
@@ -48,6 +49,7 @@ rest-holds g q D l v order unburnt below =
 pub rest_fires : (g : Multigraph) (q : ℕ) (D : Amounts) (l : List ℕ) → HasNoDebtOff g q D → BurnsInOrder g q D l →
     FiresFreely g q D (unburnt_by g l)
 rest_fires g q D l solvent order = record {
+  vertices = λ v unburnt. ltb-true v g.size ((and_parts (nat_lt v g.size) (not (among l v)) unburnt).0);
   without = unburnt_by-q g q D l order;
   no_debt = λ v below other. ⊎_elim
       (λ (inside : unburnt_by g l v ≡ true). inside-fired g D _ v inside (rest-holds g q D l v order inside below))
@@ -58,7 +60,7 @@ rest_fires g q D l solvent order = record {
 pub never_burns : (g : Multigraph) (q : ℕ) (D : Amounts) (l : List ℕ) (T : ℕ → Bool) (v : ℕ) → BurnsInOrder g q D l →
     FiresFreely g q D T → T v ≡ true → among l v ≡ false
 never_burns g q D l T v order free member = false_from_ne_true (among l v) (λ burnt.
-    let (u, below, inside, less) = burnt_of_set g q D l T v order.first (may_burn g q D l order) free.without burnt member in
+    let (u, below, inside, less) = burnt_of_set g q D l T v order.begun.first (may_burn g q D l order) free.without burnt member in
     let other : u ≢ q = λ same. both_ways _ free.without (ap T (sym same) ∙ inside) in
     let enough : pos (edges_out g T u) ≤ℤ D u = fired-inside g D T u inside (free.no_debt u below other) in
     absurd (omega (arith, ints)))
@@ -66,15 +68,22 @@ never_burns g q D l T v order free member = false_from_ne_true (among l v) (λ b
 pub unburnt_fires : UnburntFires
 unburnt_fires g q D l graph vertex solvent order = record {
   free = rest_fires g q D l solvent order;
-  greatest = λ T free v below member.
-      unburnt_by-below g l v below ∙ not_from_false _ (never_burns g q D l T v order free member);
+  greatest = λ T free v member.
+      unburnt_by-below g l v (free.vertices v member) ∙ not_from_false _ (never_burns g q D l T v order free member);
 }
+
+pub greatest_is_one : GreatestIsOne
+greatest_is_one g q D S T one other v = ⊎_elim
+    (λ (inside : S v ≡ true). inside ∙ sym (other.greatest S one.free v inside))
+    (λ (outside : S v ≡ false). outside ∙ sym (false_from_ne_true (T v) (λ member.
+    both_ways _ outside (one.greatest T other.free v member))))
+    (cases_Bool (S v))
 
 pub burnt_reduced : (g : Multigraph) (q : ℕ) (D : Amounts) (l : List ℕ) → HasNoDebtOff g q D → BurnsInOrder g q D l →
     ((v : ℕ) → v < g.size → among l v ≡ true) → IsReduced g q D
 burnt_reduced g q D l solvent order all = record {
   no_debt = solvent;
-  none_fires = λ S without u below member. burnt_of_set g q D l S u order.first (may_burn g q D l order) without (all u below) member;
+  none_fires = λ S without u below member. burnt_of_set g q D l S u order.begun.first (may_burn g q D l order) without (all u below) member;
 }
 
 pub reduced_burnt : (g : Multigraph) (q : ℕ) (D : Amounts) (l : List ℕ) → BurnsInOrder g q D l → IsReduced g q D →

@@ -78,7 +78,7 @@ burnt_of_set g q D l T v first next without burnt member =
 
 pub may_burn : (g : Multigraph) (q : ℕ) (D : Amounts) (l : List ℕ) → BurnsInOrder g q D l →
     (i v : ℕ) → slice_get l (suc i) ≡ Some v → MayBurn g D (among (take (suc i) l)) v
-may_burn g q D l order i v place = (order.next i v place).may
+may_burn g q D l order i v place = (order.begun.next i v place).may
 
 pub q_burns : (g : Multigraph) (q : ℕ) (D : Amounts) (l : List ℕ) → BurnsInOrder g q D l → among l q ≡ true
-q_burns g q D l order = among_first l q order.first
+q_burns g q D l order = among_first l q order.begun.first

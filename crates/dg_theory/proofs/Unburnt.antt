@@ -1,15 +1,16 @@
 -- Where nobody off q is in debt, the divisor is reduced or some set fires freely. All vertices but q form a set; a
 -- vertex that holds fewer dollars than edges lead from it out of the set leaves, one after another.
 --   Falls g D T v         v is a vertex of T and holds fewer dollars than edges lead from it out of T
+--   AreVertices g S       the set S holds vertices only
 --   Holds g q D S         each set without q in which no vertex falls lies within S
---   holds_start           so it is where only q is outside S
---   holds_next            so it stays if a vertex of S leaves that falls in S
+--   holds_start           the set of all vertices but q holds each such set
+--   holds_next            so does S without a vertex that falls in S, where S does
 --   reduced_or_fires      the divisor is reduced, or some set with a vertex fires freely
 use Rattle.std.proofs.Common.{◌≡◌, ◌≢◌, ℕ, zero, suc, ◌<◌, ◌≤◌, ◌⊎◌, inl, inr, Bool, true, false, ◌&&◌, arith, refl, sym, ap, ◌∙◌, ⊎_elim}
-use Rattle.std.specs.Prelude.{pos, ◌≤ℤ◌, ◌<ℤ◌, ◌+ℤ◌, if◌then◌else◌}
+use Rattle.std.specs.Prelude.{nat_lt, pos, ◌≤ℤ◌, ◌<ℤ◌, ◌+ℤ◌, if◌then◌else◌}
 use Rattle.std.specs.Int.Signed.{le_z}
 use Rattle.std.proofs.lemmas.Int.{ints, by_lt_z}
-use Rattle.std.proofs.lemmas.Bool.{cases_Bool, and_parts, and_from, false_from_ne_true, both_ways}
+use Rattle.std.proofs.lemmas.Bool.{cases_Bool, lt-ltb, ltb-true, and_parts, and_from, false_from_ne_true, both_ways}
 use Rattle.dg_theory.specs.Multigraph.{Multigraph, edges_between}
 use Rattle.dg_theory.specs.Firing.{Amounts, HasNoDebtOff}
 use Rattle.dg_theory.specs.Reduced.{edges_out, IsReduced}
@@ -25,6 +26,13 @@ Falls g D T v = (v < g.size) × (T v ≡ true) × (D v <ℤ pos (edges_out g T v
 abbrev pub IsWithin : Multigraph → (ℕ → Bool) → (ℕ → Bool) → Type 0
 IsWithin g T S = (w : ℕ) → w < g.size → T w ≡ true → S w ≡ true
 
+abbrev pub AreVertices : Multigraph → (ℕ → Bool) → Type 0
+AreVertices g S = (v : ℕ) → S v ≡ true → v < g.size
+
+-- all vertices but q
+abbrev all_but : Multigraph → ℕ → ℕ → Bool
+all_but g q = removed (λ v. nat_lt v g.size) q
+
 abbrev pub Holds : Multigraph → ℕ → Amounts → (ℕ → Bool) → Type 0
 Holds g q D S = (T : ℕ → Bool) → T q ≡ false → ((v : ℕ) × Falls g D T v) ⊎ IsWithin g T S
 
@@ -38,10 +46,10 @@ out-le-out : (g : Multigraph) (T S : ℕ → Bool) (v : ℕ) → IsWithin g T S 
 out-le-out g T S v within =
     total_below-le g.size _ _ (λ w below. out-le-out-once (S w) (T w) (edges_between g v w) (within w below))
 
-holds_start : (g : Multigraph) (q : ℕ) (D : Amounts) → Holds g q D (removed (λ _. true) q)
+holds_start : (g : Multigraph) (q : ℕ) (D : Amounts) → Holds g q D (all_but g q)
 holds_start g q D T without = inr (λ w below member.
     let other : w ≢ q = λ same. both_ways _ without (ap T (sym same) ∙ member) in
-    removed-other (λ _. true) q w other)
+    removed-other (λ v. nat_lt v g.size) q w other ∙ lt-ltb w g.size below)
 
 holds_next : (g : Multigraph) (q : ℕ) (D : Amounts) (S : ℕ → Bool) (v : ℕ) → Holds g q D S → Falls g D S v →
     Holds g q D (removed S v)
@@ -72,9 +80,10 @@ stands_if g D S v test member =
     (λ less. absurd (both_ways _ test (and_from (S v) _ member (sym (omega (arith, ints))))))
     (λ enough. omega (arith, ints, enough))
 
-fires_if : (g : Multigraph) (q : ℕ) (D : Amounts) (S : ℕ → Bool) → HasNoDebtOff g q D → S q ≡ false →
+fires_if : (g : Multigraph) (q : ℕ) (D : Amounts) (S : ℕ → Bool) → HasNoDebtOff g q D → AreVertices g S → S q ≡ false →
     ((v : ℕ) → v < g.size → falls_in g D S v ≡ false) → FiresFreely g q D S
-fires_if g q D S solvent without none = record {
+fires_if g q D S solvent vertices without none = record {
+  vertices = vertices;
   without = without;
   no_debt = λ v below other. ⊎_elim
       (λ (inside : S v ≡ true). inside-fired g D S v inside (stands_if g D S v (none v below) inside))
@@ -97,11 +106,11 @@ FiresSome g q D = (S : ℕ → Bool) × FiresFreely g q D S × ((v : ℕ) × (v 
 
 -- with at most k vertices in S
 burnt_down : (g : Multigraph) (q : ℕ) (D : Amounts) → HasNoDebtOff g q D → (k : ℕ) (S : ℕ → Bool) → count_of g.size S ≤ k →
-    S q ≡ false → Holds g q D S → IsReduced g q D ⊎ FiresSome g q D
-burnt_down g q D solvent zero S few without holds =
+    AreVertices g S → S q ≡ false → Holds g q D S → IsReduced g q D ⊎ FiresSome g q D
+burnt_down g q D solvent zero S few vertices without holds =
     inl (reduced_if g q D S solvent holds (λ w below. false_from_ne_true (S w) (λ member.
     absurd (omega (arith, count_of-some g.size S w below member)))))
-burnt_down g q D solvent (suc k) S few without holds =
+burnt_down g q D solvent (suc k) S few vertices without holds =
     ⊎_elim
     (λ (some : (u : ℕ) × (u < g.size) × (falls_in g D S u ≡ true)).
     let v : ℕ = some.0 in
@@ -109,14 +118,17 @@ burnt_down g q D solvent (suc k) S few without holds =
     let fewer : count_of g.size (removed S v) < count_of g.size S =
     count_of-more g.size (removed S v) S (removed-of S v) v some.1 (removed-here S v) falls.1 in
     let keeps : removed S v q ≡ false = false_from_ne_true _ (λ in_q. both_ways _ without (removed-of S v q in_q)) in
-    burnt_down g q D solvent k (removed S v) (omega arith) keeps (holds_next g q D S v holds falls))
+    burnt_down g q D solvent k (removed S v) (omega arith)
+    (λ w member. vertices w (removed-of S v w member)) keeps (holds_next g q D S v holds falls))
     (λ (none : (u : ℕ) → u < g.size → falls_in g D S u ≡ false). ⊎_elim
-    (λ (some : (u : ℕ) × (u < g.size) × (S u ≡ true)). inr (S, fires_if g q D S solvent without none, some))
+    (λ (some : (u : ℕ) × (u < g.size) × (S u ≡ true)). inr (S, fires_if g q D S solvent vertices without none, some))
     (λ (empty : (u : ℕ) → u < g.size → S u ≡ false). inl (reduced_if g q D S solvent holds empty))
     (member_or_none g.size S))
     (member_or_none g.size (falls_in g D S))
 
 pub reduced_or_fires : (g : Multigraph) (q : ℕ) (D : Amounts) → HasNoDebtOff g q D → IsReduced g q D ⊎ FiresSome g q D
 reduced_or_fires g q D solvent =
-    let S : ℕ → Bool = removed (λ _. true) q in
-    burnt_down g q D solvent (count_of g.size S) S (omega arith) (removed-here (λ _. true) q) (holds_start g q D)
+    let S : ℕ → Bool = all_but g q in
+    burnt_down g q D solvent (count_of g.size S) S (omega arith)
+    (λ v member. ltb-true v g.size (removed-of (λ w. nat_lt w g.size) q v member))
+    (removed-here (λ w. nat_lt w g.size) q) (holds_start g q D)

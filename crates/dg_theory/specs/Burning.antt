@@ -5,11 +5,12 @@
 --   edges_into g B v       == how many edges lead from v to vertices of the set B
 --   MayBurn g D B v        == v is not in B, and more edges join it to B than it holds dollars
 --   BurnsNext g D B v      == v is the least that may burn
+--   BurnsSoFar g q D l     == l is q, and then vertices each of which burns next after those before it
 --   BurnsInOrder g q D l   == l is the order in which vertices burn, to the end
 --   BurnsAll g q D l       == l names each vertex once, q first, and each later one may burn when those before it have,
 --                             whether or not it is the least
---   FiresFreely g q D S    == S is without q, and nobody off q is in debt once S has fired
---   IsGreatestFree g q D S == S fires freely, and holds every vertex of every set that does
+--   FiresFreely g q D S    == S is a set of vertices without q, and nobody off q is in debt once S has fired
+--   IsGreatestFree g q D S == S fires freely, and holds every vertex of every set that fires freely
 use Rattle.std.specs.Prelude.{◌≡◌, ℕ, suc, ◌<◌, ◌==◌, Bool, true, false, if◌then◌else◌, List, slice_get, take, Some, pos, ◌<ℤ◌}
 use Rattle.std.specs.List.{list_any}
 use Rattle.dg_theory.specs.Sums.{total_below}
@@ -31,9 +32,12 @@ pub record BurnsNext (g : Multigraph) (D : Amounts) (B : ℕ → Bool) (v : ℕ)
   pub may : MayBurn g D B v
   pub least : (u : ℕ) → u < v → ¬ MayBurn g D B u
 
-pub record BurnsInOrder (g : Multigraph) (q : ℕ) (D : Amounts) (l : List ℕ) : Type 0 where
+pub record BurnsSoFar (g : Multigraph) (q : ℕ) (D : Amounts) (l : List ℕ) : Type 0 where
   pub first : slice_get l 0 ≡ Some q
   pub next : (i v : ℕ) → slice_get l (suc i) ≡ Some v → BurnsNext g D (among (take (suc i) l)) v
+
+pub record BurnsInOrder (g : Multigraph) (q : ℕ) (D : Amounts) (l : List ℕ) : Type 0 where
+  pub begun : BurnsSoFar g q D l
   pub last : (v : ℕ) → ¬ MayBurn g D (among l) v
 
 pub record BurnsAll (g : Multigraph) (q : ℕ) (D : Amounts) (l : List ℕ) : Type 0 where
@@ -42,9 +46,10 @@ pub record BurnsAll (g : Multigraph) (q : ℕ) (D : Amounts) (l : List ℕ) : Ty
   pub all : (v : ℕ) → v < g.size → among l v ≡ true
 
 pub record FiresFreely (g : Multigraph) (q : ℕ) (D : Amounts) (S : ℕ → Bool) : Type 0 where
+  pub vertices : (v : ℕ) → S v ≡ true → v < g.size
   pub without : S q ≡ false
   pub no_debt : HasNoDebtOff g q (fired g D (indicator S))
 
 pub record IsGreatestFree (g : Multigraph) (q : ℕ) (D : Amounts) (S : ℕ → Bool) : Type 0 where
   pub free : FiresFreely g q D S
-  pub greatest : (T : ℕ → Bool) → FiresFreely g q D T → (v : ℕ) → v < g.size → T v ≡ true → S v ≡ true
+  pub greatest : (T : ℕ → Bool) → FiresFreely g q D T → (v : ℕ) → T v ≡ true → S v ≡ true

@@ -1,5 +1,6 @@
 -- The laws of burning, for a divisor without debt off q.
 --   UnburntFires    == what burning leaves is the greatest set that fires freely
+--   GreatestIsOne   == there is only one greatest set that fires freely
 --   BurntIsReduced  == burning leaves nothing exactly where the divisor is reduced
 --   BurnsToReduced  == a divisor from which all vertices burn, in any order, is reduced
 use Rattle.std.specs.Prelude.{◌≡◌, ℕ, ◌<◌, ◌↔◌, Bool, true, not, ◌&&◌, nat_lt, List}
@@ -15,6 +16,10 @@ unburnt_by g l v = nat_lt v g.size && not (among l v)
 abbrev pub UnburntFires : Type 0
 UnburntFires = (g : Multigraph) (q : ℕ) (D : Amounts) (l : List ℕ) → IsMultigraph g → q < g.size → HasNoDebtOff g q D →
     BurnsInOrder g q D l → IsGreatestFree g q D (unburnt_by g l)
+
+abbrev pub GreatestIsOne : Type 0
+GreatestIsOne = (g : Multigraph) (q : ℕ) (D : Amounts) (S T : ℕ → Bool) → IsGreatestFree g q D S → IsGreatestFree g q D T →
+    (v : ℕ) → S v ≡ T v
 
 abbrev pub BurntIsReduced : Type 0
 BurntIsReduced = (g : Multigraph) (q : ℕ) (D : Amounts) (l : List ℕ) → IsMultigraph g → q < g.size → HasNoDebtOff g q D →

@@ -4,7 +4,7 @@ ghost use Rattle.dg_theory.specs.FiringLaws.{FiringAddsUp, ConstantScriptsDoNoth
 ghost use Rattle.dg_theory.specs.EquivalenceLaws.{EquivalenceIsReflexive, EquivalenceIsSymmetric, EquivalenceIsTransitive, EquivalentByPlays, EquivalentDegrees};
 ghost use Rattle.dg_theory.specs.WinningLaws.{WinnableByScript, WinnableByClass, EquivalentWinnable};
 ghost use Rattle.dg_theory.specs.ReducedLaws.{ReducedDecides, ReducedOnce};
-ghost use Rattle.dg_theory.specs.BurningLaws.{UnburntFires, BurntIsReduced, BurnsToReduced};
+ghost use Rattle.dg_theory.specs.BurningLaws.{UnburntFires, GreatestIsOne, BurntIsReduced, BurnsToReduced};
 ghost use Rattle.dg_theory.specs.GenusLaws.{ReducedBelowGenus};
 ghost use Rattle.dg_theory.specs.ExistenceLaws.{ReducedExists, RichIsWinnable};
 ghost use Rattle.dg_theory.specs.RankLaws.{EquivalentRank, EquivalentLoss, RankBelow, RankZero, RichRank, PoorRank, LossOnce, LossBoundsRank};
@@ -43,10 +43,12 @@ pub fn laws_of_reduced_divisors()
     ensures decides { ReducedDecides }
 {}
 
-/// What burning tells: what it leaves is the greatest set that fires without debt off q, it leaves nothing exactly
-/// where the divisor is reduced, and a divisor from which all vertices burn in any order is reduced.
+/// What burning tells: what it leaves is the greatest set that fires without debt off q, of which there is only one; it
+/// leaves nothing exactly where the divisor is reduced; and a divisor from which all vertices burn in any order is
+/// reduced.
 pub fn laws_of_burning()
     ensures unburnt { UnburntFires }
+    ensures one { GreatestIsOne }
     ensures burnt { BurntIsReduced }
     ensures all { BurnsToReduced }
 {}

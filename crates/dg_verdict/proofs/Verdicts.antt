@@ -16,7 +16,7 @@ use Rattle.dg_theory.proofs.BurningLaws.{reduced_burnt}
 
 pub all_in_order : (g : Multigraph) (q : ℕ) (D : Amounts) (l : List ℕ) → BurnsInOrder g q D l → IsReduced g q D → BurnsAll g q D l
 all_in_order g q D l order reduced = record {
-  first = order.first;
+  first = order.begun.first;
   next = may_burn g q D l order;
   all = reduced_burnt g q D l order reduced;
 }
