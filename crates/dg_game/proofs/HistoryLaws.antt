@@ -1,7 +1,8 @@
--- What one more entry adds to the sums over a history.
---   gifts_given-more      its gift to the gifts given
---   scripts_played-more   its script to the scripts played
---   gifts_in-more         its gift to the gift count
+-- What one more entry, or a second part, adds to the sums over a history.
+--   gifts_given-more      one more entry adds its gift to the gifts given
+--   scripts_played-more   one more entry adds its script to the scripts played
+--   gifts_in-more         one more entry adds its gift to the gift count
+--   gifts_in-append       the gift counts of a history in two parts add up
 use Rattle.std.proofs.Common.{◌≡◌, ℕ, ◌+◌, List, [], ◌∷◌, ◌++◌, arith}
 use Rattle.std.proofs.lemmas.Int.{ints}
 use Rattle.std.proofs.Math.IntN.{◌+ℤ◌}
@@ -21,3 +22,7 @@ scripts_played-more (x ∷ H) e v = omega (arith, ints, scripts_played-more H e 
 pub gifts_in-more : (H : List Entry) (e : Entry) → gifts_in (H ++ e ∷ []) ≡ gifts_in H + gift_counted e.reply
 gifts_in-more [] e = omega arith
 gifts_in-more (x ∷ H) e = omega (arith, gifts_in-more H e)
+
+pub gifts_in-append : (H L : List Entry) → gifts_in (H ++ L) ≡ gifts_in H + gifts_in L
+gifts_in-append [] L = omega arith
+gifts_in-append (x ∷ H) L = omega (arith, gifts_in-append H L)

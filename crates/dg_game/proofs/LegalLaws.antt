@@ -1,17 +1,39 @@
--- Legal histories grow entry by entry.
---   legal_none    the empty history is legal
---   legal_more    a legal history with one more entry that is a seat's, looks back and is answered rightly is legal
---   entries_more  entries of the first steps, and one more of the next step
-use Rattle.std.proofs.Common.{◌≡◌, ℕ, ◌≤◌, List, [], ◌∷◌, ◌++◌, length, take, slice_get, Some, arith, sym, ap, ◌∙◌, inl, inr}
+-- Legal histories.
+--   legal_none         the empty history is legal
+--   legal_more         a legal history with one more entry that is a seat's, looks back and is answered rightly is legal
+--   legal_take         the first entries of a legal history are legal
+--   legal_part         the first part of a legal history is legal
+--   back_asked         a call of the game looks back to nothing
+--   back_for           what is entered on a look of the history looks back to that look
+--   sized_reply        a right reply has the size of the graph
+--   legal_sized        each reply of a legal history has the size of the start
+--   legal_looks        each look of a legal history is what is kept of it
+--   entries_more       where the entries are those of the first steps, one more of the next step keeps them so
+use Rattle.std.proofs.Common.{◌≡◌, ℕ, ◌<◌, ◌≤◌, List, [], ◌∷◌, ◌++◌, length, take, slice_get, Some, arith, sym, ap, subst, ◌∙◌, inl, inr}
 use Rattle.std.proofs.Math.Seq.{take-append_seam}
-use Rattle.std.proofs.lemmas.List.{take-append-le}
+use Rattle.std.proofs.lemmas.List.{take-append-le, take-take, length-take}
+use Rattle.std.proofs.lemmas.Option.{slice_get_within}
 use Rattle.dg_chips.specs.Opening.{Opening}
+use Rattle.dg_rank.specs.declared.verdicts.RankVerdict.TheVariants.{AtLeast, Below}
+use Rattle.dg_game.specs.History.{position_after}
 use Rattle.dg_game.specs.Replies.{Replies}
 use Rattle.dg_game.specs.Legal.{IsSeat, LooksBack, IsLegal}
-use Rattle.dg_game.specs.Schedule.{IsEntryOf}
+use Rattle.dg_game.specs.LegalLaws.{HasSize, LegalIsSized, LooksAreShown}
+use Rattle.dg_game.specs.Look.{IsLookAt, asked_for}
+use Rattle.dg_game.specs.Schedule.{asked, IsEntryOf}
 use Rattle.dg_game.specs.declared.entry.Entry.{Entry}
+use Rattle.dg_game.specs.declared.entry.Plain.{Plain}
+use Rattle.dg_game.specs.declared.entry.Plain.TheVariants as plain
+use Rattle.dg_game.specs.declared.entry.Request.{Request}
+use Rattle.dg_game.specs.declared.entry.Request.TheVariants.{Move, Gift, Look, Claim, Judge, Rank as RankRequest}
+use Rattle.dg_game.specs.declared.entry.Reply.{Reply}
+use Rattle.dg_game.specs.declared.entry.Reply.TheVariants.{Moved, Given, Looked, Verdict, Rank as RankReply, Stale, Won, NotWon, Refused}
+use Rattle.dg_game.specs.declared.look.Finding.{Finding}
+use Rattle.dg_game.specs.declared.look.Finding.TheVariants.{Judged, Ranked}
+use Rattle.dg_game.specs.declared.look.LookData.{LookData}
 use Rattle.dg_game.specs.declared.step.Step.{Step}
-use Rattle.dg_game.proofs.ListLaws.{more_holds}
+use Rattle.dg_game.proofs.ListLaws.{more_holds, slice_get_taken}
+use Rattle.dg_game.proofs.StepLaw.{vertices_stay}
 
 pub legal_none : (o : Opening) → IsLegal o []
 legal_none o k e at = absurd (cc)
@@ -26,6 +48,51 @@ legal_more o H e legal seat back right k x at = elim (more_holds H e k x at) [
       let start : take k (H ++ e ∷ []) ≡ H = ap (λ n. take n (H ++ e ∷ [])) new.0 ∙ take-append_seam H (e ∷ []) in
       rw (new.1, start) (seat, back, right)
 ]
+
+pub legal_take : (o : Opening) (H : List Entry) (k : ℕ) → IsLegal o H → IsLegal o (take k H)
+legal_take o H k legal i e at =
+    let inside : i < length (take k H) = slice_get_within (take k H) i e at in
+    let few : i ≤ k = omega (arith, length-take k H) in
+    let there : slice_get H i ≡ Some e = slice_get_taken k H i e at in
+    rw (take-take i k H few) (legal i e there)
+
+pub legal_part : (o : Opening) (K L : List Entry) → IsLegal o (K ++ L) → IsLegal o K
+legal_part o K L legal = subst (IsLegal o) (take-append_seam K L) (legal_take o (K ++ L) (length K) legal)
+
+pub back_asked : (H : List Entry) (p : Plain) → LooksBack H (asked p)
+back_asked H (plain.Move m) = tt
+back_asked H (plain.Gift v x) = tt
+back_asked H plain.Look = tt
+back_asked H plain.Claim = tt
+
+pub back_for : (o : Opening) (H : List Entry) (x : LookData) (f : Finding) → IsLookAt o H x → LooksBack H (asked_for x.number f)
+back_for o H x (Judged v) look = look.look
+back_for o H x (Ranked v) look = look.look
+
+sized_reply : (o : Opening) (H : List Entry) (n : ℕ) (request : Request) (reply : Reply) → (position_after o H).graph.size ≡ n →
+    Replies o H request reply → HasSize n reply
+sized_reply o H n (Move m) (Moved d) size right = right.size ∙ size
+sized_reply o H n (Move m) (Refused r) size right = tt
+sized_reply o H n (Gift v x) (Given count d) size right = right.size ∙ size
+sized_reply o H n (Gift v x) (Refused r) size right = tt
+sized_reply o H n Look (Looked count d) size right = right.1.size ∙ size
+sized_reply o H n Claim Won size right = tt
+sized_reply o H n Claim NotWon size right = tt
+sized_reply o H n (Judge i) (Verdict x) size right = (right.1.script_size ∙ size, right.1.reduced_size ∙ size)
+sized_reply o H n (Judge i) (Stale count) size right = tt
+sized_reply o H n (RankRequest i k) (RankReply (AtLeast j)) size right = tt
+sized_reply o H n (RankRequest i k) (RankReply (Below j d)) size right = right.1.1 ∙ size
+sized_reply o H n (RankRequest i k) (Stale count) size right = tt
+sized_reply o H n request reply size right = absurd right
+
+pub legal_sized : LegalIsSized
+legal_sized o H i e legal at = sized_reply o (take i H) o.graph.size e.request e.reply (vertices_stay o (take i H)) (legal i e at).2
+
+pub legal_looks : LooksAreShown
+legal_looks o H e x legal at asks shows =
+    let right : Replies o (take x.number H) e.request e.reply = (legal x.number e at).2 in
+    let (gifts, amounts) = rw (asks, shows) at right in
+    record { look = (e, at, asks); gifts = gifts; amounts = amounts }
 
 pub entries_more : (steps : List Step) (H : List Entry) (step : Step) (e : Entry) → slice_get steps (length H) ≡ Some step →
     IsEntryOf steps (length H) step e →

@@ -1,9 +1,10 @@
--- A list with one more element at its end.
---   slice_get-append   before the end it holds what it held
---   slice_get-seam     at the end it holds the new element
+-- Lists with one more element at the end, and the first elements of a list.
+--   slice_get-append   before its end a longer list holds what the shorter one held
+--   slice_get-seam     a list with a new element at its end holds it there
+--   slice_get_taken    what the first elements of a list hold, the list holds
 --   get_or-inside      inside a list the element read does not depend on what stands for a missing one
---   more_holds         each of its elements is an old one at its place, or the new one at the end
-use Rattle.std.proofs.Common.{◌≡◌, ℕ, zero, suc, ◌<◌, List, [], ◌∷◌, ◌++◌, length, slice_get, get_or, Some, ◌⊎◌, arith, refl, sym, ap, ◌∙◌, inl, inr, length-append}
+--   more_holds         in a list with one more element each is an old one at its place, or the new one at the end
+use Rattle.std.proofs.Common.{◌≡◌, ℕ, zero, suc, ◌<◌, List, [], ◌∷◌, ◌++◌, length, take, slice_get, get_or, Some, ◌⊎◌, arith, refl, sym, ap, ◌∙◌, inl, inr, length-append}
 use Rattle.std.proofs.lemmas.Bool.{cases_lt}
 use Rattle.std.proofs.lemmas.Option.{slice_get_within}
 
@@ -15,6 +16,12 @@ slice_get-append (x ∷ xs) ys (suc k) below = slice_get-append xs ys k (omega a
 pub slice_get-seam : {X : Type 0} (xs : List X) (y : X) (ys : List X) → slice_get (xs ++ y ∷ ys) (length xs) ≡ Some y
 slice_get-seam [] y ys = refl
 slice_get-seam (x ∷ xs) y ys = slice_get-seam xs y ys
+
+pub slice_get_taken : {X : Type 0} (k : ℕ) (xs : List X) (i : ℕ) (x : X) → slice_get (take k xs) i ≡ Some x → slice_get xs i ≡ Some x
+slice_get_taken zero xs i x at = absurd (cc)
+slice_get_taken (suc k) [] i x at = at
+slice_get_taken (suc k) (y ∷ xs) zero x at = at
+slice_get_taken (suc k) (y ∷ xs) (suc i) x at = slice_get_taken k xs i x at
 
 pub get_or-inside : {X : Type 0} (xs : List X) (k : ℕ) (d e : X) → k < length xs → get_or xs k d ≡ get_or xs k e
 get_or-inside [] k d e below = absurd (omega arith)

@@ -21,10 +21,9 @@ use Rattle.std.proofs.lemmas.Bool.{cases_lt, cases_eq}
 use Rattle.std.proofs.lemmas.List.{get_or-set_same, get_or-set_other, get_or-replicate, length-replicate}
 use Rattle.dg_chips.specs.Opening.{Opening}
 use Rattle.dg_rank.specs.Limits.{IsPastLimits}
-use Rattle.dg_game.specs.Legal.{IsSeat, LooksBack}
-use Rattle.dg_game.specs.Look.{IsLookAt, asked_for}
+use Rattle.dg_game.specs.Legal.{IsSeat, IsLegal}
+use Rattle.dg_game.specs.Look.{asked_for}
 use Rattle.dg_game.specs.Playing.{KeepsLook, IsPlaying}
-use Rattle.dg_game.specs.Replies.{Replies}
 use Rattle.dg_game.specs.Schedule.{asked, UsesUp, UsesLook, IsKept, IsAsked, IsEntryOf}
 use Rattle.dg_game.specs.ScheduleFaults.{HasLook, HasTrials, IsGood, AreGoodBefore, IsFirstFault}
 use Rattle.dg_game.specs.State.{LeadsTo}
@@ -33,14 +32,13 @@ use Rattle.dg_game.specs.declared.entry.Plain.{Plain}
 use Rattle.dg_game.specs.declared.entry.Plain.TheVariants as plain
 use Rattle.dg_game.specs.declared.entry.Reply.{Reply}
 use Rattle.dg_game.specs.declared.look.Finding.{Finding}
-use Rattle.dg_game.specs.declared.look.Finding.TheVariants.{Judged, Ranked}
 use Rattle.dg_game.specs.declared.look.LookData.{LookData}
 use Rattle.dg_game.specs.declared.schedule.Rehearsal.{Rehearsal}
 use Rattle.dg_game.specs.declared.schedule.RehearseFault.TheVariants.{NoLook, TooMany}
 use Rattle.dg_game.specs.declared.step.Command.{Command}
 use Rattle.dg_game.specs.declared.step.Command.TheVariants.{Call, Commit, Rank}
 use Rattle.dg_game.specs.declared.step.Step.{Step}
-use Rattle.dg_game.proofs.LegalLaws.{legal_none, legal_more, entries_more}
+use Rattle.dg_game.proofs.LegalLaws.{legal_none, entries_more}
 use Rattle.dg_game.proofs.KeptLaws.{keeps_more, keeps_new, keeps_none}
 use Rattle.dg_game.proofs.LookLaws.{look_new}
 use Rattle.dg_game.proofs.ListLaws.{get_or-inside}
@@ -62,13 +60,13 @@ AreLooks o H steps looks = (seat : ℕ) → IsSeat seat → KeepsLook o H steps 
 
 pub playing_more : (o : Opening) (H : List Entry) (steps : List Step) (r t : Rehearsal) (step : Step) (e : Entry) → IsPlaying o steps H r →
     slice_get steps (length H) ≡ Some step → IsGood o.graph.size steps (length H) step → IsEntryOf steps (length H) step e →
-    LooksBack H e.request → Replies o H e.request e.reply → LeadsTo o (H ++ e ∷ []) t.game → length t.looks ≡ 65 →
+    IsLegal o (H ++ e ∷ []) → LeadsTo o (H ++ e ∷ []) t.game → length t.looks ≡ 65 →
     AreLooks o (H ++ e ∷ []) steps t.looks → IsPlaying o steps (H ++ e ∷ []) t
-playing_more o H steps r t step e playing there good asks back right leads places looks =
+playing_more o H steps r t step e playing there good asks legal leads places looks =
     let longer : length (H ++ e ∷ []) ≡ length H + 1 = omega (arith, length-append H (e ∷ [])) in
     record {
       leads = leads;
-      legal = legal_more o H e playing.legal (rw asks.seat good.0) back right;
+      legal = legal;
       good = rw longer (good_more o.graph.size steps (length H) step there good playing.good);
       entries = entries_more steps H step e there asks playing.entries;
       places = places;
@@ -97,12 +95,6 @@ no_look (plain.Gift v x) other uses = uses
 no_look plain.Look other uses = other refl
 no_look plain.Claim other uses = uses
 
-back_asked : (H : List Entry) (p : Plain) → LooksBack H (asked p)
-back_asked H (plain.Move m) = tt
-back_asked H (plain.Gift v x) = tt
-back_asked H plain.Look = tt
-back_asked H plain.Claim = tt
-
 -- the looks kept after a call that is a look, and after one that is not
 pub looks_looked : (o : Opening) (H : List Entry) (steps : List Step) (r : Rehearsal) (seat : ℕ) (p : Plain) (x : LookData) (reply : Reply) →
     IsPlaying o steps H r → slice_get steps (length H) ≡ Some (record { seat = seat; command = Call p }) → IsSeat seat → p ≡ plain.Look →
@@ -124,34 +116,31 @@ looks_left o H steps r seat p reply playing there other =
 
 pub called : (o : Opening) (H : List Entry) (steps : List Step) (r t : Rehearsal) (seat : ℕ) (p : Plain) (reply : Reply) →
     IsPlaying o steps H r → slice_get steps (length H) ≡ Some (record { seat = seat; command = Call p }) → IsSeat seat →
-    Replies o H (asked p) reply → LeadsTo o (H ++ (record { seat = seat; request = asked p; reply = reply }) ∷ []) t.game →
+    IsLegal o (H ++ (record { seat = seat; request = asked p; reply = reply }) ∷ []) →
+    LeadsTo o (H ++ (record { seat = seat; request = asked p; reply = reply }) ∷ []) t.game →
     length t.looks ≡ 65 → AreLooks o (H ++ (record { seat = seat; request = asked p; reply = reply }) ∷ []) steps t.looks →
     IsPlaying o steps (H ++ (record { seat = seat; request = asked p; reply = reply }) ∷ []) t
-called o H steps r t seat p reply playing there is right leads places looks =
+called o H steps r t seat p reply playing there is legal leads places looks =
     playing_more o H steps r t (record { seat = seat; command = Call p }) (record { seat = seat; request = asked p; reply = reply })
-    playing there (is, tt, tt) (record { seat = refl; request = refl }) (back_asked H p) right leads places looks
+    playing there (is, tt, tt) (record { seat = refl; request = refl }) legal leads places looks
 
 has_look : (steps : List Step) (seat j i : ℕ) (c : Command) → IsKept steps seat j i → HasLook steps seat j c
 has_look steps seat j i (Call p) kept = tt
 has_look steps seat j i Commit kept = (i, kept)
 has_look steps seat j i (Rank k) kept = (i, kept)
 
-back_for : (o : Opening) (H : List Entry) (x : LookData) (finding : Finding) → IsLookAt o H x → LooksBack H (asked_for x.number finding)
-back_for o H x (Judged v) look = look.look
-back_for o H x (Ranked v) look = look.look
-
 pub entered : (o : Opening) (H : List Entry) (steps : List Step) (r t : Rehearsal) (seat : ℕ) (c : Command) (x : LookData) (finding : Finding)
     (reply : Reply) → IsPlaying o steps H r → slice_get steps (length H) ≡ Some (record { seat = seat; command = c }) → IsSeat seat →
     KeepsLook o H steps seat (Some x) → UsesUp c → HasTrials o.graph.size c → IsAsked steps seat (length H) c (asked_for x.number finding) →
-    Replies o H (asked_for x.number finding) reply →
+    IsLegal o (H ++ (record { seat = seat; request = asked_for x.number finding; reply = reply }) ∷ []) →
     LeadsTo o (H ++ (record { seat = seat; request = asked_for x.number finding; reply = reply }) ∷ []) t.game →
     t.looks ≡ set r.looks seat None →
     IsPlaying o steps (H ++ (record { seat = seat; request = asked_for x.number finding; reply = reply }) ∷ []) t
-entered o H steps r t seat c x finding reply playing there is (kept, look) up trials asks right leads replaced =
+entered o H steps r t seat c x finding reply playing there is (kept, look) up trials asks legal leads replaced =
     let step : Step = record { seat = seat; command = c } in
     let e : Entry = record { seat = seat; request = asked_for x.number finding; reply = reply } in
     playing_more o H steps r t step e playing there (is, has_look steps seat (length H) x.number c kept, trials)
-    (record { seat = refl; request = asks }) (back_for o H x finding look) right leads (ap length replaced ∙ length-set _ _ _ ∙ playing.places)
+    (record { seat = refl; request = asks }) legal leads (ap length replaced ∙ length-set _ _ _ ∙ playing.places)
     (rw replaced (looks_set o H e steps step r.looks None there playing.places is (keeps_none o H e steps seat c there up) playing.looks))
 
 pub playing_none : (o : Opening) (steps : List Step) (r : Rehearsal) → LeadsTo o [] r.game → r.looks ≡ replicate 65 None → IsPlaying o steps [] r

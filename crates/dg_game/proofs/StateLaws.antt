@@ -6,7 +6,6 @@ use Rattle.std.proofs.Common.{◌≡◌, ℕ, ◌+◌, ◌<◌, List, [], ◌∷
 use Rattle.std.proofs.lemmas.Int.{ints}
 use Rattle.std.proofs.Math.IntN.{pos}
 use Rattle.dg_theory.specs.Multigraph.{Multigraph}
-use Rattle.dg_theory.proofs.FiringLaws.{fired-constant}
 use Rattle.dg_chips.specs.Vector.{Vector, at}
 use Rattle.dg_chips.specs.Opening.{Opening}
 use Rattle.dg_game.specs.Position.{Position, Shows}
@@ -23,7 +22,7 @@ use Rattle.dg_game.specs.declared.entry.Request.TheVariants.{Move, Gift, Look, C
 use Rattle.dg_game.specs.declared.entry.Reply.{Reply}
 use Rattle.dg_game.specs.declared.entry.Reply.TheVariants.{Moved, Given, Looked, Verdict, Rank as RankReply, Stale, Won, NotWon, Refused}
 use Rattle.dg_game.proofs.HistoryLaws.{gifts_in-more, scripts_played-more}
-use Rattle.dg_game.proofs.StepLaw.{one_more_entry}
+use Rattle.dg_game.proofs.StepLaw.{no_entry, one_more_entry}
 use Rattle.dg_game.proofs.ReplyLaws.{replies-cong}
 
 replies_asked : (o : Opening) (H : List Entry) (call : Plain) (reply : Reply) → RepliesAt (position_after o H) (gifts_in H) call reply →
@@ -107,14 +106,10 @@ leads_more o H s t e leads right next =
 
 pub start_leads : (o : Opening) (d : Vector) → o.divisor.size ≡ o.graph.size → ((v : ℕ) → at d v ≡ pos 0) →
     LeadsTo o [] (record { graph = o.graph; q = o.q; amounts = o.divisor; drift = d; gifts = 0; entries = 0 })
-unfolding position_after
 start_leads o d size still = record {
-  graph = refl;
+  graph = ap (λ (p : Position). p.graph) (sym (no_entry o));
   q = refl;
-  amounts = record {
-    size = size;
-    amounts = λ v below. omega (arith, ints, fired-constant o.graph (at o.divisor) (pos 0) v);
-  };
+  amounts = rw (no_entry o) (record { size = size; amounts = λ v below. refl });
   drift = λ v below. still v;
   gifts = refl;
   entries = refl;

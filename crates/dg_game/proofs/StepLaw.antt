@@ -1,24 +1,38 @@
--- The step law: what one more entry does to the position.
---   fired_then_given    firing by s on the opening with gifts, and then one more gift and script
---   one_more_entry      the law, by the cases of the request and the reply
---   vertices_stay       and entries neither add nor remove vertices
-use Rattle.std.proofs.Common.{refl, ◌≡◌, ℕ, List, [], ◌∷◌, ◌++◌, arith, sym, ap, ◌∙◌}
+-- The laws of histories. Those of the empty history and of one more entry open the definition of the position, and the
+-- others follow from these two.
+--   no_entry            the empty history leads to the start
+--   one_more_entry      one more entry, by the cases of the request and the reply
+--   since_gift          entries without an accepted gift fire the position by their scripts
+--   graph_stays         entries leave the graph as it is
+--   vertices_stay       entries neither add nor remove vertices
+use Rattle.std.proofs.Common.{refl, ◌≡◌, ℕ, List, [], ◌∷◌, ◌++◌, append_assoc, append-nil, arith, sym, ap, ◌∙◌}
 use Rattle.std.proofs.lemmas.Int.{ints}
 use Rattle.std.proofs.Math.IntN.{pos, ◌+ℤ◌}
 use Rattle.dg_theory.specs.Multigraph.{Multigraph}
 use Rattle.dg_theory.specs.Firing.{Amounts, gain, fired, only_at}
-use Rattle.dg_theory.proofs.FiringLaws.{gain-add, fired-constant}
+use Rattle.dg_theory.proofs.FiringLaws.{gain-add, fired-fired, fired-constant}
 use Rattle.dg_chips.specs.Moves.{script_of}
 use Rattle.dg_chips.specs.Opening.{Opening}
-use Rattle.dg_game.specs.Position.{Position}
-use Rattle.dg_game.specs.History.{gift_by, script_by, scripts_played, position_after, nothing}
-use Rattle.dg_game.specs.Step.{after_reply, OneMoreEntry}
+use Rattle.dg_chips.specs.Vector.{at}
+use Rattle.dg_game.specs.Position.{Position, fired_by}
+use Rattle.dg_game.specs.History.{gift_by, script_by, scripts_played, gift_counted, position_after, nothing}
+use Rattle.dg_game.specs.Step.{after_reply, NoEntry, OneMoreEntry, SinceGift, GraphStays, VerticesStay}
 use Rattle.dg_game.specs.declared.entry.Entry.{Entry}
 use Rattle.dg_game.specs.declared.entry.Request.{Request}
-use Rattle.dg_game.specs.declared.entry.Request.TheVariants.{Move, Gift, Look, Claim, Judge, Rank as RankRequest}
+use Rattle.dg_game.specs.declared.entry.Request.TheVariants.{Move, Gift}
 use Rattle.dg_game.specs.declared.entry.Reply.{Reply}
-use Rattle.dg_game.specs.declared.entry.Reply.TheVariants.{Moved, Given, Looked, Verdict, Rank as RankReply, Stale, Won, NotWon, Refused}
+use Rattle.dg_game.specs.declared.entry.Reply.TheVariants.{Moved, Given}
 use Rattle.dg_game.proofs.HistoryLaws.{gifts_given-more, scripts_played-more}
+
+abbrev placed : Multigraph → Amounts → Position
+placed g D = record { graph = g; amounts = D }
+
+placed-cong : (g : Multigraph) (D E : Amounts) → ((v : ℕ) → D v ≡ E v) → placed g D ≡ placed g E
+placed-cong g D E same = λ i. placed g (λ v. same v i)
+
+pub no_entry : NoEntry
+unfolding position_after
+no_entry o = placed-cong o.graph _ (at o.divisor) (λ v. omega (arith, ints, fired-constant o.graph (at o.divisor) (pos 0) v))
 
 -- the position with the dollars and the script that an entry adds, whatever its kind
 abbrev with_entry : Position → Request → Reply → Position
@@ -42,12 +56,6 @@ position_more : (o : Opening) (H : List Entry) (e : Entry) →
 unfolding position_after
 position_more o H e = λ i. record { graph = o.graph; amounts = λ v. amounts_more o H e v i }
 
-abbrev placed : Multigraph → Amounts → Position
-placed g D = record { graph = g; amounts = D }
-
-placed-cong : (g : Multigraph) (D E : Amounts) → ((v : ℕ) → D v ≡ E v) → placed g D ≡ placed g E
-placed-cong g D E same = λ i. placed g (λ v. same v i)
-
 -- an entry that is neither an accepted move nor an accepted gift
 same : (p : Position) → placed p.graph (fired p.graph (λ v. p.amounts v +ℤ nothing v) nothing) ≡ p
 same p = placed-cong p.graph _ p.amounts (λ v. omega (arith, ints, fired-constant p.graph p.amounts (pos 0) v))
@@ -63,31 +71,48 @@ given p gift = placed-cong p.graph _ _ (λ v. fired-constant p.graph (λ v. p.am
 entry_is : (p : Position) (request : Request) (reply : Reply) → with_entry p request reply ≡ after_reply p request reply
 entry_is p (Move m) (Moved d) = moved p (script_of m)
 entry_is p (Gift v x) (Given g d) = given p (only_at v x)
-entry_is p (Move m) (Given g d) = same p
-entry_is p (Move m) (Looked g d) = same p
-entry_is p (Move m) (Verdict x) = same p
-entry_is p (Move m) (RankReply x) = same p
-entry_is p (Move m) (Stale g) = same p
-entry_is p (Move m) Won = same p
-entry_is p (Move m) NotWon = same p
-entry_is p (Move m) (Refused r) = same p
-entry_is p (Gift v x) (Moved d) = same p
-entry_is p (Gift v x) (Looked g d) = same p
-entry_is p (Gift v x) (Verdict y) = same p
-entry_is p (Gift v x) (RankReply y) = same p
-entry_is p (Gift v x) (Stale g) = same p
-entry_is p (Gift v x) Won = same p
-entry_is p (Gift v x) NotWon = same p
-entry_is p (Gift v x) (Refused r) = same p
-entry_is p Look reply = same p
-entry_is p Claim reply = same p
-entry_is p (Judge i) reply = same p
-entry_is p (RankRequest i k) reply = same p
+entry_is p request reply = same p
 
 pub one_more_entry : OneMoreEntry
 one_more_entry o H e = position_more o H e ∙ entry_is (position_after o H) e.request e.reply
 
--- entries neither add nor remove vertices
-pub vertices_stay : (o : Opening) (H : List Entry) → (position_after o H).graph.size ≡ o.graph.size
-unfolding position_after
-vertices_stay o H = refl
+-- an entry that is no accepted gift fires by its script, which is 0 where it is no accepted move
+still : (p : Position) → p ≡ fired_by p nothing
+still p = sym (placed-cong p.graph _ p.amounts (λ v. fired-constant p.graph p.amounts (pos 0) v))
+
+fires : (p : Position) (request : Request) (reply : Reply) → gift_counted reply ≡ 0 →
+    after_reply p request reply ≡ fired_by p (script_by request reply)
+fires p (Move m) (Moved d) none = refl
+fires p request (Given g d) none = absurd (omega (arith, none))
+fires p request reply none = still p
+
+fired_on : (p : Position) (s t : Amounts) → fired_by (fired_by p s) t ≡ fired_by p (λ v. s v +ℤ t v)
+fired_on p s t = placed-cong p.graph _ _ (λ v. fired-fired p.graph p.amounts s t v)
+
+pub since_gift : SinceGift
+since_gift o K [] none = ap (position_after o) (append-nil K) ∙ still (position_after o K)
+since_gift o K (e ∷ L) none =
+    let p : Position = position_after o K in
+    let parts : position_after o (K ++ (e ∷ L)) ≡ position_after o ((K ++ e ∷ []) ++ L) =
+    ap (position_after o) (sym (append_assoc K (e ∷ []) L)) in
+    let more : position_after o (K ++ e ∷ []) ≡ fired_by p (script_by e.request e.reply) =
+    one_more_entry o K e ∙ fires p e.request e.reply (omega (arith, none)) in
+    parts ∙ since_gift o (K ++ e ∷ []) L (omega (arith, none))
+    ∙ ap (λ (q : Position). fired_by q (scripts_played L)) more ∙ fired_on p (script_by e.request e.reply) (scripts_played L)
+
+graph_same : (p : Position) (request : Request) (reply : Reply) → (after_reply p request reply).graph ≡ p.graph
+graph_same p (Move m) (Moved d) = refl
+graph_same p (Gift v x) (Given g d) = refl
+graph_same p request reply = refl
+
+graph_since : (o : Opening) (K L : List Entry) → (position_after o (K ++ L)).graph ≡ (position_after o K).graph
+graph_since o K [] = ap (λ (H : List Entry). (position_after o H).graph) (append-nil K)
+graph_since o K (e ∷ L) =
+    ap (λ (H : List Entry). (position_after o H).graph) (sym (append_assoc K (e ∷ []) L)) ∙ graph_since o (K ++ e ∷ []) L
+    ∙ ap (λ (p : Position). p.graph) (one_more_entry o K e) ∙ graph_same (position_after o K) e.request e.reply
+
+pub graph_stays : GraphStays
+graph_stays o H = graph_since o [] H ∙ ap (λ (p : Position). p.graph) (no_entry o)
+
+pub vertices_stay : VerticesStay
+vertices_stay o H = ap (λ (g : Multigraph). g.size) (graph_stays o H)

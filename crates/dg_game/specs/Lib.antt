@@ -8,6 +8,7 @@ pub mod GiftReplies
 pub mod Replies
 pub mod Legal
 pub mod Look
+pub mod LegalLaws
 pub mod State
 pub mod Schedule
 pub mod ScheduleFaults

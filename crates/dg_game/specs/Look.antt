@@ -2,7 +2,8 @@
 --   IsLookAt o H x       == x holds the number of a look of the history H, and the gift count and the amounts there. Its
 --                           drift may be any.
 --   degree_of v          == the degree of the rank test whose verdict v is
---   IsFoundFor g q x f   == the finding f is right for the amounts of the look x
+--   IsFoundFor g q x f   == the finding f is right on the graph g, from the vertex q, for the amounts of the look x
+--   IsFoundOn o H x f    == the finding f is right on the graph of the position at the look x of the history H
 --   asked_for i f        == the request by which the finding f on the look of number i is entered
 --   KeepsFinding f reply == a verdict entered keeps the reduced divisor and the burning order that were found, and that
 --                           of a rank test is entered as it was found
@@ -38,6 +39,9 @@ degree_of (Below k E) = k
 abbrev pub IsFoundFor : Multigraph → ℕ → LookData → Finding → Type 0
 IsFoundFor g q x (Judged v) = IsRight g q (at x.position) v
 IsFoundFor g q x (Ranked v) = IsRankTest g (at x.position) (degree_of v) v
+
+abbrev pub IsFoundOn : Opening → List Entry → LookData → Finding → Type 0
+IsFoundOn o H x f = IsFoundFor (position_after o (take x.number H)).graph o.q x f
 
 abbrev pub asked_for : ℕ → Finding → Request
 asked_for i (Judged v) = Judge i

@@ -1,10 +1,13 @@
 -- A position of the game.
 --   Position             == a graph, and an amount for each of its vertices
 --   Shows p d            == the divisor d holds the amounts of the position p
---   with_gift p v x      == the amounts of p, with x more at v
+--   opened o             == the position at the start: the graph and the amounts of the opening o
+--   with_gift p v x      == the amounts of the position p, with x more at v
+--   fired_by p s         == the position p after every vertex has lent as often as the script s says
 use Rattle.std.specs.Prelude.{◌≡◌, ℕ, ◌<◌, ℤ, ◌+ℤ◌}
 use Rattle.dg_theory.specs.Multigraph.{Multigraph}
-use Rattle.dg_theory.specs.Firing.{Amounts, only_at}
+use Rattle.dg_theory.specs.Firing.{Amounts, fired, only_at}
+use Rattle.dg_chips.specs.Opening.{Opening}
 use Rattle.dg_chips.specs.Vector.{Vector, at}
 
 pub record Position : Type 0 where
@@ -15,5 +18,11 @@ pub record Shows (p : Position) (d : Vector) : Type 0 where
   pub size : d.size ≡ p.graph.size
   pub amounts : (v : ℕ) → v < p.graph.size → at d v ≡ p.amounts v
 
+abbrev pub opened : Opening → Position
+opened o = record { graph = o.graph; amounts = at o.divisor }
+
 abbrev pub with_gift : Position → ℕ → ℤ → Amounts
 with_gift p v x w = p.amounts w +ℤ only_at v x w
+
+abbrev pub fired_by : Position → Amounts → Position
+fired_by p s = record { graph = p.graph; amounts = fired p.graph p.amounts s }

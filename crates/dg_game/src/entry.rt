@@ -21,7 +21,7 @@ pub enum Plain {
 
 impl Plain {
     /// What the entry of the call asks.
-    pub(crate) fn request(&self) -> Request
+    pub fn request(&self) -> Request
         ensures { result ≡ asked self.now }
     {
         match self {

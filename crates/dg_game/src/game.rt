@@ -10,7 +10,8 @@ ghost use Rattle.dg_rank.specs.Ranks.{IsWithin};
 ghost use Rattle.dg_game.specs.MoveReplies.{RepliesToMove};
 ghost use Rattle.dg_game.specs.GiftReplies.{RepliesToGift};
 ghost use Rattle.dg_game.specs.Replies.{Replies, RepliesAt, RepliesToClaim};
-ghost use Rattle.dg_game.specs.Look.{IsLookAt, IsFoundFor, asked_for, KeepsFinding};
+ghost use Rattle.dg_game.specs.Legal.{IsSeat, IsLegal};
+ghost use Rattle.dg_game.specs.Look.{IsLookAt, IsFoundFor, IsFoundOn, asked_for, KeepsFinding};
 ghost use Rattle.dg_game.specs.State.{State, IsState, LeadsTo, IsNext, position_of};
 ghost use Rattle.dg_game.specs.Schedule.{asked};
 ghost use Rattle.dg_game.specs.declared.entry.Entry.{Entry};
@@ -66,6 +67,13 @@ impl Game {
         }
     }
 
+    /// The graph now.
+    pub fn graph(&self) -> &Graph
+        ensures { result.now ≡ self.now.graph }
+    {
+        &self.graph
+    }
+
     /// The amounts now.
     pub fn position(&self) -> &Divisor
         ensures amounts { result.now ≡ self.now.amounts }
@@ -104,29 +112,43 @@ impl Game {
         }
     }
 
-    /// Answers a call as the game answers it after its history, and takes it into the history. The condition is that
-    /// there are fewer than 65,536 entries.
+    /// Answers a call as the game answers it after its history, and takes it into the history, which stays legal where
+    /// a seat of 1 to 64 calls. The condition is that there are fewer than 65,536 entries.
     pub fn act(&mut self, plain: Plain) -> Reply
         requires { self.old.entries < 65536 }
         ensures replies { (o : Opening) (H : List Entry) → LeadsTo o H self.old → Replies o H (asked plain) result }
         ensures leads { (o : Opening) (H : List Entry) (seat : ℕ) → LeadsTo o H self.old →
             LeadsTo o (H ++ (record { seat = seat; request = asked plain; reply = result }) ∷ []) self.new }
+        ensures legal { (o : Opening) (H : List Entry) (seat : ℕ) → LeadsTo o H self.old → IsLegal o H → IsSeat seat →
+            IsLegal o (H ++ (record { seat = seat; request = asked plain; reply = result }) ∷ []) }
     {
         self.answer(&plain)
     }
 
     /// Enters what was reckoned on a look: `Stale` where gifts were accepted since; otherwise a verdict that is right
     /// for the position now, with the reduced divisor and the burning order that were found, or the answer of the rank
-    /// test as it was found. The conditions are that there are fewer than 65,536 entries, that the look is one of the
-    /// history, whatever its drift, and that the finding is right for the amounts that it showed.
+    /// test as it was found. A legal history stays legal where a seat of 1 to 64 enters it. The conditions are that there
+    /// are fewer than 65,536 entries, that the look is one of the history, whatever its drift, and that the finding is
+    /// right for the position that it showed.
     pub fn settle(&mut self, look: &LookData, finding: &Finding) -> Reply
         requires room { self.old.entries < 65536 }
-        requires look { (o : Opening) × (H : List Entry) × LeadsTo o H self.old × IsLookAt o H look.now }
-        requires found { IsFoundFor self.old.graph self.old.q look.now finding.now }
+        requires look { (o : Opening) × (H : List Entry) × LeadsTo o H self.old × IsLookAt o H look.now ×
+            IsFoundOn o H look.now finding.now }
         ensures replies { (o : Opening) (H : List Entry) → LeadsTo o H self.old → IsLookAt o H look.now →
             Replies o H (asked_for look.now.number finding.now) result }
         ensures leads { (o : Opening) (H : List Entry) (seat : ℕ) → LeadsTo o H self.old → IsLookAt o H look.now →
-            LeadsTo o (H ++ (record { seat = seat; request = asked_for look.now.number finding.now; reply = result }) ∷ []) self.new }
+            LeadsTo o (H ++ (record {
+              seat = seat;
+              request = asked_for look.now.number finding.now;
+              reply = result;
+            }) ∷ []) self.new }
+        ensures legal { (o : Opening) (H : List Entry) (seat : ℕ) → LeadsTo o H self.old → IsLookAt o H look.now →
+            IsLegal o H → IsSeat seat →
+            IsLegal o (H ++ (record {
+              seat = seat;
+              request = asked_for look.now.number finding.now;
+              reply = result;
+            }) ∷ []) }
         ensures kept { KeepsFinding finding.now result }
     {
         let reply = self.settled(look, finding);
@@ -159,8 +181,8 @@ impl Game {
 
     /// The reply to what was reckoned on a look.
     fn settled(&self, look: &LookData, finding: &Finding) -> Reply
-        requires look { (o : Opening) × (H : List Entry) × LeadsTo o H self.now × IsLookAt o H look.now }
-        requires found { IsFoundFor self.now.graph self.now.q look.now finding.now }
+        requires look { (o : Opening) × (H : List Entry) × LeadsTo o H self.now × IsLookAt o H look.now ×
+            IsFoundOn o H look.now finding.now }
         ensures replies { (o : Opening) (H : List Entry) → LeadsTo o H self.now → IsLookAt o H look.now →
             Replies o H (asked_for look.now.number finding.now) result }
         ensures kept { KeepsFinding finding.now result }

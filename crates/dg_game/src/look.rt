@@ -30,7 +30,7 @@ pub enum Finding {
 
 impl Finding {
     /// What the entry of the finding asks, where it was reckoned on the look with this number.
-    pub(crate) fn request(&self, number: u32) -> Request
+    pub fn request(&self, number: u32) -> Request
         ensures { result ≡ asked_for number self.now }
     {
         match self {

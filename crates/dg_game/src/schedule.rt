@@ -1,7 +1,7 @@
 ghost use Rattle.std.specs.Prelude.{◌≡◌, ℕ, ◌<◌, ◌≤◌, List, [], ◌∷◌, ◌++◌, length, slice_get, Some, MatchResult, MatchOption};
 ghost use Rattle.dg_chips.specs.Opening.{Opening};
 ghost use Rattle.dg_game.specs.Legal.{IsSeat};
-ghost use Rattle.dg_game.specs.Look.{IsFoundFor, asked_for};
+ghost use Rattle.dg_game.specs.Look.{IsFoundOn, asked_for};
 ghost use Rattle.dg_game.specs.Schedule.{UsesUp, IsKept, IsAsked, IsRehearsal};
 ghost use Rattle.dg_game.specs.ScheduleFaults.{HasTrials, AreGoodBefore, IsFirstFault};
 ghost use Rattle.dg_game.specs.Playing.{KeepsLook, IsPlaying};
@@ -181,10 +181,9 @@ impl Rehearsal {
     /// Enters what was reckoned on the look that a seat keeps, and uses the look up.
     fn enter(&mut self, seat: u8, look: &LookData, finding: &Finding) -> Entry
         requires playing { (o : Opening) × (H : List Entry) × (steps : List Step) × IsPlaying o steps H self.old ×
-            KeepsLook o H steps seat (Some look.now) }
+            KeepsLook o H steps seat (Some look.now) × IsFoundOn o H look.now finding.now }
         requires room { self.old.game.entries < 65536 }
         requires seat { IsSeat seat }
-        requires found { IsFoundFor self.old.game.graph self.old.game.q look.now finding.now }
         ensures { (o : Opening) (H : List Entry) (steps : List Step) (c : Command) → IsPlaying o steps H self.old →
             KeepsLook o H steps seat (Some look.now) → slice_get steps (length H) ≡ Some (record { seat = seat; command = c }) →
             UsesUp c → HasTrials o.graph.size c → IsAsked steps seat (length H) c (asked_for look.now.number finding.now) →

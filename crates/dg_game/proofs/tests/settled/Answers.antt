@@ -1,8 +1,9 @@
-use Rattle.std.proofs.Common.{◌≡◌, ℕ, [], refl, arith, ap, sym, subst, ◌∙◌}
-use Rattle.dg_theory.specs.Multigraph.{Multigraph}
-use Rattle.dg_chips.specs.Vector.{at}
-use Rattle.dg_verdict.specs.Right.{IsRight}
-use Rattle.dg_game.proofs.LookLaws.{look_new, look_kept, graph_is}
+use Rattle.std.proofs.Common.{◌≡◌, [], refl, arith, sym, ◌∙◌}
+use Rattle.dg_game.specs.Look.{IsFoundFor}
+use Rattle.dg_game.specs.declared.look.Finding.TheVariants.{Judged}
+use Rattle.dg_game.specs.declared.look.LookData.{LookData}
+use Rattle.dg_game.proofs.LookLaws.{look_new, look_kept, found_then}
+use Rattle.dg_game.proofs.StepLaw.{graph_stays, vertices_stay}
 use Rattle.dg_game.proofs.tests.settled.Goals as goal
 
 pub act-requires-2 : goal.act-requires-2
@@ -15,24 +16,21 @@ settle-requires-clause-room c =
 pub settle-requires-clause-look : goal.settle-requires-clause-look
 settle-requires-clause-look c =
     let first = c.act.ensures.leads c.args.start.now [] 1 c.new-game.ensures in
-    let second = c.act-2.ensures.leads c.args.start.now _ 1 first in (
+    let second = c.act-2.ensures.leads c.args.start.now _ 1 first in
+    let q : c.from-q.result ≡ c.act-2.new.self.q = c.from-q.ensures ∙ c.q.ensures ∙ sym second.q in
+    let graph : c.graph.result.now ≡ c.act-2.new.self.graph = c.graph.ensures.graph ∙ sym (second.graph ∙ graph_stays c.args.start.now _) in
+    let x : LookData = record c.look_data.result { drift = c.args.drift.now } in
+    let found : IsFoundFor c.act-2.new.self.graph c.act-2.new.self.q x (Judged c.args.verdict.now) =
+    rw (← graph, ← q) c.if-not-check.ensures in (
       c.args.start.now,
       _,
       second,
-      look_kept c.args.start.now _ _ _
-          (look_new c.args.start.now [] c.new-game.result _ _ c.new-game.ensures refl
+      look_kept c.args.start.now _ _ x
+          (look_new c.args.start.now [] c.new-game.result _ x c.new-game.ensures refl
           c.look_data.ensures.number c.look_data.ensures.gifts c.look_data.ensures.position),
+      found_then c.args.start.now _ _ x (Judged c.args.verdict.now) second found,
     )
-
-pub settle-requires-clause-found : goal.settle-requires-clause-found
-settle-requires-clause-found c =
-    let first = c.act.ensures.leads c.args.start.now [] 1 c.new-game.ensures in
-    let second = c.act-2.ensures.leads c.args.start.now _ 1 first in
-    let graph : c.graph.result.now ≡ c.act-2.new.self.graph = c.graph.ensures.graph ∙ sym (second.graph ∙ graph_is c.args.start.now _) in
-    let q : c.from-q.result ≡ c.act-2.new.self.q = c.from-q.ensures ∙ c.q.ensures ∙ sym second.q in
-    subst (λ (p : ℕ). IsRight c.act-2.new.self.graph p (at c.look_data.result.position) c.args.verdict.now) q
-    (subst (λ (g : Multigraph). IsRight g c.from-q.result (at c.look_data.result.position) c.args.verdict.now) graph c.if-not-check.ensures)
 
 pub check-requires-clause-size : goal.check-requires-clause-size
 check-requires-clause-size c =
-    rw (c.look_data.ensures.position, c.graph.ensures.graph) (c.new-game.ensures.amounts.size ∙ ap (λ (g : Multigraph). g.size) (graph_is c.args.start.now []))
+    rw (c.look_data.ensures.position, c.graph.ensures.graph) (c.new-game.ensures.amounts.size ∙ vertices_stay c.args.start.now [])

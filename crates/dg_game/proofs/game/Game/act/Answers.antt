@@ -1,3 +1,4 @@
+use Rattle.dg_game.proofs.LegalLaws.{legal_more, back_asked}
 use Rattle.dg_game.proofs.StateLaws.{replies_after, leads_more}
 use Rattle.dg_game.proofs.game.Game.act.Goals as goal
 
@@ -6,3 +7,7 @@ returns-clause-replies c = λ o H leads. replies_after o H _ _ _ leads c.answer.
 
 pub returns-clause-leads : goal.returns-clause-leads
 returns-clause-leads c = λ o H seat leads. leads_more o H _ _ _ leads (replies_after o H _ _ _ leads c.answer.ensures.replies) c.answer.ensures.next
+
+pub returns-clause-legal : goal.returns-clause-legal
+returns-clause-legal c = λ o H seat leads legal is.
+    legal_more o H _ legal is (back_asked H c.args.plain) (replies_after o H _ _ _ leads c.answer.ensures.replies)

@@ -1,13 +1,24 @@
-use Rattle.dg_game.proofs.LookLaws.{moved_since, judged_after, ranked_after, look_size}
-use Rattle.std.proofs.Common.{arith, ap}
+use Rattle.std.proofs.Common.{◌≡◌, arith, ap}
+use Rattle.dg_game.specs.Look.{IsFoundFor}
 use Rattle.dg_game.specs.State.{State}
+use Rattle.dg_game.proofs.LookLaws.{moved_since, found_now, judged_after, ranked_after, look_size}
 use Rattle.dg_game.proofs.game.Game.settled.Goals as goal
 
 pub rebased-carried-requires-clause-size : goal.rebased-carried-requires-clause-size
-rebased-carried-requires-clause-size c = let (o, H, leads, look) = c.requires.look in look_size o H _ _ leads look
+rebased-carried-requires-clause-size c = let (o, H, leads, look, found) = c.requires.look in look_size o H _ _ leads look
 
 pub rebased-carried-requires-clause-led : goal.rebased-carried-requires-clause-led
-rebased-carried-requires-clause-led c = let (o, H, leads, look) = c.requires.look in moved_since o H _ _ leads look (omega (arith, c.if-self-look.false, ap (λ (s : State). s.gifts) c.self.view_is))
+rebased-carried-requires-clause-led c =
+    let (o, H, leads, look, found) = c.requires.look in
+    let (graph, t, led) = moved_since o H _ _ leads look (omega (arith, c.if-self-look.false, ap (λ (s : State). s.gifts) c.self.view_is)) in
+    (t, led)
+
+pub rebased-carried-requires-clause-right : goal.rebased-carried-requires-clause-right
+rebased-carried-requires-clause-right c =
+    let (o, H, leads, look, found) = c.requires.look in
+    let now : IsFoundFor c.args.self.now.graph c.args.self.now.q c.args.look.now c.args.finding.now =
+    found_now o H _ _ _ leads look (omega (arith, c.if-self-look.false, ap (λ (s : State). s.gifts) c.self.view_is)) found in
+    rw c.in-Judged.is at now
 
 pub returns-in-Judged-clause-replies : goal.returns-in-Judged-clause-replies
 returns-in-Judged-clause-replies c = λ o H leads look.
@@ -16,5 +27,7 @@ returns-in-Judged-clause-replies c = λ o H leads look.
 
 pub returns-in-Ranked-clause-replies : goal.returns-in-Ranked-clause-replies
 returns-in-Ranked-clause-replies c = λ o H leads look.
-    rw c.in-Ranked.is (ranked_after o H _ _ _ c.in-Ranked.verdict leads look
-    (omega (arith, c.if-self-look.false, ap (λ (s : State). s.gifts) c.self.view_is)) (rw c.in-Ranked.is at c.requires.found))
+    let same : c.args.self.now.gifts ≡ c.args.look.now.gifts = omega (arith, c.if-self-look.false, ap (λ (s : State). s.gifts) c.self.view_is) in
+    let (o', H', leads', look', found) = c.requires.look in
+    let now : IsFoundFor c.args.self.now.graph c.args.self.now.q c.args.look.now c.args.finding.now = found_now o' H' _ _ _ leads' look' same found in
+    rw c.in-Ranked.is (ranked_after o H _ _ _ c.in-Ranked.verdict leads look same (rw c.in-Ranked.is at now))

@@ -12,7 +12,7 @@ returns c = λ o H steps playing there. rw c.request.ensures (elim c.match-plain
       let looks = ap (λ (r : Rehearsal). r.looks) w.self-is in
       let leads : LeadsTo o H c.match-plain.self.game = subst (λ (s : State). LeadsTo o H s) game playing.leads in
       called o H steps c.args.self.now _ c.args.seat c.args.plain.now c.act.result playing there c.requires.seat
-      (c.act.ensures.replies o H leads) (c.act.ensures.leads o H c.args.seat leads)
+      (c.act.ensures.legal o H c.args.seat leads playing.legal c.requires.seat) (c.act.ensures.leads o H c.args.seat leads)
       (ap length looks ∙ length-set _ _ _ ∙ playing.places)
       (rw (looks, w.from.ensures) (looks_looked o H steps c.args.self.now c.args.seat c.args.plain.now w.look_data.result c.act.result playing there
       c.requires.seat w.in-Look.is w.look_data.ensures.number w.look_data.ensures.gifts w.look_data.ensures.position))
@@ -21,7 +21,7 @@ returns c = λ o H steps playing there. rw c.request.ensures (elim c.match-plain
       let looks = ap (λ (r : Rehearsal). r.looks) w.self-is in
       let leads : LeadsTo o H c.match-plain.self.game = subst (λ (s : State). LeadsTo o H s) game playing.leads in
       called o H steps c.args.self.now _ c.args.seat c.args.plain.now c.act.result playing there c.requires.seat
-      (c.act.ensures.replies o H leads) (c.act.ensures.leads o H c.args.seat leads)
+      (c.act.ensures.legal o H c.args.seat leads playing.legal c.requires.seat) (c.act.ensures.leads o H c.args.seat leads)
       (ap length looks ∙ playing.places)
       (rw looks (looks_left o H steps c.args.self.now c.args.seat c.args.plain.now c.act.result playing there w.in_default.not-Look))
 ])

@@ -1,0 +1,49 @@
+-- The laws of legal histories.
+--   EmptyIsLegal          == a history with no entry is legal
+--   OneMoreIsLegal        == a legal history stays legal by an entry that is a seat's, looks back to a look where it asks
+--                            for a verdict or for a rank test, and is answered rightly
+--   BeginningsAreLegal    == the first entries of a legal history are a legal history, however many they are
+--   PartsAreLegal         == what comes first in a legal history of two parts is a legal history
+--   HasSize n reply       == each divisor, script and wide amount in the reply is one of n vertices
+--   LegalIsSized          == each reply of a legal history has the size of the start
+--   LooksAreShown         == a look of a legal history showed what `IsLookAt` says, whatever drift is kept with it
+use Rattle.std.specs.Prelude.{◌≡◌, ℕ, List, [], ◌∷◌, ◌++◌, take, slice_get, Some, ⊤}
+use Rattle.dg_chips.specs.Opening.{Opening}
+use Rattle.dg_rank.specs.declared.verdicts.RankVerdict.TheVariants.{AtLeast, Below}
+use Rattle.dg_game.specs.Replies.{Replies}
+use Rattle.dg_game.specs.Legal.{IsSeat, LooksBack, IsLegal}
+use Rattle.dg_game.specs.Look.{IsLookAt}
+use Rattle.dg_game.specs.declared.entry.Entry.{Entry}
+use Rattle.dg_game.specs.declared.entry.Request.TheVariants.{Look}
+use Rattle.dg_game.specs.declared.entry.Reply.{Reply}
+use Rattle.dg_game.specs.declared.entry.Reply.TheVariants.{Moved, Given, Looked, Verdict, Rank}
+use Rattle.dg_game.specs.declared.look.LookData.{LookData}
+
+abbrev pub EmptyIsLegal : Type 0
+EmptyIsLegal = (o : Opening) → IsLegal o []
+
+abbrev pub OneMoreIsLegal : Type 0
+OneMoreIsLegal = (o : Opening) (H : List Entry) (e : Entry) → IsLegal o H → IsSeat e.seat → LooksBack H e.request →
+    Replies o H e.request e.reply → IsLegal o (H ++ e ∷ [])
+
+abbrev pub BeginningsAreLegal : Type 0
+BeginningsAreLegal = (o : Opening) (H : List Entry) (k : ℕ) → IsLegal o H → IsLegal o (take k H)
+
+abbrev pub PartsAreLegal : Type 0
+PartsAreLegal = (o : Opening) (K L : List Entry) → IsLegal o (K ++ L) → IsLegal o K
+
+abbrev pub HasSize : ℕ → Reply → Type 0
+HasSize n (Moved d) = d.size ≡ n
+HasSize n (Given gifts d) = d.size ≡ n
+HasSize n (Looked gifts d) = d.size ≡ n
+HasSize n (Verdict x) = (x.script.size ≡ n) × (x.reduced.size ≡ n)
+HasSize n (Rank (AtLeast k)) = ⊤
+HasSize n (Rank (Below k d)) = d.size ≡ n
+HasSize n reply = ⊤
+
+abbrev pub LegalIsSized : Type 0
+LegalIsSized = (o : Opening) (H : List Entry) (i : ℕ) (e : Entry) → IsLegal o H → slice_get H i ≡ Some e → HasSize o.graph.size e.reply
+
+abbrev pub LooksAreShown : Type 0
+LooksAreShown = (o : Opening) (H : List Entry) (e : Entry) (x : LookData) → IsLegal o H → slice_get H x.number ≡ Some e →
+    e.request ≡ Look → e.reply ≡ Looked x.gifts x.position → IsLookAt o H x

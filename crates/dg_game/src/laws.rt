@@ -1,0 +1,26 @@
+//! The laws of histories: functions with empty bodies, whose contracts are the laws.
+ghost use Rattle.dg_game.specs.Step.{NoEntry, OneMoreEntry, SinceGift, GraphStays, VerticesStay};
+ghost use Rattle.dg_game.specs.LegalLaws.{EmptyIsLegal, OneMoreIsLegal, BeginningsAreLegal, PartsAreLegal, LegalIsSized, LooksAreShown};
+
+/// What a history does to the position: without an entry it is that of the start; one more entry does what its
+/// accepted move or gift does, and nothing else; entries without an accepted gift fire it by their scripts; and the
+/// graph stays.
+pub fn law_of_histories()
+    ensures start { NoEntry }
+    ensures step { OneMoreEntry }
+    ensures since_gift { SinceGift }
+    ensures graph { GraphStays }
+    ensures vertices { VerticesStay }
+{}
+
+/// Which histories are legal, and what their entries hold: the empty one is legal, one allowed entry more keeps a
+/// legal one legal, and each beginning of a legal one is legal; all its replies have the size of the start, and each
+/// look showed the position.
+pub fn law_of_legal_histories()
+    ensures empty { EmptyIsLegal }
+    ensures more { OneMoreIsLegal }
+    ensures beginnings { BeginningsAreLegal }
+    ensures parts { PartsAreLegal }
+    ensures sizes { LegalIsSized }
+    ensures looks { LooksAreShown }
+{}
