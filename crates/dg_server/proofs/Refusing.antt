@@ -7,8 +7,8 @@ use Rattle.dg_game.specs.declared.schedule.RehearseFault.TheVariants.{Seat, Full
 use Rattle.dg_game.specs.declared.step.Step.{Step}
 use Rattle.dg_server.specs.Faults.{fault_of_schedule}
 use Rattle.dg_server.specs.Refusals.{RefusesSchedule}
-use Rattle.dg_server.specs.Schedules.{AreStepsOf}
-use Rattle.dg_server.proofs.Seats.{spelled_seated}
+use Rattle.dg_session.specs.Schedules.{AreStepsOf}
+use Rattle.dg_session.proofs.Seats.{spelled_seated}
 
 pub schedule_refused : (n : ℕ) (names lines : List (List ℕ)) (steps : List Step) (fault : RehearseFault) → AreStepsOf names steps lines →
     IsFirstFault n steps fault → RefusesSchedule n names lines (fault_of_schedule fault)

@@ -5,8 +5,8 @@ use Rattle.dg_game.specs.declared.schedule.RehearseFault.{RehearseFault}
 use Rattle.dg_game.specs.declared.schedule.RehearseFault.TheVariants as schedule
 use Rattle.dg_server.specs.declared.fault.Fault.{Fault}
 use Rattle.dg_server.specs.declared.fault.Fault.TheVariants as run
-use Rattle.dg_server.specs.declared.steps.StepsFault.{StepsFault}
-use Rattle.dg_server.specs.declared.steps.StepsFault.TheVariants as steps
+use Rattle.dg_session.specs.declared.steps_file.StepsFault.{StepsFault}
+use Rattle.dg_session.specs.declared.steps_file.StepsFault.TheVariants as steps
 
 abbrev pub fault_of_steps : StepsFault → Fault
 fault_of_steps (steps.Line line fault) = run.Line line fault

@@ -6,8 +6,8 @@ use Rattle.dg_server.specs.declared.fault.Fault.{Fault}
 use Rattle.dg_server.specs.declared.fault.Fault.TheVariants.{CommandLine, Words, Source, File, Line, Seat, Full, NoLook, StepTrials, TooMany, Chip, OutOfMemory, Write}
 use Rattle.dg_server.specs.declared.sources.SourceFault.{SourceFault}
 use Rattle.dg_server.specs.declared.sources.SourceFault.TheVariants.{Unreadable, TooLong, OutOfMemory as NoMemoryToRead}
-use Rattle.dg_server.specs.declared.table.FileFault.{FileFault}
-use Rattle.dg_server.specs.declared.table.FileFault.TheVariants.{OutOfMemory as NoMemoryForTable}
+use Rattle.dg_file.specs.declared.fault.FileFault.{FileFault}
+use Rattle.dg_file.specs.declared.fault.FileFault.TheVariants.{OutOfMemory as NoMemoryForTable}
 
 abbrev pub status_of_source : SourceFault → ℕ
 status_of_source TooLong = 3

@@ -1,10 +1,11 @@
+//! The command line: what its words ask for, and what is said of them.
 ghost use Rattle.std.specs.Prelude.{◌≡◌, ◌⊎◌, IfErr};
 ghost use Rattle.dg_server.specs.Status.{status};
 
 use crate::fault::Fault;
-use crate::number::{degree, natural};
 use clap::error::ErrorKind;
 use clap::{Arg, ArgMatches, Command};
+use dg_session::{degree, natural};
 use std::alloc::{AllocError, Global};
 use std::rt::Env;
 use std::{env, io};

@@ -1,12 +1,12 @@
+//! The faults that end a run, what is said of each, and the exit statuses.
 ghost use Rattle.std.specs.Prelude.{◌≡◌};
 ghost use Rattle.dg_server.specs.Status.{status};
 
-use crate::line::LineFault;
 use crate::sources::SourceFault;
-use crate::steps::StepsFault;
-use crate::table::FileFault;
 use dg_chips::ChipFault;
+use dg_file::FileFault;
 use dg_game::RehearseFault;
+use dg_session::{LineFault, StepsFault};
 use std::alloc::{AllocError, AllocFailed};
 use std::io::Write;
 use thiserror::Error;

@@ -1,17 +1,15 @@
 //! Schedules that are played and printed, and tables that are judged.
 ghost use Rattle.std.specs.Prelude.{IfOk, IfErr, ◌≡◌, ◌++◌, codes};
-ghost use Rattle.dg_server.specs.Cuts.{lines};
+ghost use Rattle.dg_session.specs.Cuts.{lines};
 ghost use Rattle.dg_server.specs.Judgements.{IsJudgement};
-ghost use Rattle.dg_server.specs.Texts.{HasNames, text_of};
-ghost use Rattle.dg_server.specs.Rehearsals.{history_text, AllHaveNames, IsPrinted};
+ghost use Rattle.dg_session.specs.Texts.{HasNames, text_of};
+ghost use Rattle.dg_server.specs.Rehearsals.{IsPrinted};
 ghost use Rattle.dg_server.specs.Refusals.{RefusesSchedule};
 
 use crate::fault::Fault;
-use crate::names::Names;
-use crate::steps::parse_steps;
-use crate::table::TableFile;
-use crate::text::{entry_line, reply_text};
-use dg_game::{Entry, Reply, rehearse};
+use dg_file::{Names, TableFile};
+use dg_game::{Reply, rehearse};
+use dg_session::{history_lines, parse_steps, reply_text};
 use dg_verdict::judge;
 use std::alloc::{AllocError, Global};
 
@@ -63,17 +61,4 @@ pub(crate) fn reply_line(alloc: Global, reply: &Reply, names: &Names) -> Result<
     let mut line = reply_text(alloc, reply, names)?;
     line.extend_from_slice(b"\n")?;
     Ok(line)
-}
-
-/// The lines of the entries, numbered from 0 on.
-fn history_lines(alloc: Global, history: &[Entry], names: &Names) -> Result<Vec<u8>, AllocError>
-    requires { AllHaveNames names.now history.now }
-    ensures { IfOk result (λ text. text.items ≡ history_text names.now 0 history.now) }
-{
-    let mut text = Vec::new(alloc);
-    for (number, entry) in history.iter().enumerate() {
-        let line = entry_line(alloc, number, &entry.reply, names)?;
-        text.extend_from_slice(line.as_slice())?;
-    }
-    Ok(text)
 }

@@ -1,3 +1,4 @@
+//! A run of the program: what the words of a command line come to.
 ghost use Rattle.std.specs.Prelude.{◌≡◌, ◌≢◌, IfErr, OnOk};
 ghost use Rattle.std.specs.Io.KnownBytes.{Appends, Keeps};
 ghost use Rattle.dg_server.specs.Status.{IsStatus};
@@ -7,7 +8,7 @@ use crate::fault::{Fault, report};
 use crate::printed::{judgement, rehearsal};
 use crate::ranks::{rank_answer, riemann_roch};
 use crate::sources::Sources;
-use crate::table::{TableFile, read_table};
+use dg_file::{TableFile, read_table};
 use std::io::{BufRead, Write};
 use std::rt::Files;
 

@@ -6,8 +6,8 @@ ghost use Rattle.dg_server.specs.RankTests.{IsRankAnswer, RefusesRank, NeedsTooM
 
 use crate::fault::Fault;
 use crate::printed::reply_line;
-use crate::table::TableFile;
 use dg_chips::{Divisor, Start};
+use dg_file::TableFile;
 use dg_game::Reply;
 use dg_graph::Graph;
 use dg_rank::{MAX_DEGREE, RankVerdict, rank_at_least};

@@ -1,3 +1,4 @@
+//! Where the bytes of files come from.
 ghost use Rattle.std.specs.Prelude.{◌≡◌, ◌<◌, ◌≤◌, length, vec_len, IfOk, IfSome};
 
 use std::alloc::Global;

@@ -1,4 +1,4 @@
-use Rattle.dg_server.proofs.Printing.{legal_named}
+use Rattle.dg_session.proofs.Printing.{legal_named}
 use Rattle.dg_server.proofs.Refusing.{schedule_refused}
 use Rattle.dg_server.proofs.printed.rehearsal.Goals as goal
 

@@ -1,0 +1,2 @@
+-- Names of vertices.
+pub mod Names

@@ -1,0 +1,28 @@
+-- A schedule: a step on each line.
+--   AreStepsOf names steps lines          == the lines spell the steps, in their order
+--   IsFirstRefused names lines line fault == the line, counted from 1, is the first that is refused, with that fault
+--   IsStepsFault names lines fault        == the fault is the first line that is refused; of want of memory it says
+--                                            nothing
+use Rattle.std.specs.Prelude.{◌≡◌, ℕ, ◌+◌, List, ◌∷◌, ◌++◌, map, length, Ok, Err}
+use Rattle.dg_game.specs.declared.step.Step.{Step}
+use Rattle.dg_session.specs.declared.line.LineFault.{LineFault}
+use Rattle.dg_session.specs.declared.steps_file.StepsFault.{StepsFault}
+use Rattle.dg_session.specs.declared.steps_file.StepsFault.TheVariants.{Line, OutOfMemory}
+use Rattle.dg_session.specs.Steps.{step_of}
+
+pub record AreStepsOf (names : List (List ℕ)) (steps : List Step) (lines : List (List ℕ)) : Type 0 where
+  pub spelled : map (step_of names) lines ≡ map Ok steps
+
+pub record IsFirstRefused (names : List (List ℕ)) (lines : List (List ℕ)) (line : ℕ) (fault : LineFault) : Type 0 where
+  pub front : List (List ℕ)
+  pub refused : List ℕ
+  pub back : List (List ℕ)
+  pub whole : lines ≡ front ++ refused ∷ back
+  pub place : line ≡ length front + 1
+  pub steps : List Step
+  pub accepted : AreStepsOf names steps front
+  pub refusal : step_of names refused ≡ Err fault
+
+abbrev pub IsStepsFault : List (List ℕ) → List (List ℕ) → StepsFault → Type 0
+IsStepsFault names lines (Line line fault) = IsFirstRefused names lines line fault
+IsStepsFault names lines OutOfMemory = Unit {0}

@@ -1,0 +1,84 @@
+-- The texts of replies, over the names of the vertices, in vertex order.
+--   HasNames names reply          == there are as many names as the amounts of the reply, and its script, have vertices
+--   pair name amount              == `name=amount`
+--   pairs names amounts           == the pairs of all vertices, with one space between two
+--   verdict_text names verdict    == the word of the verdict, the pairs of its script and those of its reduced divisor
+--   rank_text names x             == that the rank is at least k, or below k with the pairs of the first loss
+--   text_of names reply           == the text of the reply, with no number and no newline
+--   entry_text names number reply == the line of an entry: its number, a space, the text and a newline
+--   history_text names n H        == the lines of the entries H, numbered from n on
+--   AllHaveNames names H          == there are as many names as each reply of H has amounts
+use Rattle.std.specs.Prelude.{◌≡◌, ℕ, ◌+◌, ℤ, Bool, true, false, List, [], ◌∷◌, ◌++◌, length, slice_get, Some, codes, decimal}
+use Rattle.std.specs.Fmt.{signed_decimal}
+use Rattle.dg_chips.specs.Vector.{at}
+use Rattle.dg_game.specs.declared.entry.Entry.{Entry}
+use Rattle.dg_game.specs.declared.entry.Reply.{Reply}
+use Rattle.dg_game.specs.declared.entry.Reply.TheVariants.{Moved, Given, Looked, Verdict, Rank, Stale, Won, NotWon, Refused}
+use Rattle.dg_game.specs.declared.entry.Refusal.{Refusal}
+use Rattle.dg_game.specs.declared.entry.Refusal.TheVariants.{NoVertex, Empty, Script, Gift, Range}
+use Rattle.dg_verdict.specs.declared.verdict.Verdict.{Verdict as VerdictFound}
+use Rattle.dg_rank.specs.declared.verdicts.RankVerdict.{RankVerdict}
+use Rattle.dg_rank.specs.declared.verdicts.RankVerdict.TheVariants.{AtLeast, Below}
+
+abbrev pub HasNames : List (List ℕ) → Reply → Type 0
+HasNames names (Moved d) = length names ≡ d.size
+HasNames names (Given gifts d) = length names ≡ d.size
+HasNames names (Looked gifts d) = length names ≡ d.size
+HasNames names (Verdict x) = (length names ≡ x.script.size) × (length names ≡ x.reduced.size)
+HasNames names (Rank (AtLeast k)) = Unit {0}
+HasNames names (Rank (Below k d)) = length names ≡ d.size
+HasNames names (Stale gifts) = Unit {0}
+HasNames names Won = Unit {0}
+HasNames names NotWon = Unit {0}
+HasNames names (Refused refusal) = Unit {0}
+
+abbrev pub pair : List ℕ → ℤ → List ℕ
+pair name amount = name ++ codes "=" ++ signed_decimal amount
+
+-- the pairs from the vertex v on, each after a space
+unfoldable pub more_pairs : List (List ℕ) → (ℕ → ℤ) → ℕ → List ℕ
+more_pairs [] amounts v = []
+more_pairs (name ∷ names) amounts v = codes " " ++ pair name (amounts v) ++ more_pairs names amounts (v + 1)
+
+unfoldable pub pairs : List (List ℕ) → (ℕ → ℤ) → List ℕ
+pairs [] amounts = []
+pairs (name ∷ names) amounts = pair name (amounts 0) ++ more_pairs names amounts 1
+
+abbrev pub refusal_text : Refusal → List ℕ
+refusal_text NoVertex = codes "refused vertex"
+refusal_text Empty = codes "refused empty"
+refusal_text Script = codes "refused script"
+refusal_text Gift = codes "refused gift"
+refusal_text Range = codes "refused range"
+
+abbrev pub verdict_word : Bool → List ℕ
+verdict_word true = codes "winnable by "
+verdict_word false = codes "unwinnable by "
+
+abbrev pub verdict_text : List (List ℕ) → VerdictFound → List ℕ
+verdict_text names x = verdict_word x.winnable ++ pairs names (at x.script) ++ codes " to " ++ pairs names (at x.reduced)
+
+abbrev pub rank_text : List (List ℕ) → RankVerdict → List ℕ
+rank_text names (AtLeast k) = codes "rank at least " ++ decimal k
+rank_text names (Below k d) = codes "rank below " ++ decimal k ++ codes " at " ++ pairs names (at d)
+
+abbrev pub text_of : List (List ℕ) → Reply → List ℕ
+text_of names (Moved d) = codes "moved " ++ pairs names (at d)
+text_of names (Given gifts d) = codes "given " ++ decimal gifts ++ codes " " ++ pairs names (at d)
+text_of names (Looked gifts d) = codes "looked " ++ decimal gifts ++ codes " " ++ pairs names (at d)
+text_of names (Verdict x) = verdict_text names x
+text_of names (Rank x) = rank_text names x
+text_of names (Stale gifts) = codes "stale " ++ decimal gifts
+text_of names Won = codes "won"
+text_of names NotWon = codes "not won"
+text_of names (Refused refusal) = refusal_text refusal
+
+abbrev pub entry_text : List (List ℕ) → ℕ → Reply → List ℕ
+entry_text names number reply = decimal number ++ codes " " ++ text_of names reply ++ codes "\n"
+
+unfoldable pub history_text : List (List ℕ) → ℕ → List Entry → List ℕ
+history_text names n [] = []
+history_text names n (e ∷ H) = entry_text names n e.reply ++ history_text names (n + 1) H
+
+abbrev pub AllHaveNames : List (List ℕ) → List Entry → Type 0
+AllHaveNames names H = (k : ℕ) (e : Entry) → slice_get H k ≡ Some e → HasNames names e.reply

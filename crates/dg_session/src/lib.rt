@@ -1,0 +1,22 @@
+//! Lines: what a line spells, and how replies and histories are written.
+#![tactic(auto)]
+
+mod amounts;
+mod cuts;
+mod history;
+mod laws;
+mod line;
+mod lines;
+mod number;
+mod steps_file;
+mod text;
+
+pub use history::history_lines;
+pub use laws::steps_are_spelled;
+pub use line::{LineFault, parse_line, parse_step};
+pub use number::{degree, natural};
+pub use steps_file::{StepsFault, parse_steps};
+pub use text::{entry_line, reply_text};
+
+#[cfg(test)]
+mod tests;

@@ -1,0 +1,166 @@
+//! Lines: what a line spells, or why it is refused.
+ghost use Rattle.std.specs.Prelude.{◌≡◌};
+ghost use Rattle.std.specs.Option.{option_copied};
+ghost use Rattle.dg_session.specs.Cuts.{items, words_after};
+ghost use Rattle.dg_session.specs.Commands.{only_word, lend_of, borrow_of, set_of, fire_of, bare, gift_of, rank_of, line_of};
+ghost use Rattle.dg_session.specs.Steps.{step_of};
+
+use crate::cuts::cut;
+use crate::number::{degree, integer, seat};
+use dg_chips::{Move, contains, with_vertex};
+use dg_file::Names;
+use dg_game::{Command, Plain, Step};
+use thiserror::Error;
+
+/// Why a line is refused.
+#[derive(Clone, Copy, Debug, PartialEq, Eq, Error)]
+pub enum LineFault {
+    /// There is no space, or what stands before the first is no number from 1 to 64.
+    #[error("bad seat")]
+    Seat,
+    /// The first word is no command.
+    #[error("bad word")]
+    Word,
+    /// The command has another number of words, or a word is empty.
+    #[error("bad form")]
+    Form,
+    /// No vertex has the name, or the name was given before.
+    #[error("bad name")]
+    Name,
+    /// A number is not spelled as numbers are, or is out of range.
+    #[error("bad number")]
+    Number,
+}
+
+/// The step that a line spells: a seat from 1 to 64, one space, and a command line.
+///
+/// Refused with `Seat` first, then as the command line is: with `Word`, `Form`, `Name`, `Number`.
+#[tactic(auto, unfolding(crate::specs::Steps::step_of))]
+pub fn parse_step(line: &[u8], names: &Names) -> Result<Step, LineFault>
+    ensures { result ≡ step_of names.now line.now }
+{
+    let (text, rest) = cut(line, b' ');
+    let seat = seat(text).ok_or(LineFault::Seat)?;
+    let rest = rest.ok_or(LineFault::Seat)?;
+    let command = parse_line(rest, names)?;
+    Ok(Step { seat, command })
+}
+
+/// The command that a line spells: a command word and what belongs to it.
+///
+/// Refused with `Word` where the first word is no command, then with `Form`, then with `Name`, then with `Number`.
+#[tactic(auto, using(crate::proofs::Cutting::pieces_cut), unfolding(crate::specs::Commands::line_of, crate::specs::Commands::command_of))]
+pub fn parse_line(line: &[u8], names: &Names) -> Result<Command, LineFault>
+    ensures { result ≡ line_of names.now line.now }
+{
+    let (word, rest) = cut(line, b' ');
+    if word == b"lend".as_slice() {
+        lend(rest, names)
+    } else if word == b"borrow".as_slice() {
+        borrow(rest, names)
+    } else if word == b"fire".as_slice() {
+        fire(rest, names)
+    } else if word == b"look".as_slice() {
+        bare(rest, Command::Call(Plain::Look))
+    } else if word == b"gift".as_slice() {
+        gift(rest, names)
+    } else if word == b"commit".as_slice() {
+        bare(rest, Command::Commit)
+    } else if word == b"rank".as_slice() {
+        rank(rest)
+    } else {
+        Err(LineFault::Word)
+    }
+}
+
+#[tactic(auto, unfolding(crate::specs::Commands::lend_of))]
+fn lend(rest: Option<&[u8]>, names: &Names) -> Result<Command, LineFault>
+    ensures { result ≡ lend_of names.now (words_after (option_copied rest.entry)) }
+{
+    let name = single_word(rest).ok_or(LineFault::Form)?;
+    let v = names.place(name).ok_or(LineFault::Name)?;
+    Ok(Command::Call(Plain::Move(Move::Lend(v))))
+}
+
+#[tactic(auto, unfolding(crate::specs::Commands::borrow_of))]
+fn borrow(rest: Option<&[u8]>, names: &Names) -> Result<Command, LineFault>
+    ensures { result ≡ borrow_of names.now (words_after (option_copied rest.entry)) }
+{
+    let name = single_word(rest).ok_or(LineFault::Form)?;
+    let v = names.place(name).ok_or(LineFault::Name)?;
+    Ok(Command::Call(Plain::Move(Move::Borrow(v))))
+}
+
+#[tactic(auto, unfolding(crate::specs::Commands::fire_of))]
+fn fire(rest: Option<&[u8]>, names: &Names) -> Result<Command, LineFault>
+    ensures { result ≡ fire_of names.now (words_after (option_copied rest.entry)) }
+{
+    let word = single_word(rest).ok_or(LineFault::Form)?;
+    let set = named_set(word, names).ok_or(LineFault::Name)?;
+    Ok(Command::Call(Plain::Move(Move::Fire(set))))
+}
+
+/// The command, where nothing follows the command word.
+#[tactic(auto, using(crate::proofs::Cutting::pieces_cut), unfolding(crate::specs::Commands::bare))]
+fn bare(rest: Option<&[u8]>, command: Command) -> Result<Command, LineFault>
+    ensures { result ≡ bare command (words_after (option_copied rest.entry)) }
+{
+    match rest {
+        Some(_) => Err(LineFault::Form),
+        None => Ok(command),
+    }
+}
+
+#[tactic(auto, using(crate::proofs::Cutting::pieces_cut), unfolding(crate::specs::Commands::gift_of))]
+fn gift(rest: Option<&[u8]>, names: &Names) -> Result<Command, LineFault>
+    ensures { result ≡ gift_of names.now (words_after (option_copied rest.entry)) }
+{
+    let (name, more) = cut(rest.ok_or(LineFault::Form)?, b' ');
+    if name.is_empty() {
+        return Err(LineFault::Form);
+    }
+    let number = single_word(more).ok_or(LineFault::Form)?;
+    let v = names.place(name).ok_or(LineFault::Name)?;
+    let dollars = integer(number).ok_or(LineFault::Number)?;
+    Ok(Command::Call(Plain::Gift(v, dollars)))
+}
+
+#[tactic(auto, unfolding(crate::specs::Commands::rank_of))]
+fn rank(rest: Option<&[u8]>) -> Result<Command, LineFault>
+    ensures { result ≡ rank_of (words_after (option_copied rest.entry)) }
+{
+    let number = single_word(rest).ok_or(LineFault::Form)?;
+    let k = degree(number).ok_or(LineFault::Number)?;
+    Ok(Command::Rank(k))
+}
+
+/// The one word of what follows the command word, where there is just one and it is not empty.
+#[tactic(auto, using(crate::proofs::Cutting::pieces_cut), unfolding(crate::specs::Commands::only_word))]
+fn single_word(rest: Option<&[u8]>) -> Option<&[u8]>
+    ensures { option_copied result ≡ only_word (words_after (option_copied rest.entry)) }
+{
+    let (word, more) = cut(rest?, b' ');
+    if word.is_empty() || more.is_some() {
+        return None;
+    }
+    Some(word)
+}
+
+/// The set of the vertices that the items name, where each item names one that no earlier item names.
+#[tactic(auto, using(crate::proofs::Cutting::pieces_cut), unfolding(crate::specs::Commands::set_of))]
+fn named_set(text: &[u8], names: &Names) -> Option<u16>
+    ensures { result ≡ set_of names.now 0 (items text.now) }
+{
+    let mut set = 0;
+    let mut rest = Some(text);
+    'items: while let Some(text) = rest {
+        let (item, after) = cut(text, b',');
+        let v = usize::from(names.place(item)?);
+        if contains(set, v) {
+            return None;
+        }
+        set = with_vertex(set, v);
+        rest = after;
+    }
+    Some(set)
+}

@@ -1,0 +1,17 @@
+//! What lines spell and how replies are written, against the formats' own examples.
+mod spelled;
+mod written;
+
+use dg_file::Names;
+use std::alloc::{AllocError, Global};
+
+/// The names a, b and c, in vertex order.
+fn triangle(alloc: Global) -> Result<Names, AllocError> {
+    let mut names = Names::new(alloc);
+    for name in ["a", "b", "c"] {
+        if names.len() < 16 {
+            names.add(alloc, name)?;
+        }
+    }
+    Ok(names)
+}
