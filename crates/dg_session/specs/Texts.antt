@@ -11,6 +11,7 @@
 use Rattle.std.specs.Prelude.{◌≡◌, ℕ, ◌+◌, ℤ, Bool, true, false, List, [], ◌∷◌, ◌++◌, length, slice_get, Some, codes, decimal}
 use Rattle.std.specs.Fmt.{signed_decimal}
 use Rattle.dg_chips.specs.Vector.{at}
+use Rattle.dg_game.specs.LegalLaws.{HasSize}
 use Rattle.dg_game.specs.declared.entry.Entry.{Entry}
 use Rattle.dg_game.specs.declared.entry.Reply.{Reply}
 use Rattle.dg_game.specs.declared.entry.Reply.TheVariants.{Moved, Given, Looked, Verdict, Rank, Stale, Won, NotWon, Refused}
@@ -21,16 +22,7 @@ use Rattle.dg_rank.specs.declared.verdicts.RankVerdict.{RankVerdict}
 use Rattle.dg_rank.specs.declared.verdicts.RankVerdict.TheVariants.{AtLeast, Below}
 
 abbrev pub HasNames : List (List ℕ) → Reply → Type 0
-HasNames names (Moved d) = length names ≡ d.size
-HasNames names (Given gifts d) = length names ≡ d.size
-HasNames names (Looked gifts d) = length names ≡ d.size
-HasNames names (Verdict x) = (length names ≡ x.script.size) × (length names ≡ x.reduced.size)
-HasNames names (Rank (AtLeast k)) = Unit {0}
-HasNames names (Rank (Below k d)) = length names ≡ d.size
-HasNames names (Stale gifts) = Unit {0}
-HasNames names Won = Unit {0}
-HasNames names NotWon = Unit {0}
-HasNames names (Refused refusal) = Unit {0}
+HasNames names reply = HasSize (length names) reply
 
 abbrev pub pair : List ℕ → ℤ → List ℕ
 pair name amount = name ++ codes "=" ++ signed_decimal amount
