@@ -13,11 +13,9 @@ use Rattle.dg_theory.specs.Multigraph.{Multigraph, IsMultigraph}
 use Rattle.dg_theory.specs.Firing.{Amounts, gain, fired}
 use Rattle.dg_theory.proofs.Absolute.{within_abs, abs_within}
 use Rattle.dg_theory.proofs.SumLaws.{sum_below-zero}
+use Rattle.dg_theory.proofs.Equivalence.{opposite}
 use Rattle.dg_theory.proofs.FiringLaws.{gain-add}
 use Rattle.dg_theory.proofs.Climbs.{not_far_above}
-
-abbrev pub opposite : Amounts → Amounts
-opposite s w = neg_ℤ (s w)
 
 pub gain-opposite : (g : Multigraph) (s : Amounts) (v : ℕ) → gain g s v +ℤ gain g (opposite s) v ≡ pos 0
 gain-opposite g s v =

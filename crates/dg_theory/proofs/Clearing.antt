@@ -14,7 +14,8 @@ use Rattle.dg_theory.specs.Multigraph.{Multigraph}
 use Rattle.dg_theory.specs.Firing.{Amounts, gain, fired, HasNoDebtOff}
 use Rattle.dg_theory.proofs.TotalLaws.{total_below-term}
 use Rattle.dg_theory.proofs.FiringLaws.{fired-fired, fired-constant}
-use Rattle.dg_theory.proofs.Bounds.{opposite, gain-opposite}
+use Rattle.dg_theory.proofs.Bounds.{gain-opposite}
+use Rattle.dg_theory.proofs.Equivalence.{opposite}
 use Rattle.dg_theory.proofs.Potential.{IsPotential, as_script}
 
 abbrev pub borrowed : (ℕ → ℕ) → Amounts

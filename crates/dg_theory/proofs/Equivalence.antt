@@ -10,7 +10,7 @@
 --   equivalent-degree       equivalent divisors have the same degree
 use Rattle.std.proofs.Common.{arith, refl, sym, ◌∙◌}
 use Rattle.std.proofs.lemmas.Int.{ints}
-use Rattle.std.proofs.Math.IntN.{pos, ◌+ℤ◌, ◌-ℤ◌}
+use Rattle.std.proofs.Math.IntN.{pos, neg_ℤ, ◌+ℤ◌}
 use Rattle.dg_theory.specs.Multigraph.{Multigraph}
 use Rattle.dg_theory.specs.Firing.{Amounts, fired, FiresTo, AreEquivalent}
 use Rattle.dg_theory.specs.Rank.{less}
@@ -22,7 +22,7 @@ use Rattle.dg_theory.proofs.Plays.{total_script, plays_for, played-total, played
 use Rattle.dg_theory.proofs.SumLaws.{sum_below-cong}
 
 abbrev pub opposite : Amounts → Amounts
-opposite s w = pos 0 -ℤ s w
+opposite s w = neg_ℤ (s w)
 
 pub equivalent-refl : EquivalenceIsReflexive
 equivalent-refl g D E same = (λ _. pos 0, λ v below. sym (same v below) ∙ sym (fired-constant g D (pos 0) v))
