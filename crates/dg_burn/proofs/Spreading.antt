@@ -7,7 +7,7 @@
 --   spreading-more     it holds after the edges to one vertex more are counted
 --   spreading-past     it holds past a vertex that burns or to which there is no edge
 --   spreading-done     past all vertices the fire is counted
-use Rattle.std.proofs.Common.{◌≡◌, ◌≢◌, ℕ, zero, suc, ◌+◌, ◌<◌, ◌≤◌, Bool, true, false, List, length, length-set, set, arith, refl, sym, ap, ◌∙◌, ⊎_elim}
+use Rattle.std.proofs.Common.{◌≡◌, ◌≢◌, ℕ, zero, suc, ◌+◌, ◌<◌, ◌≤◌, Bool, false, length, length-set, set, arith, refl, sym, ap, ◌∙◌, ⊎_elim}
 use Rattle.std.specs.Prelude.{if◌then◌else◌, slice_index}
 use Rattle.std.proofs.lemmas.Bool.{cases_eq, both_ways}
 use Rattle.std.proofs.lemmas.List.{get_or-set_same, get_or-set_other}
@@ -17,9 +17,8 @@ use Rattle.dg_theory.specs.Burning.{edges_into}
 use Rattle.dg_theory.proofs.TotalLaws.{total_below-cong, total_below-differ_at}
 use Rattle.dg_theory.proofs.Debts.{into-le-valence}
 use Rattle.dg_graph.specs.Graph.{IsGraph}
-use Rattle.dg_graph.specs.Search.{is_in}
+use Rattle.dg_graph.specs.Sets.{in_set, IsWith, IsWithout}
 use Rattle.dg_chips.specs.Vector.{Vector}
-use Rattle.dg_chips.specs.Moves.{in_set}
 use Rattle.dg_burn.specs.declared.fire.Fire.{Fire}
 use Rattle.dg_burn.specs.Fires.{IsReadyToBurn, HoldsBurnable, CountsEdges, IsFire}
 
@@ -37,18 +36,15 @@ into-none g B v none =
     (λ w below. ap (λ b. counted b (edges_between g v w)) (none w)) in
     omega (arith, total-zero g.size)
 
-pub into-more : (g : Multigraph) (reached : List Bool) (v w : ℕ) → IsMultigraph g → v < g.size → v < length reached →
-    is_in reached v ≡ false →
-    edges_into g (is_in reached) w + edges_between g v w ≡ edges_into g (is_in (set reached v true)) w
-into-more g reached v w graph below within new =
-    let differ : edges_into g (is_in (set reached v true)) w + counted (is_in reached v) (edges_between g w v)
-    ≡ edges_into g (is_in reached) w + counted (is_in (set reached v true) v) (edges_between g w v) =
-    total_below-differ_at g.size (λ u. counted (is_in (set reached v true) u) (edges_between g w u))
-    (λ u. counted (is_in reached u) (edges_between g w u)) v below
-    (λ u _ other. ap (λ b. counted b (edges_between g w u)) (get_or-set_other reached v u true false other)) in
-    let before : counted (is_in reached v) (edges_between g w v) ≡ 0 = ap (λ b. counted b (edges_between g w v)) new in
-    let after : counted (is_in (set reached v true) v) (edges_between g w v) ≡ edges_between g w v =
-    ap (λ b. counted b (edges_between g w v)) (get_or-set_same reached v true false within) in
+pub into-more : (g : Multigraph) (S T : ℕ → Bool) (v w : ℕ) → IsMultigraph g → v < g.size → S v ≡ false → IsWith S v T →
+    edges_into g S w + edges_between g v w ≡ edges_into g T w
+into-more g S T v w graph below new more =
+    let differ : edges_into g T w + counted (S v) (edges_between g w v) ≡ edges_into g S w + counted (T v) (edges_between g w v) =
+    total_below-differ_at g.size (λ u. counted (T u) (edges_between g w u)) (λ u. counted (S u) (edges_between g w u)) v below
+    (λ u _ other. ap (λ b. counted b (edges_between g w u)) (more.others u other)) in
+    let before : counted (S v) (edges_between g w v) ≡ 0 = ap (λ b. counted b (edges_between g w v)) new in
+    let after : counted (T v) (edges_between g w v) ≡ edges_between g w v =
+    ap (λ b. counted b (edges_between g w v)) more.here in
     omega (arith, graph.symmetric v w)
 
 pub into-few : (g : Multigraph) (B : ℕ → Bool) (v : ℕ) → IsGraph g → v < g.size → edges_into g B v ≤ 63
@@ -56,15 +52,15 @@ into-few g B v graph below = omega (arith, into-le-valence g B v, graph.valences
 
 -- y comes from x: v burns, and the edges from v to the vertices below k are counted
 pub record IsSpreading (g : Multigraph) (chips : Vector) (x : Fire) (v k : ℕ) (y : Fire) : Type 0 where
-  pub burns : y.reached ≡ set x.reached v true
+  pub burns : IsWith (in_set x.reached) v (in_set y.reached)
   pub places : length y.joined ≡ length x.joined
-  pub done : (u : ℕ) → u < k → is_in y.reached u ≡ false → slice_index y.joined u ≡ edges_into g (is_in y.reached) u
-  pub ahead : (u : ℕ) → k ≤ u → u < g.size → is_in y.reached u ≡ false →
-      slice_index y.joined u + edges_between g v u ≡ edges_into g (is_in y.reached) u
+  pub done : (u : ℕ) → u < k → in_set y.reached u ≡ false → slice_index y.joined u ≡ edges_into g (in_set y.reached) u
+  pub ahead : (u : ℕ) → k ≤ u → u < g.size → in_set y.reached u ≡ false →
+      slice_index y.joined u + edges_between g v u ≡ edges_into g (in_set y.reached) u
   pub burnable : (u : ℕ) → HoldsBurnable chips y u
 
 -- a vertex that is ready to burn in x is so in y, if the same is counted at it and it burns in neither
-ready-same : (chips : Vector) (x y : Fire) (u : ℕ) → is_in y.reached u ≡ is_in x.reached u →
+ready-same : (chips : Vector) (x y : Fire) (u : ℕ) → in_set y.reached u ≡ in_set x.reached u →
     slice_index y.joined u ≡ slice_index x.joined u → IsReadyToBurn chips x u → IsReadyToBurn chips y u
 ready-same chips x y u same counts ready = record {
   vertex = ready.vertex;
@@ -72,36 +68,31 @@ ready-same chips x y u same counts ready = record {
   reached = rw counts ready.reached;
 }
 
-pub spreading-start : (g : Multigraph) (chips : Vector) (x : Fire) (v frontier : ℕ) → IsMultigraph g → v < g.size →
-    v < length x.reached → is_in x.reached v ≡ false → CountsEdges g x → ((w : ℕ) → w ≢ v → HoldsBurnable chips x w) →
-    in_set frontier v ≡ false → ((w : ℕ) → w ≢ v → in_set frontier w ≡ in_set x.frontier w) →
-    IsSpreading g chips x v 0 (record { reached = set x.reached v true; joined = x.joined; frontier = frontier })
-spreading-start g chips x v frontier graph below within new counts burnable gone others = record {
-  burns = refl;
+pub spreading-start : (g : Multigraph) (chips : Vector) (x : Fire) (v reached frontier : ℕ) → IsMultigraph g → v < g.size →
+    in_set x.reached v ≡ false → CountsEdges g x → ((w : ℕ) → w ≢ v → HoldsBurnable chips x w) →
+    IsWith (in_set x.reached) v (in_set reached) → IsWithout (in_set x.frontier) v (in_set frontier) →
+    IsSpreading g chips x v 0 (record { reached = reached; joined = x.joined; frontier = frontier })
+spreading-start g chips x v reached frontier graph below new counts burnable more fewer = record {
+  burns = more;
   places = refl;
   done = λ u none. absurd (omega arith);
   ahead = λ u _ inside out. ⊎_elim
-      (λ (equal : u ≡ v).
-      let burns : is_in (set x.reached v true) u ≡ true = rw equal (get_or-set_same x.reached v true false within) in
-      absurd (both_ways _ out burns))
+      (λ (equal : u ≡ v). absurd (both_ways _ out (rw equal more.here)))
       (λ (other : u ≡ v → ⊥). omega (
         arith,
-        counts u inside (sym (get_or-set_other x.reached v u true false other) ∙ out),
-        into-more g x.reached v u graph below within new,
+        counts u inside (sym (more.others u other) ∙ out),
+        into-more g (in_set x.reached) (in_set reached) v u graph below new more,
       ))
       (cases_eq u v);
   burnable = λ u. ⊎_elim
       (λ (equal : u ≡ v). (
-        λ member. let clash : ⊥ = cc (ap (in_set frontier) equal) in absurd clash,
-        λ ready.
-            let burns : is_in (set x.reached v true) u ≡ true =
-            rw equal (get_or-set_same x.reached v true false within) in
-            absurd (both_ways _ ready.unburnt burns),
+        λ member. let clash : ⊥ = cc (ap (in_set frontier) equal, fewer.gone) in absurd clash,
+        λ ready. absurd (both_ways _ ready.unburnt (rw equal more.here)),
       ))
       (λ (other : u ≡ v → ⊥).
-      let same : is_in (set x.reached v true) u ≡ is_in x.reached u = get_or-set_other x.reached v u true false other in (
-        λ member. ready-same chips x _ u same refl ((burnable u other).0 (sym (others u other) ∙ member)),
-        λ ready. others u other ∙ (burnable u other).1 (ready-same chips _ x u (sym same) refl ready),
+      let same : in_set reached u ≡ in_set x.reached u = more.others u other in (
+        λ member. ready-same chips x _ u same refl ((burnable u other).0 (sym (fewer.others u other) ∙ member)),
+        λ ready. fewer.others u other ∙ (burnable u other).1 (ready-same chips _ x u (sym same) refl ready),
       ))
       (cases_eq u v);
 }
@@ -113,18 +104,18 @@ pub spreading-more : (g : Multigraph) (chips : Vector) (x y z : Fire) (v k e : �
 spreading-more g chips x y z v k e below within edges state same counts burnable =
     let other : (u : ℕ) → u ≢ k → slice_index z.joined u ≡ slice_index y.joined u = λ u apart.
     rw counts (get_or-set_other y.joined k u (slice_index y.joined k + e) 0 apart) in
-    let into : (u : ℕ) → edges_into g (is_in z.reached) u ≡ edges_into g (is_in y.reached) u = λ u.
-    ap (λ (l : List Bool). edges_into g (is_in l) u) same in
-    let still : (u : ℕ) → is_in z.reached u ≡ false → is_in y.reached u ≡ false = λ u out.
-    sym (ap (λ (l : List Bool). is_in l u) same) ∙ out in
+    let into : (u : ℕ) → edges_into g (in_set z.reached) u ≡ edges_into g (in_set y.reached) u = λ u.
+    ap (λ (m : ℕ). edges_into g (in_set m) u) same in
+    let still : (u : ℕ) → in_set z.reached u ≡ false → in_set y.reached u ≡ false = λ u out.
+    sym (ap (λ (m : ℕ). in_set m u) same) ∙ out in
     record {
-      burns = same ∙ state.burns;
+      burns = rw same state.burns;
       places = ap length counts ∙ length-set _ _ _ ∙ state.places;
       done = λ u low out. ⊎_elim
           (λ (equal : u ≡ k).
           let here_now : slice_index z.joined k ≡ slice_index y.joined k + e =
           rw counts (get_or-set_same y.joined k (slice_index y.joined k + e) 0 (omega (arith, state.places))) in
-          rw equal (omega (arith, state.ahead k (omega arith) below (still k (sym (ap (is_in z.reached) equal) ∙ out)), into k)))
+          rw equal (omega (arith, state.ahead k (omega arith) below (still k (sym (ap (in_set z.reached) equal) ∙ out)), into k)))
           (λ (apart : u ≡ k → ⊥). other u apart ∙ state.done u (omega arith) (still u out) ∙ sym (into u))
           (cases_eq u k);
       ahead = λ u high inside out.
@@ -133,13 +124,13 @@ spreading-more g chips x y z v k e below within edges state same counts burnable
     }
 
 pub spreading-past : (g : Multigraph) (chips : Vector) (x y : Fire) (v k : ℕ) → k < g.size →
-    (is_in y.reached k ≡ false → edges_between g v k ≡ 0) → IsSpreading g chips x v k y → IsSpreading g chips x v (k + 1) y
+    (in_set y.reached k ≡ false → edges_between g v k ≡ 0) → IsSpreading g chips x v k y → IsSpreading g chips x v (k + 1) y
 spreading-past g chips x y v k below none state = record {
   burns = state.burns;
   places = state.places;
   done = λ u low out. ⊎_elim
       (λ (equal : u ≡ k).
-      let out_k : is_in y.reached k ≡ false = sym (ap (is_in y.reached) equal) ∙ out in
+      let out_k : in_set y.reached k ≡ false = sym (ap (in_set y.reached) equal) ∙ out in
       rw equal (omega (arith, state.ahead k (omega arith) below out_k, none out_k)))
       (λ (apart : u ≡ k → ⊥). state.done u (omega arith) out)
       (cases_eq u k);

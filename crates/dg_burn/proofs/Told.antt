@@ -6,7 +6,7 @@
 --   none_unreached  if no vertex is unreached, each is reached
 --   none_whole      it is empty exactly where as many vertices burn as there are
 use Rattle.std.proofs.Common.{◌≡◌, ℕ, zero, suc, ◌<◌, ◌≤◌, Bool, true, not, ◌&&◌, List, arith, refl, sym, ap, subst, ◌∙◌, ⊎_elim}
-use Rattle.std.specs.Prelude.{nat_lt, ◌↔◌, if◌then◌else◌}
+use Rattle.std.specs.Prelude.{nat_lt, ◌↔◌}
 use Rattle.std.proofs.lemmas.Bool.{cases_lt, lt-ltb, le-ltb, and_left, and_right, not-false, not_from_true, true_from_ne_false}
 use Rattle.dg_theory.specs.Multigraph.{Multigraph, IsMultigraph}
 use Rattle.dg_theory.specs.Firing.{Amounts, HasNoDebtOff}
@@ -15,16 +15,16 @@ use Rattle.dg_theory.specs.Burning.{among, BurnsInOrder, IsGreatestFree}
 use Rattle.dg_theory.specs.BurningLaws.{unburnt_by}
 use Rattle.dg_theory.proofs.BurningLaws.{unburnt_by-below, unburnt_fires, burnt_reduced, reduced_burnt}
 use Rattle.dg_theory.proofs.TotalLaws.{total_below-term}
-use Rattle.dg_graph.specs.Search.{is_in}
-use Rattle.dg_chips.specs.Moves.{in_set}
+use Rattle.dg_graph.specs.Sets.{in_set}
+use Rattle.dg_graph.proofs.SetLaws.{in_set-none, no_set}
 use Rattle.dg_burn.specs.SoFar.{unreached, IsBurning}
-use Rattle.dg_burn.proofs.Rests.{in_set-none, no_set}
+use Rattle.dg_burn.proofs.Steps.{one_unless}
 
-pub set_is_rest : (g : Multigraph) (l : List ℕ) (reached : List Bool) (k m : ℕ) → k ≡ g.size →
-    ((v : ℕ) → is_in reached v ≡ among l v) → ((v : ℕ) → in_set m v ≡ (nat_lt v k && not (is_in reached v))) →
+pub set_is_rest : (g : Multigraph) (l : List ℕ) (S : ℕ → Bool) (k m : ℕ) → k ≡ g.size →
+    ((v : ℕ) → S v ≡ among l v) → ((v : ℕ) → in_set m v ≡ (nat_lt v k && not (S v))) →
     (v : ℕ) → in_set m v ≡ unburnt_by g l v
-set_is_rest g l reached k m size same rest v =
-    rest v ∙ ap (λ n. nat_lt v n && not (is_in reached v)) size ∙ ap (λ b. nat_lt v g.size && not b) (same v)
+set_is_rest g l S k m size same rest v =
+    rest v ∙ ap (λ n. nat_lt v n && not (S v)) size ∙ ap (λ b. nat_lt v g.size && not b) (same v)
 
 pub rest_is_free : (g : Multigraph) (q : ℕ) (D : Amounts) (l : List ℕ) (m : ℕ) → IsMultigraph g → q < g.size →
     HasNoDebtOff g q D → BurnsInOrder g q D l → ((v : ℕ) → in_set m v ≡ unburnt_by g l v) →
@@ -44,37 +44,34 @@ reduced_none g q D l m order rest reduced = no_set m (λ v. rest v ∙ ⊎_elim
     (λ (above : g.size ≤ v). and_left _ _ (le-ltb v g.size above))
     (cases_lt v g.size))
 
-abbrev one_unless : Bool → ℕ
-one_unless b = if b then 0 else 1
-
 -- if each of n vertices is reached, none is unreached
-all_reached : (n : ℕ) (reached : List Bool) → ((v : ℕ) → v < n → is_in reached v ≡ true) → unreached n reached ≡ 0
-all_reached zero reached all = refl
-all_reached (suc n) reached all =
-    let before : unreached n reached ≡ 0 = all_reached n reached (λ v below. all v (omega arith)) in
-    let last : one_unless (is_in reached n) ≡ 0 = ap one_unless (all n (omega arith)) in
+all_reached : (n : ℕ) (S : ℕ → Bool) → ((v : ℕ) → v < n → S v ≡ true) → unreached n S ≡ 0
+all_reached zero S all = refl
+all_reached (suc n) S all =
+    let before : unreached n S ≡ 0 = all_reached n S (λ v below. all v (omega arith)) in
+    let last : one_unless (S n) ≡ 0 = ap one_unless (all n (omega arith)) in
     omega arith
 
-pub none_unreached : (n : ℕ) (reached : List Bool) (v : ℕ) → v < n → unreached n reached ≡ 0 → is_in reached v ≡ true
-none_unreached n reached v below none = true_from_ne_false (is_in reached v) (λ missed.
-    let one : one_unless (is_in reached v) ≡ 1 = ap one_unless missed in
-    let term : one_unless (is_in reached v) ≤ unreached n reached =
-    total_below-term n (λ w. one_unless (is_in reached w)) v below in
+pub none_unreached : (n : ℕ) (S : ℕ → Bool) (v : ℕ) → v < n → unreached n S ≡ 0 → S v ≡ true
+none_unreached n S v below none = true_from_ne_false (S v) (λ missed.
+    let one : one_unless (S v) ≡ 1 = ap one_unless missed in
+    let term : one_unless (S v) ≤ unreached n S =
+    total_below-term n (λ w. one_unless (S w)) v below in
     absurd (omega arith))
 
-pub none_whole : (g : Multigraph) (q : ℕ) (D : Amounts) (l : List ℕ) (n : ℕ) (reached : List Bool) (k m : ℕ) →
-    IsBurning g q D l n reached → k ≡ g.size → ((v : ℕ) → in_set m v ≡ (nat_lt v k && not (is_in reached v))) →
+pub none_whole : (g : Multigraph) (q : ℕ) (D : Amounts) (l : List ℕ) (n : ℕ) (S : ℕ → Bool) (k m : ℕ) →
+    IsBurning g q D l n S → k ≡ g.size → ((v : ℕ) → in_set m v ≡ (nat_lt v k && not (S v))) →
     (m ≡ 0) ↔ (n ≡ g.size)
-none_whole g q D l n reached k m state size rest = (
+none_whole g q D l n S k m state size rest = (
   λ none.
-      let all : unreached g.size reached ≡ 0 = all_reached g.size reached (λ v below.
-      not-false (is_in reached v)
-      (sym (ap (λ b. b && not (is_in reached v)) (lt-ltb v k (omega arith))) ∙ sym (rest v) ∙ ap (λ j. in_set j v) none ∙ in_set-none v)) in
+      let all : unreached g.size S ≡ 0 = all_reached g.size S (λ v below.
+      not-false (S v)
+      (sym (ap (λ b. b && not (S v)) (lt-ltb v k (omega arith))) ∙ sym (rest v) ∙ ap (λ j. in_set j v) none ∙ in_set-none v)) in
       omega (arith, state.left),
   λ whole.
-      let none : unreached g.size reached ≡ 0 = omega (arith, state.left) in
+      let none : unreached g.size S ≡ 0 = omega (arith, state.left) in
       no_set m (λ v. rest v ∙ ⊎_elim
-      (λ (below : v < k). and_right _ _ (not_from_true _ (none_unreached g.size reached v (omega arith) none)))
+      (λ (below : v < k). and_right _ _ (not_from_true _ (none_unreached g.size S v (omega arith) none)))
       (λ (above : k ≤ v). and_left _ _ (le-ltb v k above))
       (cases_lt v k)),
 )

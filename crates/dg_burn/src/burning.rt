@@ -1,14 +1,15 @@
+//! Burning a graph from a vertex, and what it comes to.
+
 ghost use Rattle.std.specs.Prelude.{◌≡◌, ◌≢◌, ℕ, ◌<◌, ◌≤◌, ◌↔◌, take, pos, ◌≤ℤ◌};
 ghost use Rattle.std.specs.List.{slice_index_or};
 ghost use Rattle.dg_theory.specs.Burning.{BurnsInOrder, IsGreatestFree};
 ghost use Rattle.dg_theory.specs.Reduced.{IsReduced};
+ghost use Rattle.dg_graph.specs.Sets.{in_set};
 ghost use Rattle.dg_chips.specs.Vector.{at};
-ghost use Rattle.dg_chips.specs.Moves.{in_set};
 
 use crate::fire::Fire;
-use crate::rest::rest_of;
 use dg_chips::Wide;
-use dg_graph::Graph;
+use dg_graph::{Graph, complement};
 
 /// What burning from a vertex comes to.
 #[derive(Clone, Copy, Debug, PartialEq, Eq)]
@@ -17,12 +18,13 @@ pub struct Burnt {
     pub order: [u8; 16],
     /// How many burn.
     pub burnt: u8,
-    /// The set of those that do not; bit v of the number stands for vertex v.
+    /// The set of the vertices that do not; bit v of the number stands for vertex v.
     pub unburnt: u16,
 }
 
 /// Burns the graph from q. Of the vertices that more edges join to burnt ones than they hold dollars, the least burns
-/// next, until there is none.
+/// next, until there is none. What is left is the greatest set of vertices without q that can fire so that nobody off q
+/// comes into debt.
 pub fn burn(graph: &Graph, q: usize, chips: &Wide) -> Burnt
     requires size { chips.now.size ≡ graph.now.size }
     requires vertex { q < graph.now.size }
@@ -49,6 +51,6 @@ pub fn burn(graph: &Graph, q: usize, chips: &Wide) -> Burnt
     Burnt {
         order,
         burnt: count as u8,
-        unburnt: rest_of(size, &fire.reached),
+        unburnt: complement(size, fire.reached),
     }
 }

@@ -5,11 +5,7 @@ mod burning;
 mod fire;
 #[cfg(test)]
 mod reference;
-mod rest;
-mod search;
-mod sets;
 #[cfg(test)]
 mod tests;
 
 pub use burning::{Burnt, burn};
-pub use search::edges_to;

@@ -4,10 +4,8 @@
 ghost use Rattle.std.specs.Prelude.{◌≡◌, ◌<◌, IfSome};
 
 use crate::burning::Burnt;
-use crate::rest::rest_of;
-use crate::search::edges_to;
 use dg_chips::Wide;
-use dg_graph::Graph;
+use dg_graph::{Graph, complement, contains, with_vertex};
 
 /// Burns the graph from q.
 pub fn burn_anew(graph: &Graph, q: usize, chips: &Wide) -> Burnt
@@ -18,29 +16,28 @@ pub fn burn_anew(graph: &Graph, q: usize, chips: &Wide) -> Burnt
     let mut order = [0; 16];
     order[0] = q as u8;
     let mut burnt = 1;
-    let mut reached = [false; 16];
-    reached[q] = true;
+    let mut reached = with_vertex(0, q);
     for count in 1..size {
-        if let Some(v) = next_to_burn(graph, chips, &reached) {
+        if let Some(v) = next_to_burn(graph, chips, reached) {
             order[count] = v as u8;
             burnt = count as u8 + 1;
-            reached[v] = true;
+            reached = with_vertex(reached, v);
         }
     }
     Burnt {
         order,
         burnt,
-        unburnt: rest_of(size, &reached),
+        unburnt: complement(size, reached),
     }
 }
 
 /// The least vertex that may burn.
-fn next_to_burn(graph: &Graph, chips: &Wide, reached: &[bool; 16]) -> Option<usize>
+fn next_to_burn(graph: &Graph, chips: &Wide, reached: u16) -> Option<usize>
     requires { chips.now.size ≡ graph.now.size }
     ensures { IfSome result (λ v. v < graph.now.size) }
 {
     for v in 0..graph.size() {
-        if !reached[v] && chips.get(v) < i128::from(edges_to(graph, v, reached)) {
+        if !contains(reached, v) && chips.get(v) < i128::from(graph.edges_into(reached, v)) {
             return Some(v);
         }
     }

@@ -1,3 +1,5 @@
+//! What burns, by hand and as the reference has it.
+
 ghost use Rattle.std.specs.Prelude.{◌≡◌, ◌≢◌, ℕ, ◌<◌, pos, ◌≤ℤ◌};
 ghost use Rattle.std.specs.Bool.{OnTrue};
 ghost use Rattle.dg_chips.specs.Vector.{at};

@@ -1,20 +1,16 @@
 -- Moves (Corry and Perkinson, chapters 1 and 2).
---   in_set m v          == whether bit v of the number m is set: the set of vertices that m stands for
 --   script_of m         == the script of the move: 1 or -1 at the vertex, 1 on the set, or the script given
 --   NamesNoVertex n m   == the move names a number that is none of the n vertices
 --   IsEmptySet m        == the move fires the empty set
 --   HasOtherSize n m    == the move is a script for another number of vertices
 --   IsPlayable n m      == none of these
 -- To fire the empty set would change nothing; on a table it is refused, since it is no move.
-use Rattle.std.specs.Prelude.{◌≡◌, ◌≢◌, ℕ, ◌<◌, ◌≤◌, ◌==◌, Bool, true, pos, negsuc}
-use Rattle.std.specs.Int.{bit_at}
+use Rattle.std.specs.Prelude.{◌≡◌, ◌≢◌, ℕ, ◌<◌, ◌≤◌, true, pos, negsuc}
 use Rattle.dg_theory.specs.Firing.{Amounts, only_at, indicator}
+use Rattle.dg_graph.specs.Sets.{in_set, IsWithin}
 use Rattle.dg_chips.specs.Vector.{at}
 use Rattle.dg_chips.specs.declared.moves.Move.{Move}
 use Rattle.dg_chips.specs.declared.moves.Move.TheVariants.{Lend, Borrow, Fire, Script}
-
-unfoldable pub in_set : ℕ → ℕ → Bool
-in_set m v = bit_at m v == 1
 
 abbrev pub script_of : Move → Amounts
 script_of (Lend v) = only_at v (pos 1)
@@ -43,5 +39,5 @@ HasOtherSize n (Script s) = s.size ≢ n
 abbrev pub IsPlayable : ℕ → Move → Type 0
 IsPlayable n (Lend v) = v < n
 IsPlayable n (Borrow v) = v < n
-IsPlayable n (Fire m) = (m ≢ 0) × ((v : ℕ) → in_set m v ≡ true → v < n)
+IsPlayable n (Fire m) = (m ≢ 0) × IsWithin n (in_set m)
 IsPlayable n (Script s) = s.size ≡ n

@@ -21,7 +21,5 @@ pub use drift::Drift;
 pub use firing::apply;
 pub use moves::{Move, MoveFault};
 pub use script::{Script, ScriptFault};
-pub use scripts::{contains, with_vertex};
-pub use set_firing::edges_out;
 pub use start::{Start, StartFault};
 pub use wide::Wide;

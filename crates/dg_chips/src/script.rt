@@ -3,16 +3,15 @@ ghost use Rattle.std.specs.List.{slice_index_or};
 ghost use Rattle.std.specs.Int.RustNames.{unsigned_abs};
 ghost use Rattle.dg_theory.specs.Firing.{only_at, indicator, FiresTo};
 ghost use Rattle.dg_chips.specs.Vector.{at, HoldsNumbers, IsScript};
-ghost use Rattle.dg_chips.specs.Moves.{in_set};
+ghost use Rattle.dg_graph.specs.Sets.{in_set};
 ghost use Rattle.dg_chips.specs.ScriptFaults.{IsFirstScriptFault};
 
 use crate::divisor::Divisor;
 use crate::drift::Drift;
 use crate::firing::gained;
 use crate::numbers::{first_past, padded};
-use crate::scripts::contains;
 use crate::wide::Wide;
-use dg_graph::Graph;
+use dg_graph::{Graph, contains};
 use std::marker::Model;
 use thiserror::Error;
 

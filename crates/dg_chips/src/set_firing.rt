@@ -1,16 +1,16 @@
+//! What a vertex lends and gets when the vertices of a set lend together.
+
 ghost use Rattle.std.specs.Prelude.{◌≡◌, ℕ, ◌<◌, ◌≤◌, ◌*◌, ◌^◌, pos, ◌*ℤ◌};
 ghost use Rattle.std.specs.Int.RustNames.{unsigned_abs};
 ghost use Rattle.dg_theory.specs.Firing.{gain, indicator, multiple};
-ghost use Rattle.dg_theory.specs.Reduced.{edges_out};
-ghost use Rattle.dg_theory.specs.Burning.{edges_into};
-ghost use Rattle.dg_chips.specs.Moves.{in_set};
+ghost use Rattle.dg_graph.specs.declared.limits.TheConstants.{MAX_VERTICES, MAX_VALENCE};
+ghost use Rattle.dg_graph.specs.Sets.{in_set};
 
-use crate::scripts::contains;
-use dg_graph::Graph;
+use dg_graph::{Graph, contains};
 
-/// How often a vertex lends when each vertex of a set lends so often.
+/// How often a vertex lends when each vertex of a set lends `times` times.
 pub(crate) fn lendings(set: u16, times: i128, v: usize) -> i128
-    requires vertex { v < 16 }
+    requires vertex { v < MAX_VERTICES }
     requires times { unsigned_abs times ≤ 2 ^ 120 }
     ensures entry { result ≡ multiple times (indicator (in_set set)) v }
     ensures limit { unsigned_abs result ≤ 2 ^ 120 }
@@ -21,7 +21,7 @@ pub(crate) fn lendings(set: u16, times: i128, v: usize) -> i128
     0
 }
 
-/// What a vertex gets when each vertex of a set lends so often.
+/// What a vertex gets when each vertex of a set lends `times` times.
 pub(crate) fn gained_by_set(graph: &Graph, set: u16, times: i128, v: usize) -> i128
     requires vertex { v < graph.now.size }
     requires times { unsigned_abs times ≤ 2 ^ 120 }
@@ -30,15 +30,15 @@ pub(crate) fn gained_by_set(graph: &Graph, set: u16, times: i128, v: usize) -> i
 {
     let _size = graph.size();
     if contains(set, v) {
-        -carried(edges_out(graph, set, v), times)
+        -carried(graph.edges_out(set, v), times)
     } else {
-        carried(edges_into(graph, set, v), times)
+        carried(graph.edges_into(set, v), times)
     }
 }
 
-/// What so many edges carry when each of them carries so much.
+/// What some edges carry together when each of them carries `each`.
 fn carried(edges: u32, each: i128) -> i128
-    requires few { edges ≤ 63 }
+    requires few { edges ≤ MAX_VALENCE }
     requires each { unsigned_abs each ≤ 2 ^ 120 }
     ensures product { result ≡ pos edges *ℤ each }
     ensures limit { unsigned_abs result ≤ 63 * 2 ^ 120 }
@@ -47,32 +47,4 @@ fn carried(edges: u32, each: i128) -> i128
         return 0;
     }
     i128::from(edges) * each
-}
-
-/// The number of edges that join a vertex to those outside a set.
-pub fn edges_out(graph: &Graph, set: u16, v: usize) -> u32
-    requires { v < graph.now.size }
-    ensures sum { result ≡ edges_out graph.now (in_set set) v }
-    ensures few { result ≤ 63 }
-{
-    let mut sum = 0u32;
-    for w in 0..graph.size() {
-        let edges = u32::from(graph.edges(v, w));
-        sum += if contains(set, w) { 0 } else { edges };
-    }
-    sum
-}
-
-/// The number of edges that join a vertex to those of a set.
-fn edges_into(graph: &Graph, set: u16, v: usize) -> u32
-    requires { v < graph.now.size }
-    ensures sum { result ≡ edges_into graph.now (in_set set) v }
-    ensures few { result ≤ 63 }
-{
-    let mut sum = 0u32;
-    for w in 0..graph.size() {
-        let edges = u32::from(graph.edges(v, w));
-        sum += if contains(set, w) { edges } else { 0 };
-    }
-    sum
 }

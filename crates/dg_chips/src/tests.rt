@@ -7,8 +7,7 @@ use crate::drift::MAX_DRIFT;
 use crate::script::MAX_ENTRY;
 use crate::scripts::script_of;
 use crate::{
-    ChipFault, Divisor, Drift, Move, MoveFault, Script, ScriptFault, Start, StartFault, Wide,
-    apply, contains, edges_out, with_vertex,
+    ChipFault, Divisor, Drift, Move, MoveFault, Script, ScriptFault, Start, StartFault, Wide, apply,
 };
 use dg_graph::Graph;
 use std::test::Fail;
@@ -508,9 +507,6 @@ fn where_sets_fire(rt: HostRuntime) -> Result<(), Fail> {
             "more {set}"
         );
     }
-    for (set, v, edges) in [(10, 0, 0), (10, 1, 2), (9, 0, 1), (9, 1, 1), (0, 3, 2)] {
-        assert_eq!(rt; edges_out(&square, set, v), edges);
-    }
     Ok(())
 }
 
@@ -653,20 +649,4 @@ fn sums_of_scripts(rt: HostRuntime) -> Result<(), Fail> {
         );
     }
     Ok(())
-}
-
-#[test]
-fn what_sets_hold(rt: HostRuntime) {
-    let cases: [(u16, usize, bool, u16); 6] = [
-        (5, 0, true, 5),
-        (5, 1, false, 7),
-        (5, 2, true, 5),
-        (0, 15, false, 32_768),
-        (32_768, 15, true, 32_768),
-        (65_407, 7, false, 65_535),
-    ];
-    for (set, v, holds, more) in cases {
-        assert!(rt; v < 16);
-        assert_eq!(rt; (contains(set, v), with_vertex(set, v)), (holds, more));
-    }
 }

@@ -2,7 +2,7 @@ ghost use Rattle.std.specs.Prelude.{◌≡◌, ◌≢◌, ℕ, ◌<◌, ◌≤�
 ghost use Rattle.std.specs.Int.RustNames.{unsigned_abs};
 ghost use Rattle.dg_theory.specs.Firing.{fired, indicator, multiple};
 ghost use Rattle.dg_chips.specs.Vector.{at, HoldsNumbers, IsWide};
-ghost use Rattle.dg_chips.specs.Moves.{in_set};
+ghost use Rattle.dg_graph.specs.Sets.{in_set};
 ghost use Rattle.dg_chips.specs.DivisorFaults.{IsWideFault};
 
 use crate::divisor::{ChipFault, Divisor};

@@ -1,3 +1,4 @@
+pub mod SetLaws
 pub mod Listed
 pub mod Capped
 pub mod Reached

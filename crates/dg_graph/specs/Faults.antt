@@ -9,11 +9,12 @@
 use Rattle.std.specs.Prelude.{◌≡◌, ◌≢◌, ℕ, ◌<◌, ◌≤◌, List, ◌⊎◌}
 use Rattle.dg_theory.specs.Multigraph.{JoinedIn}
 use Rattle.dg_graph.specs.Items.{Item, IsItems, IsRightBefore, HasItem, edges_listed, valence_listed}
+use Rattle.dg_graph.specs.declared.limits.TheConstants.{MAX_VERTICES, MAX_VALENCE}
 use Rattle.dg_graph.specs.declared.fault.GraphFault.{GraphFault}
 use Rattle.dg_graph.specs.declared.fault.GraphFault.TheVariants.{Size, NoVertex, Loop, Multiplicity, Valence, NotConnected}
 
 abbrev pub IsSize : ℕ → Type 0
-IsSize n = (1 ≤ n) × (n ≤ 16)
+IsSize n = (1 ≤ n) × (n ≤ MAX_VERTICES)
 
 abbrev pub NamesNoVertex : ℕ → Item → Type 0
 NamesNoVertex n item = (n ≤ item.0) ⊎ (n ≤ item.1)
@@ -30,11 +31,11 @@ pub record IsEmptyItem (n : ℕ) (item : Item) : Type 0 where
 
 pub record IsFirstHigh (n : ℕ) (items : List Item) (v : ℕ) : Type 0 where
   pub vertex : v < n
-  pub high : 63 < valence_listed n items v
-  pub least : (u : ℕ) → u < v → valence_listed n items u ≤ 63
+  pub high : MAX_VALENCE < valence_listed n items v
+  pub least : (u : ℕ) → u < v → valence_listed n items u ≤ MAX_VALENCE
 
 pub record IsParted (n : ℕ) (items : List Item) : Type 0 where
-  pub valences : (v : ℕ) → v < n → valence_listed n items v ≤ 63
+  pub valences : (v : ℕ) → v < n → valence_listed n items v ≤ MAX_VALENCE
   pub one : ℕ
   pub other : ℕ
   pub one_vertex : one < n

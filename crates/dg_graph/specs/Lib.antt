@@ -1,5 +1,8 @@
--- Graphs within the limits, and how they are given.
+-- What a reader of the contracts has to believe: graphs within the limits, how they are given and refused, and sets of
+-- vertices.
 pub mod Graph
 pub mod Items
 pub mod Faults
+pub mod Sets
+-- What serves the search for chains of edges alone.
 pub mod Search

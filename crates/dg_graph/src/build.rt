@@ -1,9 +1,12 @@
+//! From a list of edges to the table of their numbers.
+
 ghost use Rattle.std.specs.Prelude.{◌≡◌, ◌≢◌, ℕ, ◌+◌, ◌<◌, ◌≤◌, MatchOption, min, slice_index};
 ghost use Rattle.dg_theory.specs.Multigraph.{entry};
 ghost use Rattle.dg_graph.specs.Items.{IsItem, IsItems, edges_put, edges_listed};
 ghost use Rattle.dg_graph.specs.Faults.{IsFirstFault, IsSize};
 
 use crate::fault::GraphFault;
+use crate::limits::MAX_VERTICES;
 use crate::table::Table;
 
 /// The first fault of a single item.
@@ -32,7 +35,7 @@ pub fn table_of(size: usize, items: &[(u8, u8, u8)]) -> Table
     requires items { IsItems size items.now }
     ensures { (u v : ℕ) → entry result u v ≡ min 255 (edges_listed items.now u v) }
 {
-    let mut table = [[0; 16]; 16];
+    let mut table = [[0; MAX_VERTICES]; MAX_VERTICES];
     'items: for &item in items {
         add_item(&mut table, item);
     }
@@ -41,7 +44,7 @@ pub fn table_of(size: usize, items: &[(u8, u8, u8)]) -> Table
 
 /// Adds the item's edges between its two vertices, in both directions, cut off at 255.
 fn add_item(table: &mut Table, item: (u8, u8, u8))
-    requires item { IsItem 16 item }
+    requires item { IsItem MAX_VERTICES item }
     requires capped { (a b : ℕ) → entry table.old a b ≤ 255 }
     ensures { (a b : ℕ) → entry table.new a b ≡ min 255 (entry table.old a b + edges_put item a b) }
 {
@@ -54,8 +57,8 @@ fn add_item(table: &mut Table, item: (u8, u8, u8))
 /// Adds edges in row u and column v, cut off at 255.
 #[tactic(auto, unfolding(dg_theory::specs::Multigraph::entry))]
 fn add_edges(table: &mut Table, u: usize, v: usize, edges: u8)
-    requires u { u < 16 }
-    requires v { v < 16 }
+    requires u { u < MAX_VERTICES }
+    requires v { v < MAX_VERTICES }
     ensures at { entry table.new u v ≡ min 255 (entry table.old u v + edges) }
     ensures row { (b : ℕ) → b ≢ v → entry table.new u b ≡ entry table.old u b }
     ensures others { (a b : ℕ) → a ≢ u → entry table.new a b ≡ entry table.old a b }
@@ -64,8 +67,8 @@ fn add_edges(table: &mut Table, u: usize, v: usize, edges: u8)
 }
 
 /// The row with some edges more at v, cut off at 255.
-fn with_more(mut row: [u8; 16], v: usize, edges: u8) -> [u8; 16]
-    requires { v < 16 }
+fn with_more(mut row: [u8; MAX_VERTICES], v: usize, edges: u8) -> [u8; MAX_VERTICES]
+    requires { v < MAX_VERTICES }
     ensures at { slice_index result v ≡ min 255 (slice_index row v + edges) }
     ensures others { (b : ℕ) → b ≢ v → slice_index result b ≡ slice_index row b }
 {

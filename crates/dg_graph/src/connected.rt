@@ -1,17 +1,20 @@
+//! The search for the vertices that chains of edges join to vertex 0.
+
 ghost use Rattle.std.specs.Prelude.{◌≡◌, ℕ, ◌<◌, ◌≤◌, true, false, MatchOption, MatchBool, slice_index};
 ghost use Rattle.dg_theory.specs.Multigraph.{entry};
 ghost use Rattle.dg_graph.specs.Search.{is_in, IsNextTo, IsSettled, IsJoined, IsApart};
 
+use crate::limits::MAX_VERTICES;
 use crate::table::Table;
 
 /// Whether a chain of edges joins vertex 0 to every other.
 pub fn is_connected(size: usize, table: &Table) -> bool
     requires some { 1 ≤ size }
-    requires few { size ≤ 16 }
+    requires few { size ≤ MAX_VERTICES }
     requires symmetric { (u v : ℕ) → entry table.now u v ≡ entry table.now v u }
     ensures { MatchBool result (IsJoined size (entry table.now)) (IsApart size (entry table.now)) }
 {
-    let mut reached = [false; 16];
+    let mut reached = [false; MAX_VERTICES];
     reached[0] = true;
     'search: while let Some(v) = next_reached(size, table, &reached) {
         reached[v] = true;
@@ -21,8 +24,8 @@ pub fn is_connected(size: usize, table: &Table) -> bool
 
 /// The first vertex that is not reached and that an edge joins to one that is.
 #[tactic(auto, unfolding(dg_theory::specs::Multigraph::entry))]
-fn next_reached(size: usize, table: &Table, reached: &[bool; 16]) -> Option<usize>
-    requires { size ≤ 16 }
+fn next_reached(size: usize, table: &Table, reached: &[bool; MAX_VERTICES]) -> Option<usize>
+    requires { size ≤ MAX_VERTICES }
     ensures { MatchOption result
         ((u : ℕ) → u < size → IsSettled size (entry table.now) reached.now u)
         (λ v. (v < size) × (is_in reached.now v ≡ false) × IsNextTo size (entry table.now v) reached.now
@@ -37,8 +40,8 @@ fn next_reached(size: usize, table: &Table, reached: &[bool; 16]) -> Option<usiz
 }
 
 /// Whether an edge of the row leads to a vertex that is reached.
-fn is_next_to(size: usize, row: &[u8; 16], reached: &[bool; 16]) -> bool
-    requires { size ≤ 16 }
+fn is_next_to(size: usize, row: &[u8; MAX_VERTICES], reached: &[bool; MAX_VERTICES]) -> bool
+    requires { size ≤ MAX_VERTICES }
     ensures { MatchBool result
         (IsNextTo size (slice_index row.now) reached.now)
         (¬ IsNextTo size (slice_index row.now) reached.now) }
@@ -52,8 +55,8 @@ fn is_next_to(size: usize, row: &[u8; 16], reached: &[bool; 16]) -> bool
 }
 
 /// Whether every vertex is reached.
-fn has_all(size: usize, reached: &[bool; 16]) -> bool
-    requires { size ≤ 16 }
+fn has_all(size: usize, reached: &[bool; MAX_VERTICES]) -> bool
+    requires { size ≤ MAX_VERTICES }
     ensures { MatchBool result
         ((v : ℕ) → v < size → is_in reached.now v ≡ true)
         ((v : ℕ) × (v < size) × (is_in reached.now v ≡ false)) }

@@ -1,3 +1,5 @@
+//! Why a list of edges is refused.
+
 use thiserror::Error;
 
 /// Why a list of edges is refused as a graph. Items and vertices are numbered from 0.

@@ -1,3 +1,5 @@
+//! A graph: its size and the numbers of its edges.
+
 ghost use Rattle.std.specs.Prelude.{◌≡◌, ◌<◌, MatchResult};
 ghost use Rattle.dg_theory.specs.Multigraph.{edges_between, valence, genus};
 ghost use Rattle.dg_graph.specs.Graph.{IsGraph};
@@ -7,6 +9,7 @@ ghost use Rattle.dg_graph.specs.Faults.{IsFirstFault};
 use crate::build::{first_item_fault, table_of};
 use crate::connected::is_connected;
 use crate::fault::GraphFault;
+use crate::limits::MAX_VERTICES;
 use crate::table::{Table, edge_count, first_high, row_sum};
 use std::marker::Model;
 
@@ -40,7 +43,7 @@ impl Graph {
     pub fn new(size: usize, items: &[(u8, u8, u8)]) -> Result<Graph, GraphFault>
         ensures { MatchResult result (IsGiven size items.now) (IsFirstFault size items.now) }
     {
-        if size == 0 || size > 16 {
+        if size == 0 || size > MAX_VERTICES {
             return Err(GraphFault::Size);
         }
         if let Some(fault) = first_item_fault(size, items) {

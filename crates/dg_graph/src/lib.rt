@@ -1,13 +1,18 @@
-//! Finite connected multigraphs without loops, of at most 16 vertices.
+//! Finite connected multigraphs without loops, of at most 16 vertices, and sets of their vertices.
 #![tactic(auto)]
 
 mod build;
 mod connected;
+mod crossing;
 mod fault;
 mod graph;
+mod limits;
+mod sets;
 mod table;
 #[cfg(test)]
 mod tests;
 
 pub use fault::GraphFault;
 pub use graph::Graph;
+pub use limits::{MAX_VALENCE, MAX_VERTICES};
+pub use sets::{complement, contains, is_within, least_of, with_vertex, without_vertex};

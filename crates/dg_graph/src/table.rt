@@ -1,13 +1,17 @@
+//! The table of the numbers of edges, and its sums.
+
 ghost use Rattle.std.specs.Prelude.{◌≡◌, ℕ, ◌<◌, ◌≤◌, ◌*◌, MatchOption, slice_index};
 ghost use Rattle.dg_theory.specs.Sums.{total_below};
 ghost use Rattle.dg_theory.specs.Multigraph.{entry};
 
+use crate::limits::{MAX_VALENCE, MAX_VERTICES};
+
 /// The numbers of edges, by both vertices.
-pub type Table = [[u8; 16]; 16];
+pub type Table = [[u8; MAX_VERTICES]; MAX_VERTICES];
 
 /// The sum of a row's first `size` numbers.
-pub fn row_sum(size: usize, row: &[u8; 16]) -> u32
-    requires { size ≤ 16 }
+pub fn row_sum(size: usize, row: &[u8; MAX_VERTICES]) -> u32
+    requires { size ≤ MAX_VERTICES }
     ensures sum { result ≡ total_below size (slice_index row.now) }
     ensures limit { result ≤ 255 * size }
 {
@@ -21,7 +25,7 @@ pub fn row_sum(size: usize, row: &[u8; 16]) -> u32
 /// The sum of row v before its diagonal.
 #[tactic(auto, unfolding(dg_theory::specs::Multigraph::entry))]
 fn sum_before(table: &Table, v: usize) -> u32
-    requires { v < 16 }
+    requires { v < MAX_VERTICES }
     ensures sum { result ≡ total_below v (entry table.now v) }
     ensures limit { result ≤ 255 * v }
 {
@@ -30,7 +34,7 @@ fn sum_before(table: &Table, v: usize) -> u32
 
 /// The sum of all numbers before the diagonal.
 pub fn edge_count(size: usize, table: &Table) -> u32
-    requires { size ≤ 16 }
+    requires { size ≤ MAX_VERTICES }
     ensures sum { result ≡ total_below size (λ v. total_below v (entry table.now v)) }
     ensures limit { result ≤ 3825 * size }
 {
@@ -44,14 +48,14 @@ pub fn edge_count(size: usize, table: &Table) -> u32
 /// The first vertex with more than 63 edges.
 #[tactic(auto, unfolding(dg_theory::specs::Multigraph::entry))]
 pub fn first_high(size: usize, table: &Table) -> Option<usize>
-    requires { size ≤ 16 }
+    requires { size ≤ MAX_VERTICES }
     ensures { MatchOption result
-        ((v : ℕ) → v < size → total_below size (entry table.now v) ≤ 63)
-        (λ v. (v < size) × (63 < total_below size (entry table.now v))
-        × ((u : ℕ) → u < v → total_below size (entry table.now u) ≤ 63)) }
+        ((v : ℕ) → v < size → total_below size (entry table.now v) ≤ MAX_VALENCE)
+        (λ v. (v < size) × (MAX_VALENCE < total_below size (entry table.now v))
+        × ((u : ℕ) → u < v → total_below size (entry table.now u) ≤ MAX_VALENCE)) }
 {
     for v in 0..size {
-        if row_sum(size, &table[v]) > 63 {
+        if row_sum(size, &table[v]) > MAX_VALENCE {
             return Some(v);
         }
     }

@@ -4,7 +4,7 @@ ghost use Rattle.dg_theory.specs.Reduced.{IsReduced};
 ghost use Rattle.dg_theory.specs.Burning.{FiresFreely};
 ghost use Rattle.dg_graph.specs.Graph.{IsGraph};
 ghost use Rattle.dg_chips.specs.Vector.{at};
-ghost use Rattle.dg_chips.specs.Moves.{in_set};
+ghost use Rattle.dg_graph.specs.Sets.{in_set};
 ghost use Rattle.dg_reduce.specs.States.{IsTied, IsClearedOff};
 
 use crate::firings::most_firings;

@@ -2,11 +2,11 @@ ghost use Rattle.std.specs.Prelude.{◌≡◌, ℕ, ◌<◌, ◌≤◌, true, po
 ghost use Rattle.dg_theory.specs.Reduced.{edges_out};
 ghost use Rattle.dg_theory.specs.Burning.{FiresFreely};
 ghost use Rattle.dg_chips.specs.Vector.{at};
-ghost use Rattle.dg_chips.specs.Moves.{in_set};
+ghost use Rattle.dg_graph.specs.Sets.{in_set};
 ghost use Rattle.dg_reduce.specs.Firings.{IsMost, LastsAt};
 
-use dg_chips::{Wide, contains, edges_out};
-use dg_graph::Graph;
+use dg_chips::Wide;
+use dg_graph::{Graph, contains};
 
 /// How often a set that fires freely can fire at once so that nobody off q comes into debt.
 pub fn most_firings(graph: &Graph, _q: usize, chips: &Wide, set: u16) -> i128
@@ -37,7 +37,7 @@ fn firings_at(graph: &Graph, chips: &Wide, set: u16, v: usize) -> i128
     if !contains(set, v) {
         return i128::MAX;
     }
-    let edges = edges_out(graph, set, v);
+    let edges = graph.edges_out(set, v);
     if edges == 0 {
         return i128::MAX;
     }

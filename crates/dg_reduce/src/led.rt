@@ -1,7 +1,7 @@
 ghost use Rattle.std.specs.Prelude.{◌≡◌, ℕ, ◌<◌, ◌≤◌, ◌^◌, pos};
 ghost use Rattle.std.specs.Int.RustNames.{unsigned_abs};
 ghost use Rattle.dg_chips.specs.Vector.{at};
-ghost use Rattle.dg_chips.specs.Moves.{in_set};
+ghost use Rattle.dg_graph.specs.Sets.{in_set};
 ghost use Rattle.dg_reduce.specs.States.{IsTied, IsFired};
 
 use dg_chips::Wide;

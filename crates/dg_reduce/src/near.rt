@@ -1,10 +1,11 @@
 ghost use Rattle.std.specs.Prelude.{◌≡◌, ℕ, ◌<◌, ◌≤◌, ◌^◌, nat_lt, slice_index};
 ghost use Rattle.std.specs.Int.RustNames.{unsigned_abs};
 ghost use Rattle.dg_chips.specs.Vector.{at};
-ghost use Rattle.dg_chips.specs.Moves.{in_set};
+ghost use Rattle.dg_graph.specs.Sets.{in_set};
 ghost use Rattle.dg_reduce.specs.States.{IsLargestDebt};
 
-use dg_chips::{Wide, with_vertex};
+use dg_chips::Wide;
+use dg_graph::with_vertex;
 
 /// The largest debt of a vertex of the level, 0 where there is none.
 pub fn largest_debt(levels: &[usize; 16], level: usize, chips: &Wide) -> i128

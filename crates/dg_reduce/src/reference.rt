@@ -3,8 +3,8 @@ ghost use Rattle.std.specs.Prelude.{◌≡◌, ◌<◌, ◌≤◌};
 
 use crate::levels::levels_from;
 use crate::near::nearer_set;
-use dg_chips::{Divisor, contains, with_vertex};
-use dg_graph::Graph;
+use dg_chips::Divisor;
+use dg_graph::{Graph, contains, with_vertex};
 
 /// Amounts, and how often each vertex has lent to come to them.
 #[derive(Clone, Copy)]

@@ -13,7 +13,7 @@
 --   line_of names line           == the command that the line spells, or why it is refused: first its word, then its form,
 --                                   then its names, then its number
 use Rattle.std.specs.Prelude.{ℕ, ◌^◌, bit_or, ℤ, cond, List, [], ◌∷◌, Option, Some, None, Result, Ok, Err, bytes_eq, codes, option_and_then}
-use Rattle.dg_chips.specs.Moves.{in_set}
+use Rattle.dg_graph.specs.Sets.{in_set}
 use Rattle.dg_chips.specs.declared.moves.Move.{Move}
 use Rattle.dg_chips.specs.declared.moves.Move.TheVariants.{Lend, Borrow, Fire}
 use Rattle.dg_game.specs.declared.step.Command.{Command}

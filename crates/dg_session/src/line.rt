@@ -7,9 +7,10 @@ ghost use Rattle.dg_session.specs.Steps.{step_of};
 
 use crate::cuts::cut;
 use crate::number::{degree, integer, seat};
-use dg_chips::{Move, contains, with_vertex};
+use dg_chips::Move;
 use dg_file::Names;
 use dg_game::{Command, Plain, Step};
+use dg_graph::{contains, with_vertex};
 use thiserror::Error;
 
 /// Why a line is refused.

@@ -1,14 +1,13 @@
 ghost use Rattle.std.specs.Prelude.{◌≡◌, ℕ, ◌<◌, take, MatchBool};
 ghost use Rattle.dg_theory.specs.Burning.{MayBurn, BurnsAll};
 ghost use Rattle.dg_theory.specs.Firing.{HasNoDebtOff};
-ghost use Rattle.dg_graph.specs.Search.{is_in};
+ghost use Rattle.dg_graph.specs.Sets.{in_set};
 ghost use Rattle.dg_chips.specs.Vector.{at};
 ghost use Rattle.dg_verdict.specs.Right.{IsRight};
 
 use crate::verdict::Verdict;
-use dg_burn::edges_to;
 use dg_chips::{Divisor, Wide};
-use dg_graph::Graph;
+use dg_graph::{Graph, contains, with_vertex};
 
 /// Whether a verdict is right for a divisor and vertex q, whoever made it and whatever it holds. Nothing is reduced
 /// anew: firing by the script and burning in the order of the verdict tell.
@@ -63,24 +62,25 @@ fn all_burn(graph: &Graph, q: usize, chips: &Wide, order: &[u8; 16]) -> bool
     if usize::from(order[0]) != q {
         return false;
     }
-    let mut reached = [false; 16];
-    reached[q] = true;
+    let mut reached = with_vertex(0, q);
     for i in 1..size {
         let v = usize::from(order[i]);
-        if !may_burn(graph, chips, &reached, v) {
+        if !may_burn(graph, chips, reached, v) {
             return false;
         }
-        reached[v] = true;
+        reached = with_vertex(reached, v);
     }
     true
 }
 
 /// Whether a number is a vertex that is not reached, and that more edges join to reached ones than it holds dollars.
-fn may_burn(graph: &Graph, chips: &Wide, reached: &[bool; 16], v: usize) -> bool
+fn may_burn(graph: &Graph, chips: &Wide, reached: u16, v: usize) -> bool
     requires { chips.now.size ≡ graph.now.size }
     ensures { MatchBool result
-        (MayBurn graph.now (at chips.now) (is_in reached.now) v)
-        (¬ MayBurn graph.now (at chips.now) (is_in reached.now) v) }
+        (MayBurn graph.now (at chips.now) (in_set reached) v)
+        (¬ MayBurn graph.now (at chips.now) (in_set reached) v) }
 {
-    v < graph.size() && !reached[v] && chips.get(v) < i128::from(edges_to(graph, v, reached))
+    v < graph.size()
+        && !contains(reached, v)
+        && chips.get(v) < i128::from(graph.edges_into(reached, v))
 }

@@ -1,5 +1,6 @@
 use Rattle.std.proofs.Common.{◌≡◌, ℕ, ◌≤◌, length, take}
 use Rattle.std.specs.List.{slice_index_or}
+use Rattle.dg_graph.specs.Sets.{in_set}
 use Rattle.dg_chips.specs.Vector.{at}
 use Rattle.dg_burn.specs.SoFar.{unreached, IsBurning}
 use Rattle.dg_burn.specs.Fires.{IsFire}
@@ -7,11 +8,11 @@ use Rattle.dg_burn.proofs.burning.burn.Given as goal
 
 abbrev pub invariant-burning : goal.invariant-burning
 invariant-burning l = record {
-  state : IsBurning l.graph l.q (at l.chips) (take l.count l.order) l.count l.fire.reached;
+  state : IsBurning l.graph l.q (at l.chips) (take l.count l.order) l.count (in_set l.fire.reached);
   fire : IsFire l.graph l.chips l.fire;
   places : length l.order ≡ 16;
   rest : (i : ℕ) → l.count ≤ i → slice_index_or l.order i 0 ≡ 0;
 }
 
 abbrev pub decreases-burning : goal.decreases-burning
-decreases-burning l = unreached l.graph.size l.fire.reached
+decreases-burning l = unreached l.graph.size (in_set l.fire.reached)

@@ -7,7 +7,7 @@ use Rattle.dg_theory.specs.Reduced.{edges_out}
 use Rattle.dg_theory.specs.Burning.{edges_into}
 use Rattle.dg_theory.proofs.Absolute.{within_abs}
 use Rattle.dg_theory.proofs.Multiples.{gain-all_inside, gain-all_outside}
-use Rattle.dg_chips.specs.Moves.{in_set}
+use Rattle.dg_graph.specs.Sets.{in_set}
 use Rattle.dg_chips.proofs.FlowLaws.{times_held}
 use Rattle.dg_chips.proofs.set_firing.gained_by_set.Goals as goal
 

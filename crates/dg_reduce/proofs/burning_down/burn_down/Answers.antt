@@ -3,7 +3,7 @@ use Rattle.std.specs.Int.{w128}
 use Rattle.std.specs.Int.RustNames.{unsigned_abs}
 use mir.Val.{to_z, of_z}
 use Rattle.dg_theory.proofs.Reach.{distance_from, distance_from-is}
-use Rattle.dg_chips.specs.Moves.{in_set}
+use Rattle.dg_graph.specs.Sets.{in_set}
 use Rattle.dg_chips.proofs.FlowLaws.{times_held}
 use Rattle.dg_reduce.proofs.BurningSteps.{burning_down-start, burning_down-more, burning_down-falls, burning_down-chips, burning_down-times, burning_down-script}
 use Rattle.dg_reduce.proofs.Cleared.{cleared_levels}

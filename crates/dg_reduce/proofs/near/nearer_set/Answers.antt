@@ -1,5 +1,5 @@
 use Rattle.std.proofs.Common.{arith}
-use Rattle.dg_burn.proofs.Rests.{in_set-none}
+use Rattle.dg_graph.proofs.SetLaws.{in_set-none}
 use Rattle.dg_reduce.proofs.near.nearer_set.Goals as goal
 
 pub loop-v-init : goal.loop-v-init

@@ -1,6 +1,6 @@
 use Rattle.std.proofs.Common.{◌≡◌, ℕ, ◌<◌, ◌≤◌, false}
 use Rattle.std.specs.Prelude.{nat_lt, slice_index}
-use Rattle.dg_chips.specs.Moves.{in_set}
+use Rattle.dg_graph.specs.Sets.{in_set}
 use Rattle.dg_reduce.proofs.near.nearer_set.Given as goal
 
 abbrev pub invariant-loop-v : goal.invariant-loop-v

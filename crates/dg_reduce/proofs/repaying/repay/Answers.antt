@@ -3,7 +3,7 @@ use Rattle.std.specs.Int.{w128}
 use Rattle.std.specs.Int.RustNames.{unsigned_abs}
 use mir.Val.{to_z, of_z}
 use Rattle.std.proofs.lemmas.Int.{ints}
-use Rattle.dg_chips.specs.Moves.{in_set}
+use Rattle.dg_graph.specs.Sets.{in_set}
 use Rattle.dg_chips.proofs.FlowLaws.{times_held}
 use Rattle.dg_reduce.proofs.DebtSteps.{repaying-start, repaying-more, repaying-falls, repaying-limit, repaying-times, repaying-done, repaying-lost}
 use Rattle.dg_reduce.proofs.repaying.repay.Goals as goal

@@ -20,7 +20,7 @@ items-preserved c =
     ap (λ (rest : Option (List ℕ)). set_of names more (pieces_after 44 rest)) c.cut.ensures.after
     ∙ set_of-item names set more v (before 44 text) (pieces_after 44 (after 44 text)) place
     (sym c.contains.ensures ∙ c.if-contains.false)
-    (with_bit set more v c.with_vertex-set.ensures.same c.with_vertex-set.ensures.others)
+    (with_bit set more v c.with_vertex-set.ensures.here c.with_vertex-set.ensures.others)
     ∙ ap (set_of names set) (sym (pieces_cut 44 text))
     ∙ ap (λ (rest : Option (Bor (List ℕ))). set_of names set (pieces_after 44 (option_copied rest))) (sym c.in-Some.is)
     ∙ c.items.invariant

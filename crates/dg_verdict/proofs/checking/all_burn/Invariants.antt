@@ -1,7 +1,8 @@
 use Rattle.std.proofs.Common.{take}
+use Rattle.dg_graph.specs.Sets.{in_set}
 use Rattle.dg_chips.specs.Vector.{at}
 use Rattle.dg_verdict.proofs.Orders.{IsOrderSoFar}
 use Rattle.dg_verdict.proofs.checking.all_burn.Given as goal
 
 abbrev pub invariant-loop-i : goal.invariant-loop-i
-invariant-loop-i l = IsOrderSoFar l.graph l.q (at l.chips) (take l.i l.order) l.i l.reached
+invariant-loop-i l = IsOrderSoFar l.graph l.q (at l.chips) (take l.i l.order) l.i (in_set l.reached)

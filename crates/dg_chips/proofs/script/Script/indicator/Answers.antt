@@ -1,6 +1,6 @@
 use Rattle.std.proofs.Common.{◌<◌, length, length-set, arith, ◌∙◌, below_more}
 use Rattle.dg_theory.specs.Firing.{indicator}
-use Rattle.dg_chips.specs.Moves.{in_set}
+use Rattle.dg_graph.specs.Sets.{in_set}
 use Rattle.dg_chips.proofs.VectorLaws.{filled-set, rest-set}
 use Rattle.dg_chips.proofs.script.Script.indicator.Goals as goal
 use Rattle.dg_chips.proofs.script.Script.indicator.Goals.{then-contains, else-contains}

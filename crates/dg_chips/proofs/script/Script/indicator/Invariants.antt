@@ -2,7 +2,7 @@ use Rattle.std.proofs.Common.{◌≡◌, ℕ, ◌<◌, ◌≤◌, length}
 use Rattle.std.specs.List.{slice_index_or}
 use Rattle.std.proofs.Math.IntN.{pos}
 use Rattle.dg_theory.specs.Firing.{indicator}
-use Rattle.dg_chips.specs.Moves.{in_set}
+use Rattle.dg_graph.specs.Sets.{in_set}
 use Rattle.dg_chips.proofs.script.Script.indicator.Given as goal
 
 abbrev pub invariant-loop-v : goal.invariant-loop-v

@@ -4,7 +4,7 @@ use mir.Val.{to_z, of_z}
 use Rattle.std.proofs.Math.IntN.{ℤ, ◌+ℤ◌}
 use Rattle.dg_theory.specs.Firing.{fired, indicator, multiple}
 use Rattle.dg_chips.specs.Vector.{at}
-use Rattle.dg_chips.specs.Moves.{in_set}
+use Rattle.dg_graph.specs.Sets.{in_set}
 use Rattle.dg_chips.proofs.FlowLaws.{times_held}
 use Rattle.dg_reduce.proofs.Ties.{tied-more}
 use Rattle.dg_reduce.proofs.led.Led.fired.Goals as goal

@@ -1,8 +1,0 @@
-use Rattle.std.proofs.Common.{ap, nat_eq}
-use Rattle.std.proofs.lemmas.Nat.Bits.{shr_and_one}
-use Rattle.dg_chips.specs.Moves.{in_set}
-use Rattle.dg_chips.proofs.scripts.contains.Goals as goal
-
-pub returns : goal.returns
-unfolding in_set
-returns c = ap (λ bit. nat_eq bit 1) (shr_and_one c.args.set c.args.v)

@@ -1,6 +1,0 @@
-use Rattle.std.proofs.Common.{◌≡◌, ℕ, ◌<◌, ◌≤◌, false}
-use Rattle.dg_chips.specs.Moves.{in_set}
-use Rattle.dg_chips.proofs.scripts.names_past.Given as goal
-
-abbrev pub invariant-loop-v : goal.invariant-loop-v
-invariant-loop-v l = (u : ℕ) → l.size ≤ u → u < l.v → in_set l.set u ≡ false

@@ -1,0 +1,12 @@
+use Rattle.std.proofs.Common.{◌≡◌, ◌*◌, ◌≤◌}
+use Rattle.std.specs.Prelude.{if◌then◌else◌}
+use Rattle.dg_theory.specs.Sums.{total_below}
+use Rattle.dg_theory.specs.Multigraph.{edges_between}
+use Rattle.dg_graph.specs.Sets.{in_set}
+use Rattle.dg_graph.proofs.graph.Graph.edges_out.Given as goal
+
+abbrev pub invariant-loop-w : goal.invariant-loop-w
+invariant-loop-w l = record {
+  sum : l.sum ≡ total_below l.w (λ u. if in_set l.set u then 0 else edges_between l.self l.v u);
+  limit : l.sum ≤ 255 * l.w;
+}
