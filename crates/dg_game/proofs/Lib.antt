@@ -7,4 +7,4 @@ pub mod LegalLaws
 pub mod RankTests
 pub mod LookLaws
 pub mod KeptLaws
-pub mod PlayingLaws
+pub mod RehearsalLaws

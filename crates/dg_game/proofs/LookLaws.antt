@@ -36,8 +36,8 @@ use Rattle.dg_game.specs.declared.entry.Request.{Request}
 use Rattle.dg_game.specs.declared.entry.Request.TheVariants.{Look, Judge, Rank as RankRequest}
 use Rattle.dg_game.specs.declared.entry.Reply.{Reply}
 use Rattle.dg_game.specs.declared.entry.Reply.TheVariants.{Verdict, Rank as RankReply, Stale}
-use Rattle.dg_game.specs.declared.look.Finding.{Finding}
-use Rattle.dg_game.specs.declared.look.Finding.TheVariants.{Judged, Ranked}
+use Rattle.dg_game.specs.declared.finding.Finding.{Finding}
+use Rattle.dg_game.specs.declared.finding.Finding.TheVariants.{Judged, Ranked}
 use Rattle.dg_game.specs.declared.look.LookData.{LookData}
 use Rattle.dg_game.proofs.HistoryLaws.{gifts_in-append}
 use Rattle.dg_game.proofs.ListLaws.{slice_get-append, slice_get-seam}

@@ -35,14 +35,14 @@ unfolding position_after
 no_entry o = placed-cong o.graph _ (at o.divisor) (λ v. omega (arith, ints, fired-constant o.graph (at o.divisor) (pos 0) v))
 
 -- the position with the dollars and the script that an entry adds, whatever its kind
-abbrev with_entry : Position → Request → Reply → Position
-with_entry p request reply = record {
+abbrev with_reply : Position → Request → Reply → Position
+with_reply p request reply = record {
   graph = p.graph;
   amounts = fired p.graph (λ v. p.amounts v +ℤ gift_by request reply v) (script_by request reply);
 }
 
 amounts_more : (o : Opening) (H : List Entry) (e : Entry) (v : ℕ) →
-    (position_after o (H ++ e ∷ [])).amounts v ≡ (with_entry (position_after o H) e.request e.reply).amounts v
+    (position_after o (H ++ e ∷ [])).amounts v ≡ (with_reply (position_after o H) e.request e.reply).amounts v
 unfolding position_after
 amounts_more o H e v =
     let scripts : scripts_played (H ++ e ∷ []) ≡ (λ w. scripts_played H w +ℤ script_by e.request e.reply w) =
@@ -52,7 +52,7 @@ amounts_more o H e v =
     omega (arith, ints, gifts_given-more H e v, gained)
 
 position_more : (o : Opening) (H : List Entry) (e : Entry) →
-    position_after o (H ++ e ∷ []) ≡ with_entry (position_after o H) e.request e.reply
+    position_after o (H ++ e ∷ []) ≡ with_reply (position_after o H) e.request e.reply
 unfolding position_after
 position_more o H e = λ i. record { graph = o.graph; amounts = λ v. amounts_more o H e v i }
 
@@ -68,7 +68,7 @@ given : (p : Position) (gift : Amounts) →
     placed p.graph (fired p.graph (λ v. p.amounts v +ℤ gift v) nothing) ≡ placed p.graph (λ v. p.amounts v +ℤ gift v)
 given p gift = placed-cong p.graph _ _ (λ v. fired-constant p.graph (λ v. p.amounts v +ℤ gift v) (pos 0) v)
 
-entry_is : (p : Position) (request : Request) (reply : Reply) → with_entry p request reply ≡ after_reply p request reply
+entry_is : (p : Position) (request : Request) (reply : Reply) → with_reply p request reply ≡ after_reply p request reply
 entry_is p (Move m) (Moved d) = moved p (script_of m)
 entry_is p (Gift v x) (Given g d) = given p (only_at v x)
 entry_is p request reply = same p

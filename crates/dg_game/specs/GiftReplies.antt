@@ -10,9 +10,10 @@ use Rattle.dg_game.specs.declared.entry.Refusal.{Refusal}
 use Rattle.dg_game.specs.declared.entry.Refusal.TheVariants.{NoVertex, Empty, Script, Gift, Range}
 use Rattle.dg_game.specs.declared.entry.Reply.{Reply}
 use Rattle.dg_game.specs.declared.entry.Reply.TheVariants.{Given, Refused}
+use Rattle.dg_game.specs.declared.entry.TheConstants.{MAX_GIFT}
 
 abbrev pub IsGift : ℤ → Type 0
-IsGift x = (pos 1 ≤ℤ x) × (x ≤ℤ pos 1000000)
+IsGift x = (pos 1 ≤ℤ x) × (x ≤ℤ MAX_GIFT)
 
 pub record IsGivenTo (p : Position) (g v : ℕ) (x : ℤ) (count : ℕ) (d : Vector) : Type 0 where
   pub vertex : v < p.graph.size

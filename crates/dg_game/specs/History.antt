@@ -1,13 +1,16 @@
 -- Histories. An entry is a seat, a request and a reply; a history is a list of entries, and an entry's number is its
 -- place in it, from 0.
+--   nothing                  == 0 at each vertex
 --   gift_by request reply    == the amounts that an accepted gift adds, and 0 for everything else
 --   script_by request reply  == the script of an accepted move, and 0 for everything else
 --   gifts_given H            == the sum of all accepted gifts
 --   scripts_played H         == the sum of the scripts of all accepted moves
 --   position_after o H       == the position after the history H from the opening o: the opening's amounts with all
 --                               accepted gifts, fired by the sum of the scripts of all accepted moves
+--   gift_counted reply       == 1 for an accepted gift, and 0 for any other reply
 --   gifts_in H               == how many gifts were accepted
-use Rattle.std.specs.Prelude.{ℕ, ◌+◌, pos, ◌+ℤ◌, List, [], ◌∷◌}
+--   with_entry H s q r       == the history H and one more entry, of the seat s with the request q and the reply r
+use Rattle.std.specs.Prelude.{ℕ, ◌+◌, pos, ◌+ℤ◌, List, [], ◌∷◌, ◌++◌}
 use Rattle.dg_theory.specs.Firing.{Amounts, fired, only_at}
 use Rattle.dg_chips.specs.Vector.{at}
 use Rattle.dg_chips.specs.Moves.{script_of}
@@ -44,7 +47,6 @@ position_after o H = record {
   amounts = fired o.graph (λ v. at o.divisor v +ℤ gifts_given H v) (scripts_played H);
 }
 
--- 1 for an accepted gift, and 0 for any other reply
 abbrev pub gift_counted : Reply → ℕ
 gift_counted (Given g d) = 1
 gift_counted reply = 0
@@ -52,3 +54,6 @@ gift_counted reply = 0
 abbrev pub gifts_in : List Entry → ℕ
 gifts_in [] = 0
 gifts_in (e ∷ H) = gift_counted e.reply + gifts_in H
+
+abbrev pub with_entry : List Entry → ℕ → Request → Reply → List Entry
+with_entry H seat request reply = H ++ (record { seat = seat; request = request; reply = reply }) ∷ []

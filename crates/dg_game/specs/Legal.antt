@@ -10,9 +10,10 @@ use Rattle.dg_game.specs.Replies.{Replies}
 use Rattle.dg_game.specs.declared.entry.Entry.{Entry}
 use Rattle.dg_game.specs.declared.entry.Request.{Request}
 use Rattle.dg_game.specs.declared.entry.Request.TheVariants.{Look, Judge, Rank}
+use Rattle.dg_game.specs.declared.entry.TheConstants.{MAX_SEATS}
 
 abbrev pub IsSeat : ℕ → Type 0
-IsSeat s = (1 ≤ s) × (s ≤ 64)
+IsSeat s = (1 ≤ s) × (s ≤ MAX_SEATS)
 
 abbrev pub IsLookIn : List Entry → ℕ → Type 0
 IsLookIn H i = (e : Entry) × (slice_get H i ≡ Some e) × (e.request ≡ Look)

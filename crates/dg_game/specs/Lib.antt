@@ -12,4 +12,4 @@ pub mod LegalLaws
 pub mod State
 pub mod Schedule
 pub mod ScheduleFaults
-pub mod Playing
+pub mod Rehearsal

@@ -1,6 +1,6 @@
 -- What a seat keeps of a look, and what was reckoned on it.
---   IsLookAt o H x       == x holds the number of a look of the history H, and the gift count and the amounts there. Its
---                           drift may be any.
+--   IsLookAt o H x       == x holds the number of a look of the history H, and the gift count and the amounts at it, and
+--                           any drift
 --   degree_of v          == the degree of the rank test whose verdict v is
 --   IsFoundFor g q x f   == the finding f is right on the graph g, from the vertex q, for the amounts of the look x
 --   IsFoundOn o H x f    == the finding f is right on the graph of the position at the look x of the history H
@@ -24,8 +24,8 @@ use Rattle.dg_game.specs.declared.entry.Request.TheVariants.{Judge, Rank as Rank
 use Rattle.dg_game.specs.declared.entry.Reply.{Reply}
 use Rattle.dg_game.specs.declared.entry.Reply.TheVariants.{Verdict, Rank as RankReply}
 use Rattle.dg_game.specs.declared.look.LookData.{LookData}
-use Rattle.dg_game.specs.declared.look.Finding.{Finding}
-use Rattle.dg_game.specs.declared.look.Finding.TheVariants.{Judged, Ranked}
+use Rattle.dg_game.specs.declared.finding.Finding.{Finding}
+use Rattle.dg_game.specs.declared.finding.Finding.TheVariants.{Judged, Ranked}
 
 pub record IsLookAt (o : Opening) (H : List Entry) (x : LookData) : Type 0 where
   pub look : IsLookIn H x.number

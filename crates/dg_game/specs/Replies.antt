@@ -3,8 +3,9 @@
 --   RepliesToClaim p reply         == won where nobody is in debt, and not won where somebody is
 --   RepliesToJudge p q h g reply   == h gifts were accepted before the look: where there are as many now, a verdict that
 --                                     is right for the position; else stale, with the gift count now
---   RepliesToRank p h g k reply    == there, a verdict of the rank test of degree k that is right for the position;
---                                     else stale as well
+--   RepliesToRank p h g k reply    == h gifts were accepted before the look: where there are as many now, the verdict of
+--                                     a rank test of degree k that is right for the position; else stale, with the gift
+--                                     count now
 --   RepliesAt p g call reply       == the reply to the call is right at the position p, after g accepted gifts
 --   Replies o H request reply      == the reply is right after the history H from the opening o
 use Rattle.std.specs.Prelude.{◌≡◌, ◌≢◌, ℕ, List, take}

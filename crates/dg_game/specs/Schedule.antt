@@ -1,5 +1,6 @@
 -- Schedules: lists of steps, each a seat and a command.
 --   asked call                    == the request that a call of the game makes
+--   IsLook call                   == the call is a look
 --   UsesUp command                == the command uses a look up
 --   UsesLook command              == the command takes a look, or uses one up
 --   IsKept steps seat j i         == before step j, step i is the last look that the seat has taken and not used up

@@ -2,8 +2,10 @@
 --   State                     == the graph, the vertex q, the amounts now, how often each vertex has lent by the accepted
 --                                moves, the number of accepted gifts and that of entries
 --   position_of s             == the position that the state shows
---   IsState s                 == its parts fit together and are within their limits
+--   IsState s                 == the parts of the state s fit together and are within their limits
 --   LeadsTo o H s             == the history H leads from the opening o to the state s
+--   amounts_after d reply     == the amounts after the reply, where they were d before
+--   gifts_after n reply       == the gift count after the reply, where it was n before
 --   IsNext s request reply t  == t is the state after s and one entry with this request and reply
 use Rattle.std.specs.Prelude.{◌≡◌, ℕ, ◌+◌, ◌*◌, ◌<◌, ◌≤◌, ◌+ℤ◌, List, length}
 use Rattle.std.specs.Int.RustNames.{unsigned_abs}
@@ -17,6 +19,7 @@ use Rattle.dg_game.specs.declared.entry.Entry.{Entry}
 use Rattle.dg_game.specs.declared.entry.Request.{Request}
 use Rattle.dg_game.specs.declared.entry.Reply.{Reply}
 use Rattle.dg_game.specs.declared.entry.Reply.TheVariants.{Moved, Given}
+use Rattle.dg_game.specs.declared.game.TheConstants.{MAX_ENTRIES}
 
 pub record State : Type 0 where
   pub graph : Multigraph
@@ -36,7 +39,7 @@ pub record IsState (s : State) : Type 0 where
   pub drift_size : s.drift.size ≡ s.graph.size
   pub drift_limit : (v : ℕ) → v < s.graph.size → unsigned_abs (at s.drift v) ≤ s.entries * 1000000000
   pub gifts : s.gifts ≤ s.entries
-  pub entries : s.entries ≤ 65536
+  pub entries : s.entries ≤ MAX_ENTRIES
 
 pub record LeadsTo (o : Opening) (H : List Entry) (s : State) : Type 0 where
   pub graph : s.graph ≡ (position_after o H).graph

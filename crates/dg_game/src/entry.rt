@@ -1,3 +1,4 @@
+//! Entries of a history: what was asked, and what was answered.
 ghost use Rattle.std.specs.Prelude.{◌≡◌};
 ghost use Rattle.dg_game.specs.Refusals.{refusal_for};
 ghost use Rattle.dg_game.specs.Schedule.{asked};
@@ -5,6 +6,12 @@ ghost use Rattle.dg_game.specs.Schedule.{asked};
 use dg_chips::{Divisor, Move, MoveFault};
 use dg_rank::RankVerdict;
 use dg_verdict::Verdict;
+
+/// The most seats of a table: they are numbered from 1 up to this.
+pub const MAX_SEATS: u8 = 64;
+
+/// The most dollars of a gift.
+pub const MAX_GIFT: i64 = 1_000_000;
 
 /// What a seat may ask of the game itself. Vertices are numbered from 0.
 #[derive(Clone, Copy, PartialEq, Eq)]

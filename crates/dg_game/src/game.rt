@@ -1,27 +1,27 @@
-ghost use Rattle.std.specs.Prelude.{◌≡◌, ℕ, ◌<◌, ◌≤◌, List, [], ◌∷◌, ◌++◌, MatchOption, ⊤};
+//! The game as it stands, and what calls and findings do to it.
+ghost use Rattle.std.specs.Prelude.{◌≡◌, ℕ, ◌<◌, ◌≤◌, List, [], MatchOption, ⊤};
 ghost use Rattle.std.specs.Int.RustNames.{unsigned_abs};
 ghost use Rattle.dg_chips.specs.Opening.{Opening};
 ghost use Rattle.dg_chips.specs.Vector.{at};
 ghost use Rattle.dg_chips.specs.Moves.{script_of};
 ghost use Rattle.dg_theory.specs.Firing.{Amounts, FiresTo};
 ghost use Rattle.dg_verdict.specs.Right.{IsRight};
-ghost use Rattle.dg_rank.specs.Limits.{IsPastLimits};
-ghost use Rattle.dg_rank.specs.Ranks.{IsWithin};
 ghost use Rattle.dg_game.specs.MoveReplies.{RepliesToMove};
 ghost use Rattle.dg_game.specs.GiftReplies.{RepliesToGift};
 ghost use Rattle.dg_game.specs.Replies.{Replies, RepliesAt, RepliesToClaim};
+ghost use Rattle.dg_game.specs.History.{with_entry};
 ghost use Rattle.dg_game.specs.Legal.{IsSeat, IsLegal};
-ghost use Rattle.dg_game.specs.Look.{IsLookAt, IsFoundFor, IsFoundOn, asked_for, KeepsFinding};
+ghost use Rattle.dg_game.specs.Look.{IsLookAt, IsFoundOn, asked_for, KeepsFinding};
 ghost use Rattle.dg_game.specs.State.{State, IsState, LeadsTo, IsNext, position_of};
 ghost use Rattle.dg_game.specs.Schedule.{asked};
 ghost use Rattle.dg_game.specs.declared.entry.Entry.{Entry};
-ghost use Rattle.dg_game.specs.declared.entry.Request.TheVariants.{Move as MoveRequest, Gift as GiftRequest, Claim as ClaimRequest, Judge as JudgeRequest, Rank as RankRequest};
+ghost use Rattle.dg_game.specs.declared.entry.Request.TheVariants.{Move as MoveRequest, Gift as GiftRequest, Claim as ClaimRequest};
 
-use crate::entry::{Plain, Refusal, Reply};
-use crate::look::{Finding, LookData};
+use crate::entry::{MAX_GIFT, Plain, Refusal, Reply};
+use crate::finding::Finding;
+use crate::look::LookData;
 use dg_chips::{Divisor, Drift, Move, Start, apply};
 use dg_graph::Graph;
-use dg_rank::rank_at_least;
 use dg_verdict::{Verdict, judge, rebase};
 use std::marker::Model;
 
@@ -45,11 +45,32 @@ impl Model for Game {
 
     ghost Value = { State };
 
-    ghost view = { λ a. record { graph = a.graph; q = a.q; amounts = a.amounts; drift = a.drift; gifts = a.gifts; entries = a.entries } };
+    ghost view = { λ a. record {
+      graph = a.graph;
+      q = a.q;
+      amounts = a.amounts;
+      drift = a.drift;
+      gifts = a.gifts;
+      entries = a.entries;
+    } };
 
-    ghost invariant = { λ a. IsState (record { graph = a.graph; q = a.q; amounts = a.amounts; drift = a.drift; gifts = a.gifts; entries = a.entries }) };
+    ghost invariant = { λ a. IsState (record {
+      graph = a.graph;
+      q = a.q;
+      amounts = a.amounts;
+      drift = a.drift;
+      gifts = a.gifts;
+      entries = a.entries;
+    }) };
 
-    ghost inverse = { λ s. record { graph = s.graph; q = s.q; amounts = s.amounts; drift = s.drift; gifts = s.gifts; entries = s.entries } };
+    ghost inverse = { λ s. record {
+      graph = s.graph;
+      q = s.q;
+      amounts = s.amounts;
+      drift = s.drift;
+      gifts = s.gifts;
+      entries = s.entries;
+    } };
 }
 
 impl Game {
@@ -74,6 +95,14 @@ impl Game {
         &self.graph
     }
 
+    /// The vertex from which verdicts are reckoned.
+    pub(crate) fn q(&self) -> usize
+        ensures q { result ≡ self.now.q }
+        ensures vertex { result < self.now.graph.size }
+    {
+        usize::from(self.q)
+    }
+
     /// The amounts now.
     pub fn position(&self) -> &Divisor
         ensures amounts { result.now ≡ self.now.amounts }
@@ -92,7 +121,7 @@ impl Game {
     /// How many entries the history has, at most 65,536.
     pub fn entries(&self) -> u32
         ensures entries { result ≡ self.now.entries }
-        ensures limit { result ≤ 65536 }
+        ensures limit { result ≤ MAX_ENTRIES }
     {
         self.entries
     }
@@ -115,12 +144,13 @@ impl Game {
     /// Answers a call as the game answers it after its history, and takes it into the history, which stays legal where
     /// a seat of 1 to 64 calls. The condition is that there are fewer than 65,536 entries.
     pub fn act(&mut self, plain: Plain) -> Reply
-        requires { self.old.entries < 65536 }
-        ensures replies { (o : Opening) (H : List Entry) → LeadsTo o H self.old → Replies o H (asked plain) result }
+        requires { self.old.entries < MAX_ENTRIES }
+        ensures replies { (o : Opening) (H : List Entry) → LeadsTo o H self.old →
+            Replies o H (asked plain) result }
         ensures leads { (o : Opening) (H : List Entry) (seat : ℕ) → LeadsTo o H self.old →
-            LeadsTo o (H ++ (record { seat = seat; request = asked plain; reply = result }) ∷ []) self.new }
-        ensures legal { (o : Opening) (H : List Entry) (seat : ℕ) → LeadsTo o H self.old → IsLegal o H → IsSeat seat →
-            IsLegal o (H ++ (record { seat = seat; request = asked plain; reply = result }) ∷ []) }
+            LeadsTo o (with_entry H seat (asked plain) result) self.new }
+        ensures legal { (o : Opening) (H : List Entry) (seat : ℕ) → LeadsTo o H self.old →
+            IsLegal o H → IsSeat seat → IsLegal o (with_entry H seat (asked plain) result) }
     {
         self.answer(&plain)
     }
@@ -131,60 +161,30 @@ impl Game {
     /// are fewer than 65,536 entries, that the look is one of the history, whatever its drift, and that the finding is
     /// right for the position that it showed.
     pub fn settle(&mut self, look: &LookData, finding: &Finding) -> Reply
-        requires room { self.old.entries < 65536 }
-        requires look { (o : Opening) × (H : List Entry) × LeadsTo o H self.old × IsLookAt o H look.now ×
-            IsFoundOn o H look.now finding.now }
-        ensures replies { (o : Opening) (H : List Entry) → LeadsTo o H self.old → IsLookAt o H look.now →
-            Replies o H (asked_for look.now.number finding.now) result }
-        ensures leads { (o : Opening) (H : List Entry) (seat : ℕ) → LeadsTo o H self.old → IsLookAt o H look.now →
-            LeadsTo o (H ++ (record {
-              seat = seat;
-              request = asked_for look.now.number finding.now;
-              reply = result;
-            }) ∷ []) self.new }
-        ensures legal { (o : Opening) (H : List Entry) (seat : ℕ) → LeadsTo o H self.old → IsLookAt o H look.now →
-            IsLegal o H → IsSeat seat →
-            IsLegal o (H ++ (record {
-              seat = seat;
-              request = asked_for look.now.number finding.now;
-              reply = result;
-            }) ∷ []) }
+        requires room { self.old.entries < MAX_ENTRIES }
+        requires look { (o : Opening) × (H : List Entry) × LeadsTo o H self.old ×
+            IsLookAt o H look.now × IsFoundOn o H look.now finding.now }
+        ensures replies { (o : Opening) (H : List Entry) → LeadsTo o H self.old →
+            IsLookAt o H look.now → Replies o H (asked_for look.now.number finding.now) result }
+        ensures leads { (o : Opening) (H : List Entry) (seat : ℕ) → LeadsTo o H self.old →
+            IsLookAt o H look.now →
+            LeadsTo o (with_entry H seat (asked_for look.now.number finding.now) result) self.new }
+        ensures legal { (o : Opening) (H : List Entry) (seat : ℕ) → LeadsTo o H self.old →
+            IsLookAt o H look.now → IsLegal o H → IsSeat seat →
+            IsLegal o (with_entry H seat (asked_for look.now.number finding.now) result) }
         ensures kept { KeepsFinding finding.now result }
     {
-        let reply = self.settled(look, finding);
+        let reply = self.reply_to(look, finding);
         self.entries += 1;
         reply
     }
 
-    /// What a verdict on a look finds: the verdict on the amounts that it showed.
-    pub(crate) fn judged_on(&self, look: &LookData) -> Finding
-        requires { look.now.position.size ≡ self.now.graph.size }
-        ensures found { IsFoundFor self.now.graph self.now.q look.now result }
-        ensures asks { (i : ℕ) → asked_for i result ≡ JudgeRequest i }
-    {
-        let _size = look.position.size();
-        Finding::Judged(judge(&self.graph, usize::from(self.q), &look.position))
-    }
-
-    /// What a rank test of degree k on a look finds; `None` where it is past the limits.
-    pub(crate) fn ranked_on(&self, look: &LookData, k: u32) -> Option<Finding>
-        requires { look.now.position.size ≡ self.now.graph.size }
-        ensures { MatchOption result
-            (IsPastLimits self.now.graph.size k)
-            (λ f. IsWithin self.now.graph.size k × IsFoundFor self.now.graph self.now.q look.now f ×
-            ((i : ℕ) → asked_for i f ≡ RankRequest i k)) }
-    {
-        let _size = look.position.size();
-        let verdict = rank_at_least(&self.graph, usize::from(self.q), &look.position, k).ok()?;
-        Some(Finding::Ranked(verdict))
-    }
-
     /// The reply to what was reckoned on a look.
-    fn settled(&self, look: &LookData, finding: &Finding) -> Reply
-        requires look { (o : Opening) × (H : List Entry) × LeadsTo o H self.now × IsLookAt o H look.now ×
-            IsFoundOn o H look.now finding.now }
-        ensures replies { (o : Opening) (H : List Entry) → LeadsTo o H self.now → IsLookAt o H look.now →
-            Replies o H (asked_for look.now.number finding.now) result }
+    fn reply_to(&self, look: &LookData, finding: &Finding) -> Reply
+        requires look { (o : Opening) × (H : List Entry) × LeadsTo o H self.now ×
+            IsLookAt o H look.now × IsFoundOn o H look.now finding.now }
+        ensures replies { (o : Opening) (H : List Entry) → LeadsTo o H self.now →
+            IsLookAt o H look.now → Replies o H (asked_for look.now.number finding.now) result }
         ensures kept { KeepsFinding finding.now result }
     {
         if self.gifts != look.gifts {
@@ -192,7 +192,7 @@ impl Game {
         }
         match finding {
             Finding::Judged(verdict) => {
-                let carried = self.rebased(&look.position, &look.drift, verdict);
+                let carried = self.verdict_now(&look.position, &look.drift, verdict);
                 Reply::Verdict(carried)
             }
             Finding::Ranked(verdict) => Reply::Rank(*verdict),
@@ -200,7 +200,7 @@ impl Game {
     }
 
     /// The verdict on an earlier position, carried over to the position now.
-    fn rebased(&self, then: &Divisor, drift: &Drift, verdict: &Verdict) -> Verdict
+    fn verdict_now(&self, then: &Divisor, drift: &Drift, verdict: &Verdict) -> Verdict
         requires size { then.now.size ≡ self.now.graph.size }
         requires led { (s : Amounts) × FiresTo self.now.graph s (at then.now) (at self.now.amounts) }
         requires right { IsRight self.now.graph self.now.q (at then.now) verdict.now }
@@ -210,7 +210,7 @@ impl Game {
     {
         let _size = self.amounts.size();
         let since = self.drift_from(then, drift);
-        rebase(usize::from(self.q), verdict, &since)
+        rebase(self.q(), verdict, &since)
     }
 
     /// A drift that leads from an earlier position to the position now: what was lent since then, if it does; otherwise
@@ -221,19 +221,19 @@ impl Game {
         ensures size { result.size ≡ self.now.graph.size }
         ensures led { FiresTo self.now.graph (at result) (at then.now) (at self.now.amounts) }
     {
-        if let Some(since) = self.lent_since(drift)
+        if let Some(since) = self.drift_since(drift)
             && since.leads(&self.graph, then, &self.amounts)
         {
             return since;
         }
-        let q = usize::from(self.q);
+        let q = self.q();
         let before = judge(&self.graph, q, then);
         let now = judge(&self.graph, q, &self.amounts);
         Drift::between(&before.script, &now.script)
     }
 
     /// What the moves have lent since an earlier drift, where both have one size and the difference is within the limit.
-    fn lent_since(&self, drift: &Drift) -> Option<Drift>
+    fn drift_since(&self, drift: &Drift) -> Option<Drift>
         ensures { MatchOption result ⊤ (λ d. d.size ≡ self.now.graph.size) }
     {
         if drift.size() != self.drift.size() {
@@ -244,7 +244,7 @@ impl Game {
 
     /// Answers a call, and takes it into the state.
     fn answer(&mut self, plain: &Plain) -> Reply
-        requires { self.old.entries < 65536 }
+        requires { self.old.entries < MAX_ENTRIES }
         ensures replies { RepliesAt (position_of self.old) self.old.gifts plain.now result }
         ensures next { IsNext self.old (asked plain.now) result self.new }
     {
@@ -261,7 +261,7 @@ impl Game {
 
     /// Plays a move: the amounts after it, or its refusal.
     fn play(&mut self, play: &Move) -> Reply
-        requires { self.old.entries < 65536 }
+        requires { self.old.entries < MAX_ENTRIES }
         ensures replies { RepliesToMove (position_of self.old) play.now result }
         ensures next { IsNext self.old (MoveRequest play.now) result self.new }
     {
@@ -279,7 +279,7 @@ impl Game {
 
     /// Gives dollars to a vertex: the count and the amounts after the gift, or its refusal.
     fn give(&mut self, v: u8, dollars: i64) -> Reply
-        requires { self.old.entries < 65536 }
+        requires { self.old.entries < MAX_ENTRIES }
         ensures replies { RepliesToGift (position_of self.old) self.old.gifts v dollars result }
         ensures next { IsNext self.old (GiftRequest v dollars) result self.new }
     {
@@ -288,7 +288,7 @@ impl Game {
         if v >= self.graph.size() {
             return Reply::Refused(Refusal::NoVertex);
         }
-        if dollars < 1 || dollars > 1_000_000 {
+        if dollars < 1 || dollars > MAX_GIFT {
             return Reply::Refused(Refusal::Gift);
         }
         match self.amounts.with_more(v, dollars) {
@@ -303,7 +303,7 @@ impl Game {
 
     /// Tells whether nobody is in debt.
     fn claim(&mut self) -> Reply
-        requires { self.old.entries < 65536 }
+        requires { self.old.entries < MAX_ENTRIES }
         ensures replies { RepliesToClaim (position_of self.old) result }
         ensures next { IsNext self.old ClaimRequest result self.new }
     {

@@ -2,19 +2,19 @@
 #![tactic(auto)]
 
 mod entry;
+mod finding;
 mod game;
 mod laws;
 mod look;
-#[cfg(test)]
-mod rank_tests;
 mod schedule;
 mod step;
 #[cfg(test)]
 mod tests;
 
-pub use entry::{Entry, Plain, Refusal, Reply, Request};
+pub use entry::{Entry, MAX_GIFT, MAX_SEATS, Plain, Refusal, Reply, Request};
+pub use finding::{Finding, judge_look, rank_look};
 pub use game::{Game, MAX_ENTRIES};
 pub use laws::{law_of_histories, law_of_legal_histories};
-pub use look::{Finding, LookData};
+pub use look::LookData;
 pub use schedule::{RehearseFault, rehearse};
 pub use step::{Command, Step};

@@ -1,18 +1,20 @@
+//! Schedules: their steps are played one after another.
 ghost use Rattle.std.specs.Prelude.{◌≡◌, ℕ, ◌<◌, ◌≤◌, List, [], ◌∷◌, ◌++◌, length, slice_get, Some, MatchResult, MatchOption};
 ghost use Rattle.dg_chips.specs.Opening.{Opening};
 ghost use Rattle.dg_game.specs.Legal.{IsSeat};
 ghost use Rattle.dg_game.specs.Look.{IsFoundOn, asked_for};
 ghost use Rattle.dg_game.specs.Schedule.{UsesUp, IsKept, IsAsked, IsRehearsal};
 ghost use Rattle.dg_game.specs.ScheduleFaults.{HasTrials, AreGoodBefore, IsFirstFault};
-ghost use Rattle.dg_game.specs.Playing.{KeepsLook, IsPlaying};
+ghost use Rattle.dg_game.specs.Rehearsal.{KeepsLook, IsPlaying, IsInPlay, PlaysOn, StopsAt};
 ghost use Rattle.dg_game.specs.declared.entry.Entry.{Entry};
 ghost use Rattle.dg_game.specs.declared.step.Command.{Command};
 ghost use Rattle.dg_game.specs.declared.step.Step.{Step};
 ghost use Rattle.dg_game.specs.declared.step.Command.TheVariants.{Call, Commit, Rank};
 
-use crate::entry::{Entry, Plain};
+use crate::entry::{Entry, MAX_SEATS, Plain};
+use crate::finding::{Finding, judge_look, rank_look};
 use crate::game::{Game, MAX_ENTRIES};
-use crate::look::{Finding, LookData};
+use crate::look::LookData;
 use crate::step::{Command, Step};
 use dg_chips::Start;
 use std::alloc::Allocator;
@@ -39,7 +41,7 @@ pub enum RehearseFault {
 }
 
 /// A schedule that is being played: the game, and for each seat the look that it keeps.
-#[derive(Clone, Copy)]
+#[derive(Drop)]
 pub struct Rehearsal {
     /// The game as it stands.
     pub game: Game,
@@ -59,7 +61,7 @@ pub fn rehearse<A: Allocator + Drop>(
     steps: &[Step],
 ) -> Result<Vec<Entry, A>, RehearseFault>
     ensures { MatchResult result
-        (λ history. IsRehearsal start.now steps.now history.items × (length steps.now ≤ 65536) ×
+        (λ history. IsRehearsal start.now steps.now history.items × (length steps.now ≤ MAX_ENTRIES) ×
         AreGoodBefore start.now.graph.size steps.now (length steps.now))
         (IsFirstFault start.now.graph.size steps.now) }
 {
@@ -87,15 +89,13 @@ impl Rehearsal {
 
     /// Plays the next step, and gives its entry; or why it can't be played.
     fn play(&mut self, step: &Step) -> Result<Entry, RehearseFault>
-        requires { (o : Opening) × (H : List Entry) × (steps : List Step) × IsPlaying o steps H self.old }
+        requires { IsInPlay self.old }
         ensures { MatchResult result
-            (λ e. (o : Opening) (H : List Entry) (steps : List Step) → IsPlaying o steps H self.old →
-            slice_get steps (length H) ≡ Some step.now → (length H < 65536) × IsPlaying o steps (H ++ e ∷ []) self.new)
-            (λ fault. (o : Opening) (H : List Entry) (steps : List Step) → IsPlaying o steps H self.old →
-            slice_get steps (length H) ≡ Some step.now → IsFirstFault o.graph.size steps fault) }
+            (λ e. (self.old.game.entries < MAX_ENTRIES) × PlaysOn self.old step.now e self.new)
+            (StopsAt self.old step.now) }
     {
         let i = self.game.entries() as usize;
-        if step.seat < 1 || step.seat > 64 {
+        if step.seat < 1 || step.seat > MAX_SEATS {
             return Err(RehearseFault::Seat(i));
         }
         if i == MAX_ENTRIES {
@@ -110,12 +110,10 @@ impl Rehearsal {
 
     /// Answers a seat's call; a look is kept for the seat.
     fn call(&mut self, seat: u8, plain: &Plain) -> Entry
-        requires playing { (o : Opening) × (H : List Entry) × (steps : List Step) × IsPlaying o steps H self.old }
-        requires room { self.old.game.entries < 65536 }
+        requires playing { IsInPlay self.old }
+        requires room { self.old.game.entries < MAX_ENTRIES }
         requires seat { IsSeat seat }
-        ensures { (o : Opening) (H : List Entry) (steps : List Step) → IsPlaying o steps H self.old →
-            slice_get steps (length H) ≡ Some (record { seat = seat; command = Call plain.now }) →
-            IsPlaying o steps (H ++ result ∷ []) self.new }
+        ensures { PlaysOn self.old (record { seat = seat; command = Call plain.now }) result self.new }
     {
         if let Plain::Look = plain {
             self.looks[usize::from(seat)] = Some(self.game.look_data());
@@ -129,39 +127,33 @@ impl Rehearsal {
 
     /// Enters the verdict on the look that a seat keeps, which is used up; `None` where it keeps none.
     fn commit(&mut self, seat: u8) -> Option<Entry>
-        requires playing { (o : Opening) × (H : List Entry) × (steps : List Step) × IsPlaying o steps H self.old }
-        requires room { self.old.game.entries < 65536 }
+        requires playing { IsInPlay self.old }
+        requires room { self.old.game.entries < MAX_ENTRIES }
         requires seat { IsSeat seat }
         ensures { MatchOption result
             ((o : Opening) (H : List Entry) (steps : List Step) → IsPlaying o steps H self.old →
             (i : ℕ) → ¬ IsKept steps seat (length H) i)
-            (λ e. (o : Opening) (H : List Entry) (steps : List Step) → IsPlaying o steps H self.old →
-            slice_get steps (length H) ≡ Some (record { seat = seat; command = Commit }) →
-            IsPlaying o steps (H ++ e ∷ []) self.new) }
+            (λ e. PlaysOn self.old (record { seat = seat; command = Commit }) e self.new) }
     {
         let look = self.kept(seat)?;
-        let finding = self.game.judged_on(&look);
+        let finding = judge_look(self.game.graph(), self.game.q(), &look);
         Some(self.enter(seat, &look, &finding))
     }
 
     /// Enters the rank test of degree k on the look that a seat keeps, which is used up; or why it can't be entered.
     fn rank(&mut self, seat: u8, k: u32) -> Result<Entry, RehearseFault>
-        requires playing { (o : Opening) × (H : List Entry) × (steps : List Step) × IsPlaying o steps H self.old }
-        requires room { self.old.game.entries < 65536 }
+        requires playing { IsInPlay self.old }
+        requires room { self.old.game.entries < MAX_ENTRIES }
         requires seat { IsSeat seat }
         ensures { MatchResult result
-            (λ e. (o : Opening) (H : List Entry) (steps : List Step) → IsPlaying o steps H self.old →
-            slice_get steps (length H) ≡ Some (record { seat = seat; command = Rank k }) →
-            IsPlaying o steps (H ++ e ∷ []) self.new)
-            (λ fault. (o : Opening) (H : List Entry) (steps : List Step) → IsPlaying o steps H self.old →
-            slice_get steps (length H) ≡ Some (record { seat = seat; command = Rank k }) →
-            IsFirstFault o.graph.size steps fault) }
+            (λ e. PlaysOn self.old (record { seat = seat; command = Rank k }) e self.new)
+            (StopsAt self.old (record { seat = seat; command = Rank k })) }
     {
         let i = self.game.entries() as usize;
         let Some(look) = self.kept(seat) else {
             return Err(RehearseFault::NoLook(i));
         };
-        let Some(finding) = self.game.ranked_on(&look, k) else {
+        let Ok(finding) = rank_look(self.game.graph(), self.game.q(), &look, k) else {
             return Err(RehearseFault::TooMany(i));
         };
         let entry = self.enter(seat, &look, &finding);
@@ -170,23 +162,26 @@ impl Rehearsal {
 
     /// The look that a seat keeps, if it keeps one.
     fn kept(&self, seat: u8) -> Option<LookData>
-        requires playing { (o : Opening) × (H : List Entry) × (steps : List Step) × IsPlaying o steps H self.now }
+        requires playing { IsInPlay self.now }
         requires seat { IsSeat seat }
-        ensures { (o : Opening) (H : List Entry) (steps : List Step) → IsPlaying o steps H self.now →
-            KeepsLook o H steps seat result }
+        ensures { (o : Opening) (H : List Entry) (steps : List Step) →
+            IsPlaying o steps H self.now → KeepsLook o H steps seat result }
     {
         self.looks[usize::from(seat)]
     }
 
     /// Enters what was reckoned on the look that a seat keeps, and uses the look up.
     fn enter(&mut self, seat: u8, look: &LookData, finding: &Finding) -> Entry
-        requires playing { (o : Opening) × (H : List Entry) × (steps : List Step) × IsPlaying o steps H self.old ×
-            KeepsLook o H steps seat (Some look.now) × IsFoundOn o H look.now finding.now }
-        requires room { self.old.game.entries < 65536 }
+        requires playing { (o : Opening) × (H : List Entry) × (steps : List Step) ×
+            IsPlaying o steps H self.old × KeepsLook o H steps seat (Some look.now) ×
+            IsFoundOn o H look.now finding.now }
+        requires room { self.old.game.entries < MAX_ENTRIES }
         requires seat { IsSeat seat }
-        ensures { (o : Opening) (H : List Entry) (steps : List Step) (c : Command) → IsPlaying o steps H self.old →
-            KeepsLook o H steps seat (Some look.now) → slice_get steps (length H) ≡ Some (record { seat = seat; command = c }) →
-            UsesUp c → HasTrials o.graph.size c → IsAsked steps seat (length H) c (asked_for look.now.number finding.now) →
+        ensures { (o : Opening) (H : List Entry) (steps : List Step) (c : Command) →
+            IsPlaying o steps H self.old → KeepsLook o H steps seat (Some look.now) →
+            slice_get steps (length H) ≡ Some (record { seat = seat; command = c }) →
+            UsesUp c → HasTrials o.graph.size c →
+            IsAsked steps seat (length H) c (asked_for look.now.number finding.now) →
             IsPlaying o steps (H ++ result ∷ []) self.new }
     {
         let reply = self.game.settle(look, finding);

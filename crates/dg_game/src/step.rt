@@ -1,3 +1,4 @@
+//! The steps of a schedule.
 use crate::entry::Plain;
 
 /// What a step of a schedule does.

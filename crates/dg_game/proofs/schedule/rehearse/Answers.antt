@@ -1,6 +1,6 @@
 use Rattle.std.proofs.Common.{◌≡◌, ◌<◌, [], ◌∷◌, ◌++◌, length, length-append, slice_get, Some, arith, refl, ◌∙◌, ap}
 use Rattle.std.proofs.lemmas.Option.{slice_get_read}
-use Rattle.dg_game.proofs.PlayingLaws.{told_err}
+use Rattle.dg_game.proofs.RehearsalLaws.{told_err}
 use Rattle.dg_game.proofs.schedule.rehearse.Goals as goal
 
 pub loop-step-init : goal.loop-step-init
@@ -27,9 +27,8 @@ unwrap-requires g c =
     let within : c.loop-step.step-index < length c.args.steps.now = omega arith in
     let read : slice_get c.args.steps.now c.loop-step.step-index ≡ Some c.step-item.result =
     slice_get_read c.args.steps.now (length c.args.steps.now) c.loop-step.step-index c.step-item.result refl within c.step-item.is in
-    let (below, playing) = c.in_ok-entry.ensures c.args.start.now c.loop-step.history.items c.args.steps.now c.loop-step.invariant.playing
-    (ap (slice_get c.args.steps.now) c.loop-step.invariant.played ∙ read) in
-    c.push.ensures.succeeds (omega (arith, below, c.loop-step.invariant.played, c.loop-step.invariant.room, c.loop-step.history.ok))
+    let (below, playing) = c.in_ok-entry.ensures in
+    c.push.ensures.succeeds (omega (arith, below, c.loop-step.invariant.playing.leads.entries, c.loop-step.invariant.played, c.loop-step.invariant.room, c.loop-step.history.ok))
 
 pub loop-step-preserved : goal.loop-step-preserved
 loop-step-preserved g c =
@@ -37,11 +36,11 @@ loop-step-preserved g c =
     let within : c.loop-step.step-index < length c.args.steps.now = omega arith in
     let read : slice_get c.args.steps.now c.loop-step.step-index ≡ Some c.step-item.result =
     slice_get_read c.args.steps.now (length c.args.steps.now) c.loop-step.step-index c.step-item.result refl within c.step-item.is in
-    let (below, playing) = c.in_ok-entry.ensures c.args.start.now c.loop-step.history.items c.args.steps.now c.loop-step.invariant.playing
-    (ap (slice_get c.args.steps.now) c.loop-step.invariant.played ∙ read) in
+    let (below, plays) = c.in_ok-entry.ensures in
     record {
       room = omega (arith, c.push.ensures.capacity, c.loop-step.invariant.room);
-      few = omega (arith, below, c.loop-step.invariant.played);
+      few = omega (arith, below, c.loop-step.invariant.playing.leads.entries, c.loop-step.invariant.played);
       played = ap length items ∙ omega (arith, length-append c.loop-step.history.items (c.in_ok-entry.entry ∷ []), c.loop-step.invariant.played);
-      playing = rw items playing;
+      playing = rw items (plays c.args.start.now c.loop-step.history.items c.args.steps.now c.loop-step.invariant.playing
+          (ap (slice_get c.args.steps.now) c.loop-step.invariant.played ∙ read));
     }

@@ -1,6 +1,6 @@
 use Rattle.std.proofs.Common.{◌≡◌, ◌≤◌, length, vec_capacity}
 use Rattle.std.specs.Prelude.{min}
-use Rattle.dg_game.specs.Playing.{IsPlaying}
+use Rattle.dg_game.specs.Rehearsal.{IsPlaying}
 use Rattle.dg_game.proofs.schedule.rehearse.Given as goal
 
 abbrev pub invariant-loop-step : goal.invariant-loop-step

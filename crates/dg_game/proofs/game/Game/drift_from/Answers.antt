@@ -1,4 +1,4 @@
-use Rattle.std.proofs.Common.{sym, subst}
+use Rattle.std.proofs.Common.{◌<◌, sym, subst}
 use Rattle.dg_theory.specs.Firing.{Amounts, FiresTo}
 use Rattle.dg_chips.specs.Vector.{at}
 use Rattle.dg_game.specs.State.{State}
@@ -9,8 +9,10 @@ pub returns-2-clause-led : goal.returns-2-clause-led
 returns-2-clause-led c =
     let led : (s : Amounts) × FiresTo c.self.inside.graph s (at c.args.then.now) (at c.self.inside.amounts) =
     subst (λ (t : State). (s : Amounts) × FiresTo t.graph s (at c.args.then.now) (at t.amounts)) (sym c.self.view_is) c.requires.led in
+    let below : c.q-q.result < c.self.inside.graph.size =
+    subst (λ (t : State). c.q-q.result < t.graph.size) (sym c.self.view_is) c.q-q.ensures.vertex in
     subst (λ (t : State). FiresTo t.graph (at c.between.result) (at c.args.then.now) (at t.amounts)) c.self.view_is
-    (between_leads c.self.inside.graph c.from-q.result (at c.args.then.now) (at c.self.inside.amounts) (at c.between.result)
-    c.judge-before.result c.judge-now.result (rw c.from-q.ensures c.self.invariant.vertex) led
+    (between_leads c.self.inside.graph c.q-q.result (at c.args.then.now) (at c.self.inside.amounts) (at c.between.result)
+    c.judge-before.result c.judge-now.result below led
     c.judge-before.ensures.right c.judge-now.ensures.right
     (λ v inside. c.between.ensures.entries v (rw c.judge-before.ensures.right.script_size inside)))

@@ -1,7 +1,7 @@
 use Rattle.std.proofs.Common.{◌≡◌, length, length-set, ap, sym, subst, ◌∙◌}
 use Rattle.dg_game.specs.State.{State, LeadsTo}
 use Rattle.dg_game.specs.declared.schedule.Rehearsal.{Rehearsal}
-use Rattle.dg_game.proofs.PlayingLaws.{called, looks_looked, looks_left}
+use Rattle.dg_game.proofs.RehearsalLaws.{called, looks_looked, looks_left}
 use Rattle.dg_game.proofs.schedule.Rehearsal.call.Goals as goal
 use Rattle.dg_game.proofs.schedule.Rehearsal.call.Goals.{in-Look, in_default}
 

@@ -1,5 +1,5 @@
 use Rattle.std.proofs.Common.{None, ap, set}
-use Rattle.dg_game.proofs.PlayingLaws.{entered}
+use Rattle.dg_game.proofs.RehearsalLaws.{entered}
 use Rattle.dg_game.proofs.schedule.Rehearsal.enter.Goals as goal
 
 pub settle-reply-requires-clause-look : goal.settle-reply-requires-clause-look

@@ -1,5 +1,5 @@
 use Rattle.std.proofs.Common.{refl}
-use Rattle.dg_game.proofs.PlayingLaws.{playing_none}
+use Rattle.dg_game.proofs.RehearsalLaws.{playing_none}
 use Rattle.dg_game.proofs.schedule.Rehearsal.new.Goals as goal
 
 pub returns : goal.returns

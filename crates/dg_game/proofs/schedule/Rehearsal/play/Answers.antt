@@ -2,34 +2,37 @@ use Rattle.std.proofs.Common.{◌≡◌, length, slice_get, Some, arith, ap, ◌
 use Rattle.std.proofs.lemmas.Result.{MatchResult-weaker}
 use Rattle.dg_game.specs.declared.step.Command.{Command}
 use Rattle.dg_game.specs.declared.step.Command.TheVariants.{Call}
-use Rattle.dg_game.proofs.PlayingLaws.{lookless, told_ok_or}
+use Rattle.dg_game.proofs.RehearsalLaws.{lookless, told_ok_or}
 use Rattle.dg_game.proofs.schedule.Rehearsal.play.Goals as goal
 
 pub returns-in-Call : goal.returns-in-Call
-returns-in-Call c = λ o H steps playing there.
-    let step : slice_get steps (length H) ≡ Some (record { seat = c.args.step.now.seat; command = Call c.in-Call.plain }) =
-    there ∙ ap (λ (k : Command). Some (record { seat = c.args.step.now.seat; command = k })) c.in-Call.is in
-    (omega (arith, playing.leads.entries, c.entries-i.ensures.entries), c.call.ensures o H steps playing step)
+returns-in-Call c = (
+  omega (arith, c.entries-i.ensures.entries, c.entries-i.ensures.limit),
+  λ o H steps playing there.
+      let step : slice_get steps (length H) ≡ Some (record { seat = c.args.step.now.seat; command = Call c.in-Call.plain }) =
+      there ∙ ap (λ (k : Command). Some (record { seat = c.args.step.now.seat; command = k })) c.in-Call.is in
+      c.call.ensures o H steps playing step,
+)
 
 pub returns-in-Commit : goal.returns-in-Commit
 returns-in-Commit c =
     rw c.ok_or.ensures.value (told_ok_or c.commit.result _ _ _ _ _ c.commit.ensures
     (λ none o H steps playing there. lookless o H steps c.args.self.now c.args.step.now _ playing there
     (omega (arith, playing.leads.entries, c.entries-i.ensures.entries))
-    (omega (arith, playing.leads.entries, c.entries-i.ensures.entries, c.entries-i.ensures.limit)) (c.if-step-lt1.false, c.if-step-gt64.false)
+    (omega (arith, playing.leads.entries, c.entries-i.ensures.entries, c.entries-i.ensures.limit)) (c.if-step-lt1.false, c.if-step-gt-MAX_SEATS.false)
     (rw c.in-Commit.is (λ (i, kept). none o H steps playing i kept)))
-    (λ e goes o H steps playing there. (
-      omega (arith, playing.leads.entries, c.entries-i.ensures.entries, c.entries-i.ensures.limit),
-      goes o H steps playing
+    (λ e goes. (
+      omega (arith, c.entries-i.ensures.entries, c.entries-i.ensures.limit),
+      λ o H steps playing there. goes o H steps playing
           (there ∙ ap (λ (k : Command). Some (record { seat = c.args.step.now.seat; command = k })) c.in-Commit.is),
     )))
 
 pub returns-in-Rank : goal.returns-in-Rank
 returns-in-Rank c =
     MatchResult-weaker c.rank.result c.rank.ensures
-    (λ e goes o H steps playing there. (
-      omega (arith, playing.leads.entries, c.entries-i.ensures.entries, c.entries-i.ensures.limit),
-      goes o H steps playing
+    (λ e goes. (
+      omega (arith, c.entries-i.ensures.entries, c.entries-i.ensures.limit),
+      λ o H steps playing there. goes o H steps playing
           (there ∙ ap (λ (k : Command). Some (record { seat = c.args.step.now.seat; command = k })) c.in-Rank.is),
     ))
     (λ fault told o H steps playing there.

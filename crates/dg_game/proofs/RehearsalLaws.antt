@@ -23,7 +23,7 @@ use Rattle.dg_chips.specs.Opening.{Opening}
 use Rattle.dg_rank.specs.Limits.{IsPastLimits}
 use Rattle.dg_game.specs.Legal.{IsSeat, IsLegal}
 use Rattle.dg_game.specs.Look.{asked_for}
-use Rattle.dg_game.specs.Playing.{KeepsLook, IsPlaying}
+use Rattle.dg_game.specs.Rehearsal.{KeepsLook, IsPlaying}
 use Rattle.dg_game.specs.Schedule.{asked, UsesUp, UsesLook, IsKept, IsAsked, IsEntryOf}
 use Rattle.dg_game.specs.ScheduleFaults.{HasLook, HasTrials, IsGood, AreGoodBefore, IsFirstFault}
 use Rattle.dg_game.specs.State.{LeadsTo}
@@ -31,7 +31,7 @@ use Rattle.dg_game.specs.declared.entry.Entry.{Entry}
 use Rattle.dg_game.specs.declared.entry.Plain.{Plain}
 use Rattle.dg_game.specs.declared.entry.Plain.TheVariants as plain
 use Rattle.dg_game.specs.declared.entry.Reply.{Reply}
-use Rattle.dg_game.specs.declared.look.Finding.{Finding}
+use Rattle.dg_game.specs.declared.finding.Finding.{Finding}
 use Rattle.dg_game.specs.declared.look.LookData.{LookData}
 use Rattle.dg_game.specs.declared.schedule.Rehearsal.{Rehearsal}
 use Rattle.dg_game.specs.declared.schedule.RehearseFault.TheVariants.{NoLook, TooMany}

@@ -1,10 +1,10 @@
 use Rattle.std.proofs.Common.{◌≡◌, [], refl, arith, sym, ◌∙◌}
 use Rattle.dg_game.specs.Look.{IsFoundFor}
-use Rattle.dg_game.specs.declared.look.Finding.TheVariants.{Judged}
+use Rattle.dg_game.specs.declared.finding.Finding.TheVariants.{Judged}
 use Rattle.dg_game.specs.declared.look.LookData.{LookData}
 use Rattle.dg_game.proofs.LookLaws.{look_new, look_kept, found_then}
 use Rattle.dg_game.proofs.StepLaw.{graph_stays, vertices_stay}
-use Rattle.dg_game.proofs.tests.settled.Goals as goal
+use Rattle.dg_game.proofs.tests.verdicts.settled.Goals as goal
 
 pub act-requires-2 : goal.act-requires-2
 act-requires-2 c = omega (arith, (c.act.ensures.leads c.args.start.now [] 1 c.new-game.ensures).entries)

@@ -2,19 +2,19 @@ use Rattle.std.proofs.Common.{◌≡◌, arith, ap}
 use Rattle.dg_game.specs.Look.{IsFoundFor}
 use Rattle.dg_game.specs.State.{State}
 use Rattle.dg_game.proofs.LookLaws.{moved_since, found_now, judged_after, ranked_after, look_size}
-use Rattle.dg_game.proofs.game.Game.settled.Goals as goal
+use Rattle.dg_game.proofs.game.Game.reply_to.Goals as goal
 
-pub rebased-carried-requires-clause-size : goal.rebased-carried-requires-clause-size
-rebased-carried-requires-clause-size c = let (o, H, leads, look, found) = c.requires.look in look_size o H _ _ leads look
+pub verdict_now-carried-requires-clause-size : goal.verdict_now-carried-requires-clause-size
+verdict_now-carried-requires-clause-size c = let (o, H, leads, look, found) = c.requires.look in look_size o H _ _ leads look
 
-pub rebased-carried-requires-clause-led : goal.rebased-carried-requires-clause-led
-rebased-carried-requires-clause-led c =
+pub verdict_now-carried-requires-clause-led : goal.verdict_now-carried-requires-clause-led
+verdict_now-carried-requires-clause-led c =
     let (o, H, leads, look, found) = c.requires.look in
     let (graph, t, led) = moved_since o H _ _ leads look (omega (arith, c.if-self-look.false, ap (λ (s : State). s.gifts) c.self.view_is)) in
     (t, led)
 
-pub rebased-carried-requires-clause-right : goal.rebased-carried-requires-clause-right
-rebased-carried-requires-clause-right c =
+pub verdict_now-carried-requires-clause-right : goal.verdict_now-carried-requires-clause-right
+verdict_now-carried-requires-clause-right c =
     let (o, H, leads, look, found) = c.requires.look in
     let now : IsFoundFor c.args.self.now.graph c.args.self.now.q c.args.look.now c.args.finding.now =
     found_now o H _ _ _ leads look (omega (arith, c.if-self-look.false, ap (λ (s : State). s.gifts) c.self.view_is)) found in
@@ -22,8 +22,8 @@ rebased-carried-requires-clause-right c =
 
 pub returns-in-Judged-clause-replies : goal.returns-in-Judged-clause-replies
 returns-in-Judged-clause-replies c = λ o H leads look.
-    rw c.in-Judged.is (judged_after o H _ _ c.rebased-carried.result leads look
-    (omega (arith, c.if-self-look.false, ap (λ (s : State). s.gifts) c.self.view_is)) c.rebased-carried.ensures.right)
+    rw c.in-Judged.is (judged_after o H _ _ c.verdict_now-carried.result leads look
+    (omega (arith, c.if-self-look.false, ap (λ (s : State). s.gifts) c.self.view_is)) c.verdict_now-carried.ensures.right)
 
 pub returns-in-Ranked-clause-replies : goal.returns-in-Ranked-clause-replies
 returns-in-Ranked-clause-replies c = λ o H leads look.

@@ -1,27 +1,25 @@
-use Rattle.std.proofs.Common.{◌≡◌, sym, ap, subst, ◌∙◌}
+use Rattle.std.proofs.Common.{sym, subst}
 use Rattle.dg_theory.specs.Firing.{fired}
 use Rattle.dg_chips.specs.Vector.{at, IsDivisor}
 use Rattle.dg_verdict.specs.Right.{IsRight}
 use Rattle.dg_verdict.proofs.Agreement.{right-cong}
 use Rattle.dg_game.specs.State.{State, IsState}
 use Rattle.dg_game.proofs.LookLaws.{carried}
-use Rattle.dg_game.proofs.game.Game.rebased.Goals as goal
+use Rattle.dg_game.proofs.game.Game.verdict_now.Goals as goal
 
 pub rebase-requires : goal.rebase-requires
 rebase-requires c =
     let state : IsState c.args.self.now = subst (λ (s : State). IsState s) c.self.view_is c.self.invariant in
-    let q_is : c.from.result ≡ c.args.self.now.q = c.from.ensures ∙ ap (λ (s : State). s.q) c.self.view_is in
     let divisor : IsDivisor c.args.self.now.amounts = subst (λ (s : State). IsDivisor s.amounts) c.self.view_is c.size-size.ensures.divisor in
-    rw q_is (carried c.args.self.now (at c.args.then.now) c.args.verdict.now c.drift_from-since.result state divisor c.requires.right
+    rw c.q.ensures.q (carried c.args.self.now (at c.args.then.now) c.args.verdict.now c.drift_from-since.result state divisor c.requires.right
     c.drift_from-since.ensures.size c.drift_from-since.ensures.led)
 
 pub returns-clause-right : goal.returns-clause-right
 returns-clause-right c =
     let state : IsState c.args.self.now = subst (λ (s : State). IsState s) c.self.view_is c.self.invariant in
-    let q_is : c.from.result ≡ c.args.self.now.q = c.from.ensures ∙ ap (λ (s : State). s.q) c.self.view_is in
     let g = c.args.self.now.graph in
-    let moved : IsRight g c.from.result (fired g (at c.args.then.now) (at c.drift_from-since.result)) c.rebase.result =
-    c.rebase.ensures.right g (at c.args.then.now) state.graph.multigraph (rw q_is state.vertex) (rw q_is c.requires.right)
+    let moved : IsRight g c.q.result (fired g (at c.args.then.now) (at c.drift_from-since.result)) c.rebase.result =
+    c.rebase.ensures.right g (at c.args.then.now) state.graph.multigraph c.q.ensures.vertex (rw c.q.ensures.q c.requires.right)
     c.drift_from-since.ensures.size in
     right-cong g c.args.self.now.q _ (at c.args.self.now.amounts) c.rebase.result (λ v below. sym (c.drift_from-since.ensures.led v below))
-    (rw q_is at moved)
+    (rw c.q.ensures.q at moved)

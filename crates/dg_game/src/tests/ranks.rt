@@ -1,3 +1,5 @@
+//! Schedules that enter rank tests on looks.
+use crate::tests::{call, commit, rank, triangle};
 use crate::{Command, Entry, Plain, RehearseFault, Reply, Request, Step, rehearse};
 use dg_chips::{Divisor, Move, Start};
 use dg_graph::Graph;
@@ -9,23 +11,9 @@ const LOOK: Step = Step {
     command: Command::Call(Plain::Look),
 };
 
-fn called(plain: Plain) -> Step {
-    Step {
-        seat: 2,
-        command: Command::Call(plain),
-    }
-}
-
-fn ranked(k: u32) -> Step {
-    Step {
-        seat: 1,
-        command: Command::Rank(k),
-    }
-}
-
 // The triangle with 1 0 0, and two vertices with three edges and 1 1.
 fn on_triangle() -> Result<Start, Fail> {
-    let graph = Graph::new(3, &[(0, 1, 1), (1, 2, 1), (0, 2, 1)])?;
+    let graph = triangle()?;
     Ok(Start::new(graph, Divisor::new(&graph, &[1, 0, 0])?, 0)?)
 }
 
@@ -49,21 +37,21 @@ fn answered(number: u32, reply: Reply) -> Entry {
 fn rank_tests_are_entered(rt: HostRuntime) -> Result<(), Fail> {
     let start = on_triangle()?;
     let graph = *start.graph();
-    let lend = called(Plain::Move(Move::Lend(0)));
-    let history = rehearse(rt.alloc(), &start, &[LOOK, lend, ranked(1)])?;
+    let lend = call(2, Plain::Move(Move::Lend(0)));
+    let history = rehearse(rt.alloc(), &start, &[LOOK, lend, rank(1, 1)])?;
     let below = RankVerdict::Below(1, Divisor::new(&graph, &[0, 0, 1])?);
     assert_eq!(rt; history.len(), 3);
     assert!(rt; history[0].reply == Reply::Looked(0, *start.divisor()));
     assert!(rt; history[1].reply == Reply::Moved(Divisor::new(&graph, &[-1, 1, 1])?));
     assert!(rt; history[2] == answered(0, Reply::Rank(below)));
-    let gift = called(Plain::Gift(1, 1));
-    let history = rehearse(rt.alloc(), &start, &[LOOK, gift, ranked(1)])?;
+    let gift = call(2, Plain::Gift(1, 1));
+    let history = rehearse(rt.alloc(), &start, &[LOOK, gift, rank(1, 1)])?;
     assert_eq!(rt; history.len(), 3);
     assert!(rt; history[2] == answered(0, Reply::Stale(1)));
     let history = rehearse(
         rt.alloc(),
         &on_banana()?,
-        &[called(Plain::Claim), LOOK, ranked(1)],
+        &[call(2, Plain::Claim), LOOK, rank(1, 1)],
     )?;
     assert_eq!(rt; history.len(), 3);
     assert!(rt; history[2] == answered(1, Reply::Rank(RankVerdict::AtLeast(1))));
@@ -74,18 +62,14 @@ fn rank_tests_are_entered(rt: HostRuntime) -> Result<(), Fail> {
 #[test]
 fn rank_tests_are_refused(rt: HostRuntime) -> Result<(), Fail> {
     let start = on_triangle()?;
-    let commit = Step {
-        seat: 1,
-        command: Command::Commit,
-    };
     let refused: [(&[Step], RehearseFault); 7] = [
-        (&[ranked(1)], RehearseFault::NoLook(0)),
-        (&[ranked(631)], RehearseFault::NoLook(0)),
-        (&[LOOK, ranked(631)], RehearseFault::TooMany(1)),
-        (&[LOOK, ranked(1_001)], RehearseFault::TooMany(1)),
-        (&[LOOK, ranked(1), ranked(1)], RehearseFault::NoLook(2)),
-        (&[LOOK, ranked(1), ranked(631)], RehearseFault::NoLook(2)),
-        (&[LOOK, ranked(1), commit], RehearseFault::NoLook(2)),
+        (&[rank(1, 1)], RehearseFault::NoLook(0)),
+        (&[rank(1, 631)], RehearseFault::NoLook(0)),
+        (&[LOOK, rank(1, 631)], RehearseFault::TooMany(1)),
+        (&[LOOK, rank(1, 1_001)], RehearseFault::TooMany(1)),
+        (&[LOOK, rank(1, 1), rank(1, 1)], RehearseFault::NoLook(2)),
+        (&[LOOK, rank(1, 1), rank(1, 631)], RehearseFault::NoLook(2)),
+        (&[LOOK, rank(1, 1), commit(1)], RehearseFault::NoLook(2)),
     ];
     for (steps, fault) in refused {
         let result = rehearse(rt.alloc(), &start, steps);

@@ -1,0 +1,61 @@
+//! What is reckoned on a look, with no game at hand: verdicts and rank tests.
+ghost use Rattle.std.specs.Prelude.{◌≡◌, ℕ, ◌<◌, MatchResult};
+ghost use Rattle.dg_rank.specs.Limits.{IsPastLimits};
+ghost use Rattle.dg_rank.specs.Ranks.{IsWithin};
+ghost use Rattle.dg_rank.specs.declared.verdicts.RankFault.TheVariants.{TooMany};
+ghost use Rattle.dg_game.specs.Look.{IsFoundFor, asked_for};
+ghost use Rattle.dg_game.specs.declared.entry.Request.TheVariants.{Judge as JudgeRequest, Rank as RankRequest};
+
+use crate::entry::Request;
+use crate::look::LookData;
+use dg_graph::Graph;
+use dg_rank::{RankFault, RankVerdict, rank_at_least};
+use dg_verdict::{Verdict, judge};
+
+/// What was reckoned on a look.
+#[derive(Clone, Copy, PartialEq, Eq)]
+pub enum Finding {
+    /// Whether the position is winnable, with what shows it.
+    Judged(Verdict),
+    /// The answer of a rank test.
+    Ranked(RankVerdict),
+}
+
+impl Finding {
+    /// What the entry of the finding asks, where it was reckoned on the look with this number.
+    pub fn request(&self, number: u32) -> Request
+        ensures { result ≡ asked_for number self.now }
+    {
+        match self {
+            Finding::Judged(_) => Request::Judge(number),
+            Finding::Ranked(RankVerdict::AtLeast(k)) => Request::Rank(number, *k),
+            Finding::Ranked(RankVerdict::Below(k, _)) => Request::Rank(number, *k),
+        }
+    }
+}
+
+/// The verdict on the amounts that a look showed, reckoned from the vertex q of the graph. The conditions are that the
+/// look showed an amount for each vertex of the graph, and that q is one of them.
+pub fn judge_look(graph: &Graph, q: usize, look: &LookData) -> Finding
+    requires size { look.now.position.size ≡ graph.now.size }
+    requires vertex { q < graph.now.size }
+    ensures found { IsFoundFor graph.now q look.now result }
+    ensures asks { (i : ℕ) → asked_for i result ≡ JudgeRequest i }
+{
+    Finding::Judged(judge(graph, q, &look.position))
+}
+
+/// The rank test of degree k for the amounts that a look showed. The conditions are those of `judge_look`.
+///
+/// Refused with `TooMany` alone, where k is above 1,000 or there are more than 200,000 trials.
+pub fn rank_look(graph: &Graph, q: usize, look: &LookData, k: u32) -> Result<Finding, RankFault>
+    requires size { look.now.position.size ≡ graph.now.size }
+    requires vertex { q < graph.now.size }
+    ensures { MatchResult result
+        (λ f. IsWithin graph.now.size k × IsFoundFor graph.now q look.now f ×
+        ((i : ℕ) → asked_for i f ≡ RankRequest i k))
+        (λ e. (e ≡ TooMany) × IsPastLimits graph.now.size k) }
+{
+    let verdict = rank_at_least(graph, q, &look.position, k)?;
+    Ok(Finding::Ranked(verdict))
+}
