@@ -4,7 +4,7 @@ ghost use Rattle.std.specs.Int.RustNames.{unsigned_abs};
 ghost use Rattle.dg_chips.specs.Opening.{Opening};
 ghost use Rattle.dg_chips.specs.Vector.{at};
 ghost use Rattle.dg_chips.specs.Moves.{script_of};
-ghost use Rattle.dg_theory.specs.Firing.{Amounts, FiresTo};
+ghost use Rattle.dg_theory.specs.Firing.{FiresTo, AreEquivalent};
 ghost use Rattle.dg_verdict.specs.Right.{IsRight};
 ghost use Rattle.dg_game.specs.MoveReplies.{RepliesToMove};
 ghost use Rattle.dg_game.specs.GiftReplies.{RepliesToGift};
@@ -202,7 +202,7 @@ impl Game {
     /// The verdict on an earlier position, carried over to the position now.
     fn verdict_now(&self, then: &Divisor, drift: &Drift, verdict: &Verdict) -> Verdict
         requires size { then.now.size ≡ self.now.graph.size }
-        requires led { (s : Amounts) × FiresTo self.now.graph s (at then.now) (at self.now.amounts) }
+        requires led { AreEquivalent self.now.graph (at then.now) (at self.now.amounts) }
         requires right { IsRight self.now.graph self.now.q (at then.now) verdict.now }
         ensures right { IsRight self.now.graph self.now.q (at self.now.amounts) result }
         ensures reduced { result.reduced ≡ verdict.now.reduced }
@@ -217,7 +217,7 @@ impl Game {
     /// what the scripts of two verdicts differ by.
     fn drift_from(&self, then: &Divisor, drift: &Drift) -> Drift
         requires size { then.now.size ≡ self.now.graph.size }
-        requires led { (s : Amounts) × FiresTo self.now.graph s (at then.now) (at self.now.amounts) }
+        requires led { AreEquivalent self.now.graph (at then.now) (at self.now.amounts) }
         ensures size { result.size ≡ self.now.graph.size }
         ensures led { FiresTo self.now.graph (at result) (at then.now) (at self.now.amounts) }
     {

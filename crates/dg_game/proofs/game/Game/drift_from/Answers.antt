@@ -1,5 +1,5 @@
 use Rattle.std.proofs.Common.{◌<◌, sym, subst}
-use Rattle.dg_theory.specs.Firing.{Amounts, FiresTo}
+use Rattle.dg_theory.specs.Firing.{FiresTo, AreEquivalent}
 use Rattle.dg_chips.specs.Vector.{at}
 use Rattle.dg_game.specs.State.{State}
 use Rattle.dg_verdict.proofs.Between.{between_leads}
@@ -7,8 +7,8 @@ use Rattle.dg_game.proofs.game.Game.drift_from.Goals as goal
 
 pub returns-2-clause-led : goal.returns-2-clause-led
 returns-2-clause-led c =
-    let led : (s : Amounts) × FiresTo c.self.inside.graph s (at c.args.then.now) (at c.self.inside.amounts) =
-    subst (λ (t : State). (s : Amounts) × FiresTo t.graph s (at c.args.then.now) (at t.amounts)) (sym c.self.view_is) c.requires.led in
+    let led : AreEquivalent c.self.inside.graph (at c.args.then.now) (at c.self.inside.amounts) =
+    subst (λ (t : State). AreEquivalent t.graph (at c.args.then.now) (at t.amounts)) (sym c.self.view_is) c.requires.led in
     let below : c.q-q.result < c.self.inside.graph.size =
     subst (λ (t : State). c.q-q.result < t.graph.size) (sym c.self.view_is) c.q-q.ensures.vertex in
     subst (λ (t : State). FiresTo t.graph (at c.between.result) (at c.args.then.now) (at t.amounts)) c.self.view_is
