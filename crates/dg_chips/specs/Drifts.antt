@@ -3,6 +3,7 @@
 use Rattle.std.specs.Prelude.{ℕ, ◌<◌, ◌-ℤ◌}
 use Rattle.std.specs.Int.RustNames.{unsigned_abs}
 use Rattle.dg_theory.specs.Firing.{Amounts}
+use Rattle.dg_chips.specs.declared.limits.TheConstants.{MAX_DRIFT}
 
 abbrev pub IsPastDrift : ℕ → Amounts → Amounts → Type 0
-IsPastDrift n s t = (v : ℕ) × (v < n) × (100000000000000 < unsigned_abs (s v -ℤ t v))
+IsPastDrift n s t = (v : ℕ) × (v < n) × (MAX_DRIFT < unsigned_abs (s v -ℤ t v))

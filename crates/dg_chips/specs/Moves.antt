@@ -3,7 +3,7 @@
 --   NamesNoVertex n m   == the move names a number that is none of the n vertices
 --   IsEmptySet m        == the move fires the empty set
 --   HasOtherSize n m    == the move is a script for another number of vertices
---   IsPlayable n m      == none of these
+--   IsPlayable n m      == the move names vertices alone, fires no empty set, and is no script of another size
 -- To fire the empty set would change nothing; on a table it is refused, since it is no move.
 use Rattle.std.specs.Prelude.{◌≡◌, ◌≢◌, ℕ, ◌<◌, ◌≤◌, true, pos, negsuc}
 use Rattle.dg_theory.specs.Firing.{Amounts, only_at, indicator}

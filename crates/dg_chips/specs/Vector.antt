@@ -1,16 +1,19 @@
 -- A whole number for each vertex, as divisors and scripts hold it.
---   at x v               == the number at v
+--   Vector               == a size, and a list of whole numbers
+--   at x v               == the number at v, and 0 past the list
 --   IsVector limit x     == at most 16 numbers, each within the limit, and 0 past the size
---   IsDivisor, IsScript  == the same with the limit of a divisor and of a script
---   IsDrift              == the same with the limit of a drift, which is a sum of scripts
---   IsWide x             == at most 16 numbers, and 0 past the size
+--   IsDivisor x          == at most 16 numbers within the limit of an amount, and 0 past the size
+--   IsScript x           == at most 16 numbers within the limit of an entry of a script, and 0 past the size
+--   IsDrift x            == at most 16 numbers within the limit of a sum of scripts, and 0 past the size
+--   IsWide x             == at most 16 numbers of any size, and 0 past the size
 --   HoldsNumbers xs x    == the vector holds just the numbers of the list xs
 --   IsInRange n D        == all n amounts are within the limit of a divisor
---   IsOutOfRange n D     == some of the n amounts is past it
+--   IsOutOfRange n D     == some of the n amounts is past the limit of a divisor
 use Rattle.std.specs.Prelude.{◌≡◌, ℕ, ◌<◌, ◌≤◌, ℤ, pos, List, length}
 use Rattle.std.specs.List.{slice_index_or}
 use Rattle.std.specs.Int.RustNames.{unsigned_abs}
 use Rattle.dg_theory.specs.Firing.{Amounts}
+use Rattle.dg_chips.specs.declared.limits.TheConstants.{MAX_AMOUNT, MAX_ENTRY, MAX_DRIFT}
 
 pub record Vector : Type 0 where
   pub size : ℕ
@@ -25,13 +28,13 @@ pub record IsVector (limit : ℕ) (x : Vector) : Type 0 where
   pub inside : (v : ℕ) → x.size ≤ v → at x v ≡ pos 0
 
 abbrev pub IsDivisor : Vector → Type 0
-IsDivisor x = IsVector 1000000 x
+IsDivisor x = IsVector MAX_AMOUNT x
 
 abbrev pub IsScript : Vector → Type 0
-IsScript x = IsVector 1000000000 x
+IsScript x = IsVector MAX_ENTRY x
 
 abbrev pub IsDrift : Vector → Type 0
-IsDrift x = IsVector 100000000000000 x
+IsDrift x = IsVector MAX_DRIFT x
 
 pub record IsWide (x : Vector) : Type 0 where
   pub few : x.size ≤ 16
@@ -42,7 +45,7 @@ pub record HoldsNumbers (xs : List ℤ) (x : Vector) : Type 0 where
   pub numbers : (v : ℕ) → v < length xs → at x v ≡ slice_index_or xs v (pos 0)
 
 abbrev pub IsInRange : ℕ → Amounts → Type 0
-IsInRange n D = (v : ℕ) → v < n → unsigned_abs (D v) ≤ 1000000
+IsInRange n D = (v : ℕ) → v < n → unsigned_abs (D v) ≤ MAX_AMOUNT
 
 abbrev pub IsOutOfRange : ℕ → Amounts → Type 0
-IsOutOfRange n D = (v : ℕ) × (v < n) × (1000000 < unsigned_abs (D v))
+IsOutOfRange n D = (v : ℕ) × (v < n) × (MAX_AMOUNT < unsigned_abs (D v))

@@ -1,3 +1,5 @@
+//! Divisors: amounts of dollars within the limit, one for each vertex.
+
 ghost use Rattle.std.specs.Prelude.{◌≡◌, ℕ, ◌<◌, ◌≤◌, ◌↔◌, IsTrue, MatchResult, MatchOption, length, pos, ◌+ℤ◌, ◌-ℤ◌};
 ghost use Rattle.std.specs.List.{slice_index_or};
 ghost use Rattle.std.specs.Int.RustNames.{unsigned_abs};
@@ -6,13 +8,11 @@ ghost use Rattle.dg_theory.specs.Firing.{degree, IsEffective, only_at};
 ghost use Rattle.dg_chips.specs.Vector.{at, HoldsNumbers, IsDivisor, IsInRange};
 ghost use Rattle.dg_chips.specs.DivisorFaults.{IsFirstChipFault, IsFirstMinusFault};
 
-use crate::numbers::{first_past, padded};
+use crate::limits::MAX_AMOUNT;
+use crate::vector::{first_past, padded};
 use dg_graph::Graph;
 use std::marker::Model;
 use thiserror::Error;
-
-/// The largest amount, and the largest debt, that a divisor may hold.
-pub const MAX_AMOUNT: u64 = 1_000_000;
 
 /// Why amounts are refused as a divisor. Vertices are numbered from 0.
 #[derive(Clone, Copy, Debug, PartialEq, Eq, Error)]
@@ -69,7 +69,8 @@ impl Divisor {
     /// within 1,000,000.
     pub fn sized(amounts: &[i64]) -> Divisor
         requires few { length amounts.now ≤ 16 }
-        requires range { (v : ℕ) → v < length amounts.now → unsigned_abs (slice_index_or amounts.now v (pos 0)) ≤ 1000000 }
+        requires range { (v : ℕ) → v < length amounts.now →
+            unsigned_abs (slice_index_or amounts.now v (pos 0)) ≤ MAX_AMOUNT }
         ensures { HoldsNumbers amounts.now result }
     {
         Divisor {
@@ -151,7 +152,7 @@ impl Divisor {
     pub fn get(&self, v: usize) -> i64
         requires { v < self.now.size }
         ensures amount { result ≡ at self.now v }
-        ensures limit { unsigned_abs result ≤ 1000000 }
+        ensures limit { unsigned_abs result ≤ MAX_AMOUNT }
     {
         let _size = self.size;
         let amounts = &self.amounts;
@@ -162,9 +163,9 @@ impl Divisor {
     /// would not hold an amount within 1,000,000.
     pub fn with_more(&self, v: usize, dollars: i64) -> Option<Divisor>
         requires vertex { v < self.now.size }
-        requires dollars { unsigned_abs dollars ≤ 1000000 }
+        requires dollars { unsigned_abs dollars ≤ MAX_AMOUNT }
         ensures { MatchOption result
-            (1000000 < unsigned_abs (at self.now v +ℤ dollars))
+            (MAX_AMOUNT < unsigned_abs (at self.now v +ℤ dollars))
             (λ d. (d.size ≡ self.now.size)
             × ((w : ℕ) → w < self.now.size → at d w ≡ at self.now w +ℤ only_at v dollars w)) }
     {

@@ -1,3 +1,5 @@
+//! Drifts: sums of the scripts of moves.
+
 ghost use Rattle.std.specs.Prelude.{◌≡◌, ℕ, ◌<◌, ◌≤◌, ◌+ℤ◌, ◌-ℤ◌, pos, MatchOption, MatchBool};
 ghost use Rattle.std.specs.Int.RustNames.{unsigned_abs};
 ghost use Rattle.dg_chips.specs.Vector.{at, IsDrift};
@@ -7,14 +9,11 @@ ghost use Rattle.dg_chips.specs.Drifts.{IsPastDrift};
 
 use crate::divisor::Divisor;
 use crate::firing::gained;
-use crate::moves::Move;
+use crate::limits::MAX_DRIFT;
+use crate::moves::{Move, script_of};
 use crate::script::Script;
-use crate::scripts::script_of;
 use dg_graph::Graph;
 use std::marker::Model;
-
-/// The most lendings, and the most borrowings, that a drift may hold for a vertex.
-pub const MAX_DRIFT: u64 = 100_000_000_000_000;
 
 /// How often each vertex has lent by some moves together, from -100,000,000,000,000 to 100,000,000,000,000; a negative
 /// number is so many borrowings.
@@ -83,7 +82,8 @@ impl Drift {
     pub fn plus(&self, graph: &Graph, play: &Move) -> Drift
         requires size { self.now.size ≡ graph.now.size }
         requires playable { IsPlayable graph.now.size play.now }
-        requires limit { (v : ℕ) → v < graph.now.size → unsigned_abs (at self.now v +ℤ script_of play.now v) ≤ 100000000000000 }
+        requires limit { (v : ℕ) → v < graph.now.size →
+            unsigned_abs (at self.now v +ℤ script_of play.now v) ≤ MAX_DRIFT }
         ensures size { result.size ≡ graph.now.size }
         ensures entries { (v : ℕ) → v < graph.now.size → at result v ≡ at self.now v +ℤ script_of play.now v }
     {
@@ -146,7 +146,7 @@ impl Drift {
     pub fn get(&self, v: usize) -> i64
         requires { v < self.now.size }
         ensures entry { result ≡ at self.now v }
-        ensures limit { unsigned_abs result ≤ 100000000000000 }
+        ensures limit { unsigned_abs result ≤ MAX_DRIFT }
     {
         let _size = self.size;
         let entries = &self.entries;

@@ -1,3 +1,5 @@
+//! What a move and a drift do to amounts.
+
 ghost use Rattle.std.specs.Prelude.{◌≡◌, ℕ, ◌<◌, ◌≤◌, ◌*◌, pos, ◌-ℤ◌, ◌*ℤ◌, MatchResult, length};
 ghost use Rattle.std.specs.List.{slice_index_or};
 ghost use Rattle.std.specs.Int.RustNames.{unsigned_abs};
@@ -8,8 +10,8 @@ ghost use Rattle.dg_chips.specs.Refused.{IsRefusal};
 
 use crate::divisor::Divisor;
 use crate::drift::Drift;
-use crate::moves::{Move, MoveFault};
-use crate::scripts::script_of;
+use crate::limits::MAX_DRIFT;
+use crate::moves::{Move, MoveFault, script_of};
 use dg_graph::Graph;
 
 /// The divisor after a move; the one that is handed in stays as it is.
@@ -63,8 +65,8 @@ pub(crate) fn gained(graph: &Graph, drift: &Drift, v: usize) -> i64
 
 /// What comes along some edges, where the vertex there and the vertex here lend so often.
 fn flow(edges: u8, there: i64, here: i64) -> i64
-    requires there { unsigned_abs there ≤ 100000000000000 }
-    requires here { unsigned_abs here ≤ 100000000000000 }
+    requires there { unsigned_abs there ≤ MAX_DRIFT }
+    requires here { unsigned_abs here ≤ MAX_DRIFT }
     ensures { result ≡ pos edges *ℤ (there -ℤ here) }
 {
     i64::from(edges) * (there - here)

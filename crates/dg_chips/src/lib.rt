@@ -4,22 +4,22 @@
 mod divisor;
 mod drift;
 mod firing;
+mod limits;
 mod moves;
-mod numbers;
 mod script;
-mod scripts;
 mod set_firing;
 mod start;
-#[cfg(test)]
-mod tests;
+mod vector;
 mod wide;
-#[cfg(test)]
-mod wide_tests;
 
 pub use divisor::{ChipFault, Divisor};
 pub use drift::Drift;
 pub use firing::apply;
+pub use limits::{MAX_AMOUNT, MAX_DRIFT, MAX_ENTRY};
 pub use moves::{Move, MoveFault};
 pub use script::{Script, ScriptFault};
 pub use start::{Start, StartFault};
 pub use wide::Wide;
+
+#[cfg(test)]
+mod tests;

@@ -1,3 +1,5 @@
+//! Scripts: how often each vertex lends.
+
 ghost use Rattle.std.specs.Prelude.{◌≡◌, ℕ, ◌<◌, ◌≤◌, pos, length, ◌+ℤ◌, ◌-ℤ◌, MatchResult, MatchBool};
 ghost use Rattle.std.specs.List.{slice_index_or};
 ghost use Rattle.std.specs.Int.RustNames.{unsigned_abs};
@@ -9,14 +11,12 @@ ghost use Rattle.dg_chips.specs.ScriptFaults.{IsFirstScriptFault};
 use crate::divisor::Divisor;
 use crate::drift::Drift;
 use crate::firing::gained;
-use crate::numbers::{first_past, padded};
+use crate::limits::MAX_ENTRY;
+use crate::vector::{first_past, padded};
 use crate::wide::Wide;
 use dg_graph::{Graph, contains};
 use std::marker::Model;
 use thiserror::Error;
-
-/// The most lendings, and the most borrowings, that a script may ask of a vertex.
-pub const MAX_ENTRY: u64 = 1_000_000_000;
 
 /// Why numbers are refused as a script. Vertices are numbered from 0.
 #[derive(Clone, Copy, Debug, PartialEq, Eq, Error)]
@@ -73,7 +73,8 @@ impl Script {
     /// within 1,000,000,000.
     pub fn sized(entries: &[i64]) -> Script
         requires few { length entries.now ≤ 16 }
-        requires limit { (v : ℕ) → v < length entries.now → unsigned_abs (slice_index_or entries.now v (pos 0)) ≤ 1000000000 }
+        requires limit { (v : ℕ) → v < length entries.now →
+            unsigned_abs (slice_index_or entries.now v (pos 0)) ≤ MAX_ENTRY }
         ensures { HoldsNumbers entries.now result }
     {
         Script {
@@ -114,7 +115,7 @@ impl Script {
     pub fn relative(lendings: &Wide, q: usize) -> Script
         requires vertex { q < lendings.now.size }
         requires limit { (v : ℕ) → v < lendings.now.size →
-            unsigned_abs (at lendings.now v -ℤ at lendings.now q) ≤ 1000000000 }
+            unsigned_abs (at lendings.now v -ℤ at lendings.now q) ≤ MAX_ENTRY }
         ensures size { result.size ≡ lendings.now.size }
         ensures entries { (v : ℕ) → v < lendings.now.size → at result v ≡ at lendings.now v -ℤ at lendings.now q }
     {
@@ -129,7 +130,8 @@ impl Script {
     /// The script by which each vertex lends as often as by this one and another together.
     pub fn plus(&self, other: &Script) -> Script
         requires size { other.now.size ≡ self.now.size }
-        requires limit { (v : ℕ) → v < self.now.size → unsigned_abs (at self.now v +ℤ at other.now v) ≤ 1000000000 }
+        requires limit { (v : ℕ) → v < self.now.size →
+            unsigned_abs (at self.now v +ℤ at other.now v) ≤ MAX_ENTRY }
         ensures size { result.size ≡ self.now.size }
         ensures entries { (v : ℕ) → v < self.now.size → at result v ≡ at self.now v +ℤ at other.now v }
     {
@@ -147,7 +149,7 @@ impl Script {
         requires size { drift.now.size ≡ self.now.size }
         requires vertex { q < self.now.size }
         requires limit { (v : ℕ) → v < self.now.size →
-            unsigned_abs (at self.now v -ℤ at drift.now v +ℤ at drift.now q) ≤ 1000000000 }
+            unsigned_abs (at self.now v -ℤ at drift.now v +ℤ at drift.now q) ≤ MAX_ENTRY }
         ensures size { result.size ≡ self.now.size }
         ensures entries { (v : ℕ) → v < self.now.size →
             at result v ≡ at self.now v -ℤ at drift.now v +ℤ at drift.now q }
@@ -191,7 +193,7 @@ impl Script {
     pub fn get(&self, v: usize) -> i64
         requires { v < self.now.size }
         ensures entry { result ≡ at self.now v }
-        ensures limit { unsigned_abs result ≤ 1000000000 }
+        ensures limit { unsigned_abs result ≤ MAX_ENTRY }
     {
         let _size = self.size;
         let entries = &self.entries;

@@ -1,3 +1,5 @@
+//! The start of a game: a graph, a divisor and the vertex q.
+
 ghost use Rattle.std.specs.Prelude.{◌≡◌, ◌≢◌, ℕ, ◌<◌, ◌≤◌, MatchResult};
 ghost use Rattle.dg_chips.specs.Opening.{IsOpening};
 ghost use Rattle.dg_chips.specs.StartFaults.{IsStartFault};

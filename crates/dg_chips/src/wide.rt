@@ -1,3 +1,5 @@
+//! Wide amounts: dollars for each vertex, of any size that 128 bits hold.
+
 ghost use Rattle.std.specs.Prelude.{◌≡◌, ◌≢◌, ℕ, ◌<◌, ◌≤◌, ◌^◌, ◌+ℤ◌, ◌-ℤ◌, pos, MatchResult};
 ghost use Rattle.std.specs.Int.RustNames.{unsigned_abs};
 ghost use Rattle.dg_theory.specs.Firing.{fired, indicator, multiple};
@@ -8,9 +10,9 @@ ghost use Rattle.dg_chips.specs.DivisorFaults.{IsWideFault};
 use crate::divisor::{ChipFault, Divisor};
 use crate::drift::Drift;
 use crate::firing::gained;
-use crate::numbers::padded;
 use crate::script::Script;
 use crate::set_firing::{gained_by_set, lendings};
+use crate::vector::padded;
 use dg_graph::Graph;
 use std::marker::Model;
 

@@ -2,7 +2,7 @@ use Rattle.std.proofs.Common.{◌≤◌, arith, below_more}
 use Rattle.std.specs.Int.RustNames.{unsigned_abs}
 use Rattle.std.proofs.Math.IntN.{◌+ℤ◌}
 use Rattle.dg_chips.proofs.DriftLaws.{held_sum}
-use Rattle.dg_chips.proofs.tests.with_move.Goals as goal
+use Rattle.dg_chips.proofs.tests.drifts.with_move.Goals as goal
 
 pub loop-v-preserved : goal.loop-v-preserved
 loop-v-preserved c =

@@ -2,7 +2,7 @@ use Rattle.std.proofs.Common.{ℕ, ◌<◌, ◌≤◌}
 use Rattle.std.specs.List.{slice_index_or}
 use Rattle.std.specs.Int.RustNames.{unsigned_abs}
 use Rattle.std.proofs.Math.IntN.{pos}
-use Rattle.dg_chips.proofs.numbers.first_past.Given as goal
+use Rattle.dg_chips.proofs.vector.first_past.Given as goal
 
 abbrev pub invariant-loop-v : goal.invariant-loop-v
 invariant-loop-v l = (u : ℕ) → u < l.v → unsigned_abs (slice_index_or l.numbers u (pos 0)) ≤ l.limit
