@@ -4,7 +4,6 @@
 --   burning_down-more         it holds after one more such set
 --   burning_down-falls        and the weight falls
 --   burning_down-chips, burning_down-script   amounts and script are within the limits of a firing
---   burning_down-times        and so is how often a set fires
 --   unburnt_member            if burning leaves a set that is not empty, some vertex is in it
 use Rattle.std.proofs.Common.{◌≡◌, ◌≢◌, ℕ, ◌+◌, ◌*◌, ◌^◌, ◌<◌, ◌≤◌, Bool, true, false, List, arith, sym, ◌∙◌, refl, ⊎_elim}
 use Rattle.std.proofs.lemmas.Int.{ints}
@@ -28,19 +27,18 @@ use Rattle.dg_theory.proofs.Range.{IsLed, clear_all, led_start, led_step, led-co
 use Rattle.dg_graph.specs.Graph.{IsGraph}
 use Rattle.dg_chips.specs.Vector.{at}
 use Rattle.dg_graph.specs.Sets.{in_set}
-use Rattle.dg_reduce.specs.declared.led.Led.{Led}
+use Rattle.dg_reduce.specs.declared.walk.Walk.{Walk}
 use Rattle.dg_reduce.specs.States.{IsTied, IsFired, limit_at, IsCleared}
 use Rattle.dg_reduce.specs.Firings.{IsMost}
-use Rattle.dg_reduce.proofs.Limits.{limit_at-small}
-use Rattle.dg_reduce.proofs.Most.{most_within}
+use Rattle.dg_reduce.proofs.LevelLimits.{limit_at-small}
 
-pub record IsBurningDown (g : Multigraph) (q : ℕ) (x y : Led) : Type 0 where
+pub record IsBurningDown (g : Multigraph) (q : ℕ) (x y : Walk) : Type 0 where
   pub tied : IsTied g y
   pub begun : y.start ≡ x.start
   pub led : IsLed g q (at x.chips) (at y.chips)
   pub kept : at y.script q ≡ at x.script q
 
-pub burning_down-start : (g : Multigraph) (q : ℕ) (level : ℕ → ℕ) (x : Led) → IsDistance g q level → IsCleared g level 1 x →
+pub burning_down-start : (g : Multigraph) (q : ℕ) (level : ℕ → ℕ) (x : Walk) → IsDistance g q level → IsCleared g level 1 x →
     IsBurningDown g q x x
 burning_down-start g q level x distance cleared = record {
   tied = cleared.tied;
@@ -49,7 +47,7 @@ burning_down-start g q level x distance cleared = record {
   kept = refl;
 }
 
-pub burning_down-more : (g : Multigraph) (q : ℕ) (S : ℕ → Bool) (m : ℤ) (x y z : Led) → IsGraph g → q < g.size →
+pub burning_down-more : (g : Multigraph) (q : ℕ) (S : ℕ → Bool) (m : ℤ) (x y z : Walk) → IsGraph g → q < g.size →
     IsBurningDown g q x y → S q ≡ false → IsMost g q (at y.chips) S m → IsFired g S m y z → IsBurningDown g q x z
 burning_down-more g q S m x y z graph vertex state without most fires = record {
   tied = fires.tied;
@@ -64,7 +62,7 @@ burning_down-more g q S m x y z graph vertex state without most fires = record {
       omega (arith, ints);
 }
 
-pub burning_down-falls : (g : Multigraph) (q : ℕ) (level : ℕ → ℕ) (S : ℕ → Bool) (m : ℤ) (x y z : Led) (v : ℕ) → IsGraph g →
+pub burning_down-falls : (g : Multigraph) (q : ℕ) (level : ℕ → ℕ) (S : ℕ → Bool) (m : ℤ) (x y z : Walk) (v : ℕ) → IsGraph g →
     IsDistance g q level → IsBurningDown g q x y → S q ≡ false → IsMost g q (at y.chips) S m → v < g.size → S v ≡ true →
     IsFired g S m y z → weight_of g (weights level) (at z.chips) < weight_of g (weights level) (at y.chips)
 burning_down-falls g q level S m x y z v graph distance state without most inside member fires =
@@ -77,23 +75,17 @@ burning_down-falls g q level S m x y z v graph distance state without most insid
     weight_of-cong g (weights level) (at z.chips) (fired g (at y.chips) (multiple m (indicator S))) fires.chips in
     omega arith
 
-chips_limit : (g : Multigraph) (q : ℕ) (level : ℕ → ℕ) (x y : Led) → IsGraph g → q < g.size → IsCleared g level 1 x →
+chips_limit : (g : Multigraph) (q : ℕ) (level : ℕ → ℕ) (x y : Walk) → IsGraph g → q < g.size → IsCleared g level 1 x →
     IsBurningDown g q x y → (v : ℕ) → v < g.size → unsigned_abs (at y.chips v) ≤ 17 * limit_at 0
 chips_limit g q level x y graph vertex cleared state v inside =
     led_limit g q (at x.chips) (at y.chips) (limit_at 0) v vertex graph.few cleared.chips state.led inside
 
-pub burning_down-chips : (g : Multigraph) (q : ℕ) (level : ℕ → ℕ) (x y : Led) → IsGraph g → q < g.size → IsCleared g level 1 x →
+pub burning_down-chips : (g : Multigraph) (q : ℕ) (level : ℕ → ℕ) (x y : Walk) → IsGraph g → q < g.size → IsCleared g level 1 x →
     IsBurningDown g q x y → (v : ℕ) → v < g.size → unsigned_abs (at y.chips v) ≤ 2 ^ 120
 burning_down-chips g q level x y graph vertex cleared state v inside =
     let most : unsigned_abs (at y.chips v) ≤ 17 * limit_at 0 = chips_limit g q level x y graph vertex cleared state v inside in
     let small : limit_at 0 < 2 ^ 111 = limit_at-small 0 in
     omega arith
-
-pub burning_down-times : (g : Multigraph) (q : ℕ) (level : ℕ → ℕ) (S : ℕ → Bool) (m : ℤ) (x y : Led) → IsGraph g →
-    q < g.size → IsCleared g level 1 x → IsBurningDown g q x y → S q ≡ false → IsMost g q (at y.chips) S m →
-    unsigned_abs m ≤ 2 ^ 120
-burning_down-times g q level S m x y graph vertex cleared state without most =
-    most_within g q (at y.chips) S m (2 ^ 120) without most (burning_down-chips g q level x y graph vertex cleared state)
 
 near_both : (a b : ℤ) (m n : ℕ) → unsigned_abs (a -ℤ b) ≤ m → unsigned_abs b ≤ n → unsigned_abs a ≤ m + n
 near_both a b m n apart near =
@@ -101,7 +93,7 @@ near_both a b m n apart near =
     let (low', high') = within_abs b n near in
     abs_within a (m + n) (omega (arith, ints)) (omega (arith, ints))
 
-pub burning_down-script : (g : Multigraph) (q : ℕ) (level : ℕ → ℕ) (x y : Led) → IsGraph g → q < g.size → IsCleared g level 1 x →
+pub burning_down-script : (g : Multigraph) (q : ℕ) (level : ℕ → ℕ) (x y : Walk) → IsGraph g → q < g.size → IsCleared g level 1 x →
     IsBurningDown g q x y → ((v : ℕ) → v < g.size → unsigned_abs (at x.start v) ≤ 2000000) →
     (v : ℕ) → v < g.size → unsigned_abs (at y.script v) ≤ 2 ^ 126
 burning_down-script g q level x y graph vertex cleared state range v inside =
@@ -117,10 +109,10 @@ burning_down-script g q level x y graph vertex cleared state range v inside =
     omega arith
 
 pub unburnt_member : (g : Multigraph) (q : ℕ) (D : Amounts) (l : List ℕ) (m : ℕ) → HasNoDebtOff g q D → BurnsInOrder g q D l →
-    IsGreatestFree g q D (in_set m) → ((m ≡ 0) ↔ IsReduced g q D) → m ≢ 0 → (v : ℕ) × (v < g.size) × (in_set m v ≡ true)
+    IsGreatestFree g q D (in_set m) → ((m ≡ 0) ↔ IsReduced g q D) → m ≢ 0 → (v : ℕ) × (in_set m v ≡ true)
 unburnt_member g q D l m solvent order rest reduced some = ⊎_elim
     (λ (found : (v : ℕ) × (v < g.size) × (unburnt_by g l v ≡ true)).
-    (found.0, found.1, rest.greatest (unburnt_by g l) (rest_fires g q D l solvent order) found.0 found.2))
+    (found.0, rest.greatest (unburnt_by g l) (rest_fires g q D l solvent order) found.0 found.2))
     (λ (none : (v : ℕ) → v < g.size → unburnt_by g l v ≡ false).
     absurd (some (reduced.1 (burnt_reduced g q D l solvent order
     (λ v below. not-false _ (sym (unburnt_by-below g l v below) ∙ none v below))))))

@@ -9,10 +9,10 @@ use Rattle.dg_theory.proofs.Range.{clear_all}
 use Rattle.dg_theory.proofs.Reach.{distance_from, distance_from-is}
 use Rattle.dg_graph.specs.Graph.{IsGraph}
 use Rattle.dg_chips.specs.Vector.{at}
-use Rattle.dg_reduce.specs.declared.led.Led.{Led}
+use Rattle.dg_reduce.specs.declared.walk.Walk.{Walk}
 use Rattle.dg_reduce.specs.States.{IsCleared, IsClearedOff}
 
-pub levels_cleared : (g : Multigraph) (q : ℕ) (level : ℕ → ℕ) (x : Led) → IsDistance g q level → IsCleared g level 1 x →
+pub levels_cleared : (g : Multigraph) (q : ℕ) (level : ℕ → ℕ) (x : Walk) → IsDistance g q level → IsCleared g level 1 x →
     IsClearedOff g q x
 levels_cleared g q level x distance cleared = record {
   tied = cleared.tied;
@@ -21,7 +21,7 @@ levels_cleared g q level x distance cleared = record {
   script = cleared.script;
 }
 
-pub cleared_levels : (g : Multigraph) (q : ℕ) (x : Led) → IsGraph g → q < g.size → IsClearedOff g q x →
+pub cleared_levels : (g : Multigraph) (q : ℕ) (x : Walk) → IsGraph g → q < g.size → IsClearedOff g q x →
     IsCleared g (distance_from g q) 1 x
 cleared_levels g q x graph vertex cleared = record {
   tied = cleared.tied;

@@ -4,17 +4,16 @@
 --   repaying-more        after one more set has lent as often as it can, such sets led there
 --   repaying-falls       the weight falls where one more set lends
 --   repaying-limit       amounts stay within the limit of a firing
---   repaying-times       how often a set can lend stays within the limit of a firing
 --   repaying-done        once v is out of debt, nobody is in debt
 --   repaying-lost        if the amounts are reduced for v while v is in debt, they can't be won
-use Rattle.std.proofs.Common.{◌≡◌, ℕ, ◌*◌, ◌^◌, ◌<◌, ◌≤◌, Bool, true, false, arith, refl, sym, ap, ◌∙◌, ⊎_elim}
+use Rattle.std.proofs.Common.{◌≡◌, ℕ, ◌*◌, ◌^◌, ◌<◌, ◌≤◌, Bool, true, false, arith, refl, sym, ap, ⊎_elim}
 use Rattle.std.proofs.lemmas.Int.{ints}
 use Rattle.std.proofs.lemmas.Bool.{cases_eq}
-use Rattle.std.proofs.Math.IntN.{ℤ, pos, ◌+ℤ◌}
+use Rattle.std.proofs.Math.IntN.{ℤ, pos}
 use Rattle.std.specs.Prelude.{◌≤ℤ◌, ◌<ℤ◌}
 use Rattle.std.specs.Int.RustNames.{unsigned_abs}
 use Rattle.dg_theory.specs.Multigraph.{Multigraph}
-use Rattle.dg_theory.specs.Firing.{Amounts, gain, fired, indicator, multiple, HasNoDebtOff, FiresTo, AreEquivalent}
+use Rattle.dg_theory.specs.Firing.{fired, indicator, multiple, HasNoDebtOff, FiresTo, AreEquivalent}
 use Rattle.dg_theory.specs.Play.{IsWinnable}
 use Rattle.dg_theory.specs.Reduced.{IsReduced}
 use Rattle.dg_theory.proofs.Equivalence.{equivalent-refl, equivalent-trans}
@@ -27,7 +26,6 @@ use Rattle.dg_graph.specs.Graph.{IsGraph}
 use Rattle.dg_chips.specs.Vector.{Vector, at}
 use Rattle.dg_reduce.specs.Firings.{IsMost}
 use Rattle.dg_reduce.specs.Effective.{IsEffectiveForm}
-use Rattle.dg_reduce.proofs.Most.{most_within}
 
 pub record IsRepaying (g : Multigraph) (v : ℕ) (x y : Vector) : Type 0 where
   pub size : y.size ≡ g.size
@@ -72,11 +70,6 @@ repaying-limit g v x y graph vertex state range w inside =
     let most : unsigned_abs (at y w) ≤ 17 * 2 ^ 110 =
     led_limit g v (at x) (at y) (2 ^ 110) w vertex graph.few range state.led inside in
     omega arith
-
-pub repaying-times : (g : Multigraph) (v : ℕ) (S : ℕ → Bool) (m : ℤ) (x y : Vector) → IsGraph g → v < g.size → IsRepaying g v x y →
-    ((w : ℕ) → w < g.size → unsigned_abs (at x w) ≤ 2 ^ 110) → S v ≡ false → IsMost g v (at y) S m → unsigned_abs m ≤ 2 ^ 120
-repaying-times g v S m x y graph vertex state range without most =
-    most_within g v (at y) S m (2 ^ 120) without most (repaying-limit g v x y graph vertex state range)
 
 pub repaying-done : (g : Multigraph) (v : ℕ) (x y : Vector) → IsRepaying g v x y → pos 0 ≤ℤ at y v → IsEffectiveForm g (at x) y
 repaying-done g v x y state paid = record {

@@ -110,15 +110,18 @@ forms-paid g D v x paid form = form-cong g (partly D v) (partly D (v + 1)) x (λ
 
 pub forms-owing : (g : Multigraph) (D : Amounts) (v : ℕ) (x y : Vector) → IsEffectiveForm g (partly D v) x → v < g.size →
     D v <ℤ pos 0 → at y v ≡ at x v +ℤ D v → ((w : ℕ) → w ≢ v → at y w ≡ at x w) → AreEquivalent g (partly D (v + 1)) (at y)
-forms-owing g D v x y form vertex debt at_v others = let (script, fires) = form.led in (script, λ w inside. ⊎_elim
-    (λ (same : w ≡ v). rw same
-    (let here : at x v ≡ partly D v v +ℤ gain g script v = fires v vertex in
-    let none : partly D v v ≡ pos 0 = partly-after D v v (omega arith) ∙ without_debt-owing (D v) debt in
-    let owed : partly D (v + 1) v ≡ D v = partly-before D (v + 1) v (omega arith) in
-    omega (arith, ints, at_v)))
-    (λ (other : w ≡ v → ⊥).
-    others w other ∙ fires w inside ∙ ap (λ (a : ℤ). a +ℤ gain g script w) (partly-same D v w other))
-    (cases_eq w v))
+forms-owing g D v x y form vertex debt at_v others = let (script, fires) = form.led in (
+  script,
+  λ w inside. ⊎_elim
+      (λ (same : w ≡ v). rw same
+      (let here : at x v ≡ partly D v v +ℤ gain g script v = fires v vertex in
+      let none : partly D v v ≡ pos 0 = partly-after D v v (omega arith) ∙ without_debt-owing (D v) debt in
+      let owed : partly D (v + 1) v ≡ D v = partly-before D (v + 1) v (omega arith) in
+      omega (arith, ints, at_v)))
+      (λ (other : w ≡ v → ⊥).
+      others w other ∙ fires w inside ∙ ap (λ (a : ℤ). a +ℤ gain g script w) (partly-same D v w other))
+      (cases_eq w v),
+)
 
 pub forms-repaid : (g : Multigraph) (D : Amounts) (v : ℕ) (y z : Vector) → AreEquivalent g (partly D (v + 1)) (at y) →
     IsEffectiveForm g (at y) z → IsEffectiveForm g (partly D (v + 1)) z

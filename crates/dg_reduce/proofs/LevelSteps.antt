@@ -24,18 +24,18 @@ use Rattle.dg_theory.proofs.Debts.{nearer, fired_nearer}
 use Rattle.dg_theory.proofs.Range.{level_limit, level_paid, clear_step, clear_stays}
 use Rattle.dg_graph.specs.Graph.{IsGraph}
 use Rattle.dg_chips.specs.Vector.{at}
-use Rattle.dg_reduce.specs.declared.led.Led.{Led}
+use Rattle.dg_reduce.specs.declared.walk.Walk.{Walk}
 use Rattle.dg_reduce.specs.States.{IsFired, limit_at, IsCleared, IsLargestDebt}
-use Rattle.dg_reduce.proofs.Limits.{limit_at-next, limit_at-small}
+use Rattle.dg_reduce.proofs.LevelLimits.{limit_at-next, limit_at-small}
 
-pub chips_small : (g : Multigraph) (level : ℕ → ℕ) (j : ℕ) (x : Led) → IsCleared g level j x →
+pub chips_small : (g : Multigraph) (level : ℕ → ℕ) (j : ℕ) (x : Walk) → IsCleared g level j x →
     (v : ℕ) → v < g.size → unsigned_abs (at x.chips v) ≤ 2 ^ 120
 chips_small g level j x cleared v inside =
     let most : unsigned_abs (at x.chips v) ≤ limit_at (j - 1) = cleared.chips v inside in
     let small : limit_at (j - 1) < 2 ^ 111 = limit_at-small (j - 1) in
     omega arith
 
-pub script_small : (g : Multigraph) (level : ℕ → ℕ) (j : ℕ) (x : Led) → IsCleared g level j x →
+pub script_small : (g : Multigraph) (level : ℕ → ℕ) (j : ℕ) (x : Walk) → IsCleared g level j x →
     (v : ℕ) → v < g.size → unsigned_abs (at x.script v) ≤ 2 ^ 126
 script_small g level j x cleared v inside =
     let most : unsigned_abs (at x.script v) ≤ limit_at (j - 1) = cleared.script v inside in
@@ -86,12 +86,12 @@ debt_within n level j D m M debt small =
     abs_within m M (omega (arith, ints)) (omega (arith, ints)))
     debt.owed
 
-pub debt_small : (g : Multigraph) (level : ℕ → ℕ) (j : ℕ) (x : Led) (m : ℤ) → IsCleared g level (j + 1) x →
+pub debt_small : (g : Multigraph) (level : ℕ → ℕ) (j : ℕ) (x : Walk) (m : ℤ) → IsCleared g level (j + 1) x →
     IsLargestDebt g.size level j (at x.chips) m → unsigned_abs m ≤ 2 ^ 120
 debt_small g level j x m cleared debt =
     debt_within g.size level j (at x.chips) m (2 ^ 120) debt (chips_small g level (j + 1) x cleared)
 
-pub cleared_free : (g : Multigraph) (level : ℕ → ℕ) (j : ℕ) (x : Led) → 0 < j → j ≤ 15 → IsCleared g level (j + 1) x →
+pub cleared_free : (g : Multigraph) (level : ℕ → ℕ) (j : ℕ) (x : Walk) → 0 < j → j ≤ 15 → IsCleared g level (j + 1) x →
     IsLargestDebt g.size level j (at x.chips) (pos 0) → IsCleared g level j x
 cleared_free g level j x some few cleared debt =
     let place : limit_at ((j + 1) - 1) ≡ limit_at j = ap limit_at (omega arith) in
@@ -106,7 +106,7 @@ cleared_free g level j x some few cleared debt =
           let small : unsigned_abs (at x.script v) ≤ limit_at ((j + 1) - 1) = cleared.script v inside in omega arith;
     }
 
-nearer_fired : (g : Multigraph) (level : ℕ → ℕ) (j k : ℕ) (S : ℕ → Bool) (x y : Led) → IsFired g S (pos k) x y →
+nearer_fired : (g : Multigraph) (level : ℕ → ℕ) (j k : ℕ) (S : ℕ → Bool) (x y : Walk) → IsFired g S (pos k) x y →
     ((w : ℕ) → w < g.size → S w ≡ nearer level j w) →
     (v : ℕ) → v < g.size → at y.chips v ≡ fired_nearer g level j k (at x.chips) v
 nearer_fired g level j k S x y fires same v inside =
@@ -114,7 +114,7 @@ nearer_fired g level j k S x y fires same v inside =
     ∙ fired-cong g (at x.chips) (multiple (pos k) (indicator S)) (multiple (pos k) (indicator (nearer level j))) v inside
     (λ w below. ap (λ (b : Bool). pos k *ℤ (if b then pos 1 else pos 0)) (same w below))
 
-pub cleared_paid : (g : Multigraph) (q : ℕ) (level : ℕ → ℕ) (j : ℕ) (S : ℕ → Bool) (m : ℤ) (x y : Led) → IsGraph g →
+pub cleared_paid : (g : Multigraph) (q : ℕ) (level : ℕ → ℕ) (j : ℕ) (S : ℕ → Bool) (m : ℤ) (x y : Walk) → IsGraph g →
     IsDistance g q level → 0 < j → j ≤ 15 → IsCleared g level (j + 1) x → IsLargestDebt g.size level j (at x.chips) m →
     IsFired g S m x y → ((w : ℕ) → w < g.size → S w ≡ nearer level j w) → IsCleared g level j y
 cleared_paid g q level j S (negsuc k) x y graph distance some few cleared debt fires same =

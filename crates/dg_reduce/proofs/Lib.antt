@@ -4,7 +4,7 @@ pub mod Reaching
 -- How often a set can fire at once.
 pub mod Most
 -- Limits, and the steps of the two loops.
-pub mod Limits
+pub mod LevelLimits
 pub mod Ties
 pub mod LevelSteps
 pub mod Cleared

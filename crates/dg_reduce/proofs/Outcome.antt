@@ -1,27 +1,30 @@
 -- What a reduction comes to.
---   reduced_few      off q, a reduced divisor holds at most 62 dollars
---   script_near      so a script that leads to it is near to its entry at q
---   relative_leads   less its entry at q, it leads to the same
---   reduced_only     the reduced divisor and its script that is 0 at q are the only ones
---   only-cong        divisors that agree on the vertices are fired to the same only one
+--   reduced_few       off q, a reduced divisor holds at most 62 dollars
+--   script_near       the entries of a script that leads to a reduced divisor are near to its entry at q
+--   relative_leads    a script less its entry at q leads to where the script leads
+--   reduced_only      the reduced divisor and its script that is 0 at q are the only ones
+--   reduction_within  a reduced divisor and a script that leads to it and is 0 at q are a reduction, within a bound that the
+--                     range of the amounts gives
 use Rattle.std.proofs.Common.{◌≡◌, ◌≢◌, ℕ, ◌+◌, ◌*◌, ◌<◌, ◌≤◌, ◌==◌, Bool, arith, ap, sym, ◌∙◌, refl}
 use Rattle.std.proofs.lemmas.Int.{ints}
 use Rattle.std.proofs.lemmas.Bool.{eq-eqb, eqb-true, ne_eqb}
-use Rattle.std.proofs.Math.IntN.{ℤ, pos, ◌+ℤ◌, ◌-ℤ◌}
+use Rattle.std.proofs.Math.IntN.{pos, ◌+ℤ◌, ◌-ℤ◌}
 use Rattle.std.specs.Prelude.{◌≤ℤ◌}
 use Rattle.std.specs.Int.RustNames.{unsigned_abs}
 use Rattle.dg_theory.specs.Multigraph.{Multigraph, valence}
-use Rattle.dg_theory.specs.Firing.{Amounts, AgreeOn, AreEquivalent, gain, fired}
+use Rattle.dg_theory.specs.Firing.{Amounts, AgreeOn, AreEquivalent, FiresTo, fired}
 use Rattle.dg_theory.specs.Reduced.{edges_out, IsReduced}
 use Rattle.dg_theory.proofs.Bounds.{script_bound}
 use Rattle.dg_theory.proofs.ConstantLaws.{same_by_constant}
 use Rattle.dg_theory.proofs.Debts.{out-le-valence}
-use Rattle.dg_theory.proofs.Agreement.{agree-trans, reduced-cong}
+use Rattle.dg_theory.proofs.Agreement.{agree-trans}
 use Rattle.dg_theory.proofs.Equivalence.{equivalent-fired, equivalent-sym, equivalent-trans}
 use Rattle.dg_theory.proofs.ReducedLaws.{reduced_once}
 use Rattle.dg_theory.proofs.Scripts.{fired-shifted}
 use Rattle.dg_graph.specs.Graph.{IsGraph}
-use Rattle.dg_reduce.specs.Only.{IsOnly}
+use Rattle.dg_chips.specs.Vector.{at}
+use Rattle.dg_reduce.specs.declared.reducing.Reduced.{Reduced}
+use Rattle.dg_reduce.specs.Reductions.{IsOnly, IsReduction}
 
 pub reduced_few : (g : Multigraph) (q : ℕ) (D : Amounts) (v : ℕ) → IsGraph g → IsReduced g q D → v < g.size → v ≢ q → D v ≤ℤ pos 62
 reduced_few g q D v graph reduced inside other =
@@ -57,9 +60,20 @@ reduced_only g q D R s graph vertex reduced leads at_q t also_q other v inside =
     let there : t q ≡ s q +ℤ x = shift q vertex in
     (omega (arith, ints), once v inside)
 
-pub only-cong : (g : Multigraph) (q : ℕ) (D E R s : Amounts) → AgreeOn g.size D E → IsOnly g q D R s → IsOnly g q E R s
-only-cong g q D E R s same only t at_q reduced v inside =
-    let alike : (w : ℕ) → w < g.size → fired g E t w ≡ fired g D t w =
-    λ w below. ap (λ (z : ℤ). z +ℤ gain g t w) (sym (same w below)) in
-    let (script, divisor) = only t at_q (reduced-cong g q (fired g E t) (fired g D t) alike reduced) v inside in
-    (script, alike v inside ∙ divisor)
+pub reduction_within : (g : Multigraph) (q : ℕ) (D : Amounts) (M bound : ℕ) (x : Reduced) → IsGraph g → q < g.size →
+    ((v : ℕ) → v < g.size → unsigned_abs (D v) ≤ M) → (x.divisor.size ≡ g.size) × (x.script.size ≡ g.size) →
+    IsReduced g q (at x.divisor) → FiresTo g (at x.script) D (at x.divisor) → at x.script q ≡ pos 0 →
+    225 * (M + 62) ≤ bound → IsReduction g q D bound x
+reduction_within g q D M bound x graph vertex range sizes reduced led at_q enough = record {
+  sizes = sizes;
+  reduced = reduced;
+  led = led;
+  at_q = at_q;
+  limit = λ v inside.
+      let near : unsigned_abs (at x.script v -ℤ at x.script q) ≤ 225 * (M + 62) =
+      script_near g q D (at x.divisor) (at x.script) M graph vertex range reduced led v inside in
+      let same : at x.script v -ℤ at x.script q ≡ at x.script v = omega (arith, ints) in
+      let small : unsigned_abs (at x.script v) ≤ 225 * (M + 62) = rw same at near in
+      omega arith;
+  only = reduced_only g q D (at x.divisor) (at x.script) graph vertex reduced led at_q;
+}

@@ -11,9 +11,9 @@ use Rattle.dg_theory.specs.Distances.{IsDistance}
 use Rattle.dg_theory.proofs.FiringLaws.{fired-fired, fired-constant, fired-cong}
 use Rattle.dg_graph.specs.Graph.{IsGraph}
 use Rattle.dg_chips.specs.Vector.{at}
-use Rattle.dg_reduce.specs.declared.led.Led.{Led}
+use Rattle.dg_reduce.specs.declared.walk.Walk.{Walk}
 use Rattle.dg_reduce.specs.States.{IsTied, limit_at, IsCleared}
-use Rattle.dg_reduce.proofs.Limits.{limit_at-least}
+use Rattle.dg_reduce.proofs.LevelLimits.{limit_at-least}
 
 pub tied-start : (g : Multigraph) (D s : Amounts) → ((v : ℕ) → s v ≡ pos 0) → (v : ℕ) → v < g.size → D v ≡ fired g D s v
 tied-start g D s none v inside =
@@ -28,7 +28,7 @@ tied-more g C D E s t u before now more v inside =
     ∙ fired-fired g C s u v
     ∙ fired-cong g C (λ w. s w +ℤ u w) t v inside (λ w below. sym (more w below))
 
-pub cleared-start : (g : Multigraph) (q : ℕ) (level : ℕ → ℕ) (x : Led) → IsGraph g → IsDistance g q level → IsTied g x →
+pub cleared-start : (g : Multigraph) (q : ℕ) (level : ℕ → ℕ) (x : Walk) → IsGraph g → IsDistance g q level → IsTied g x →
     ((v : ℕ) → v < g.size → unsigned_abs (at x.chips v) ≤ 2000000) → ((v : ℕ) → at x.script v ≡ pos 0) →
     IsCleared g level g.size x
 cleared-start g q level x graph distance tied range none =

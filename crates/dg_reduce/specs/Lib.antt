@@ -1,7 +1,8 @@
--- The distances from a vertex, how often a set can fire, the states on the way to a reduced divisor, that it is the only
--- one, and amounts without debts.
+-- What a reader of the contracts has to believe: what a reduction gives, and what amounts without debts are.
+pub mod Reductions
+pub mod Effective
+-- What serves the steps of a reduction alone: the search for the distances from a vertex, how often a set can fire, and
+-- the states on the way.
 pub mod Reaching
 pub mod Firings
 pub mod States
-pub mod Only
-pub mod Effective

@@ -1,12 +1,15 @@
+//! The guess of the script with which a reduction begins.
+
 ghost use Rattle.std.specs.Prelude.{◌≡◌, ℕ, ◌<◌, ◌≤◌, pos, IfSome};
 ghost use Rattle.std.specs.Int.RustNames.{unsigned_abs};
 ghost use Rattle.dg_chips.specs.Vector.{at};
+ghost use Rattle.dg_reduce.specs.declared.limits.TheConstants.{MAX_START};
 
 use dg_chips::{Script, Wide};
 use dg_graph::Graph;
 use std::num::{nearest_i64_to_f64, saturating_f64_to_i64};
 
-/// A reduction needs no guess where no amount off q is greater, debt or not.
+/// The largest amount off q, debt or not, at which a reduction needs no guess.
 const SMALL: u128 = 3;
 
 /// The most lendings, and the most borrowings, that are guessed.
@@ -17,17 +20,17 @@ const MOST: i64 = 500_000_000;
 pub fn guess(graph: &Graph, q: usize, chips: &Wide) -> Option<Script>
     requires size { chips.now.size ≡ graph.now.size }
     requires vertex { q < graph.now.size }
-    requires range { (v : ℕ) → v < graph.now.size → unsigned_abs (at chips.now v) ≤ 2000000 }
+    requires range { (v : ℕ) → v < graph.now.size → unsigned_abs (at chips.now v) ≤ MAX_START }
     ensures { IfSome result (λ s. (s.size ≡ graph.now.size) × (at s q ≡ pos 0)) }
 {
-    if is_small_off(q, chips) {
+    if needs_no_guess(q, chips) {
         return None;
     }
     Some(rounded(graph, q, &lendings_to_zero(graph, q, chips)))
 }
 
-/// Whether all amounts but that of q are small.
-pub fn is_small_off(q: usize, chips: &Wide) -> bool {
+/// Whether the amounts but that of q are so small that the loops are done sooner than a guess.
+pub fn needs_no_guess(q: usize, chips: &Wide) -> bool {
     for v in 0..chips.size() {
         if v != q && chips.get(v).unsigned_abs() > SMALL {
             return false;
@@ -36,7 +39,7 @@ pub fn is_small_off(q: usize, chips: &Wide) -> bool {
     true
 }
 
-/// The script of some numbers of lendings, rounded down, less that of q.
+/// The lendings, rounded down and cut off at the most that are guessed, less those of q.
 fn rounded(graph: &Graph, q: usize, lendings: &[f64; 16]) -> Script
     requires { q < graph.now.size }
     ensures size { result.size ≡ graph.now.size }
@@ -53,7 +56,7 @@ fn rounded(graph: &Graph, q: usize, lendings: &[f64; 16]) -> Script
 /// How often each vertex lends, fractions too, where q does not and nobody else holds anything afterwards.
 fn lendings_to_zero(graph: &Graph, q: usize, chips: &Wide) -> [f64; 16]
     requires size { chips.now.size ≡ graph.now.size }
-    requires range { (v : ℕ) → v < graph.now.size → unsigned_abs (at chips.now v) ≤ 2000000 }
+    requires range { (v : ℕ) → v < graph.now.size → unsigned_abs (at chips.now v) ≤ MAX_START }
 {
     let size = graph.size();
     let mut rows = equations(graph, q);
@@ -64,7 +67,8 @@ fn lendings_to_zero(graph: &Graph, q: usize, chips: &Wide) -> [f64; 16]
     solved(size, &rows, &amounts)
 }
 
-/// For each vertex what it loses by a lending of each: the Laplacian of the graph, but 1 at q alone for q.
+/// The matrix of the equations, a row and a column for each vertex: the Laplacian of the graph, where the row and the
+/// column of q are replaced by those of the identity.
 fn equations(graph: &Graph, q: usize) -> [[f64; 16]; 16] {
     let mut rows = [[0.0; 16]; 16];
     for v in 0..graph.size() {
@@ -73,7 +77,7 @@ fn equations(graph: &Graph, q: usize) -> [[f64; 16]; 16] {
     rows
 }
 
-/// What vertex v loses by a lending of each vertex off q.
+/// The row of vertex v: what it loses when each of the others lends once, 0 in the column of q.
 fn equation(graph: &Graph, q: usize, v: usize) -> [f64; 16]
     requires { v < graph.now.size }
 {
@@ -92,9 +96,9 @@ fn equation(graph: &Graph, q: usize, v: usize) -> [f64; 16]
     row
 }
 
-/// The amounts, but 0 at q.
+/// The right sides of the equations: the amounts, but 0 at q.
 fn amounts_off(q: usize, chips: &Wide) -> [f64; 16]
-    requires { (v : ℕ) → v < chips.now.size → unsigned_abs (at chips.now v) ≤ 2000000 }
+    requires { (v : ℕ) → v < chips.now.size → unsigned_abs (at chips.now v) ≤ MAX_START }
 {
     let mut amounts = [0.0; 16];
     for v in 0..chips.size() {
@@ -105,7 +109,7 @@ fn amounts_off(q: usize, chips: &Wide) -> [f64; 16]
     amounts
 }
 
-/// Takes the pivot's equation so often from those after it that its vertex occurs in none of them.
+/// Takes multiples of the pivot's row from the rows below it, so that they have 0 in the pivot's column.
 fn eliminate(size: usize, rows: &mut [[f64; 16]; 16], amounts: &mut [f64; 16], pivot: usize)
     requires few { size ≤ 16 }
     requires pivot { pivot < size }
@@ -119,7 +123,7 @@ fn eliminate(size: usize, rows: &mut [[f64; 16]; 16], amounts: &mut [f64; 16], p
     }
 }
 
-/// A row less so many times another, from a first place on.
+/// A row less `factor` times another, from column `first` on.
 fn less_times(
     first: usize,
     size: usize,
@@ -136,7 +140,7 @@ fn less_times(
     less
 }
 
-/// The solution of equations in which no vertex occurs after its own.
+/// Back substitution: the solution of equations whose matrix is upper triangular.
 fn solved(size: usize, rows: &[[f64; 16]; 16], amounts: &[f64; 16]) -> [f64; 16]
     requires { size ≤ 16 }
 {
@@ -147,7 +151,7 @@ fn solved(size: usize, rows: &[[f64; 16]; 16], amounts: &[f64; 16]) -> [f64; 16]
     solution
 }
 
-/// The sum of a row's numbers, each times the one of the solution so far.
+/// The product of a row with the part of the solution that is known; the rest of it is 0.
 fn product(size: usize, row: &[f64; 16], solution: &[f64; 16]) -> f64
     requires { size ≤ 16 }
 {

@@ -4,22 +4,18 @@
 
 mod burning_down;
 mod clearing;
-mod firings;
-#[cfg(test)]
-mod form_tests;
-mod forms;
+mod effective_form;
 mod guess;
-#[cfg(test)]
-mod guess_tests;
-mod led;
 mod levels;
-mod near;
+mod limits;
+mod most_firings;
+mod next_firing;
 mod reducing;
-#[cfg(test)]
-mod reference;
 mod repaying;
 #[cfg(test)]
 mod tests;
+mod walk;
 
-pub use forms::effective;
+pub use effective_form::effective;
+pub use limits::MAX_START;
 pub use reducing::{Reduced, reduce, reduce_wide};

@@ -1,15 +1,16 @@
+//! Reductions.
+
 ghost use Rattle.std.specs.Prelude.{◌≡◌, ℕ, ◌<◌, ◌≤◌, pos};
 ghost use Rattle.std.specs.Bool.{OnTrue, OnFalse};
 ghost use Rattle.std.specs.Int.RustNames.{unsigned_abs};
-ghost use Rattle.dg_theory.specs.Firing.{fired};
-ghost use Rattle.dg_theory.specs.Reduced.{IsReduced};
 ghost use Rattle.dg_chips.specs.Vector.{at};
-ghost use Rattle.dg_reduce.specs.Only.{IsOnly};
+ghost use Rattle.dg_reduce.specs.Reductions.{IsReduction};
 
 use crate::burning_down::burn_down;
 use crate::clearing::clear_levels;
 use crate::guess::guess;
 use crate::levels::levels_from;
+use crate::limits::MAX_START;
 use dg_chips::{Divisor, Script, Wide};
 use dg_graph::Graph;
 
@@ -26,98 +27,80 @@ pub struct Reduced {
 pub fn reduce(graph: &Graph, q: usize, divisor: &Divisor) -> Reduced
     requires size { divisor.now.size ≡ graph.now.size }
     requires vertex { q < graph.now.size }
-    ensures sizes { (result.divisor.size ≡ graph.now.size) × (result.script.size ≡ graph.now.size) }
-    ensures reduced { IsReduced graph.now q (at result.divisor) }
-    ensures led { (v : ℕ) → v < graph.now.size →
-        at result.divisor v ≡ fired graph.now (at divisor.now) (at result.script) v }
-    ensures at_q { at result.script q ≡ pos 0 }
-    ensures limit { (v : ℕ) → v < graph.now.size → unsigned_abs (at result.script v) ≤ 226000000 }
-    ensures only { IsOnly graph.now q (at divisor.now) (at result.divisor) (at result.script) }
+    ensures { IsReduction graph.now q (at divisor.now) 226000000 result }
 {
+    // The clauses of `size` say that graph and divisor are within their limits.
     let _size = graph.size();
     let _amounts = divisor.size();
     reduce_wide(graph, q, &Wide::of(divisor))
 }
 
-/// The same for amounts within 2,000,000.
+/// The amounts, within 2,000,000 before, that are reduced for q and can be reached by firing, and the script that leads to
+/// them.
 pub fn reduce_wide(graph: &Graph, q: usize, chips: &Wide) -> Reduced
     requires size { chips.now.size ≡ graph.now.size }
     requires vertex { q < graph.now.size }
-    requires range { (v : ℕ) → v < graph.now.size → unsigned_abs (at chips.now v) ≤ 2000000 }
-    ensures sizes { (result.divisor.size ≡ graph.now.size) × (result.script.size ≡ graph.now.size) }
-    ensures reduced { IsReduced graph.now q (at result.divisor) }
-    ensures led { (v : ℕ) → v < graph.now.size →
-        at result.divisor v ≡ fired graph.now (at chips.now) (at result.script) v }
-    ensures at_q { at result.script q ≡ pos 0 }
-    ensures limit { (v : ℕ) → v < graph.now.size → unsigned_abs (at result.script v) ≤ 451000000 }
-    ensures only { IsOnly graph.now q (at chips.now) (at result.divisor) (at result.script) }
+    requires range { (v : ℕ) → v < graph.now.size → unsigned_abs (at chips.now v) ≤ MAX_START }
+    ensures { IsReduction graph.now q (at chips.now) 451000000 result }
 {
     match guess(graph, q, chips) {
-        Some(script) => reduce_from(graph, q, chips, &script),
-        None => reduce_near(graph, q, chips),
+        Some(script) => reduce_after(graph, q, chips, &script),
+        None => reduce_by_levels(graph, q, chips),
     }
 }
 
-/// The same from a guess of the script: it is fired, and what is left is reduced. Where it leaves more than 2,000,000
-/// somewhere it is of no use, and the amounts are reduced as they are.
-pub(crate) fn reduce_from(graph: &Graph, q: usize, chips: &Wide, script: &Script) -> Reduced
+/// The reduction that begins with a script, any that is 0 at q. What the script leaves is reduced, if it is within the
+/// range of a reduction, and the sum of both scripts leads from the amounts to the reduced ones.
+///
+/// Whether amounts are reduced for q does not depend on that of q, which may leave the range when the others send their
+/// dollars there. So it is taken for 0 in between, and of the inner reduction only the script is used.
+pub(crate) fn reduce_after(graph: &Graph, q: usize, chips: &Wide, script: &Script) -> Reduced
     requires size { chips.now.size ≡ graph.now.size }
-    requires script { script.now.size ≡ graph.now.size }
     requires vertex { q < graph.now.size }
-    requires range { (v : ℕ) → v < graph.now.size → unsigned_abs (at chips.now v) ≤ 2000000 }
+    requires script { script.now.size ≡ graph.now.size }
+    requires range { (v : ℕ) → v < graph.now.size → unsigned_abs (at chips.now v) ≤ MAX_START }
     requires start { at script.now q ≡ pos 0 }
-    ensures sizes { (result.divisor.size ≡ graph.now.size) × (result.script.size ≡ graph.now.size) }
-    ensures reduced { IsReduced graph.now q (at result.divisor) }
-    ensures led { (v : ℕ) → v < graph.now.size →
-        at result.divisor v ≡ fired graph.now (at chips.now) (at result.script) v }
-    ensures at_q { at result.script q ≡ pos 0 }
-    ensures limit { (v : ℕ) → v < graph.now.size → unsigned_abs (at result.script v) ≤ 451000000 }
-    ensures only { IsOnly graph.now q (at chips.now) (at result.divisor) (at result.script) }
+    ensures { IsReduction graph.now q (at chips.now) 451000000 result }
 {
     let _size = graph.size();
     let left = chips.fired_by(graph, script).with_amount(q, 0);
-    if !is_small(&left) {
-        return reduce_near(graph, q, chips);
+    if !is_within_start(&left) {
+        return reduce_by_levels(graph, q, chips);
     }
-    let sum = script.plus(&reduce_near(graph, q, &left).script);
+    let sum = script.plus(&reduce_by_levels(graph, q, &left).script);
     Reduced {
         divisor: chips.fired_by(graph, &sum),
         script: sum,
     }
 }
 
-/// Whether all amounts are within 2,000,000.
-pub(crate) fn is_small(chips: &Wide) -> bool
-    ensures small { OnTrue result ((v : ℕ) → v < chips.now.size → unsigned_abs (at chips.now v) ≤ 2000000) }
-    ensures large { OnFalse result ((v : ℕ) × (v < chips.now.size) × (2000000 < unsigned_abs (at chips.now v))) }
+/// Whether a reduction may start from these amounts: all are within 2,000,000.
+pub(crate) fn is_within_start(chips: &Wide) -> bool
+    ensures small { OnTrue result ((v : ℕ) → v < chips.now.size → unsigned_abs (at chips.now v) ≤ MAX_START) }
+    ensures large { OnFalse result ((v : ℕ) × (v < chips.now.size) × (MAX_START < unsigned_abs (at chips.now v))) }
 {
     for v in 0..chips.size() {
-        if chips.get(v).unsigned_abs() > 2_000_000 {
+        if chips.get(v).unsigned_abs() > MAX_START {
             return false;
         }
     }
     true
 }
 
-/// The same without a guess.
-fn reduce_near(graph: &Graph, q: usize, chips: &Wide) -> Reduced
+/// The reduction from the amounts as they are: first the debts off q are cleared, level by level of the distance from q,
+/// then the vertices that do not burn lend until all burn.
+fn reduce_by_levels(graph: &Graph, q: usize, chips: &Wide) -> Reduced
     requires size { chips.now.size ≡ graph.now.size }
     requires vertex { q < graph.now.size }
-    requires range { (v : ℕ) → v < graph.now.size → unsigned_abs (at chips.now v) ≤ 2000000 }
-    ensures sizes { (result.divisor.size ≡ graph.now.size) × (result.script.size ≡ graph.now.size) }
-    ensures reduced { IsReduced graph.now q (at result.divisor) }
-    ensures led { (v : ℕ) → v < graph.now.size →
-        at result.divisor v ≡ fired graph.now (at chips.now) (at result.script) v }
-    ensures at_q { at result.script q ≡ pos 0 }
-    ensures limit { (v : ℕ) → v < graph.now.size → unsigned_abs (at result.script v) ≤ 451000000 }
-    ensures only { IsOnly graph.now q (at chips.now) (at result.divisor) (at result.script) }
+    requires range { (v : ℕ) → v < graph.now.size → unsigned_abs (at chips.now v) ≤ MAX_START }
+    ensures { IsReduction graph.now q (at chips.now) 451000000 result }
 {
     let _size = graph.size();
     let levels = levels_from(graph, q);
     let cleared = clear_levels(graph, &levels, chips);
-    let led = burn_down(graph, q, &cleared);
+    let walk = burn_down(graph, q, &cleared);
     Reduced {
-        divisor: led.chips,
-        script: Script::relative(&led.script, q),
+        divisor: walk.chips,
+        script: Script::relative(&walk.script, q),
     }
 }

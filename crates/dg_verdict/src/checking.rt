@@ -1,3 +1,5 @@
+//! Whether a verdict is right.
+
 ghost use Rattle.std.specs.Prelude.{◌≡◌, ℕ, ◌<◌, take, MatchBool};
 ghost use Rattle.dg_theory.specs.Burning.{MayBurn, BurnsAll};
 ghost use Rattle.dg_theory.specs.Firing.{HasNoDebtOff};

@@ -1,3 +1,5 @@
+//! Verdicts that are carried along a drift.
+
 ghost use Rattle.std.specs.Prelude.{◌≡◌, ℕ, ◌<◌, ◌+ℤ◌, ◌-ℤ◌};
 ghost use Rattle.dg_theory.specs.Multigraph.{Multigraph, IsMultigraph};
 ghost use Rattle.dg_theory.specs.Firing.{Amounts, fired};

@@ -1,3 +1,5 @@
+//! Verdicts, and how they are made.
+
 ghost use Rattle.std.specs.Prelude.{◌≡◌, ℕ, ◌<◌, ◌≤◌, take};
 ghost use Rattle.std.specs.List.{slice_index_or};
 ghost use Rattle.dg_theory.specs.Burning.{BurnsInOrder};

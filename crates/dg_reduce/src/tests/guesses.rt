@@ -1,0 +1,194 @@
+//! Reductions that begin with a guess, right or wrong, and what a guess leaves.
+
+use crate::guess::{guess, needs_no_guess};
+use crate::reducing::{is_within_start, reduce_after};
+use dg_chips::{Script, Wide};
+use dg_graph::Graph;
+use std::test::Fail;
+
+/// Edges, q, amounts, the reduced amounts, the script that leads to them, and guesses.
+type Case = (
+    &'static [(u8, u8, u8)],
+    usize,
+    &'static [i128],
+    &'static [i128],
+    &'static [i64],
+    [&'static [i64]; 7],
+);
+
+const TRIANGLE: &[(u8, u8, u8)] = &[(0, 1, 1), (1, 2, 1), (0, 2, 1)];
+
+const SQUARE: &[(u8, u8, u8)] = &[(0, 1, 1), (1, 2, 1), (2, 3, 1), (3, 0, 1)];
+
+const PATH: &[(u8, u8, u8)] = &[(0, 1, 1), (1, 2, 1), (2, 3, 1)];
+
+const HOUSE: &[(u8, u8, u8)] = &[
+    (0, 1, 2),
+    (1, 2, 1),
+    (2, 3, 3),
+    (3, 4, 1),
+    (4, 0, 1),
+    (1, 3, 5),
+];
+
+// The answers come from a program that borrows and burns vertex by vertex, without any guess. The guesses: none, the
+// script itself, one lending more, some lendings, alternating ones, and the most that a script holds.
+static CASES: [Case; 5] = [
+    (
+        TRIANGLE,
+        2,
+        &[40, -70, 25],
+        &[0, 1, -6],
+        &[3, -34, 0],
+        [
+            &[0, 0, 0],
+            &[3, -34, 0],
+            &[4, -34, 0],
+            &[1, -5, 0],
+            &[21, -28, 0],
+            &[1_000_000_000, -1_000_000_000, 0],
+            &[1_000_000_000, 1_000_000_000, 0],
+        ],
+    ),
+    (
+        SQUARE,
+        0,
+        &[-300, 100, 90, 80],
+        &[-30, 0, 0, 0],
+        &[0, 140, 180, 130],
+        [
+            &[0, 0, 0, 0],
+            &[0, 140, 180, 130],
+            &[0, 141, 180, 130],
+            &[0, 3, -8, -7],
+            &[0, -28, 35, -42],
+            &[0, -1_000_000_000, 1_000_000_000, -1_000_000_000],
+            &[0, 1_000_000_000, 1_000_000_000, 1_000_000_000],
+        ],
+    ),
+    (
+        HOUSE,
+        1,
+        &[17, -3, -90, 100, -6],
+        &[1, 15, 1, 0, 1],
+        &[6, 0, -19, 5, 2],
+        [
+            &[0, 0, 0, 0, 0],
+            &[6, 0, -19, 5, 2],
+            &[6, 0, -18, 5, 2],
+            &[8, 0, -6, 2, 9],
+            &[21, 0, 35, -42, 49],
+            &[
+                1_000_000_000,
+                0,
+                1_000_000_000,
+                -1_000_000_000,
+                1_000_000_000,
+            ],
+            &[
+                1_000_000_000,
+                0,
+                1_000_000_000,
+                1_000_000_000,
+                1_000_000_000,
+            ],
+        ],
+    ),
+    (
+        HOUSE,
+        4,
+        &[17, -3, -90, 100, -6],
+        &[1, 5, 2, 0, 10],
+        &[8, 4, -16, 8, 0],
+        [
+            &[0, 0, 0, 0, 0],
+            &[8, 4, -16, 8, 0],
+            &[9, 4, -16, 8, 0],
+            &[-8, 7, -3, -8, 0],
+            &[21, -28, 35, -42, 0],
+            &[
+                1_000_000_000,
+                -1_000_000_000,
+                1_000_000_000,
+                -1_000_000_000,
+                0,
+            ],
+            &[
+                1_000_000_000,
+                1_000_000_000,
+                1_000_000_000,
+                1_000_000_000,
+                0,
+            ],
+        ],
+    ),
+    (
+        PATH,
+        3,
+        &[500, -400, 300, -200],
+        &[0, 0, 0, 200],
+        &[1_000, 500, 400, 0],
+        [
+            &[0, 0, 0, 0],
+            &[1_000, 500, 400, 0],
+            &[1_001, 500, 400, 0],
+            &[-7, 4, 4, 0],
+            &[21, -28, 35, 0],
+            &[1_000_000_000, -1_000_000_000, 1_000_000_000, 0],
+            &[1_000_000_000, 1_000_000_000, 1_000_000_000, 0],
+        ],
+    ),
+];
+
+#[test]
+fn wrong_guesses(rt: HostRuntime) -> Result<(), Fail> {
+    for (items, q, amounts, chips, script, guesses) in CASES {
+        let graph = Graph::new(amounts.len(), items)?;
+        let start = Wide::new(&graph, amounts)?;
+        assert!(rt; q < graph.size() && is_within_start(&start));
+        let divisor = Wide::new(&graph, chips)?;
+        let script = Script::new(&graph, script)?;
+        for guess in guesses {
+            let guessed = Script::new(&graph, guess)?;
+            assert!(rt; guessed.get(q) == 0);
+            let reduced = reduce_after(&graph, q, &start, &guessed);
+            assert!(rt; reduced.divisor == divisor, "{guess:?}");
+            assert!(rt; reduced.script == script, "{guess:?}");
+        }
+    }
+    Ok(())
+}
+
+// By exact lendings nobody off q would hold anything. They are rounded down, so that a vertex holds less than it has
+// edges.
+#[test]
+fn guesses_leave_little(rt: HostRuntime) -> Result<(), Fail> {
+    let mut items = [(0, 0, 1); 15];
+    for v in 0..15u8 {
+        items[usize::from(v)] = (v, v + 1, 1);
+    }
+    let path = Graph::new(16, &items)?;
+    let cases: [(usize, &[i128]); 4] = [
+        (0, &[1_000_000; 16]),
+        (15, &[-2_000_000; 16]),
+        (7, &[1_999_999; 16]),
+        (
+            3,
+            &[
+                -1_000_000, 900_000, -1, 0, 8, 2_000_000, -65, 70_000, -7, 0, 0, -999_999, 5, 5,
+                123_456, -1_000_000,
+            ],
+        ),
+    ];
+    for (q, amounts) in cases {
+        let chips = Wide::new(&path, amounts)?;
+        assert!(rt; q < path.size() && is_within_start(&chips));
+        assert!(rt; !needs_no_guess(q, &chips));
+        let Some(script) = guess(&path, q, &chips) else {
+            panic!(rt; "no guess at {q}");
+        };
+        let left = chips.fired_by(&path, &script);
+        assert!(rt; needs_no_guess(q, &left), "for {q}");
+    }
+    Ok(())
+}
