@@ -3,6 +3,7 @@
 
 mod divisor;
 mod drift;
+mod duals;
 mod firing;
 mod moves;
 mod numbers;
@@ -18,6 +19,7 @@ mod wide_tests;
 
 pub use divisor::{ChipFault, Divisor};
 pub use drift::Drift;
+pub use duals::dual;
 pub use firing::apply;
 pub use moves::{Move, MoveFault};
 pub use script::{Script, ScriptFault};

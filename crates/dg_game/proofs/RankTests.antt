@@ -9,8 +9,8 @@ use Rattle.dg_theory.proofs.LossLaws.{loss_together}
 use Rattle.dg_chips.specs.Vector.{at}
 use Rattle.dg_chips.specs.Drifts.{FiresTo}
 use Rattle.dg_rank.specs.Ranks.{IsRankTest}
-use Rattle.dg_rank.specs.declared.verdicts.RankVerdict.{RankVerdict}
-use Rattle.dg_rank.specs.declared.verdicts.RankVerdict.TheVariants.{AtLeast, Below}
+use Rattle.dg_rank.specs.declared.rank_verdict.RankVerdict.{RankVerdict}
+use Rattle.dg_rank.specs.declared.rank_verdict.RankVerdict.TheVariants.{AtLeast, Below}
 use Rattle.dg_rank.proofs.Carried.{rank-cong, loss-cong}
 use Rattle.dg_game.proofs.ReplyLaws.{Agree}
 

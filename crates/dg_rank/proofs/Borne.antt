@@ -31,7 +31,7 @@ use Rattle.dg_reduce.proofs.EffectiveForms.{form_limit}
 use Rattle.dg_rank.specs.Trials.{IsTrial}
 use Rattle.dg_rank.specs.Limits.{IsWithinLimits}
 use Rattle.dg_rank.specs.Divisors.{amounts_of}
-use Rattle.dg_rank.specs.Pieces.{WinsWithout, Bears}
+use Rattle.dg_rank.specs.Losses.{WinsWithout, Bears}
 
 pub record IsBase (g : Multigraph) (D : Amounts) (x : Vector) : Type 0 where
   pub size : x.size ≡ g.size

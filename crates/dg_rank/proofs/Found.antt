@@ -26,7 +26,7 @@ use Rattle.dg_rank.specs.Trials.{IsTrial, ComesBefore, IsNumbering, AnyTrial}
 use Rattle.dg_rank.specs.Limits.{IsWithinLimits}
 use Rattle.dg_rank.specs.Numbering.{trial_count, nth_trial}
 use Rattle.dg_rank.specs.Divisors.{amounts_of, HoldsTrial}
-use Rattle.dg_rank.specs.Pieces.{WinsWithout, AllWin, IsLossIn}
+use Rattle.dg_rank.specs.Losses.{WinsWithout, AllWin, IsLossIn}
 use Rattle.dg_rank.proofs.Numbered.{numbered}
 use Rattle.dg_rank.proofs.Counts.{limits_count, some_trial}
 use Rattle.dg_rank.proofs.Once.{lower_number}

@@ -16,3 +16,4 @@ pub mod Borne
 -- The reduced divisor in place of the one given.
 pub mod SmallAmounts
 pub mod Carried
+pub mod RankByTests

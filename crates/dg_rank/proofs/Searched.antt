@@ -5,7 +5,7 @@ use Rattle.std.proofs.lemmas.Bool.{cases_eq}
 use Rattle.dg_theory.specs.Multigraph.{Multigraph}
 use Rattle.dg_theory.specs.Firing.{Amounts}
 use Rattle.dg_rank.specs.Numbering.{nth_trial}
-use Rattle.dg_rank.specs.Pieces.{WinsWithout, AllWin}
+use Rattle.dg_rank.specs.Losses.{WinsWithout, AllWin}
 
 pub win_next : (g : Multigraph) (D : Amounts) (k i j : ℕ) (E : List ℕ) → E ≡ nth_trial g.size k j → AllWin g D k i j →
     WinsWithout g D E → AllWin g D k i (j + 1)

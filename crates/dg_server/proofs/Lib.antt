@@ -16,4 +16,3 @@ mod Limited
 pub mod Seats
 pub mod Printing
 pub mod Refusing
-mod RanksFound

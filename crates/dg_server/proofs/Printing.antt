@@ -13,7 +13,7 @@ use Rattle.dg_game.specs.declared.entry.Request.TheVariants.{Move, Gift, Look, C
 use Rattle.dg_game.specs.declared.entry.Reply.{Reply}
 use Rattle.dg_game.specs.declared.entry.Reply.TheVariants.{Moved, Given, Looked, Verdict, Rank as Ranked, Stale, Won, NotWon, Refused}
 use Rattle.dg_game.proofs.StepLaw.{vertices_stay}
-use Rattle.dg_rank.specs.declared.verdicts.RankVerdict.TheVariants.{AtLeast, Below}
+use Rattle.dg_rank.specs.declared.rank_verdict.RankVerdict.TheVariants.{AtLeast, Below}
 use Rattle.dg_server.specs.Texts.{HasNames, entry_text}
 use Rattle.dg_server.specs.Rehearsals.{history_text, AllHaveNames}
 

@@ -1,0 +1,39 @@
+-- A piece of the trials, from one number up to another, for the divisor D.
+--   WinsWithout g D E       == D less the trial E is winnable
+--   Bears g D E x           == x holds amounts that D can be fired to, and at least those of the trial E
+--   AllWin g D k i j        == D less any trial with a number from i up to, but not including, j is winnable
+--   IsLossIn g D k i j E    == E is the first trial of the piece from i up to j less which D is not winnable
+--   IsFound g D k i j found == what was found is the first loss of the piece from i up to j, or nothing where there is none
+use Rattle.std.specs.Prelude.{◌≡◌, ℕ, ◌<◌, ◌≤◌, List, Option, Some, None}
+use Rattle.dg_theory.specs.Multigraph.{Multigraph}
+use Rattle.dg_theory.specs.Firing.{Amounts, IsEffective}
+use Rattle.dg_theory.specs.Play.{IsWinnable}
+use Rattle.dg_theory.specs.Rank.{less}
+use Rattle.dg_chips.specs.Vector.{Vector, at}
+use Rattle.dg_chips.specs.Drifts.{FiresTo}
+use Rattle.dg_rank.specs.Divisors.{amounts_of}
+use Rattle.dg_rank.specs.Numbering.{nth_trial}
+
+abbrev pub WinsWithout : Multigraph → Amounts → List ℕ → Type 0
+WinsWithout g D E = IsWinnable g (less D (amounts_of E))
+
+pub record Bears (g : Multigraph) (D : Amounts) (E : List ℕ) (x : Vector) : Type 0 where
+  pub size : x.size ≡ g.size
+  pub script : Amounts
+  pub fires : FiresTo g script D (at x)
+  pub enough : IsEffective g.size (less (at x) (amounts_of E))
+
+abbrev pub AllWin : Multigraph → Amounts → ℕ → ℕ → ℕ → Type 0
+AllWin g D k i j = (m : ℕ) → i ≤ m → m < j → WinsWithout g D (nth_trial g.size k m)
+
+pub record IsLossIn (g : Multigraph) (D : Amounts) (k i j : ℕ) (E : List ℕ) : Type 0 where
+  pub number : ℕ
+  pub from : i ≤ number
+  pub to : number < j
+  pub trial : E ≡ nth_trial g.size k number
+  pub loses : ¬ WinsWithout g D E
+  pub first : AllWin g D k i number
+
+abbrev pub IsFound : Multigraph → Amounts → ℕ → ℕ → ℕ → Option (List ℕ) → Type 0
+IsFound g D k i j (Some E) = IsLossIn g D k i j E
+IsFound g D k i j None = AllWin g D k i j
