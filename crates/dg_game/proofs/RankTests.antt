@@ -1,6 +1,6 @@
 -- What a rank test answers depends on the amounts at the vertices alone, and not on what was lent.
 --   rank_test-cong   what is right for a divisor is right for one that agrees with it on the vertices
---   rank_test_led    and for one to which a script leads
+--   rank_test_led    what is right for a divisor is right for one to which a script leads
 use Rattle.std.proofs.Common.{ℕ, sym}
 use Rattle.dg_theory.specs.Multigraph.{Multigraph}
 use Rattle.dg_theory.specs.Firing.{Amounts, fired}
@@ -11,7 +11,7 @@ use Rattle.dg_chips.specs.Drifts.{FiresTo}
 use Rattle.dg_rank.specs.Ranks.{IsRankTest}
 use Rattle.dg_rank.specs.declared.rank_verdict.RankVerdict.{RankVerdict}
 use Rattle.dg_rank.specs.declared.rank_verdict.RankVerdict.TheVariants.{AtLeast, Below}
-use Rattle.dg_rank.proofs.Carried.{rank-cong, loss-cong}
+use Rattle.dg_rank.proofs.RankCong.{rank-cong, loss-cong}
 use Rattle.dg_game.proofs.ReplyLaws.{Agree}
 
 pub rank_test-cong : (g : Multigraph) (D E : Amounts) (k : ℕ) (x : RankVerdict) → Agree g.size D E → IsRankTest g D k x → IsRankTest g E k x

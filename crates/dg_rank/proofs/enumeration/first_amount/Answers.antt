@@ -1,6 +1,6 @@
 use Rattle.std.proofs.Common.{◌≡◌, ◌-◌, arith}
 use Rattle.dg_rank.specs.Numbering.{trial_count}
-use Rattle.dg_rank.proofs.Unranked.{sought_first, sought_more, sought_here, sought_last}
+use Rattle.dg_rank.proofs.Unranking.{sought_first, sought_more, sought_here, sought_last}
 use Rattle.dg_rank.proofs.enumeration.first_amount.Goals as goal
 
 pub loop-amount-init : goal.loop-amount-init

@@ -1,4 +1,4 @@
-use Rattle.dg_rank.proofs.Unranked.{IsSought}
+use Rattle.dg_rank.proofs.Unranking.{IsSought}
 use Rattle.dg_rank.proofs.enumeration.first_amount.Given as goal
 
 abbrev pub invariant-loop-amount : goal.invariant-loop-amount

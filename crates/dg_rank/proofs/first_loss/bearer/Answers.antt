@@ -5,7 +5,7 @@ use Rattle.dg_theory.specs.Rank.{less}
 use Rattle.dg_theory.proofs.Giving.{win_more}
 use Rattle.dg_chips.specs.Vector.{at}
 use Rattle.dg_rank.specs.Divisors.{amounts_of}
-use Rattle.dg_rank.proofs.Borne.{left_small, left_held, bears-left}
+use Rattle.dg_rank.proofs.Bearers.{left_small, left_held, bears-left}
 use Rattle.dg_rank.proofs.first_loss.bearer.Goals as goal
 
 pub effective-requires-clause-range : goal.effective-requires-clause-range

@@ -2,9 +2,9 @@ use Rattle.std.proofs.Common.{◌≡◌, List, ℕ, arith, refl, sym, subst, ◌
 use Rattle.dg_chips.specs.Vector.{at}
 use Rattle.dg_rank.specs.Trials.{IsTrial}
 use Rattle.dg_rank.specs.Numbering.{nth_trial}
-use Rattle.dg_rank.proofs.Found.{nth-trial}
-use Rattle.dg_rank.proofs.Searched.{win_next}
-use Rattle.dg_rank.proofs.Borne.{base-start, base-next, bears-lost, bears-win}
+use Rattle.dg_rank.proofs.FirstLosses.{nth-trial}
+use Rattle.dg_rank.proofs.Search.{win_next}
+use Rattle.dg_rank.proofs.Bearers.{base-start, base-next, bears-lost, bears-win}
 use Rattle.dg_rank.proofs.first_loss.first_loss.Goals as goal
 use Rattle.dg_rank.proofs.first_loss.first_loss.Goals.{then-i-to, else-i-to}
 

@@ -2,7 +2,7 @@ use Rattle.std.proofs.Common.{◌≡◌, ◌<◌}
 use Rattle.dg_chips.specs.Vector.{at}
 use Rattle.dg_rank.specs.Numbering.{nth_trial}
 use Rattle.dg_rank.specs.Losses.{AllWin}
-use Rattle.dg_rank.proofs.Borne.{IsBase}
+use Rattle.dg_rank.proofs.Bearers.{IsBase}
 use Rattle.dg_rank.proofs.first_loss.first_loss.Given as goal
 
 abbrev pub invariant-loop-i : goal.invariant-loop-i

@@ -9,9 +9,9 @@ use Rattle.dg_chips.specs.Vector.{at}
 use Rattle.dg_rank.specs.Limits.{IsWithinLimits}
 use Rattle.dg_rank.specs.Numbering.{nth_trial}
 use Rattle.dg_rank.specs.Losses.{IsLossIn}
-use Rattle.dg_rank.proofs.Found.{nth-trial, loss-trial, found_rank, found_loss, some_number, poor_loss}
+use Rattle.dg_rank.proofs.FirstLosses.{nth-trial, loss-trial, found_rank, found_loss, some_number, poor_loss}
 use Rattle.dg_rank.proofs.SmallAmounts.{reduced_small}
-use Rattle.dg_rank.proofs.Carried.{rank_carried, loss_carried, degree_carried}
+use Rattle.dg_rank.proofs.RankCong.{rank_carried, loss_carried, degree_carried}
 use Rattle.dg_rank.proofs.ranks.rank_at_least.Goals as goal
 
 pub returns-then-rest-from : goal.returns-then-rest-from

@@ -2,7 +2,7 @@ use Rattle.std.proofs.Common.{◌≡◌, ◌-◌, ◌<◌, ℕ, arith, subst, sy
 use Rattle.std.proofs.lemmas.List.{length-take-le}
 use Rattle.dg_rank.specs.Numbering.{trial_count, nth_trial}
 use Rattle.dg_rank.proofs.Counts.{limits_count}
-use Rattle.dg_rank.proofs.Unranked.{last_amount}
+use Rattle.dg_rank.proofs.Unranking.{last_amount}
 use Rattle.dg_rank.proofs.enumeration.Trial.with_number.Goals as goal
 
 pub loop-v-init : goal.loop-v-init

@@ -2,10 +2,10 @@
 --   degree-take       the first n amounts of a list add up to the degree of n vertices
 --   degree-trial      the amounts of a trial of degree k have the degree k
 --   listed n D        the amounts of n vertices as a list, each without its sign
---   length-listed     there are n of them
---   listed-at         the amount of each vertex is in its place
+--   length-listed     the list of n vertices has n amounts
+--   listed-at         the list holds the amount of each vertex in its place
 --   listed-amounts    where nobody is in debt, the amounts of the list are those of the divisor
---   listed-trial      and the list is a trial of its degree
+--   listed-trial      where nobody is in debt, the list is a trial of the divisor's degree
 use Rattle.std.proofs.Common.{◌≡◌, ℕ, zero, suc, ◌+◌, ◌<◌, ◌≤◌, List, [], ◌∷◌, ◌++◌, length, take, arith, refl, sym, ◌∙◌, ⊎_elim, add-one, length-append}
 use Rattle.std.specs.Prelude.{slice_index}
 use Rattle.std.specs.List.{sum}

@@ -1,11 +1,11 @@
 -- What stands in a trial as the walk goes to the next one.
 --   HasNext E          == E is a trial within the limits, and not the last one
---   HasRoom E          == E has a place, and holds 1,000 at most
+--   HasRoom E          == E has a place, and holds at most 1,000
 --   moved E q          == E as the walk leaves it, where q is its last place that holds something
---   IsLastHeld E q     == q is that place, and not the first place
---   room               so it is for a trial that has a next one
---   last_held          it holds something past its first place
---   following          the walk makes the next one of it
+--   IsLastHeld E q     == q is the last place of E that holds something, and not the first place
+--   room               a trial that has a next one has room
+--   last_held          a trial that has a next one holds something past its first place
+--   following          the walk makes the next trial of one that has a next
 use Rattle.std.proofs.Common.{◌≡◌, ◌≢◌, ℕ, ◌+◌, ◌-◌, ◌<◌, ◌≤◌, List, length, set, arith, ap, ◌∙◌, ⊎_elim, length-set, get_or-set_same, get_or-set_other}
 use Rattle.std.specs.Prelude.{slice_index}
 use Rattle.std.specs.List.{sum}
@@ -15,7 +15,7 @@ use Rattle.dg_rank.specs.Trials.{IsTrial}
 use Rattle.dg_rank.specs.Limits.{IsWithinLimits}
 use Rattle.dg_rank.specs.Numbering.{trial_count, nth_trial}
 use Rattle.dg_rank.proofs.Counts.{limits_count, limits_trial}
-use Rattle.dg_rank.proofs.Next.{IsNext, next_number, has_place}
+use Rattle.dg_rank.proofs.NextTrial.{IsNext, next_number, has_place}
 
 abbrev pub HasNext : List ℕ → Type 0
 HasNext E = (n : ℕ) × (k : ℕ) × (c : ℕ) × (i : ℕ) × IsWithinLimits n k c × (i + 1 < c) × (E ≡ nth_trial n k i)

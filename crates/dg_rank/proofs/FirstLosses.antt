@@ -1,13 +1,13 @@
 -- From the numbers of trials to divisors.
 --   effective_held    a divisor that holds a trial is effective
---   degree-held       and its degree is that of the trial
+--   degree-held       a divisor that holds a trial has the degree of the trial
 --   listed_before     an effective divisor before one that holds a trial is a list that comes before the trial
 --   wins_listed       where all trials win, a divisor can lose each effective divisor of their degree
---   found_rank        so its rank is at least that degree
+--   found_rank        where all trials win, the rank is at least their degree
 --   nth-trial         each number below that of all trials has a trial
 --   loss-trial        the first of all trials to lose is a trial
---   wins_before       a divisor can lose each effective divisor before it
---   found_loss        so it is the first loss
+--   wins_before       a divisor can lose each effective divisor before its first loss
+--   found_loss        the first of all trials to lose is the first loss
 --   some_number       there is a trial with the number 0
 --   poor_loses        where the degree is too low, each trial loses
 --   poor_loss         so trial number 0 is the first loss
@@ -27,10 +27,10 @@ use Rattle.dg_rank.specs.Limits.{IsWithinLimits}
 use Rattle.dg_rank.specs.Numbering.{trial_count, nth_trial}
 use Rattle.dg_rank.specs.Divisors.{amounts_of, HoldsTrial}
 use Rattle.dg_rank.specs.Losses.{WinsWithout, AllWin, IsLossIn}
-use Rattle.dg_rank.proofs.Numbered.{numbered}
+use Rattle.dg_rank.proofs.Numbering.{numbered}
 use Rattle.dg_rank.proofs.Counts.{limits_count, some_trial}
-use Rattle.dg_rank.proofs.Once.{lower_number}
-use Rattle.dg_rank.proofs.Listed.{listed, listed-amounts, listed-trial, degree-trial}
+use Rattle.dg_rank.proofs.CountedOnce.{lower_number}
+use Rattle.dg_rank.proofs.TrialLists.{listed, listed-amounts, listed-trial, degree-trial}
 
 pub effective_held : (n : ℕ) (E : List ℕ) (d : Vector) → HoldsTrial n E d → IsEffective n (at d)
 effective_held n E d held v inside = omega (arith, ints, held.amounts v inside)

@@ -1,21 +1,22 @@
 -- The trial with a number, place by place.
---   more_by a E             == the trial E with so much more at its first place
+--   more_by a E             == the trial E with a more at its first place
 --   IsSought n k i a rest   == the trial number i of degree k on n + 1 places is that with the number rest of a less, with
 --                              a more at its first place
---   IsLast n k i rest       == it holds all k at its first place, and has the number rest on the others
---   sought_first   so it is with nothing more
---   sought_more    so it is with one more, where the number is not below that of the trials that hold no more
---   sought_here    where it is below that, the first amount is found
---   sought_last    so it is where nothing is left
---   one_amount     on one place there is but one trial
---   last_amount    what is left goes to the last place
+--   IsLast n k i rest       == the trial number i of degree k on n + 1 places holds all k at its first place, and has the
+--                              number rest on the others
+--   sought_first            each trial is sought from its own number, with nothing more at its first place
+--   sought_more             a trial is sought with one more, where its number is not below that of those that hold no more
+--   sought_here             where the number is below that, the first amount is found
+--   sought_last             a trial that is sought until nothing is left holds all at its first place
+--   one_amount              on one place there is but one trial
+--   last_amount             what is left goes to the last place
 use Rattle.std.proofs.Common.{◌≡◌, ℕ, suc, ◌+◌, ◌-◌, ◌<◌, ◌≤◌, List, [], ◌∷◌, ◌++◌, length, take, set, arith, refl, sym, ap, subst, ◌∙◌, length-set}
 use Rattle.std.proofs.lemmas.List.{take_more_set, take_all}
 use Rattle.std.proofs.lemmas.Bool.{cond_below, cond_above}
 use Rattle.dg_rank.specs.Trials.{IsTrial}
 use Rattle.dg_rank.specs.Numbering.{one_place_more, trial_count, raised, with_place, nth_trial}
 use Rattle.dg_rank.proofs.Lists.{no_places}
-use Rattle.dg_rank.proofs.Numbered.{numbered}
+use Rattle.dg_rank.proofs.Numbering.{numbered}
 use Rattle.dg_rank.proofs.Pascal.{count_more}
 
 abbrev pub more_by : ℕ → List ℕ → List ℕ

@@ -1,8 +1,8 @@
 -- The next trial: of what lies in the last place that holds something, one dollar goes to the place before it, and the
 -- others go to the last place.
---   IsNext E F p      == F is made so from E, where p is the place that gets the dollar
---   nothing_between   no trial comes between the two
---   next_number       it has the next number
+--   IsNext E F p      == F is made from E in this way, where p is the place that gets the dollar
+--   nothing_between   no trial comes between a trial and the one made from it
+--   next_number       the trial made from one has the next number
 --   has_place         where a trial has a next one, it holds something past the first place
 use Rattle.std.proofs.Common.{◌≡◌, ℕ, ◌+◌, ◌<◌, ◌≤◌, List, length, arith, sym, ap, subst, ◌∙◌, ⊎_elim}
 use Rattle.std.specs.Prelude.{slice_index}
@@ -12,8 +12,8 @@ use Rattle.std.proofs.lemmas.List.{get_or_past}
 use Rattle.dg_rank.specs.Trials.{IsTrial, IsNumbering, AnyTrial, ComesBefore}
 use Rattle.dg_rank.specs.Numbering.{trial_count, nth_trial}
 use Rattle.dg_rank.proofs.Lists.{heavier}
-use Rattle.dg_rank.proofs.Numbered.{numbered}
-use Rattle.dg_rank.proofs.Once.{lower_number}
+use Rattle.dg_rank.proofs.Numbering.{numbered}
+use Rattle.dg_rank.proofs.CountedOnce.{lower_number}
 
 pub record IsNext (E F : List ℕ) (p : ℕ) : Type 0 where
   pub places : length F ≡ length E

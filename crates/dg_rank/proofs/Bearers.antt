@@ -1,12 +1,12 @@
 -- Amounts from which the trials of a piece are lost, one after another.
 --   IsBase g D x     x holds amounts that D can be fired to, none of them past 32,000,000
 --   base-start       D itself is such amounts
---   base-next        what bears a trial's loss is
---   bears-win        and then D without the trial wins
+--   base-next        what bears a trial's loss is a base for the trials after it
+--   bears-win        where there is a bearer of a trial's loss, D without the trial wins
 --   bears-lost       where such amounts without a trial can't be won, D without it can't
 --   trial_small      a trial's amounts are at most 1,000
---   left_small       so such amounts without a trial's are within 32,001,000
---   left_held        and what they are fired to with no debt is within the limit of a sum
+--   left_small       a base without a trial's amounts is within 32,001,000
+--   left_held        what a base without a trial is fired to with no debt is within the limit of a sum
 --   bears-left       effective amounts that these without a trial are fired to bear its loss once its amounts are added
 use Rattle.std.proofs.Common.{◌≡◌, ℕ, ◌*◌, ◌<◌, ◌≤◌, ◌^◌, List, [], slice_index, arith, sym, ap, ◌∙◌}
 use Rattle.std.specs.List.{sum}

@@ -1,9 +1,9 @@
 -- Rank tests of a divisor and of one that a firing leads to.
 --   rank-cong       a rank test tells the same of two divisors that agree on the vertices
---   loss-cong       and so does the first loss
+--   loss-cong       the first loss is the same of two divisors that agree on the vertices
 --   rank_carried    what a rank test tells of the divisor that a script leads to, it tells of the one before
---   loss_carried    and so does the first loss
---   degree_carried  both have the same degree
+--   loss_carried    the first loss of the divisor that a script leads to is that of the one before
+--   degree_carried  the divisor that a script leads to has the degree of the one before
 use Rattle.std.proofs.Common.{◌≡◌, ℕ, ◌<◌, arith, sym, ◌∙◌}
 use Rattle.std.proofs.lemmas.Int.{ints}
 use Rattle.dg_theory.specs.Multigraph.{Multigraph, IsMultigraph}
