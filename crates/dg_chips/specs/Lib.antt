@@ -2,6 +2,7 @@
 pub mod Vector
 pub mod VectorFaults
 pub mod DivisorFaults
+pub mod Dual
 pub mod ScriptFaults
 pub mod Moves
 pub mod Drifts

@@ -3,6 +3,7 @@
 
 mod divisor;
 mod drift;
+mod duals;
 mod firing;
 mod limits;
 mod moves;
@@ -14,6 +15,7 @@ mod wide;
 
 pub use divisor::{ChipFault, Divisor};
 pub use drift::Drift;
+pub use duals::dual;
 pub use firing::apply;
 pub use limits::{MAX_AMOUNT, MAX_DRIFT, MAX_ENTRY};
 pub use moves::{Move, MoveFault};

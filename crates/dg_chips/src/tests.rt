@@ -2,6 +2,7 @@
 
 mod divisors;
 mod drifts;
+mod duals;
 mod moves;
 mod scripts;
 mod starts;

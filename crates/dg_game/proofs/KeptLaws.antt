@@ -1,6 +1,6 @@
 -- Looks that seats keep, from step to step.
 --   kept_more      a look that is kept before a step is kept after it, unless the step is the seat's and uses looks
---   kept_less      and what is kept after such a step was kept before it
+--   kept_less      a look that is kept after such a step was kept before it
 --   kept_new       after a look by the seat that look is kept
 --   kept_none      after a step of the seat that uses its look up none is
 --   keeps_more     the look that a seat keeps stays, unless the step is the seat's and uses looks

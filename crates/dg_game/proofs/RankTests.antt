@@ -10,8 +10,8 @@ use Rattle.dg_theory.proofs.RankLaws.{equivalent-rank}
 use Rattle.dg_theory.proofs.LossLaws.{equivalent-loss}
 use Rattle.dg_chips.specs.Vector.{at}
 use Rattle.dg_rank.specs.Ranks.{IsRankTest}
-use Rattle.dg_rank.specs.declared.verdicts.RankVerdict.{RankVerdict}
-use Rattle.dg_rank.specs.declared.verdicts.RankVerdict.TheVariants.{AtLeast, Below}
+use Rattle.dg_rank.specs.declared.rank_verdict.RankVerdict.{RankVerdict}
+use Rattle.dg_rank.specs.declared.rank_verdict.RankVerdict.TheVariants.{AtLeast, Below}
 
 rank_test_carried : (g : Multigraph) (D E : Amounts) (k : ℕ) (x : RankVerdict) → AreEquivalent g D E → IsRankTest g D k x → IsRankTest g E k x
 rank_test_carried g D E k (AtLeast j) same (of_degree, rank) = (of_degree, (equivalent-rank g D E k same).0 rank)

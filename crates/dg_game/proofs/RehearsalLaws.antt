@@ -1,18 +1,18 @@
 -- A schedule goes on by a step.
 --   good_more      with one more good step all steps so far are good
---   playing_none   before the first step
---   playing_more   with one more entry that the next step asks for, and the looks kept after it
---   looks_same     the looks are kept where the step uses none
---   looks_set      where the seat's look is replaced, and the others stay
---   looks_looked   after a call that is a look
---   looks_left     and after one that is not
---   called         the schedule after a call
---   entered        and after a finding is entered that was reckoned on the seat's look
+--   playing_none   before the first step the schedule is in play
+--   playing_more   one more entry that the next step asks for, and the looks kept after it, play the schedule on
+--   looks_same     a step that uses no look keeps all looks
+--   looks_set      a step that replaces the seat's look keeps those of the other seats
+--   looks_looked   the looks kept after a call that is a look
+--   looks_left     the looks kept after a call that is no look
+--   called         a call plays the schedule on
+--   entered        a finding that was reckoned on the seat's look plays the schedule on when it is entered
 --   kept_there     what is read at the place of a seat is the look that it keeps, if it keeps one
 --   lookless       a step that wants a look that the seat does not keep is the first fault
---   past_limits    and so is a rank test past the limits, where the seat keeps a look
+--   past_limits    a rank test past the limits is the first fault, where the seat keeps a look
 --   told_ok_or     what an option tells, its `ok_or` tells as well
---   told_err       and a refusal that is handed on tells what it told
+--   told_err       a refusal that is handed on tells what it told before
 use Rattle.std.proofs.Common.{◌≡◌, ℕ, ◌+◌, ◌<◌, List, [], ◌∷◌, ◌++◌, length, length-append, slice_get, Option, Some, None, Result, Ok, Err, set, arith, refl, sym, ap, ◌∙◌, inl, inr, length-set, replicate}
 use Rattle.std.specs.List.{slice_index_or}
 use Rattle.std.specs.Option.{ok_or, MatchOption}
@@ -32,6 +32,7 @@ use Rattle.dg_game.specs.declared.entry.Plain.{Plain}
 use Rattle.dg_game.specs.declared.entry.Plain.TheVariants as plain
 use Rattle.dg_game.specs.declared.entry.Reply.{Reply}
 use Rattle.dg_game.specs.declared.finding.Finding.{Finding}
+use Rattle.dg_game.specs.declared.game.TheConstants.{MAX_ENTRIES}
 use Rattle.dg_game.specs.declared.look.LookData.{LookData}
 use Rattle.dg_game.specs.declared.schedule.Rehearsal.{Rehearsal}
 use Rattle.dg_game.specs.declared.schedule.RehearseFault.TheVariants.{NoLook, TooMany}
@@ -162,13 +163,13 @@ kept_there o H steps r seat i d playing is place =
     rw here at (playing.looks seat is)
 
 pub lookless : (o : Opening) (H : List Entry) (steps : List Step) (r : Rehearsal) (step : Step) (i : ℕ) → IsPlaying o steps H r →
-    slice_get steps (length H) ≡ Some step → i ≡ length H → i < 65536 → IsSeat step.seat →
+    slice_get steps (length H) ≡ Some step → i ≡ length H → i < MAX_ENTRIES → IsSeat step.seat →
     (¬ HasLook steps step.seat (length H) step.command) → IsFirstFault o.graph.size steps (NoLook i)
 lookless o H steps r step i playing there here room seat none =
     (room, rw here playing.good, (step, rw here there, (seat, rw here none)))
 
 pub past_limits : (o : Opening) (H : List Entry) (steps : List Step) (r : Rehearsal) (seat k j i : ℕ) → IsPlaying o steps H r →
-    slice_get steps (length H) ≡ Some (record { seat = seat; command = Rank k }) → i ≡ length H → i < 65536 → IsSeat seat →
+    slice_get steps (length H) ≡ Some (record { seat = seat; command = Rank k }) → i ≡ length H → i < MAX_ENTRIES → IsSeat seat →
     IsKept steps seat (length H) j → IsPastLimits o.graph.size k → IsFirstFault o.graph.size steps (TooMany i)
 past_limits o H steps r seat k j i playing there here room is kept past =
     (room, rw here playing.good, (record { seat = seat; command = Rank k }, rw here there, (is, (j, rw here kept), past)))

@@ -1,6 +1,7 @@
 -- A reply that is right at one position is right at another that has the same graph and the same amounts on it.
---   range-cong      the same amounts are in range, or out of it
---   replies-cong    the law
+--   in_range-cong        amounts that agree with some in range are in range
+--   out_of_range-cong    amounts that agree with some out of range are out of range
+--   replies-cong         a right reply to a call is right for amounts that agree
 use Rattle.std.proofs.Common.{◌≡◌, ℕ, ◌<◌, arith, ◌∙◌}
 use Rattle.std.proofs.lemmas.Int.{ints}
 use Rattle.std.proofs.Math.IntN.{ℤ}

@@ -9,7 +9,7 @@
 --   LooksAreShown         == a look of a legal history showed what `IsLookAt` says, whatever drift is kept with it
 use Rattle.std.specs.Prelude.{◌≡◌, ℕ, List, [], ◌∷◌, ◌++◌, take, slice_get, Some, ⊤}
 use Rattle.dg_chips.specs.Opening.{Opening}
-use Rattle.dg_rank.specs.declared.verdicts.RankVerdict.TheVariants.{AtLeast, Below}
+use Rattle.dg_rank.specs.declared.rank_verdict.RankVerdict.TheVariants.{AtLeast, Below}
 use Rattle.dg_game.specs.Replies.{Replies}
 use Rattle.dg_game.specs.Legal.{IsSeat, LooksBack, IsLegal}
 use Rattle.dg_game.specs.Look.{IsLookAt}

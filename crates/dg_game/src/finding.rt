@@ -2,7 +2,7 @@
 ghost use Rattle.std.specs.Prelude.{◌≡◌, ℕ, ◌<◌, MatchResult};
 ghost use Rattle.dg_rank.specs.Limits.{IsPastLimits};
 ghost use Rattle.dg_rank.specs.Ranks.{IsWithin};
-ghost use Rattle.dg_rank.specs.declared.verdicts.RankFault.TheVariants.{TooMany};
+ghost use Rattle.dg_rank.specs.declared.rank_verdict.RankFault.TheVariants.{TooMany};
 ghost use Rattle.dg_game.specs.Look.{IsFoundFor, asked_for};
 ghost use Rattle.dg_game.specs.declared.entry.Request.TheVariants.{Judge as JudgeRequest, Rank as RankRequest};
 

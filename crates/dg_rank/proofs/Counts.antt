@@ -1,13 +1,13 @@
 -- How many trials there are.
---   limits_count   within the limits it is the number that the numbering gives
---   limits_trial   a number below that is one of a trial
+--   limits_count   within the limits there are as many as the numbering gives
+--   limits_trial   within the limits a number below that of all trials is the number of one
 --   some_trial     on one place or more there is some trial of each degree
 use Rattle.std.proofs.Common.{◌≡◌, ℕ, ◌<◌, ◌≤◌, arith}
 use Rattle.dg_rank.specs.Trials.{IsTrial}
 use Rattle.dg_rank.specs.Limits.{IsWithinLimits}
 use Rattle.dg_rank.specs.Numbering.{trial_count, nth_trial}
-use Rattle.dg_rank.proofs.Numbered.{numbered}
-use Rattle.dg_rank.proofs.Once.{counted_once}
+use Rattle.dg_rank.proofs.Numbering.{numbered}
+use Rattle.dg_rank.proofs.CountedOnce.{counted_once}
 use Rattle.dg_rank.proofs.Pascal.{one_place, count_grows}
 
 pub limits_count : (n k c : ℕ) → IsWithinLimits n k c → c ≡ trial_count n k

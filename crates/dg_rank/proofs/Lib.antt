@@ -1,17 +1,18 @@
 -- The numbering of trials, unranking and the walk.
 pub mod Lists
-pub mod Numbered
-pub mod Once
+pub mod Numbering
+pub mod CountedOnce
 pub mod Pascal
 pub mod Counts
-pub mod Next
-pub mod Unranked
-pub mod Walked
+pub mod NextTrial
+pub mod Unranking
+pub mod Walk
 -- Trials and effective divisors.
-pub mod Listed
+pub mod TrialLists
 -- What the search over all trials finds.
-pub mod Found
-pub mod Searched
-pub mod Borne
+pub mod FirstLosses
+pub mod Search
+pub mod Bearers
 -- The reduced divisor in place of the one given.
 pub mod SmallAmounts
+pub mod RankByTests

@@ -1,8 +1,8 @@
 -- Trials as lists: their sums and their order.
 --   sum_cons       the sum of a list, by its first amount
 --   no_places      a list with no places is empty
---   trial_cons     one amount before a trial makes a trial of so much more
---   trial_tail     what follows the first amount of a trial is a trial of so much less
+--   trial_cons     an amount put before a trial makes a trial of that much more
+--   trial_tail     what follows the first amount of a trial is a trial of that much less
 --   before_cons    an order of trials stays with one amount put before both
 --   before_both    no two trials are each before the other
 --   heavier        a list that is before another and holds nothing after the place at which they differ has less in all

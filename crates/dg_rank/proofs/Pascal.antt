@@ -1,8 +1,8 @@
 -- The numbers of trials, by two identities of Pascal's triangle.
 --   one_place     on one place there is one trial of each degree
---   count_more    those that hold nothing at the first place, and those that hold something there
---   count_grows   on more places there are no fewer
---   count_next    with one place more, p places before, there are (k + p) / p times as many
+--   count_more    trials are those that hold nothing at the first place and those that hold something there
+--   count_grows   on more places there are no fewer trials
+--   count_next    on p + 1 places there are (k + p) / p times as many trials of degree k as on p places
 use Rattle.std.proofs.Common.{◌≡◌, ℕ, zero, suc, ◌+◌, ◌*◌, ◌/◌, ◌<◌, ◌≤◌, arith, refl, ap, ⊎_elim, add-one}
 use Rattle.std.proofs.Math.Nat.{mul-div_cancel_left}
 use Rattle.std.proofs.lemmas.Bool.{cases_lt}

@@ -1,6 +1,6 @@
 -- The amounts of a reduced divisor whose degree is at least 0 and not high are small.
 --   edges_few        a graph has at most 63 edges for each vertex
---   genus_small      so its genus is at most 1,009
+--   genus_small      the genus of a graph is at most 1,009
 --   reduced_at_q     at q a reduced divisor holds at most its degree, and at least that less 62 dollars for each vertex
 --   degree_small     n amounts within 1,000,000 add up to at most n times as much
 --   reduced_small    where the degree is at least 0 and less than the genus and a thousand, all amounts are small

@@ -3,5 +3,5 @@ pub mod Trials
 pub mod Limits
 pub mod Numbering
 pub mod Divisors
-pub mod Pieces
+pub mod Losses
 pub mod Ranks

@@ -1,6 +1,11 @@
-ghost use Rattle.std.specs.Prelude.{◌≡◌, ◌<◌, ◌≤◌, MatchOption, min};
+//! How many trials of a degree there are, and which one has a number.
+ghost use Rattle.std.specs.Prelude.{◌≡◌, ℕ, ◌+◌, ◌<◌, ◌≤◌, MatchOption, min};
+ghost use Rattle.dg_rank.specs.Divisors.{IsTrialNumber};
 ghost use Rattle.dg_rank.specs.Limits.{IsWithinLimits, IsPastLimits};
 ghost use Rattle.dg_rank.specs.Numbering.{trial_count};
+
+use crate::enumeration::Trial;
+use dg_chips::Divisor;
 
 /// The most vertices of a rank test.
 pub const MAX_VERTICES: usize = 16;
@@ -26,13 +31,22 @@ pub fn trials(n: usize, k: u32) -> Option<u32>
     Some(count)
 }
 
+/// The trial of degree k on n vertices that has exactly i trials before it; one is before another where it holds less
+/// at the first vertex at which they differ. The condition is that i is below the number of trials.
+pub fn trial(n: usize, k: u32, i: u32) -> Divisor
+    requires { (c : ℕ) × IsWithinLimits n k c × (i < c) }
+    ensures { IsTrialNumber n k i result }
+{
+    Trial::with_number(n, k, i).to_divisor()
+}
+
 /// How many trials of degree k there are on n places, or 200,001 where there are more than 200,000. The conditions are
 /// that n is 1 to 16, and that k is at most 1,000.
 pub(crate) fn count(n: usize, k: u32) -> u32
     requires some { 0 < n }
     requires few { n ≤ 16 }
-    requires small { k ≤ 1000 }
-    ensures { result ≡ min 200001 (trial_count n k) }
+    requires small { k ≤ MAX_DEGREE }
+    ensures { result ≡ min (MAX_TRIALS + 1) (trial_count n k) }
 {
     let mut count = 1;
     for places in 1..n as u64 {

@@ -2,20 +2,15 @@
 #![tactic(auto)]
 
 mod counting;
-mod divisors;
-mod losses;
-mod numbering;
-#[cfg(test)]
-mod rank_tests;
+mod enumeration;
+mod first_loss;
+mod rank_verdict;
 mod ranks;
 #[cfg(test)]
 mod tests;
-mod verdicts;
-mod walking;
 mod workers;
 
-pub use counting::{MAX_DEGREE, MAX_TRIALS, trials};
-pub use divisors::trial;
-pub use ranks::rank_at_least;
-pub use verdicts::{RankFault, RankVerdict};
-pub use workers::{Gate, OpenGate, rank_with};
+pub use counting::{MAX_DEGREE, MAX_TRIALS, trial, trials};
+pub use rank_verdict::{RankFault, RankVerdict};
+pub use ranks::{rank, rank_at_least};
+pub use workers::{Gate, MAX_WORKERS, OpenGate, rank_with};

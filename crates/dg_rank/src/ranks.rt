@@ -1,15 +1,16 @@
-ghost use Rattle.std.specs.Prelude.{◌≡◌, ◌<◌, ◌≤◌, pos, ◌-ℤ◌, MatchResult};
+//! Rank tests, and the rank that they tell.
+ghost use Rattle.std.specs.Prelude.{◌≡◌, ◌<◌, ◌≤◌, pos, ◌-ℤ◌, MatchOption, MatchResult};
 ghost use Rattle.dg_theory.specs.Firing.{degree};
+ghost use Rattle.dg_theory.specs.Rank.{IsRank};
 ghost use Rattle.dg_chips.specs.Vector.{at};
 ghost use Rattle.dg_rank.specs.Limits.{IsPastLimits};
-ghost use Rattle.dg_rank.specs.Ranks.{IsWithin, IsRankTest};
-ghost use Rattle.dg_rank.specs.declared.verdicts.RankFault.TheVariants.{TooMany};
+ghost use Rattle.dg_rank.specs.Ranks.{IsWithin, IsRankTest, NeedsTooMany};
+ghost use Rattle.dg_rank.specs.declared.rank_verdict.RankFault.TheVariants.{TooMany};
 
-use crate::counting::trials;
-use crate::divisors::divisor_of;
-use crate::losses::first_loss;
-use crate::numbering::trial_of_number;
-use crate::verdicts::{RankFault, RankVerdict};
+use crate::counting::{MAX_DEGREE, trials};
+use crate::enumeration::Trial;
+use crate::first_loss::first_loss;
+use crate::rank_verdict::{RankFault, RankVerdict};
 use dg_chips::Divisor;
 use dg_graph::Graph;
 use dg_reduce::reduce;
@@ -39,19 +40,38 @@ pub fn rank_at_least(
         return Ok(RankVerdict::AtLeast(k));
     }
     if rest < 0 {
-        let first = divisor_of(&trial_of_number(size, k, 0));
+        let first = Trial::with_number(size, k, 0).to_divisor();
         return Ok(RankVerdict::Below(k, first));
     }
     let chips = reduce(graph, q, divisor).divisor;
     match first_loss(graph, &chips, k, 0, count) {
-        Some(trial) => Ok(RankVerdict::Below(k, divisor_of(&trial))),
+        Some(trial) => Ok(RankVerdict::Below(k, trial.to_divisor())),
         None => Ok(RankVerdict::AtLeast(k)),
     }
 }
 
+/// The rank of a divisor: the greatest k of which its rank is at least k, and -1 where it is not winnable. `None` where a
+/// test past the limits would be needed.
+pub fn rank(graph: &Graph, q: usize, divisor: &Divisor) -> Option<i64>
+    requires size { divisor.now.size ≡ graph.now.size }
+    requires vertex { q < graph.now.size }
+    ensures { MatchOption result
+        (NeedsTooMany graph.now (at divisor.now))
+        (IsRank graph.now (at divisor.now)) }
+{
+    for k in 0..=MAX_DEGREE {
+        match rank_at_least(graph, q, divisor, k) {
+            Ok(RankVerdict::AtLeast(_)) => {}
+            Ok(RankVerdict::Below(..)) => return Some(i64::from(k) - 1),
+            Err(_) => return None,
+        }
+    }
+    None
+}
+
 /// The degree of what is left of a divisor after a loss of degree k.
 fn degree_left(divisor: &Divisor, k: u32) -> i64
-    requires { k ≤ 1000 }
+    requires { k ≤ MAX_DEGREE }
     ensures { result ≡ degree divisor.now.size (at divisor.now) -ℤ pos k }
 {
     let _amounts = divisor.size();

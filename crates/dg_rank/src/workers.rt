@@ -1,15 +1,19 @@
+//! Rank tests among workers.
 ghost use Rattle.std.specs.Prelude.{◌≡◌, ◌<◌, MatchResult};
 ghost use Rattle.dg_chips.specs.Vector.{at};
 ghost use Rattle.dg_rank.specs.Ranks.{IsWithin, IsRankTest, IsRankFault, MayHaveWorkers};
 
 use crate::counting::trials;
+use crate::rank_verdict::{RankFault, RankVerdict};
 use crate::ranks::rank_at_least;
-use crate::verdicts::{RankFault, RankVerdict};
 use dg_chips::Divisor;
 use dg_graph::Graph;
 use std::marker::Sync;
 use std::sync::Wait;
 use std::thread::Threads;
+
+/// The most workers of a rank test.
+pub const MAX_WORKERS: u32 = 16;
 
 /// What a piece of a rank test passes before its first trial; pieces on several threads share it.
 pub trait Gate: Sync {
@@ -49,7 +53,7 @@ pub fn rank_with<R: Threads + Wait, G: Gate>(
     if trials(size, k).is_none() {
         return Err(RankFault::TooMany);
     }
-    if workers < 1 || workers > 16 {
+    if workers < 1 || workers > MAX_WORKERS {
         return Err(RankFault::Workers);
     }
     rank_at_least(graph, q, divisor, k)

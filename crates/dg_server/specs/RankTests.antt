@@ -3,29 +3,22 @@
 --   IsRankAnswer o k names text == the text is that of a reply with a rank verdict of degree k which is right for the
 --                                  amounts of the opening o, and a newline
 --   RefusesRank n k fault       == a rank test of degree k on n vertices is past the limits, or memory was refused
---   NeedsTooMany g D            == the rank of D is not told by rank tests within the limits: those that come before one
---                                  past them are all passed
---   DualOf g D E                == E holds the canonical divisor less D, which is the dual of D
 --   number_line label z         == the label, the number and a newline
 --   riemann_roch_text o r s     == the lines of the opening divisor's degree, of the genus, and of the ranks r and s
 --   IsRiemannRoch o text        == the text is those lines, with the rank of the divisor and that of its dual
---   DualNeedsTooMany g D        == the dual is in range, and the rank of D or of the dual needs a test past the limits
---   IsFirstPastDual g D v       == v is the first vertex at which the dual is out of range
 --   RefusesRiemannRoch o fault  == the dual is out of range; else one of the two ranks needs a test past the limits; of
 --                                  want of memory nothing is said
-use Rattle.std.specs.Prelude.{◌≡◌, ℕ, ◌<◌, ◌⊎◌, ℤ, List, ◌++◌, codes, ⊤}
-use Rattle.std.specs.Int.RustNames.{unsigned_abs}
+use Rattle.std.specs.Prelude.{◌≡◌, ℕ, ℤ, List, ◌++◌, codes, ⊤}
 use Rattle.std.specs.Fmt.{signed_decimal}
-use Rattle.dg_theory.specs.Multigraph.{Multigraph, genus}
+use Rattle.dg_theory.specs.Multigraph.{genus}
 use Rattle.dg_theory.specs.Firing.{Amounts, degree}
-use Rattle.dg_theory.specs.Rank.{less, canonical, HasRankAtLeast, IsRank}
+use Rattle.dg_theory.specs.Rank.{IsRank}
+use Rattle.dg_chips.specs.Dual.{DualOf, IsDualFault}
 use Rattle.dg_chips.specs.Opening.{Opening}
-use Rattle.dg_chips.specs.Vector.{at, IsInRange}
-use Rattle.dg_chips.specs.declared.divisor.ChipFault.{ChipFault}
-use Rattle.dg_chips.specs.declared.divisor.ChipFault.TheVariants.{Length, Range}
+use Rattle.dg_chips.specs.Vector.{at}
 use Rattle.dg_rank.specs.Limits.{IsPastLimits}
-use Rattle.dg_rank.specs.Ranks.{IsRankTest}
-use Rattle.dg_rank.specs.declared.verdicts.RankVerdict.{RankVerdict}
+use Rattle.dg_rank.specs.Ranks.{IsRankTest, DualNeedsTooMany}
+use Rattle.dg_rank.specs.declared.rank_verdict.RankVerdict.{RankVerdict}
 use Rattle.dg_game.specs.declared.entry.Reply.TheVariants.{Rank}
 use Rattle.dg_session.specs.Texts.{text_of}
 use Rattle.dg_server.specs.declared.fault.Fault.{Fault}
@@ -40,14 +33,6 @@ abbrev pub RefusesRank : ℕ → ℕ → Fault → Type 0
 RefusesRank n k TooMany = IsPastLimits n k
 RefusesRank n k OutOfMemory = ⊤
 RefusesRank n k fault = ⊥
-
-pub record NeedsTooMany (g : Multigraph) (D : Amounts) : Type 0 where
-  pub degree : ℕ
-  pub past : IsPastLimits g.size degree
-  pub passed : (k : ℕ) → k < degree → HasRankAtLeast g D k
-
-abbrev pub DualOf : Multigraph → Amounts → Amounts → Type 0
-DualOf g D E = (v : ℕ) → v < g.size → E v ≡ less (canonical g) D v
 
 abbrev pub number_line : List ℕ → ℤ → List ℕ
 number_line label z = label ++ signed_decimal z ++ codes "\n"
@@ -67,19 +52,8 @@ pub record IsRiemannRoch (o : Opening) (text : List ℕ) : Type 0 where
   pub of_dual : IsRank o.graph dual dual_rank
   pub printed : text ≡ riemann_roch_text o rank dual_rank
 
-pub record DualNeedsTooMany (g : Multigraph) (D : Amounts) : Type 0 where
-  pub dual : Amounts
-  pub is_dual : DualOf g D dual
-  pub in_range : IsInRange g.size dual
-  pub either : NeedsTooMany g D ⊎ NeedsTooMany g dual
-
-pub record IsFirstPastDual (g : Multigraph) (D : Amounts) (v : ℕ) : Type 0 where
-  pub vertex : v < g.size
-  pub past : 1000000 < unsigned_abs (less (canonical g) D v)
-  pub least : IsInRange v (less (canonical g) D)
-
 abbrev pub RefusesRiemannRoch : Opening → Fault → Type 0
-RefusesRiemannRoch o (Chip (Range v)) = IsFirstPastDual o.graph (at o.divisor) v
+RefusesRiemannRoch o (Chip fault) = IsDualFault o.graph (at o.divisor) fault
 RefusesRiemannRoch o TooMany = DualNeedsTooMany o.graph (at o.divisor)
 RefusesRiemannRoch o OutOfMemory = ⊤
 RefusesRiemannRoch o fault = ⊥

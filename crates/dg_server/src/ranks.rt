@@ -1,16 +1,13 @@
 //! Rank tests that are printed, and both sides of Riemann-Roch.
-ghost use Rattle.std.specs.Prelude.{◌≡◌, ℤ, ◌<◌, ◌++◌, IfOk, IfErr, OnOk, MatchOption};
-ghost use Rattle.dg_theory.specs.Rank.{IsRank};
-ghost use Rattle.dg_chips.specs.Vector.{at};
-ghost use Rattle.dg_server.specs.RankTests.{IsRankAnswer, RefusesRank, NeedsTooMany, number_line, riemann_roch_text, IsRiemannRoch, RefusesRiemannRoch};
+ghost use Rattle.std.specs.Prelude.{◌≡◌, ℤ, ◌++◌, IfOk, IfErr, OnOk};
+ghost use Rattle.dg_server.specs.RankTests.{IsRankAnswer, RefusesRank, number_line, riemann_roch_text, IsRiemannRoch, RefusesRiemannRoch};
 
 use crate::fault::Fault;
 use crate::printed::reply_line;
-use dg_chips::{Divisor, Start};
+use dg_chips::{Start, dual};
 use dg_file::TableFile;
 use dg_game::Reply;
-use dg_graph::Graph;
-use dg_rank::{MAX_DEGREE, RankVerdict, rank_at_least};
+use dg_rank::{rank, rank_at_least};
 use itoa::Buffer;
 use std::alloc::{AllocError, Allocator, Global};
 
@@ -46,39 +43,23 @@ pub fn riemann_roch(alloc: Global, table: &TableFile) -> Result<Vec<u8>, Fault>
     let graph = start.graph();
     let divisor = start.divisor();
     let q = usize::from(start.q());
-    let dual = match Divisor::canonical(graph).minus(divisor) {
-        Ok(dual) => dual,
+    let other = match dual(graph, divisor) {
+        Ok(other) => other,
         Err(fault) => return Err(Fault::Chip(fault)),
     };
-    let _size = dual.size();
-    let Some(rank) = rank_of(graph, q, divisor) else {
+    let Some(divisor_rank) = rank(graph, q, divisor) else {
         return Err(Fault::TooMany);
     };
-    let Some(dual_rank) = rank_of(graph, q, &dual) else {
+    let Some(dual_rank) = rank(graph, q, &other) else {
         return Err(Fault::TooMany);
     };
-    match riemann_roch_lines(alloc, start, rank, dual_rank) {
+    match riemann_roch_lines(alloc, start, divisor_rank, dual_rank) {
         Ok(text) => Ok(text),
         Err(_) => Err(Fault::OutOfMemory),
     }
 }
 
-/// The rank of a divisor, -1 where it is not winnable; `None` where a test past the limits would be needed.
-pub(crate) fn rank_of(graph: &Graph, q: usize, divisor: &Divisor) -> Option<i64>
-    requires size { divisor.now.size ≡ graph.now.size }
-    requires vertex { q < graph.now.size }
-    ensures { MatchOption result (NeedsTooMany graph.now (at divisor.now)) (IsRank graph.now (at divisor.now)) }
-{
-    for k in 0..=MAX_DEGREE {
-        match rank_at_least(graph, q, divisor, k) {
-            Ok(RankVerdict::AtLeast(_)) => {}
-            Ok(RankVerdict::Below(..)) => return Some(i64::from(k) - 1),
-            Err(_) => return None,
-        }
-    }
-    None
-}
-
+/// The four lines of a start with these two ranks.
 fn riemann_roch_lines(
     alloc: Global,
     start: &Start,
@@ -95,6 +76,7 @@ fn riemann_roch_lines(
     Ok(text)
 }
 
+/// A label, a number and a newline.
 fn push_number<A: Allocator>(
     text: &mut Vec<u8, A>,
     label: &str,

@@ -1,9 +1,4 @@
-ghost use Rattle.std.specs.Prelude.{◌<◌};
-
-use crate::ranks::rank_of;
 use crate::tests::runs::{REHEARSE, Shelf, outcome_of};
-use dg_chips::Divisor;
-use dg_graph::Graph;
 use std::test::Fail;
 
 const ONE_ON_THREE: &str =
@@ -204,47 +199,5 @@ fn rank_tests_are_steps(rt: HostRuntime) -> Result<(), Fail> {
         };
         assert!(rt; right, "{steps}");
     }
-    Ok(())
-}
-
-// Whether both sides agree for each of `count` divisors: their amounts, less `least`, are the digits of the numbers
-// below it.
-fn agree(graph: &Graph, least: i8, digits: u16, count: u16) -> Result<bool, Fail>
-    requires { 0 < digits }
-{
-    let genus = i64::from(graph.genus());
-    for number in 0..count {
-        let mut amounts = [0; 16];
-        let mut rest = number;
-        for v in 0..graph.size() {
-            amounts[v] = i64::from(rest % digits) + i64::from(least);
-            rest /= digits;
-        }
-        let divisor = Divisor::new(graph, &amounts[..graph.size()])?;
-        let dual = Divisor::canonical(graph).minus(&divisor)?;
-        let Some(rank) = rank_of(graph, 0, &divisor) else {
-            return Ok(false);
-        };
-        let Some(dual_rank) = rank_of(graph, 0, &dual) else {
-            return Ok(false);
-        };
-        let Some(right) = divisor.degree().checked_add(1 - genus) else {
-            return Ok(false);
-        };
-        if rank.checked_sub(dual_rank) != Some(right) {
-            return Ok(false);
-        }
-    }
-    Ok(true)
-}
-
-#[test]
-fn both_sides_of_riemann_roch_agree(rt: HostRuntime) -> Result<(), Fail> {
-    let triangle = Graph::new(3, &[(0, 1, 1), (1, 2, 1), (0, 2, 1)])?;
-    let square = Graph::new(4, &[(0, 1, 1), (1, 2, 1), (2, 3, 1), (0, 3, 1)])?;
-    let pair = Graph::new(2, &[(0, 1, 3)])?;
-    assert!(rt; agree(&triangle, -2, 5, 125)?);
-    assert!(rt; agree(&square, -1, 3, 81)?);
-    assert!(rt; agree(&pair, -3, 7, 49)?);
     Ok(())
 }

@@ -1,7 +1,7 @@
 use Rattle.std.proofs.Common.{◌≡◌, ℕ, arith, inr, subst}
 use Rattle.dg_rank.specs.Trials.{AreCounted, AnyTrial}
 use Rattle.dg_rank.specs.Numbering.{trial_count, nth_trial}
-use Rattle.dg_rank.proofs.Numbered.{numbered}
+use Rattle.dg_rank.proofs.Numbering.{numbered}
 use Rattle.dg_rank.proofs.counting.trials.Goals as goal
 
 pub returns-then-count-gt-MAX_TRIALS : goal.returns-then-count-gt-MAX_TRIALS

@@ -8,8 +8,8 @@ use Rattle.dg_theory.proofs.RankLaws.{rich_rank}
 use Rattle.dg_chips.specs.Vector.{at}
 use Rattle.dg_rank.specs.Limits.{IsWithinLimits}
 use Rattle.dg_rank.specs.Numbering.{nth_trial}
-use Rattle.dg_rank.specs.Pieces.{IsLossIn}
-use Rattle.dg_rank.proofs.Found.{nth-trial, loss-trial, found_rank, found_loss, some_number, poor_loss}
+use Rattle.dg_rank.specs.Losses.{IsLossIn}
+use Rattle.dg_rank.proofs.FirstLosses.{nth-trial, loss-trial, found_rank, found_loss, some_number, poor_loss}
 use Rattle.dg_rank.proofs.SmallAmounts.{reduced_small}
 use Rattle.dg_theory.proofs.Equivalence.{equivalent-degree}
 use Rattle.dg_theory.proofs.LossLaws.{equivalent-loss}
@@ -26,33 +26,33 @@ returns-then-rest-from c =
       (refl, rich_rank c.args.graph.now (at c.args.divisor.now) c.args.k c.size-size.ensures.graph.multigraph within.some rich),
     )
 
-pub trial_of_number-requires : goal.trial_of_number-requires
-trial_of_number-requires c =
+pub with_number-requires : goal.with_number-requires
+with_number-requires c =
     (c.in-Some.count, c.in-Some.ensures, some_number c.size-size.result c.args.k c.in-Some.count c.in-Some.ensures)
 
-pub divisor_of-first-requires : goal.divisor_of-first-requires
-divisor_of-first-requires c =
+pub to_divisor-first-requires : goal.to_divisor-first-requires
+to_divisor-first-requires c =
     let within : IsWithinLimits c.size-size.result c.args.k c.in-Some.count = c.in-Some.ensures in
     let some : 0 < c.in-Some.count = some_number c.size-size.result c.args.k c.in-Some.count within in (
       c.size-size.result,
       c.args.k,
       c.in-Some.count,
       within,
-      rw c.trial_of_number.ensures (nth-trial c.size-size.result c.args.k c.in-Some.count 0 within some),
+      rw c.with_number.ensures (nth-trial c.size-size.result c.args.k c.in-Some.count 0 within some),
     )
 
 pub returns-then-rest-lt0 : goal.returns-then-rest-lt0
 returns-then-rest-lt0 c =
     let within : IsWithinLimits c.args.graph.now.size c.args.k c.in-Some.count = rw c.size-size.ensures.size at c.in-Some.ensures in
-    let first : c.trial_of_number.result ≡ nth_trial c.args.graph.now.size c.args.k 0 =
-    rw c.size-size.ensures.size at c.trial_of_number.ensures in
+    let first : c.with_number.result ≡ nth_trial c.args.graph.now.size c.args.k 0 =
+    rw c.size-size.ensures.size at c.with_number.ensures in
     let rest : c.degree_left-rest.result ≡ degree c.args.graph.now.size (at c.args.divisor.now) -ℤ pos c.args.k =
     rw c.requires.size at c.degree_left-rest.ensures in
     let poor : degree c.args.graph.now.size (at c.args.divisor.now) <ℤ pos c.args.k = omega (arith, ints) in
-    let loss : IsLossIn c.args.graph.now (at c.args.divisor.now) c.args.k 0 c.in-Some.count c.trial_of_number.result =
+    let loss : IsLossIn c.args.graph.now (at c.args.divisor.now) c.args.k 0 c.in-Some.count c.with_number.result =
     rw first (poor_loss c.args.graph.now (at c.args.divisor.now) c.args.k c.in-Some.count c.size-size.ensures.graph.multigraph poor within) in
-    let (size, found) = found_loss c.args.graph.now (at c.args.divisor.now) c.args.k c.in-Some.count c.trial_of_number.result
-    c.divisor_of-first.result within loss c.divisor_of-first.ensures in
+    let (size, found) = found_loss c.args.graph.now (at c.args.divisor.now) c.args.k c.in-Some.count c.with_number.result
+    c.to_divisor-first.result within loss c.to_divisor-first.ensures in
     ((c.in-Some.count, within), (refl, size, found))
 
 pub first_loss-requires-clause-range : goal.first_loss-requires-clause-range
@@ -67,8 +67,8 @@ first_loss-requires-clause-range c =
     reduced_small c.args.graph.now c.args.q (at c.reduce-chips.result.divisor) c.size-size.ensures.graph c.requires.vertex
     c.reduce-chips.ensures.reduced c.args.k c.in-Some.ensures.small (rw (← same) least) (rw (← same) most)
 
-pub divisor_of-requires : goal.divisor_of-requires
-divisor_of-requires c =
+pub to_divisor-requires : goal.to_divisor-requires
+to_divisor-requires c =
     let within : IsWithinLimits c.args.graph.now.size c.args.k c.in-Some.count = rw c.size-size.ensures.size at c.in-Some.ensures in (
       c.args.graph.now.size,
       c.args.k,
@@ -82,13 +82,13 @@ pub returns-in-Some-first_loss : goal.returns-in-Some-first_loss
 returns-in-Some-first_loss c =
     let within : IsWithinLimits c.args.graph.now.size c.args.k c.in-Some.count = rw c.size-size.ensures.size at c.in-Some.ensures in
     let (size, found) = found_loss c.args.graph.now (at c.reduce-chips.result.divisor) c.args.k c.in-Some.count
-    c.in-Some-first_loss.trial c.divisor_of.result within c.in-Some-first_loss.ensures
-    c.divisor_of.ensures in (
+    c.in-Some-first_loss.trial c.to_divisor.result within c.in-Some-first_loss.ensures
+    c.to_divisor.ensures in (
       (c.in-Some.count, within),
       (
         refl,
         size,
-        (equivalent-loss c.args.graph.now (at c.args.divisor.now) (at c.reduce-chips.result.divisor) c.args.k (at c.divisor_of.result)
+        (equivalent-loss c.args.graph.now (at c.args.divisor.now) (at c.reduce-chips.result.divisor) c.args.k (at c.to_divisor.result)
             (at c.reduce-chips.result.script, c.reduce-chips.ensures.led)).1 found,
       ),
     )

@@ -1,0 +1,145 @@
+//! Trials in their order: the one with a number, the next one, and each as a divisor.
+ghost use Rattle.std.specs.Prelude.{◌≡◌, ℕ, suc, ◌<◌, ◌≤◌, ◌+◌, ◌-◌, ◌∷◌, length, slice_index, slice_set};
+ghost use Rattle.dg_rank.specs.Limits.{IsWithinLimits};
+ghost use Rattle.dg_rank.specs.Numbering.{trial_count, nth_trial};
+ghost use Rattle.dg_rank.specs.Trials.{IsTrial};
+ghost use Rattle.dg_rank.specs.Divisors.{HoldsTrial};
+
+use crate::counting::{MAX_DEGREE, MAX_TRIALS, count};
+use dg_chips::Divisor;
+use std::marker::Model;
+
+/// A trial: an amount for each place, none of them a debt.
+#[derive(Drop)]
+pub struct Trial {
+    size: usize,
+    amounts: [u32; 16],
+}
+
+impl Model for Trial {
+    ghost use Rattle.std.specs.Prelude.{ℕ, ◌≤◌, List, take};
+
+    ghost Value = { List ℕ };
+
+    ghost view = { λ a. take a.size a.amounts };
+
+    ghost invariant = { λ a. a.size ≤ 16 };
+}
+
+impl Trial {
+    /// The number of places, at most 16.
+    pub fn size(&self) -> usize
+        ensures size { result ≡ length self.now }
+        ensures few { result ≤ 16 }
+    {
+        self.size
+    }
+
+    /// The amount of a place.
+    pub fn get(&self, v: usize) -> u32
+        requires { v < length self.now }
+        ensures { result ≡ slice_index self.now v }
+    {
+        let amounts = &self.amounts;
+        amounts[v]
+    }
+
+    /// Changes the amount of a place.
+    pub(crate) fn set(&mut self, v: usize, amount: u32)
+        requires { v < length self.old }
+        ensures { self.new ≡ slice_set self.old v amount }
+    {
+        let amounts = &mut self.amounts;
+        amounts[v] = amount;
+    }
+
+    /// The trial of degree k on n vertices with this number, counted from 0 in the order of trials.
+    pub fn with_number(n: usize, k: u32, i: u32) -> Trial
+        requires { (c : ℕ) × IsWithinLimits n k c × (i < c) }
+        ensures { result ≡ nth_trial n k i }
+    {
+        let mut trial = Trial {
+            size: n,
+            amounts: [0; 16],
+        };
+        let mut left = k;
+        let mut number = i;
+        for v in 0..n - 1 {
+            let (amount, rest) = first_amount(n - 1 - v, left, number);
+            trial.set(v, amount);
+            left -= amount;
+            number = rest;
+        }
+        trial.set(n - 1, left);
+        trial
+    }
+
+    /// Goes from a trial to the next one, in place: of what lies at the last place that holds something, one dollar goes to
+    /// the place before it, and the others go to the last place. The condition is that there is a next one.
+    pub fn advance(&mut self)
+        requires { (n : ℕ) × (k : ℕ) × (c : ℕ) × (i : ℕ) × IsWithinLimits n k c ×
+            (i + 1 < c) × (self.old ≡ nth_trial n k i) }
+        ensures { (n k c i : ℕ) → IsWithinLimits n k c → i + 1 < c →
+            self.old ≡ nth_trial n k i → self.new ≡ nth_trial n k (i + 1) }
+    {
+        let last = self.size() - 1;
+        let place = self.last_held();
+        let before = place - 1;
+        let others = self.get(place) - 1;
+        let more = self.get(before) + 1;
+        self.set(place, 0);
+        self.set(before, more);
+        self.set(last, others);
+    }
+
+    /// The last place that holds something, or the first place where no other does.
+    fn last_held(&self) -> usize
+        requires { 0 < length self.now }
+        ensures within { result < length self.now }
+        ensures held { 0 < result → 0 < slice_index self.now result }
+        ensures after { (u : ℕ) → result < u → slice_index self.now u ≡ 0 }
+    {
+        let mut place = self.size() - 1;
+        while place > 0 && self.get(place) == 0 {
+            place -= 1;
+        }
+        place
+    }
+
+    /// A trial as a divisor.
+    pub fn to_divisor(&self) -> Divisor
+        requires { (n : ℕ) × (k : ℕ) × (c : ℕ) × IsWithinLimits n k c × IsTrial n k self.now }
+        ensures { HoldsTrial (length self.now) self.now result }
+    {
+        let size = self.size();
+        let mut amounts = [0; 16];
+        for v in 0..size {
+            amounts[v] = i64::from(self.get(v));
+        }
+        Divisor::sized(&amounts[..size])
+    }
+}
+
+/// The first amount of the trial with this number on one place more than n, and the number of what it leaves on the
+/// other places.
+fn first_amount(n: usize, k: u32, i: u32) -> (u32, u32)
+    requires some { 0 < n }
+    requires few { n ≤ 16 }
+    requires small { k ≤ MAX_DEGREE }
+    requires number { i < trial_count (suc n) k }
+    requires limit { i ≤ MAX_TRIALS }
+    ensures amount { result.0 ≤ k }
+    ensures number { result.1 < trial_count n (k - result.0) }
+    ensures limit { result.1 ≤ i }
+    ensures trial { nth_trial (suc n) k i ≡ result.0 ∷ nth_trial n (k - result.0) result.1 }
+{
+    let mut rest = i;
+    for amount in 0..k {
+        let fewer = count(n, k - amount);
+        if rest < fewer {
+            return (amount, rest);
+        }
+        rest -= fewer;
+    }
+    (k, rest)
+}
