@@ -1,4 +1,3 @@
 -- The lemmas that the proofs cite, each file over plain variables.
 mod Limited
-pub mod Refusing
 mod RanksFound
