@@ -1,3 +1,2 @@
 -- The lemmas that the proofs cite, each file over plain variables.
 mod Limited
-pub mod Refusing

@@ -2,6 +2,6 @@
 pub mod Rehearsals
 pub mod Judgements
 pub mod RankTests
-pub mod Faults
 pub mod Refusals
 pub mod Status
+pub mod Runs

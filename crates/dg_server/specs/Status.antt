@@ -3,7 +3,7 @@
 --   status fault == 2 for a refused command line, 3 for refused input, 4 for want of memory, 5 for reading and writing
 use Rattle.std.specs.Prelude.{◌≡◌, ℕ, ◌≤◌, ◌⊎◌}
 use Rattle.dg_server.specs.declared.fault.Fault.{Fault}
-use Rattle.dg_server.specs.declared.fault.Fault.TheVariants.{CommandLine, Words, Source, File, Line, Seat, Full, NoLook, StepTrials, TooMany, Chip, OutOfMemory, Write}
+use Rattle.dg_server.specs.declared.fault.Fault.TheVariants.{CommandLine, Words, Source, File, Line, Full, NoLook, StepTrials, TooMany, Chip, OutOfMemory, Write}
 use Rattle.dg_server.specs.declared.sources.SourceFault.{SourceFault}
 use Rattle.dg_server.specs.declared.sources.SourceFault.TheVariants.{Unreadable, TooLong, OutOfMemory as NoMemoryToRead}
 use Rattle.dg_file.specs.declared.fault.FileFault.{FileFault}
@@ -24,7 +24,6 @@ status Words = 2
 status (Source fault) = status_of_source fault
 status (File fault) = status_of_file fault
 status (Line _ _) = 3
-status (Seat _) = 3
 status (Full _) = 3
 status (NoLook _) = 3
 status (StepTrials _) = 3

@@ -83,15 +83,59 @@ pub fn asked_by<'a>(alloc: Global, words: &'a [String]) -> Result<Asked<'a>, Fau
 
 fn task_of<'a>(alloc: Global, words: &'a [String]) -> Result<Task<'a>, clap::Error> {
     let matches = dollar(alloc)?.try_get_matches_from(words)?;
-    let Some((name, inner)) = matches.subcommand() else {
-        return Err(dollar(alloc)?.error(ErrorKind::MissingSubcommand, "a command is missing")?);
-    };
-    if !has_few_workers(inner) {
-        return Err(dollar(alloc)?.error(ErrorKind::ValueValidation, WORKERS_REFUSED)?);
+    match task_in(&matches) {
+        Ok(task) => Ok(task),
+        Err(refusal) => {
+            let (kind, text) = refusal.said();
+            Err(dollar(alloc)?.error(kind, text)?)
+        }
     }
-    match task_in(name, inner) {
-        Some(task) => Ok(task),
-        None => Err(dollar(alloc)?.error(ErrorKind::ValueValidation, DEGREE_REFUSED)?),
+}
+
+/// Why words that the library takes are refused.
+#[derive(Clone, Copy)]
+enum Refusal {
+    /// There is no command of that name with these arguments.
+    Command,
+    /// The number of workers is not 1 to 16.
+    Workers,
+    /// The degree of a rank test is not 0 to 4,294,967,295.
+    Degree,
+}
+
+impl Refusal {
+    /// What is said of it, and of which kind it is.
+    fn said(self) -> (ErrorKind, &'static str) {
+        match self {
+            Refusal::Command => (ErrorKind::MissingSubcommand, "a command is missing"),
+            Refusal::Workers => (ErrorKind::ValueValidation, WORKERS_REFUSED),
+            Refusal::Degree => (ErrorKind::ValueValidation, DEGREE_REFUSED),
+        }
+    }
+}
+
+/// What a command with its arguments asks for.
+///
+/// Refused with `Workers` before `Degree`; `Command` stands for what the library refuses before.
+fn task_in<'a>(matches: &ArgMatches<'a>) -> Result<Task<'a>, Refusal> {
+    let (name, inner) = matches.subcommand().ok_or(Refusal::Command)?;
+    let file = inner.get_str("file").ok_or(Refusal::Command)?;
+    match name {
+        "rehearse" => {
+            let steps = inner.get_str("steps").ok_or(Refusal::Command)?;
+            Ok(Task::Rehearse { file, steps })
+        }
+        "judge" => Ok(Task::Judge { file }),
+        "rank" => {
+            let word = inner.get_str("degree").ok_or(Refusal::Command)?;
+            if !has_few_workers(inner) {
+                return Err(Refusal::Workers);
+            }
+            let degree = degree(word.as_bytes()).ok_or(Refusal::Degree)?;
+            Ok(Task::Rank { file, degree })
+        }
+        "rr" => Ok(Task::RiemannRoch { file }),
+        _ => Err(Refusal::Command),
     }
 }
 
@@ -100,27 +144,6 @@ fn has_few_workers(matches: &ArgMatches) -> bool {
     match matches.get_str("workers") {
         Some(number) => matches!(natural(number.as_bytes()), Some(1..=16)),
         None => true,
-    }
-}
-
-/// What a command with its arguments asks for; `None` where the degree of a rank test is none.
-fn task_in<'a>(name: &str, inner: &ArgMatches<'a>) -> Option<Task<'a>> {
-    match name {
-        "rehearse" => Some(Task::Rehearse {
-            file: inner.get_str("file")?,
-            steps: inner.get_str("steps")?,
-        }),
-        "judge" => Some(Task::Judge {
-            file: inner.get_str("file")?,
-        }),
-        "rank" => Some(Task::Rank {
-            file: inner.get_str("file")?,
-            degree: degree(inner.get_str("degree")?.as_bytes())?,
-        }),
-        "rr" => Some(Task::RiemannRoch {
-            file: inner.get_str("file")?,
-        }),
-        _ => None,
     }
 }
 

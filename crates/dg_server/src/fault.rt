@@ -5,8 +5,7 @@ ghost use Rattle.dg_server.specs.Status.{status};
 use crate::sources::SourceFault;
 use dg_chips::ChipFault;
 use dg_file::FileFault;
-use dg_game::RehearseFault;
-use dg_session::{LineFault, StepsFault};
+use dg_session::LineFault;
 use std::alloc::{AllocError, AllocFailed};
 use std::io::Write;
 use thiserror::Error;
@@ -28,10 +27,12 @@ pub enum Fault {
     File(#[from] FileFault),
     /// A line of the steps, counted from 1, is refused.
     #[error("line {line}: {fault}")]
-    Line { line: usize, fault: LineFault },
-    /// A step, counted from 0, has no seat. The text counts from 1.
-    #[error("step {}: bad seat", .0.saturating_add(1))]
-    Seat(usize),
+    Line {
+        /// The line, counted from 1.
+        line: usize,
+        /// Why it is refused.
+        fault: LineFault,
+    },
     /// A step, counted from 0, finds the history full. The text counts from 1.
     #[error("step {}: full", .0.saturating_add(1))]
     Full(usize),
@@ -77,37 +78,6 @@ impl<T: Drop> From<AllocFailed<T>> for Fault {
     }
 }
 
-impl From<StepsFault> for Fault {
-    ghost use Rattle.dg_server.specs.Faults.{fault_of_steps};
-    ghost use Rattle.std.specs.Prelude.{◌≡◌};
-
-    ghost from_gives = { λ steps fault. fault ≡ fault_of_steps steps };
-
-    fn from(fault: StepsFault) -> Fault {
-        match fault {
-            StepsFault::Line { line, fault } => Fault::Line { line, fault },
-            StepsFault::OutOfMemory => Fault::OutOfMemory,
-        }
-    }
-}
-
-impl From<RehearseFault> for Fault {
-    ghost use Rattle.dg_server.specs.Faults.{fault_of_schedule};
-    ghost use Rattle.std.specs.Prelude.{◌≡◌};
-
-    ghost from_gives = { λ schedule fault. fault ≡ fault_of_schedule schedule };
-
-    fn from(fault: RehearseFault) -> Fault {
-        match fault {
-            RehearseFault::Seat(i) => Fault::Seat(i),
-            RehearseFault::Full(i) => Fault::Full(i),
-            RehearseFault::NoLook(i) => Fault::NoLook(i),
-            RehearseFault::TooMany(i) => Fault::StepTrials(i),
-            RehearseFault::OutOfMemory => Fault::OutOfMemory,
-        }
-    }
-}
-
 /// The exit status of a run that ends with the fault: 2 for a refused command line, 3 for refused input, 4 for want of
 /// memory, 5 for reading and writing.
 pub fn status_of(fault: &Fault) -> u8
@@ -120,8 +90,8 @@ pub fn status_of(fault: &Fault) -> u8
         Fault::Source(SourceFault::Unreadable) => 5,
         Fault::File(FileFault::OutOfMemory) => 4,
         Fault::File(_) => 3,
-        Fault::Line { .. } | Fault::Seat(_) | Fault::Full(_) | Fault::NoLook(_) => 3,
-        Fault::StepTrials(_) | Fault::TooMany | Fault::Chip(_) => 3,
+        Fault::Line { .. } | Fault::Full(_) | Fault::NoLook(_) | Fault::StepTrials(_) => 3,
+        Fault::TooMany | Fault::Chip(_) => 3,
         Fault::OutOfMemory => 4,
         Fault::Write => 5,
     }

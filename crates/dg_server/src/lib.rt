@@ -8,10 +8,10 @@ mod program;
 mod ranks;
 mod sources;
 
-pub use command_line::words_of;
+pub use command_line::{Asked, Task, asked_by, words_of};
 pub use fault::{Fault, report, status_of};
 pub use printed::{judgement, rehearsal};
-pub use program::run;
+pub use program::{perform, run};
 pub use ranks::{rank_answer, riemann_roch};
 pub use sources::{Disk, MAX_FILE, SourceFault, Sources, read_within};
 

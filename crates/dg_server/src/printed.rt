@@ -8,8 +8,8 @@ ghost use Rattle.dg_server.specs.Refusals.{RefusesSchedule};
 
 use crate::fault::Fault;
 use dg_file::{Names, TableFile};
-use dg_game::{Reply, rehearse};
-use dg_session::{history_lines, parse_steps, reply_text};
+use dg_game::{RehearseFault, Reply, rehearse};
+use dg_session::{StepsFault, history_lines, parse_steps, reply_text};
 use dg_verdict::judge;
 use std::alloc::{AllocError, Global};
 
@@ -26,11 +26,16 @@ pub fn rehearsal(alloc: Global, table: &TableFile, steps: &[u8]) -> Result<Vec<u
     let names = table.names();
     let steps = match parse_steps(alloc, steps, names) {
         Ok(steps) => steps,
-        Err(fault) => return Err(Fault::from(fault)),
+        Err(StepsFault::Line { line, fault }) => return Err(Fault::Line { line, fault }),
+        Err(StepsFault::OutOfMemory) => return Err(Fault::OutOfMemory),
     };
     let history = match rehearse(alloc, table.start(), steps.as_slice()) {
         Ok(history) => history,
-        Err(fault) => return Err(Fault::from(fault)),
+        Err(RehearseFault::Seat(_)) => unreachable!(),
+        Err(RehearseFault::Full(i)) => return Err(Fault::Full(i)),
+        Err(RehearseFault::NoLook(i)) => return Err(Fault::NoLook(i)),
+        Err(RehearseFault::TooMany(i)) => return Err(Fault::StepTrials(i)),
+        Err(RehearseFault::OutOfMemory) => return Err(Fault::OutOfMemory),
     };
     match history_lines(alloc, history.as_slice(), names) {
         Ok(text) => Ok(text),

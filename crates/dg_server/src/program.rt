@@ -1,6 +1,7 @@
 //! A run of the program: what the words of a command line come to.
-ghost use Rattle.std.specs.Prelude.{◌≡◌, ◌≢◌, IfErr, OnOk};
+ghost use Rattle.std.specs.Prelude.{◌≡◌, ◌≢◌, IfOk, IfErr, OnOk};
 ghost use Rattle.std.specs.Io.KnownBytes.{Appends, Keeps};
+ghost use Rattle.dg_server.specs.Runs.{IsAnswer, Performs, Succeeds, Fails};
 ghost use Rattle.dg_server.specs.Status.{IsStatus};
 
 use crate::command_line::{Asked, Task, asked_by};
@@ -12,11 +13,8 @@ use dg_file::{TableFile, read_table};
 use std::io::{BufRead, Write};
 use std::rt::Files;
 
-/// Does what the words of a command line ask for, the first of which is the program's name, and gives the exit status: 0,
-/// or that of the fault that ended the run, of which `faults` is told.
-///
-/// All of the text is made before the first byte of it is written, so `output` gets nothing where a run ends with another
-/// fault than `Write`.
+/// Does what the words of a command line ask for, the first of which is the program's name, and gives the exit status: 0
+/// where it was done to the end, or that of the fault that ended the run, of which `faults` is told.
 pub fn run<R, S, I, O, F>(
     rt: &R,
     words: &[String],
@@ -32,16 +30,37 @@ where
     O: Write,
     F: Write,
     ensures status { IsStatus result }
-    ensures silent { result ≢ 0 → result ≢ 5 → Keeps (O.contents output.old) (O.contents output.new) }
+    ensures done { result ≡ 0 → Succeeds (O.contents output.old) (O.contents output.new) }
+    ensures failed { result ≢ 0 → Fails result (O.contents output.old) (O.contents output.new) }
 {
     drop(input);
-    let text = match answer(rt, words, sources) {
-        Ok(text) => text,
-        Err(fault) => return report(&fault, faults),
+    let done = match asked_by(rt.alloc(), words) {
+        Ok(asked) => perform(rt, asked, sources, output),
+        Err(fault) => Err(fault),
     };
-    match write_whole(output, text.as_slice()) {
+    match done {
         Ok(()) => 0,
         Err(fault) => report(&fault, faults),
+    }
+}
+
+/// Does what is asked for. The whole text of an answer is made before its first byte is written, so that `output` gets
+/// nothing where another fault than `Write` comes.
+pub fn perform<R, S, O>(rt: &R, asked: Asked<'_>, sources: &S, output: &mut O) -> Result<(), Fault>
+where
+    R: Files + AllocGlobal,
+    S: Sources,
+    O: Write,
+    ensures done { OnOk result (Performs asked.entry (O.contents output.old) (O.contents output.new)) }
+    ensures silent { IfErr result (λ fault. fault ≢ Fault.Write →
+        Keeps (O.contents output.old) (O.contents output.new)) }
+{
+    match asked {
+        Asked::Text(text) => write_whole(output, text.as_bytes()),
+        Asked::Task(task) => {
+            let text = answer(rt, task, sources)?;
+            write_whole(output, text.as_slice())
+        }
     }
 }
 
@@ -55,40 +74,32 @@ fn write_whole<O: Write>(output: &mut O, text: &[u8]) -> Result<(), Fault>
     Ok(())
 }
 
-fn answer<R: Files + AllocGlobal, S: Sources>(
-    rt: &R,
-    words: &[String],
-    sources: &S,
-) -> Result<Vec<u8>, Fault> {
-    match asked_by(rt.alloc(), words)? {
-        Asked::Text(text) => Ok(text.into_bytes()),
-        Asked::Task(Task::Rehearse { file, steps }) => rehearsed(rt, sources, file, steps),
-        Asked::Task(Task::Judge { file }) => judgement(rt.alloc(), &table_in(rt, sources, file)?),
-        Asked::Task(Task::Rank { file, degree }) => {
+/// The answer to a task, as text.
+fn answer<R, S>(rt: &R, task: Task<'_>, sources: &S) -> Result<Vec<u8>, Fault>
+where
+    R: Files + AllocGlobal,
+    S: Sources,
+    ensures { IfOk result (λ text. IsAnswer task.entry text.items) }
+{
+    match task {
+        Task::Rehearse { file, steps } => {
+            let table = table_in(rt, sources, file)?;
+            let steps = sources.bytes(rt, steps)?;
+            rehearsal(rt.alloc(), &table, steps.as_slice())
+        }
+        Task::Judge { file } => judgement(rt.alloc(), &table_in(rt, sources, file)?),
+        Task::Rank { file, degree } => {
             rank_answer(rt.alloc(), &table_in(rt, sources, file)?, degree)
         }
-        Asked::Task(Task::RiemannRoch { file }) => {
-            riemann_roch(rt.alloc(), &table_in(rt, sources, file)?)
-        }
+        Task::RiemannRoch { file } => riemann_roch(rt.alloc(), &table_in(rt, sources, file)?),
     }
 }
 
-fn rehearsed<R: Files + AllocGlobal, S: Sources>(
-    rt: &R,
-    sources: &S,
-    file: &str,
-    steps: &str,
-) -> Result<Vec<u8>, Fault> {
-    let table = table_in(rt, sources, file)?;
-    let steps = sources.bytes(rt, steps)?;
-    rehearsal(rt.alloc(), &table, steps.as_slice())
-}
-
-fn table_in<R: Files + AllocGlobal, S: Sources>(
-    rt: &R,
-    sources: &S,
-    file: &str,
-) -> Result<TableFile, Fault> {
+fn table_in<R, S>(rt: &R, sources: &S, file: &str) -> Result<TableFile, Fault>
+where
+    R: Files + AllocGlobal,
+    S: Sources,
+{
     let file = sources.bytes(rt, file)?;
     Ok(read_table(rt.alloc(), file.as_slice())?)
 }

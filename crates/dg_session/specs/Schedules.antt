@@ -1,9 +1,11 @@
 -- A schedule: a step on each line.
 --   AreStepsOf names steps lines          == the lines spell the steps, in their order
+--   AreSeated steps                       == each step has a seat, 1 to 64
 --   IsFirstRefused names lines line fault == the line, counted from 1, is the first that is refused, with that fault
 --   IsStepsFault names lines fault        == the fault is the first line that is refused; of want of memory it says
 --                                            nothing
-use Rattle.std.specs.Prelude.{◌≡◌, ℕ, ◌+◌, List, ◌∷◌, ◌++◌, map, length, Ok, Err}
+use Rattle.std.specs.Prelude.{◌≡◌, ℕ, ◌+◌, List, ◌∷◌, ◌++◌, map, length, slice_get, Some, Ok, Err}
+use Rattle.dg_game.specs.Legal.{IsSeat}
 use Rattle.dg_game.specs.declared.step.Step.{Step}
 use Rattle.dg_session.specs.declared.line.LineFault.{LineFault}
 use Rattle.dg_session.specs.declared.steps_file.StepsFault.{StepsFault}
@@ -12,6 +14,9 @@ use Rattle.dg_session.specs.Steps.{step_of}
 
 pub record AreStepsOf (names : List (List ℕ)) (steps : List Step) (lines : List (List ℕ)) : Type 0 where
   pub spelled : map (step_of names) lines ≡ map Ok steps
+
+abbrev pub AreSeated : List Step → Type 0
+AreSeated steps = (k : ℕ) (step : Step) → slice_get steps k ≡ Some step → IsSeat step.seat
 
 pub record IsFirstRefused (names : List (List ℕ)) (lines : List (List ℕ)) (line : ℕ) (fault : LineFault) : Type 0 where
   pub front : List (List ℕ)

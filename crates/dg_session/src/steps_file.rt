@@ -1,20 +1,18 @@
-//! Schedules: a step on each line.
+//! Files of steps: a step on each line.
 ghost use Rattle.std.specs.Prelude.{IfOk, IfErr};
 ghost use Rattle.dg_session.specs.Cuts.{lines};
-ghost use Rattle.dg_session.specs.Schedules.{AreStepsOf, IsStepsFault};
+ghost use Rattle.dg_session.specs.Schedules.{AreStepsOf, AreSeated, IsStepsFault};
 
 use crate::line::{LineFault, parse_step};
 use crate::lines::Lines;
 use dg_file::Names;
 use dg_game::Step;
 use std::alloc::Allocator;
-use thiserror::Error;
 
 /// Why a schedule is refused.
-#[derive(Clone, Copy, Debug, PartialEq, Eq, Error)]
+#[derive(Clone, Copy, Debug, PartialEq, Eq)]
 pub enum StepsFault {
     /// The line, counted from 1, is refused.
-    #[error("line {line}: {fault}")]
     Line {
         /// The line, counted from 1.
         line: usize,
@@ -22,7 +20,6 @@ pub enum StepsFault {
         fault: LineFault,
     },
     /// Memory was refused.
-    #[error("out of memory")]
     OutOfMemory,
 }
 
@@ -35,6 +32,7 @@ pub fn parse_steps<A: Allocator + Drop>(
     names: &Names,
 ) -> Result<Vec<Step, A>, StepsFault>
     ensures steps { IfOk result (λ steps. AreStepsOf names.now steps.items (lines bytes.now)) }
+    ensures seated { IfOk result (λ steps. AreSeated steps.items) }
     ensures refused { IfErr result (IsStepsFault names.now (lines bytes.now)) }
 {
     let mut steps = Vec::new(alloc);

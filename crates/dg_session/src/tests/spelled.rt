@@ -156,7 +156,5 @@ fn a_file_is_its_lines(rt: HostRuntime) -> Result<(), Fail> {
         let read = parse_steps(rt.alloc(), text.as_bytes(), &names);
         assert!(rt; read.map(|steps| steps.len()) == want, "at {text:?}");
     }
-    let told = format!(in rt.alloc(); "{refused}")?;
-    assert_eq!(rt; told.as_str(), "line 2: bad name");
     Ok(())
 }

@@ -1,0 +1,59 @@
+//! Command lines that are calls for help, or are refused.
+
+use crate::tests::runs::{Shelf, TRIANGLE, outcome_of};
+use std::test::Fail;
+
+// Command lines that call for help.
+static HELP: [&str; 6] = [
+    "dollar --help",
+    "dollar rehearse --help",
+    "dollar help rehearse",
+    "dollar judge --help",
+    "dollar rank --help",
+    "dollar rr --help",
+];
+
+// Command lines that are refused.
+static REFUSED: [&str; 18] = [
+    "",
+    "dollar",
+    "dollar gamble table.json",
+    "dollar judge",
+    "dollar judge table.json steps.txt",
+    "dollar judge table.json --workers 1",
+    "dollar rank table.json",
+    "dollar rank table.json 01",
+    "dollar rank table.json one",
+    "dollar rank table.json -1",
+    "dollar rank table.json 4294967296",
+    "dollar rank table.json 1 --workers 0",
+    "dollar rank table.json 1 --workers 17",
+    "dollar rank table.json 1 --workers",
+    "dollar rr",
+    "dollar rr table.json 1",
+    "dollar rehearse table.json",
+    "dollar rehearse table.json steps.txt more",
+];
+
+#[test]
+fn command_lines_are_judged(rt: HostRuntime) -> Result<(), Fail> {
+    let shelf = Shelf {
+        file: Some(TRIANGLE),
+        steps: Some("1 lend a\n"),
+    };
+    for line in &HELP {
+        let outcome = outcome_of(&rt, &shelf, line)?;
+        assert!(rt;
+            outcome.status == 0 && !outcome.output.is_empty() && outcome.faults.is_empty(),
+            "{line}"
+        );
+    }
+    for line in &REFUSED {
+        let outcome = outcome_of(&rt, &shelf, line)?;
+        assert!(rt;
+            outcome.status == 2 && outcome.output.is_empty() && !outcome.faults.is_empty(),
+            "{line}"
+        );
+    }
+    Ok(())
+}
