@@ -7,7 +7,6 @@ ghost use Rattle.dg_chips.specs.Refused.{IsMisfit};
 
 use crate::script::Script;
 use dg_graph::{MAX_VERTICES, is_within};
-use thiserror::Error;
 
 /// A move of the dollar game. Vertices are numbered from 0.
 #[derive(Clone, Copy, PartialEq, Eq)]
@@ -23,19 +22,15 @@ pub enum Move {
 }
 
 /// Why a move is refused.
-#[derive(Clone, Copy, Debug, PartialEq, Eq, Error)]
+#[derive(Clone, Copy, Debug, PartialEq, Eq)]
 pub enum MoveFault {
     /// It names a vertex that is not there.
-    #[error("no such vertex")]
     NoVertex,
     /// It fires the empty set.
-    #[error("the empty set")]
     Empty,
     /// Its script has another number of vertices than the graph.
-    #[error("a script of another size")]
     Script,
     /// It leaves an amount that is not within 1,000,000.
-    #[error("an amount out of range")]
     Range,
 }
 

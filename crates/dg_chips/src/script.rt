@@ -16,16 +16,13 @@ use crate::vector::{first_past, padded};
 use crate::wide::Wide;
 use dg_graph::{Graph, contains};
 use std::marker::Model;
-use thiserror::Error;
 
 /// Why numbers are refused as a script. Vertices are numbered from 0.
-#[derive(Clone, Copy, Debug, PartialEq, Eq, Error)]
+#[derive(Clone, Copy, Debug, PartialEq, Eq)]
 pub enum ScriptFault {
     /// There are not as many numbers as vertices.
-    #[error("number of entries")]
     Length,
     /// The number of the vertex is not within 1,000,000,000.
-    #[error("entry of vertex {0}")]
     Limit(usize),
 }
 

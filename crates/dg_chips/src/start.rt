@@ -7,16 +7,13 @@ ghost use Rattle.dg_chips.specs.StartFaults.{IsStartFault};
 use crate::divisor::Divisor;
 use dg_graph::Graph;
 use std::marker::Model;
-use thiserror::Error;
 
 /// Why a start is refused.
-#[derive(Clone, Copy, Debug, PartialEq, Eq, Error)]
+#[derive(Clone, Copy, Debug, PartialEq, Eq)]
 pub enum StartFault {
     /// The divisor has another number of vertices than the graph.
-    #[error("number of amounts")]
     Length,
     /// The vertex q is not there.
-    #[error("no vertex q")]
     Vertex,
 }
 

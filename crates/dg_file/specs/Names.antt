@@ -1,4 +1,6 @@
 -- Names of vertices. A table's names are a list of byte lists, in vertex order.
+--   is_from_to low high b == whether the byte b is from low to high
+--   is_name_byte b      == whether the byte b is an ASCII digit, an ASCII letter or `_`
 --   IsName bytes        == 1 to 16 bytes, each an ASCII letter, an ASCII digit or `_`
 --   has names name      == whether the name is among the names
 --   added names name    == the names with the name put last, or as they are where it is among them

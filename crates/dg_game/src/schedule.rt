@@ -18,25 +18,19 @@ use crate::look::LookData;
 use crate::step::{Command, Step};
 use dg_chips::Start;
 use std::alloc::Allocator;
-use thiserror::Error;
 
 /// Why a schedule is not played. Steps are numbered from 0.
-#[derive(Clone, Copy, Debug, PartialEq, Eq, Error)]
+#[derive(Clone, Copy, Debug, PartialEq, Eq)]
 pub enum RehearseFault {
     /// The step's seat is not 1 to 64.
-    #[error("step {0} has no seat")]
     Seat(usize),
     /// The history has no room for the step.
-    #[error("step {0} finds the history full")]
     Full(usize),
     /// The step wants a look, and its seat keeps none.
-    #[error("step {0} has no look")]
     NoLook(usize),
     /// The step is a rank test of a degree above 1,000, or with more than 200,000 trials.
-    #[error("step {0} asks for too many trials")]
     TooMany(usize),
     /// There is not enough memory.
-    #[error("out of memory")]
     OutOfMemory,
 }
 

@@ -1,11 +1,12 @@
 -- When a graph is refused, and with which fault: each case says that no earlier one applies.
---   IsSize n                     == the number of vertices is within the limits
---   IsFirstFault n items fault   == the fault is the first that stands in the items for n vertices
---   the cases of an item i       == the items before it are right, and it is refused for
---                                   NoVertex (it names a number that is no vertex), Loop (it joins a vertex to itself)
---                                   or Multiplicity (it puts no edge)
---   the cases of the whole list  == all items are right, and some valence is above 63 (the least such vertex is named),
---                                   or two vertices have no chain of edges between them
+--   IsSize n                   == the number of vertices is within the limits
+--   NamesNoVertex n item       == the item names a number that is none of n vertices
+--   IsLoop n item              == the item joins a vertex to itself
+--   IsEmptyItem n item         == the item puts no edge between two different vertices
+--   IsFirstHigh n items v      == v is the first vertex at which the items put more than 63 edges
+--   IsParted n items           == no vertex has more than 63 edges, and some two have no chain of edges between them
+--   IsFirstFault n items fault == the fault is the first that stands in the items for n vertices: that of an item stands
+--                                 where all items before it are right, and that of the whole list where all items are
 use Rattle.std.specs.Prelude.{◌≡◌, ◌≢◌, ℕ, ◌<◌, ◌≤◌, List, ◌⊎◌}
 use Rattle.dg_theory.specs.Multigraph.{JoinedIn}
 use Rattle.dg_graph.specs.Items.{Item, IsItems, IsRightBefore, HasItem, edges_listed, valence_listed}

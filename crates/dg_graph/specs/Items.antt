@@ -1,7 +1,8 @@
 -- A graph given by a list of items. An item is two vertices and the number of edges that it puts between them;
 -- a pair of vertices that stands in several items has the sum of their edges.
+--   Item                     == two vertices, and the number of edges between them
 --   edges_put item u v       == how many edges the item puts between u and v
---   edges_listed items u v   == how many the list puts there
+--   edges_listed items u v   == how many edges the list puts between u and v
 --   valence_listed n items v == how many edges the list puts at v, of n vertices
 --   IsItem n item            == a right item: two different vertices below n and at least one edge
 --   IsItems n items          == right items only

@@ -1,6 +1,8 @@
 -- The exit statuses of runs that end with a fault.
---   IsStatus n   == 0, or the status of a run that ends with a fault
---   status fault == 2 for a refused command line, 3 for refused input, 4 for want of memory, 5 for reading and writing
+--   IsStatus n             == 0, or the status of a run that ends with a fault
+--   status_of_source fault == the status where a file is not read
+--   status_of_file fault   == the status where a table file is refused
+--   status fault           == 2 for a refused command line, 3 for refused input, 4 for want of memory, 5 for reading and writing
 use Rattle.std.specs.Prelude.{◌≡◌, ℕ, ◌≤◌, ◌⊎◌}
 use Rattle.dg_server.specs.declared.fault.Fault.{Fault}
 use Rattle.dg_server.specs.declared.fault.Fault.TheVariants.{CommandLine, Words, Source, File, Line, Full, NoLook, StepTrials, TooMany, Chip, OutOfMemory, Write}

@@ -32,7 +32,7 @@ pub enum Task<'a> {
         /// The degree.
         degree: u32,
     },
-    /// Print both sides of Riemann-Roch for the position of a table.
+    /// Print the four numbers of Riemann-Roch for the position of a table.
     RiemannRoch {
         /// The name of the table file.
         file: &'a str,
@@ -268,14 +268,14 @@ FILE is a table file, as `dollar rehearse --help` shows it. The verdict comes wi
     winnable by a=0 b=-1 c=-1 to a=0 b=0 c=0
 
 The first numbers say how often each vertex lends, a negative one how often it borrows; q does neither.
-The second are the dollars after that. Nobody but q is then in debt, and whichever of the others lend together, one of
-them comes into debt. So the table is winnable just where q is out of debt as well.
+The second are the dollars after that. Off q nobody is in debt then, and no vertices other than q could lend together
+without one of them falling into debt. The table is winnable exactly where q is not in debt either.
 ";
 
 const RANK_MORE: &str = "\
-FILE is a table file, as `dollar rehearse --help` shows it. Every way to take K dollars from the vertices is tried, from
-the last vertex to the first. Where all of them leave a winnable table, the rank is at least K; otherwise the first that
-does not is shown:
+FILE is a table file, as `dollar rehearse --help` shows it. The ways to take K dollars from the vertices are ordered as
+lists of amounts: 0 0 2, 0 1 1, 0 2 0, 1 0 1, .. Where all of them leave a winnable table, the rank is at least K;
+otherwise the first that does not is shown:
 
     rank at least 1
     rank below 2 at a=0 b=2

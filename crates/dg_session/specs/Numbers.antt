@@ -1,9 +1,11 @@
 -- Numbers in texts.
 --   seat_up_to n text == the seat from 1 to n whose decimal is the text, where there is one
---   seat_of text      == the same of the seats 1 to 64
+--   seat_of text      == the seat from 1 to 64 whose decimal is the text, where there is one
 --   is_within z       == z is a whole number that 64 bits hold: from -2^63 to 2^63 - 1
+--   integer_if text z == z, where the text is its decimal and 64 bits hold it
 --   integer_of text   == the whole number that 64 bits hold whose decimal is the text, where there is one
---   degree_of text    == the same of the numbers from 0 to 2^32 - 1
+--   as_degree z       == z as a degree, where it is from 0 to 2^32 - 1
+--   degree_of text    == the degree from 0 to 2^32 - 1 whose decimal is the text, where there is one
 use Rattle.std.specs.Prelude.{ℕ, zero, suc, ◌&&◌, ◌^◌, ℤ, pos, negsuc, Bool, List, Option, Some, None, cond, bytes_eq, decimal, leb, option_and_then}
 use Rattle.std.specs.Fmt.{signed_decimal}
 use Rattle.std.specs.Str.Parse.{signed_digits_value}
@@ -20,14 +22,12 @@ abbrev pub is_within : ℤ → Bool
 is_within (pos n) = leb (suc n) (2 ^ 63)
 is_within (negsuc n) = leb (suc n) (2 ^ 63)
 
--- the number, where the text is its decimal
 abbrev pub integer_if : List ℕ → ℤ → Option ℤ
 integer_if text z = cond (is_within z && bytes_eq text (signed_decimal z)) (Some z) None
 
 unfoldable pub integer_of : List ℕ → Option ℤ
 integer_of text = integer_if text (signed_digits_value 10 text)
 
--- the number, where it is one from 0 to 2^32 - 1
 abbrev pub as_degree : ℤ → Option ℕ
 as_degree (pos n) = cond (leb (suc n) (2 ^ 32)) (Some n) None
 as_degree (negsuc n) = None

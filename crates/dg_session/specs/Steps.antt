@@ -1,5 +1,7 @@
 -- Steps: a seat from 1 to 64, one space, and a command line.
---   step_of names line == the step that the line spells, or why it is refused: the seat is judged first
+--   step_with seat command     == the step of a seat and a command, or why the command is refused
+--   step_from names seat rest  == the step of what stands before the first space and what stands after it
+--   step_of names line         == the step that the line spells, or why it is refused: the seat is judged first
 use Rattle.std.specs.Prelude.{ℕ, List, Option, Some, None, Result, Ok, Err}
 use Rattle.dg_game.specs.declared.step.Command.{Command}
 use Rattle.dg_game.specs.declared.step.Step.{Step}
@@ -13,7 +15,6 @@ abbrev pub step_with : ℕ → Result Command LineFault → Result Step LineFaul
 step_with seat (Err fault) = Err fault
 step_with seat (Ok command) = Ok (record { seat = seat; command = command })
 
--- the step of what stands before the first space and what stands after it
 abbrev pub step_from : List (List ℕ) → Option ℕ → Option (List ℕ) → Result Step LineFault
 step_from names None rest = Err Seat
 step_from names (Some seat) None = Err Seat

@@ -1,7 +1,10 @@
 -- The texts of replies, over the names of the vertices, in vertex order.
 --   HasNames names reply          == there are as many names as the amounts of the reply, and its script, have vertices
 --   pair name amount              == `name=amount`
+--   more_pairs names amounts v    == the pairs from the vertex v on, each after a space
 --   pairs names amounts           == the pairs of all vertices, with one space between two
+--   refusal_text refusal          == `refused` and the cause
+--   verdict_word won              == the words before the script of a verdict
 --   verdict_text names verdict    == the word of the verdict, the pairs of its script and those of its reduced divisor
 --   rank_text names x             == that the rank is at least k, or below k with the pairs of the first loss
 --   text_of names reply           == the text of the reply, with no number and no newline
@@ -27,7 +30,6 @@ HasNames names reply = HasSize (length names) reply
 abbrev pub pair : List ℕ → ℤ → List ℕ
 pair name amount = name ++ codes "=" ++ signed_decimal amount
 
--- the pairs from the vertex v on, each after a space
 unfoldable pub more_pairs : List (List ℕ) → (ℕ → ℤ) → ℕ → List ℕ
 more_pairs [] amounts v = []
 more_pairs (name ∷ names) amounts v = codes " " ++ pair name (amounts v) ++ more_pairs names amounts (v + 1)

@@ -1,4 +1,5 @@
 -- The laws of burning, for a divisor without debt off q.
+--   unburnt_by g l  == the vertices that are not in the list l
 --   UnburntFires    == what burning leaves is the greatest set that fires freely
 --   GreatestIsOne   == there is only one greatest set that fires freely
 --   BurntIsReduced  == burning leaves nothing exactly where the divisor is reduced
@@ -9,7 +10,6 @@ use Rattle.dg_theory.specs.Firing.{Amounts, HasNoDebtOff}
 use Rattle.dg_theory.specs.Reduced.{IsReduced}
 use Rattle.dg_theory.specs.Burning.{among, BurnsInOrder, BurnsAll, IsGreatestFree}
 
--- the vertices that are not in the list
 abbrev pub unburnt_by : Multigraph → List ℕ → ℕ → Bool
 unburnt_by g l v = nat_lt v g.size && not (among l v)
 

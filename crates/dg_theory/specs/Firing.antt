@@ -1,6 +1,7 @@
 -- Divisors, scripts and firing (Corry and Perkinson, chapters 1 and 2).
 -- A divisor gives each vertex an amount of dollars, and a negative one is a debt. A script tells how often each
 -- vertex lends, and a negative number is so many borrowings. Both are whole numbers for the vertices.
+--   Amounts             == a whole number for each vertex: a divisor, or a script
 --   degree n D          == the sum of the amounts of n vertices
 --   IsEffective n D     == none of n vertices is in debt
 --   HasNoDebtOff g q D  == none of the vertices but q is in debt; q may be

@@ -1,6 +1,8 @@
 -- Finite multigraphs (Baker and Norine 2007, section 1; Corry and Perkinson, chapter 1).
 -- A multigraph has the vertices 0, 1, .. up to its size, and a table: the number in row u and column v
 -- tells how many edges join u and v.
+--   Multigraph          == a number of vertices, and a table
+--   entry table u v     == the number in row u and column v, and 0 outside the table
 --   edges_between g u v == how many edges join u and v
 --   JoinedIn n e u v    == a chain of edges leads from u to v, where e tells the edges and n the number of vertices
 --   IsMultigraph g      == symmetric, without loops, and connected
@@ -15,7 +17,6 @@ pub record Multigraph : Type 0 where
   pub size : ℕ
   pub table : List (List ℕ)
 
--- the number in row u and column v, and 0 outside the table
 unfoldable pub entry : List (List ℕ) → ℕ → ℕ → ℕ
 entry table u v = slice_index (slice_index_or table u []) v
 

@@ -1,6 +1,6 @@
 -- Sums over the numbers below n, which are the vertices of a multigraph of size n.
 --   sum_below n f    == f 0 + f 1 + .. + f (n - 1), for whole numbers
---   total_below n f  == the same for natural numbers
+--   total_below n f  == f 0 + f 1 + .. + f (n - 1), for natural numbers
 use Rattle.std.specs.Prelude.{ℕ, zero, suc, ◌+◌, ℤ, pos, ◌+ℤ◌}
 
 abbrev pub sum_below : ℕ → (ℕ → ℤ) → ℤ

@@ -56,7 +56,7 @@ fn what_a_move_does(rt: HostRuntime) -> Result<(), Fail> {
         let divisor = Divisor::new(graph, amounts)?;
         assert!(rt;
             apply(graph, &divisor, &play).err() == Some(fault),
-            "{fault}"
+            "{fault:?}"
         );
     }
     Ok(())

@@ -1,3 +1,5 @@
+//! Runs of `rank` and `rr`.
+
 use crate::tests::runs::{REHEARSE, Shelf, outcome_of};
 use std::test::Fail;
 
