@@ -1,7 +1,8 @@
 //! Burning a graph from a vertex, and what it comes to.
 
-ghost use Rattle.std.specs.Prelude.{◌≡◌, ◌≢◌, ℕ, ◌<◌, ◌≤◌, ◌↔◌, take, pos, ◌≤ℤ◌};
+ghost use Rattle.std.specs.Prelude.{◌≡◌, ℕ, ◌<◌, ◌≤◌, ◌↔◌, take};
 ghost use Rattle.std.specs.List.{slice_index_or};
+ghost use Rattle.dg_theory.specs.Firing.{HasNoDebtOff};
 ghost use Rattle.dg_theory.specs.Burning.{BurnsInOrder, IsGreatestFree};
 ghost use Rattle.dg_theory.specs.Reduced.{IsReduced};
 ghost use Rattle.dg_graph.specs.Sets.{in_set};
@@ -28,7 +29,7 @@ pub struct Burnt {
 pub fn burn(graph: &Graph, q: usize, chips: &Wide) -> Burnt
     requires size { chips.now.size ≡ graph.now.size }
     requires vertex { q < graph.now.size }
-    requires no_debt { (v : ℕ) → v < graph.now.size → v ≢ q → pos 0 ≤ℤ at chips.now v }
+    requires no_debt { HasNoDebtOff graph.now q (at chips.now) }
     ensures order { BurnsInOrder graph.now q (at chips.now) (take result.burnt result.order) }
     ensures rest { (i : ℕ) → result.burnt ≤ i → i < 16 → slice_index_or result.order i 0 ≡ 0 }
     ensures some { 1 ≤ result.burnt }
