@@ -70,7 +70,8 @@ impl Fire {
         requires limit { slice_index self.old.joined v + edges ≤ MAX_VALENCE }
         requires burnable { (w : ℕ) → HoldsBurnable chips.now self.old w }
         ensures reached { self.new.reached ≡ self.old.reached }
-        ensures joined { self.new.joined ≡ slice_set self.old.joined v (slice_index self.old.joined v + edges) }
+        ensures joined { self.new.joined ≡
+            slice_set self.old.joined v (slice_index self.old.joined v + edges) }
         ensures burnable { (w : ℕ) → HoldsBurnable chips.now self.new w }
     {
         self.joined[v] += u32::from(edges);

@@ -4,8 +4,8 @@ ghost use Rattle.std.specs.Prelude.{◌≡◌, ℕ, ◌<◌, ◌≤◌, pos, len
 ghost use Rattle.std.specs.List.{slice_index_or};
 ghost use Rattle.std.specs.Int.RustNames.{unsigned_abs};
 ghost use Rattle.dg_theory.specs.Firing.{only_at, indicator, FiresTo};
-ghost use Rattle.dg_chips.specs.Vector.{at, HoldsNumbers, IsScript};
 ghost use Rattle.dg_graph.specs.Sets.{in_set};
+ghost use Rattle.dg_chips.specs.Vector.{at, HoldsNumbers, IsScript};
 ghost use Rattle.dg_chips.specs.ScriptFaults.{IsFirstScriptFault};
 
 use crate::divisor::Divisor;

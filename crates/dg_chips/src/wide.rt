@@ -3,8 +3,8 @@
 ghost use Rattle.std.specs.Prelude.{◌≡◌, ◌≢◌, ℕ, ◌<◌, ◌≤◌, ◌^◌, ◌+ℤ◌, ◌-ℤ◌, pos, MatchResult};
 ghost use Rattle.std.specs.Int.RustNames.{unsigned_abs};
 ghost use Rattle.dg_theory.specs.Firing.{fired, indicator, multiple};
-ghost use Rattle.dg_chips.specs.Vector.{at, HoldsNumbers, IsWide};
 ghost use Rattle.dg_graph.specs.Sets.{in_set};
+ghost use Rattle.dg_chips.specs.Vector.{at, HoldsNumbers, IsWide};
 ghost use Rattle.dg_chips.specs.DivisorFaults.{IsWideFault};
 
 use crate::divisor::{ChipFault, Divisor};

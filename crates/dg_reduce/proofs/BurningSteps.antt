@@ -25,8 +25,8 @@ use Rattle.dg_theory.proofs.Potential.{weights, levels_are_potential}
 use Rattle.dg_theory.proofs.Weights.{weight_of, weight_of-cong, weight_falls_by_firings}
 use Rattle.dg_theory.proofs.Range.{IsLed, clear_all, led_start, led_step, led-cong, led_limit, script_between}
 use Rattle.dg_graph.specs.Graph.{IsGraph}
-use Rattle.dg_chips.specs.Vector.{at}
 use Rattle.dg_graph.specs.Sets.{in_set}
+use Rattle.dg_chips.specs.Vector.{at}
 use Rattle.dg_reduce.specs.declared.walk.Walk.{Walk}
 use Rattle.dg_reduce.specs.States.{IsTied, IsFired, limit_at, IsCleared}
 use Rattle.dg_reduce.specs.Firings.{IsMost}

@@ -1,8 +1,8 @@
 -- Reductions: the reduced divisor that a divisor can be fired to, and the script that leads to it.
 --   IsOnly g q D R s          == every script that is 0 at q and leads from D to a reduced divisor is s, and leads to R
 --   IsReduction g q D bound x == x has a reduced divisor and a script that leads to it from D; the script is 0 at q and
---                                within the bound; and D has no other reduced divisor, and no other script that is 0 at q
---                                and leads to it
+--                                within the bound; and D has no other reduced divisor, and no other script that is 0
+--                                at q and leads to it
 use Rattle.std.specs.Prelude.{◌≡◌, ℕ, ◌<◌, ◌≤◌, pos}
 use Rattle.std.specs.Int.RustNames.{unsigned_abs}
 use Rattle.dg_theory.specs.Multigraph.{Multigraph}

@@ -1,12 +1,13 @@
 -- The states of a reduction.
 --   IsTied g x                  == the script of the walk x leads from its amounts at the start to those now
 --   IsFired g S k x y           == the walk y is x after k lendings of each vertex of the set S
---   limit_at j                  == 2000000 * 64 ^ (15 - j), which bounds all amounts before the debts of level j are cleared
---   IsCleared g level j x       == in the walk x nobody of level j or farther is in debt, and its amounts and script are within
---                                  the limit of level j - 1, which is the next to be cleared
+--   limit_at j                  == 2000000 * 64 ^ (15 - j), which bounds all amounts before the debts of level j are
+--                                  cleared
+--   IsCleared g level j x       == in the walk x nobody of level j or farther is in debt, and its amounts and script are
+--                                  within the limit of level j - 1, which is the next to be cleared
 --   IsLargestDebt n level j D m == m is the largest debt of the vertices of level j, of n vertices; 0 where none owes
---   IsClearedOff g q x          == in the walk x nobody off q is in debt, and its amounts and script are within the limit of
---                                  level 0
+--   IsClearedOff g q x          == in the walk x nobody off q is in debt, and its amounts and script are within the limit
+--                                  of level 0
 use Rattle.std.specs.Prelude.{◌≡◌, ℕ, ◌-◌, ◌*◌, ◌^◌, ◌<◌, ◌≤◌, Bool, ℤ, pos, ◌+ℤ◌, ◌≤ℤ◌, ◌⊎◌}
 use Rattle.std.specs.Int.RustNames.{unsigned_abs}
 use Rattle.dg_theory.specs.Multigraph.{Multigraph}

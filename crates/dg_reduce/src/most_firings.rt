@@ -3,8 +3,8 @@
 ghost use Rattle.std.specs.Prelude.{◌≡◌, ℕ, ◌<◌, ◌≤◌, true, pos, ◌≤ℤ◌, ◌<ℤ◌, ◌*ℤ◌, ◌+ℤ◌};
 ghost use Rattle.dg_theory.specs.Reduced.{edges_out};
 ghost use Rattle.dg_theory.specs.Burning.{FiresFreely};
-ghost use Rattle.dg_chips.specs.Vector.{at};
 ghost use Rattle.dg_graph.specs.Sets.{in_set};
+ghost use Rattle.dg_chips.specs.Vector.{at};
 ghost use Rattle.dg_reduce.specs.Firings.{IsMost, LastsAt};
 
 use dg_chips::Wide;
@@ -14,7 +14,8 @@ use dg_graph::{Graph, contains};
 /// same number for each q for which the set fires freely.
 pub fn most_firings(graph: &Graph, chips: &Wide, set: u16) -> i128
     requires size { chips.now.size ≡ graph.now.size }
-    requires free { (q : ℕ) × (q < graph.now.size) × FiresFreely graph.now q (at chips.now) (in_set set) }
+    requires free { (q : ℕ) × (q < graph.now.size)
+        × FiresFreely graph.now q (at chips.now) (in_set set) }
     requires member { (v : ℕ) × (in_set set v ≡ true) }
     ensures { (q : ℕ) → q < graph.now.size → FiresFreely graph.now q (at chips.now) (in_set set) →
         IsMost graph.now q (at chips.now) (in_set set) result }
@@ -33,7 +34,8 @@ pub fn most_firings(graph: &Graph, chips: &Wide, set: u16) -> i128
 fn firings_at(graph: &Graph, chips: &Wide, set: u16, v: usize) -> i128
     requires size { chips.now.size ≡ graph.now.size }
     requires vertex { v < graph.now.size }
-    requires once { in_set set v ≡ true → pos (edges_out graph.now (in_set set) v) ≤ℤ at chips.now v }
+    requires once { in_set set v ≡ true →
+        pos (edges_out graph.now (in_set set) v) ≤ℤ at chips.now v }
     ensures { LastsAt graph.now (at chips.now) (in_set set) v result }
 {
     let _size = graph.size();

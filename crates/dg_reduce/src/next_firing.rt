@@ -36,7 +36,8 @@ fn unburnt(graph: &Graph, q: usize, chips: &Wide) -> Option<u16>
     requires no_debt { HasNoDebtOff graph.now q (at chips.now) }
     ensures { MatchOption result
         (IsReduced graph.now q (at chips.now))
-        (λ set. FiresFreely graph.now q (at chips.now) (in_set set) × ((v : ℕ) × (in_set set v ≡ true))) }
+        (λ set. FiresFreely graph.now q (at chips.now) (in_set set)
+        × ((v : ℕ) × (in_set set v ≡ true))) }
 {
     let burnt = burn(graph, q, chips);
     if burnt.unburnt == 0 {

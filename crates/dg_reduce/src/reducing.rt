@@ -76,8 +76,10 @@ pub(crate) fn reduce_after(graph: &Graph, q: usize, chips: &Wide, script: &Scrip
 
 /// Whether a reduction may start from these amounts: all are within 2,000,000.
 pub(crate) fn is_within_start(chips: &Wide) -> bool
-    ensures small { OnTrue result ((v : ℕ) → v < chips.now.size → unsigned_abs (at chips.now v) ≤ MAX_START) }
-    ensures large { OnFalse result ((v : ℕ) × (v < chips.now.size) × (MAX_START < unsigned_abs (at chips.now v))) }
+    ensures small { OnTrue result
+        ((v : ℕ) → v < chips.now.size → unsigned_abs (at chips.now v) ≤ MAX_START) }
+    ensures large { OnFalse result
+        ((v : ℕ) × (v < chips.now.size) × (MAX_START < unsigned_abs (at chips.now v))) }
 {
     for v in 0..chips.size() {
         if chips.get(v).unsigned_abs() > MAX_START {

@@ -39,8 +39,10 @@ impl Walk {
     /// The walk after each vertex of a set has lent `times` times more.
     pub fn fired(&self, graph: &Graph, set: u16, times: i128) -> Walk
         requires tied { IsTied graph.now self.now }
-        requires chips { (v : ℕ) → v < graph.now.size → unsigned_abs (at self.now.chips v) ≤ 2 ^ 120 }
-        requires script { (v : ℕ) → v < graph.now.size → unsigned_abs (at self.now.script v) ≤ 2 ^ 126 }
+        requires chips { (v : ℕ) → v < graph.now.size →
+            unsigned_abs (at self.now.chips v) ≤ 2 ^ 120 }
+        requires script { (v : ℕ) → v < graph.now.size →
+            unsigned_abs (at self.now.script v) ≤ 2 ^ 126 }
         requires times { unsigned_abs times ≤ 2 ^ 120 }
         ensures { IsFired graph.now (in_set set) times self.now result }
     {

@@ -1,5 +1,8 @@
 //! Reductions that begin with a guess, right or wrong, and what a guess leaves.
 
+ghost use Rattle.std.specs.Prelude.{◌≡◌};
+
+use crate::Reduced;
 use crate::guess::{guess, needs_no_guess};
 use crate::reducing::{is_within_start, reduce_after};
 use dg_chips::{Script, Wide};
@@ -140,20 +143,31 @@ static CASES: [Case; 5] = [
     ),
 ];
 
+/// The reduction after a script, where it may be asked for.
+fn reduced_after(graph: &Graph, q: usize, chips: &Wide, script: &Script) -> Option<Reduced>
+    requires size { chips.now.size ≡ graph.now.size }
+    requires script { script.now.size ≡ graph.now.size }
+{
+    if q >= graph.size() || !is_within_start(chips) || script.get(q) != 0 {
+        return None;
+    }
+    Some(reduce_after(graph, q, chips, script))
+}
+
 #[test]
 fn wrong_guesses(rt: HostRuntime) -> Result<(), Fail> {
     for (items, q, amounts, chips, script, guesses) in CASES {
         let graph = Graph::new(amounts.len(), items)?;
         let start = Wide::new(&graph, amounts)?;
-        assert!(rt; q < graph.size() && is_within_start(&start));
         let divisor = Wide::new(&graph, chips)?;
         let script = Script::new(&graph, script)?;
+        let wanted = Some(Reduced { divisor, script });
         for guess in guesses {
             let guessed = Script::new(&graph, guess)?;
-            assert!(rt; guessed.get(q) == 0);
-            let reduced = reduce_after(&graph, q, &start, &guessed);
-            assert!(rt; reduced.divisor == divisor, "{guess:?}");
-            assert!(rt; reduced.script == script, "{guess:?}");
+            assert!(rt;
+                reduced_after(&graph, q, &start, &guessed) == wanted,
+                "{guess:?}"
+            );
         }
     }
     Ok(())

@@ -5,8 +5,8 @@ use Rattle.std.specs.Int.RustNames.{unsigned_abs}
 use mir.Val.{to_z, of_z}
 use Rattle.std.proofs.lemmas.Int.{ints}
 use Rattle.std.proofs.Math.IntN.{pos}
-use Rattle.dg_chips.specs.Vector.{at}
 use Rattle.dg_graph.specs.Sets.{in_set}
+use Rattle.dg_chips.specs.Vector.{at}
 use Rattle.dg_chips.proofs.FlowLaws.{times_held}
 use Rattle.dg_reduce.specs.States.{IsFired, IsLargestDebt}
 use Rattle.dg_reduce.proofs.LevelSteps.{chips_small, script_small, debt_small, cleared_free, cleared_paid}

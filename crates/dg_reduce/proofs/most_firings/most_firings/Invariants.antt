@@ -1,5 +1,5 @@
-use Rattle.dg_chips.specs.Vector.{at}
 use Rattle.dg_graph.specs.Sets.{in_set}
+use Rattle.dg_chips.specs.Vector.{at}
 use Rattle.dg_reduce.proofs.Most.{IsLeast}
 use Rattle.dg_reduce.proofs.most_firings.most_firings.Given as goal
 

@@ -4,8 +4,8 @@ use Rattle.std.specs.Int.RustNames.{unsigned_abs}
 use mir.Val.{to_z, of_z}
 use Rattle.std.proofs.lemmas.Int.{ints}
 use Rattle.dg_theory.specs.Firing.{fired, indicator, multiple}
-use Rattle.dg_chips.specs.Vector.{at}
 use Rattle.dg_graph.specs.Sets.{in_set}
+use Rattle.dg_chips.specs.Vector.{at}
 use Rattle.dg_chips.proofs.VectorLaws.{filled-set, rest-set}
 use Rattle.dg_chips.proofs.wide.Wide.fired.Goals as goal
 

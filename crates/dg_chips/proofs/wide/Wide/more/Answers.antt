@@ -5,8 +5,8 @@ use mir.Val.{to_z, of_z}
 use Rattle.std.proofs.lemmas.Int.{ints}
 use Rattle.std.proofs.Math.IntN.{◌+ℤ◌}
 use Rattle.dg_theory.specs.Firing.{indicator, multiple}
-use Rattle.dg_chips.specs.Vector.{at}
 use Rattle.dg_graph.specs.Sets.{in_set}
+use Rattle.dg_chips.specs.Vector.{at}
 use Rattle.dg_chips.proofs.VectorLaws.{filled-set, rest-set}
 use Rattle.dg_chips.proofs.wide.Wide.more.Goals as goal
 

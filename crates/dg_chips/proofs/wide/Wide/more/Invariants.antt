@@ -2,8 +2,8 @@ use Rattle.std.proofs.Common.{◌≡◌, ℕ, ◌<◌, ◌≤◌, length}
 use Rattle.std.specs.List.{slice_index_or}
 use Rattle.std.proofs.Math.IntN.{pos, ◌+ℤ◌}
 use Rattle.dg_theory.specs.Firing.{indicator, multiple}
-use Rattle.dg_chips.specs.Vector.{at}
 use Rattle.dg_graph.specs.Sets.{in_set}
+use Rattle.dg_chips.specs.Vector.{at}
 use Rattle.dg_chips.proofs.wide.Wide.more.Given as goal
 
 abbrev pub invariant-loop-v : goal.invariant-loop-v
