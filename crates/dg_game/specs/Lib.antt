@@ -12,4 +12,5 @@ pub mod LegalLaws
 pub mod State
 pub mod Schedule
 pub mod ScheduleFaults
+-- Words of private functions: a schedule as it is played.
 pub mod Rehearsal

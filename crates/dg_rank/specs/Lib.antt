@@ -1,7 +1,8 @@
--- Trials, their number and their order; and what rank tests answer.
+-- What trials are, how far rank tests go, and what they answer.
 pub mod Trials
 pub mod Limits
-pub mod Numbering
 pub mod Divisors
-pub mod Losses
 pub mod Ranks
+-- Words of private functions: how trials are numbered, and what the search for a loss finds.
+pub mod Numbering
+pub mod Losses

@@ -5,9 +5,7 @@
 --   raised E              == the trial E with one dollar more at its first place
 --   with_place c nth k i  == the trial number i of degree k on one place more, where c and nth number those without it
 --   nth_trial n k i       == the trial number i of degree k on n places
-use Rattle.std.specs.Prelude.{ℕ, zero, suc, ◌+◌, ◌-◌, List, [], ◌∷◌}
-use Rattle.std.proofs.Math.Bool.{cond}
-use Rattle.std.proofs.Math.Dec.{ltb}
+use Rattle.std.specs.Prelude.{ℕ, zero, suc, ◌+◌, ◌-◌, nat_lt, if◌then◌else◌, List, [], ◌∷◌}
 
 unfoldable pub one_place_more : (ℕ → ℕ) → ℕ → ℕ
 one_place_more c zero = c zero
@@ -24,7 +22,8 @@ raised (a ∷ E) = suc a ∷ E
 
 unfoldable pub with_place : (ℕ → ℕ) → (ℕ → ℕ → List ℕ) → ℕ → ℕ → List ℕ
 with_place c nth zero i = 0 ∷ nth zero i
-with_place c nth (suc k) i = cond (ltb i (c (suc k))) (0 ∷ nth (suc k) i) (raised (with_place c nth k (i - c (suc k))))
+with_place c nth (suc k) i =
+    if nat_lt i (c (suc k)) then (0 ∷ nth (suc k) i) else (raised (with_place c nth k (i - c (suc k))))
 
 unfoldable pub nth_trial : ℕ → ℕ → ℕ → List ℕ
 nth_trial zero k i = []
