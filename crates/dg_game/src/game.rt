@@ -203,7 +203,8 @@ impl Game {
     /// The verdict on an earlier position, carried over to the position now.
     fn verdict_now(&self, then: &Divisor, drift: &Drift, verdict: &Verdict) -> Verdict
         requires size { then.now.size ≡ self.now.graph.size }
-        requires led { (s : Amounts) × FiresTo self.now.graph s (at then.now) (at self.now.amounts) }
+        requires led { (s : Amounts) ×
+            FiresTo self.now.graph s (at then.now) (at self.now.amounts) }
         requires right { IsRight self.now.graph self.now.q (at then.now) verdict.now }
         ensures right { IsRight self.now.graph self.now.q (at self.now.amounts) result }
         ensures reduced { result.reduced ≡ verdict.now.reduced }
@@ -218,7 +219,8 @@ impl Game {
     /// what the scripts of two verdicts differ by.
     fn drift_from(&self, then: &Divisor, drift: &Drift) -> Drift
         requires size { then.now.size ≡ self.now.graph.size }
-        requires led { (s : Amounts) × FiresTo self.now.graph s (at then.now) (at self.now.amounts) }
+        requires led { (s : Amounts) ×
+            FiresTo self.now.graph s (at then.now) (at self.now.amounts) }
         ensures size { result.size ≡ self.now.graph.size }
         ensures led { FiresTo self.now.graph (at result) (at then.now) (at self.now.amounts) }
     {
