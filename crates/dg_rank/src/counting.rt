@@ -6,9 +6,7 @@ ghost use Rattle.dg_rank.specs.Numbering.{trial_count};
 
 use crate::enumeration::Trial;
 use dg_chips::Divisor;
-
-/// The most vertices of a rank test.
-pub const MAX_VERTICES: usize = 16;
+use dg_graph::MAX_VERTICES;
 
 /// The largest degree of a rank test.
 pub const MAX_DEGREE: u32 = 1_000;

@@ -43,7 +43,8 @@ fn bearer(graph: &Graph, base: &Wide, trial: &Trial) -> Option<Wide>
     requires graph { IsGraph graph.now }
     requires size { base.now.size ≡ graph.now.size }
     requires range { (v : ℕ) → v < graph.now.size → unsigned_abs (at base.now v) ≤ 32000000 }
-    requires trial { (k : ℕ) × (c : ℕ) × IsWithinLimits graph.now.size k c × IsTrial graph.now.size k trial.now }
+    requires trial { (k : ℕ) × (c : ℕ) × IsWithinLimits graph.now.size k c ×
+        IsTrial graph.now.size k trial.now }
     ensures { MatchOption result
         (¬ WinsWithout graph.now (at base.now) trial.now)
         (Bears graph.now (at base.now) trial.now) }

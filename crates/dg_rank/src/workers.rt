@@ -46,7 +46,8 @@ pub fn rank_with<R: Threads + Wait, G: Gate>(
     requires size { divisor.now.size ≡ graph.now.size }
     requires vertex { q < graph.now.size }
     ensures { MatchResult result
-        (λ x. IsWithin graph.now.size k × MayHaveWorkers workers × IsRankTest graph.now (at divisor.now) k x)
+        (λ x. IsWithin graph.now.size k × MayHaveWorkers workers ×
+        IsRankTest graph.now (at divisor.now) k x)
         (IsRankFault graph.now.size k workers) }
 {
     let size = graph.size();
