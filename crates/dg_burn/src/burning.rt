@@ -10,7 +10,7 @@ ghost use Rattle.dg_chips.specs.Vector.{at};
 
 use crate::fire::Fire;
 use dg_chips::Wide;
-use dg_graph::{Graph, complement};
+use dg_graph::{Graph, MAX_VERTICES, complement};
 
 /// What burning from a vertex comes to.
 #[derive(Clone, Copy, Debug, PartialEq, Eq)]
@@ -31,7 +31,7 @@ pub fn burn(graph: &Graph, q: usize, chips: &Wide) -> Burnt
     requires vertex { q < graph.now.size }
     requires no_debt { HasNoDebtOff graph.now q (at chips.now) }
     ensures order { BurnsInOrder graph.now q (at chips.now) (take result.burnt result.order) }
-    ensures rest { (i : ℕ) → result.burnt ≤ i → i < 16 → slice_index_or result.order i 0 ≡ 0 }
+    ensures rest { (i : ℕ) → result.burnt ≤ i → i < MAX_VERTICES → slice_index_or result.order i 0 ≡ 0 }
     ensures some { 1 ≤ result.burnt }
     ensures burnt { result.burnt ≤ graph.now.size }
     ensures unburnt { IsGreatestFree graph.now q (at chips.now) (in_set result.unburnt) }

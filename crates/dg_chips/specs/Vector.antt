@@ -13,6 +13,7 @@ use Rattle.std.specs.Prelude.{◌≡◌, ℕ, ◌<◌, ◌≤◌, ℤ, pos, List
 use Rattle.std.specs.List.{slice_index_or}
 use Rattle.std.specs.Int.RustNames.{unsigned_abs}
 use Rattle.dg_theory.specs.Firing.{Amounts}
+use Rattle.dg_graph.specs.declared.limits.TheConstants.{MAX_VERTICES}
 use Rattle.dg_chips.specs.declared.limits.TheConstants.{MAX_AMOUNT, MAX_ENTRY, MAX_DRIFT}
 
 pub record Vector : Type 0 where
@@ -23,7 +24,7 @@ abbrev pub at : Vector → Amounts
 at x v = slice_index_or x.numbers v (pos 0)
 
 pub record IsVector (limit : ℕ) (x : Vector) : Type 0 where
-  pub few : x.size ≤ 16
+  pub few : x.size ≤ MAX_VERTICES
   pub within : (v : ℕ) → v < x.size → unsigned_abs (at x v) ≤ limit
   pub inside : (v : ℕ) → x.size ≤ v → at x v ≡ pos 0
 
@@ -37,7 +38,7 @@ abbrev pub IsDrift : Vector → Type 0
 IsDrift x = IsVector MAX_DRIFT x
 
 pub record IsWide (x : Vector) : Type 0 where
-  pub few : x.size ≤ 16
+  pub few : x.size ≤ MAX_VERTICES
   pub inside : (v : ℕ) → x.size ≤ v → at x v ≡ pos 0
 
 pub record HoldsNumbers (xs : List ℤ) (x : Vector) : Type 0 where

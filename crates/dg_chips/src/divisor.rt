@@ -10,7 +10,7 @@ ghost use Rattle.dg_chips.specs.DivisorFaults.{IsFirstChipFault, IsFirstMinusFau
 
 use crate::limits::MAX_AMOUNT;
 use crate::vector::{first_past, padded};
-use dg_graph::Graph;
+use dg_graph::{Graph, MAX_VERTICES};
 use std::marker::Model;
 use thiserror::Error;
 
@@ -68,7 +68,7 @@ impl Divisor {
     /// The divisor with these amounts, in vertex order. The conditions are that there are at most 16, and that each is
     /// within 1,000,000.
     pub fn sized(amounts: &[i64]) -> Divisor
-        requires few { length amounts.now ≤ 16 }
+        requires few { length amounts.now ≤ MAX_VERTICES }
         requires range { (v : ℕ) → v < length amounts.now →
             unsigned_abs (slice_index_or amounts.now v (pos 0)) ≤ MAX_AMOUNT }
         ensures { HoldsNumbers amounts.now result }

@@ -14,7 +14,7 @@ use crate::firing::gained;
 use crate::limits::MAX_ENTRY;
 use crate::vector::{first_past, padded};
 use crate::wide::Wide;
-use dg_graph::{Graph, contains};
+use dg_graph::{Graph, MAX_VERTICES, contains};
 use std::marker::Model;
 
 /// Why numbers are refused as a script. Vertices are numbered from 0.
@@ -69,7 +69,7 @@ impl Script {
     /// The script with these entries, in vertex order. The conditions are that there are at most 16, and that each is
     /// within 1,000,000,000.
     pub fn sized(entries: &[i64]) -> Script
-        requires few { length entries.now ≤ 16 }
+        requires few { length entries.now ≤ MAX_VERTICES }
         requires limit { (v : ℕ) → v < length entries.now →
             unsigned_abs (slice_index_or entries.now v (pos 0)) ≤ MAX_ENTRY }
         ensures { HoldsNumbers entries.now result }
@@ -82,7 +82,7 @@ impl Script {
 
     /// The script that is so much at one vertex and 0 elsewhere.
     pub(crate) fn only_at(size: usize, v: usize, entry: i64) -> Script
-        requires size { size ≤ 16 }
+        requires size { size ≤ MAX_VERTICES }
         requires vertex { v < size }
         requires limit { unsigned_abs entry ≤ 1 }
         ensures size { result.size ≡ size }
@@ -95,7 +95,7 @@ impl Script {
 
     /// The script by which each vertex of a set lends once.
     pub(crate) fn indicator(size: usize, set: u16) -> Script
-        requires { size ≤ 16 }
+        requires { size ≤ MAX_VERTICES }
         ensures size { result.size ≡ size }
         ensures entries { (w : ℕ) → w < size → at result w ≡ indicator (in_set set) w }
     {

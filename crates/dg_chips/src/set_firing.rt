@@ -26,7 +26,7 @@ pub(crate) fn gained_by_set(graph: &Graph, set: u16, times: i128, v: usize) -> i
     requires vertex { v < graph.now.size }
     requires times { unsigned_abs times ≤ 2 ^ 120 }
     ensures gain { result ≡ gain graph.now (multiple times (indicator (in_set set))) v }
-    ensures limit { unsigned_abs result ≤ 63 * 2 ^ 120 }
+    ensures limit { unsigned_abs result ≤ MAX_VALENCE * 2 ^ 120 }
 {
     let _size = graph.size();
     if contains(set, v) {
@@ -41,7 +41,7 @@ fn carried(edges: u32, each: i128) -> i128
     requires few { edges ≤ MAX_VALENCE }
     requires each { unsigned_abs each ≤ 2 ^ 120 }
     ensures product { result ≡ pos edges *ℤ each }
-    ensures limit { unsigned_abs result ≤ 63 * 2 ^ 120 }
+    ensures limit { unsigned_abs result ≤ MAX_VALENCE * 2 ^ 120 }
 {
     if edges == 0 {
         return 0;

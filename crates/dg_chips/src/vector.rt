@@ -5,6 +5,8 @@ ghost use Rattle.std.specs.List.{slice_index_or};
 ghost use Rattle.std.specs.Int.RustNames.{unsigned_abs};
 ghost use Rattle.dg_chips.specs.VectorFaults.{IsFirstPast};
 
+use dg_graph::MAX_VERTICES;
+
 /// The place of the first number whose absolute value is above the limit.
 pub fn first_past(numbers: &[i64], limit: u64) -> Option<usize>
     ensures { MatchOption result
@@ -21,7 +23,7 @@ pub fn first_past(numbers: &[i64], limit: u64) -> Option<usize>
 
 /// The numbers, at most 16, and zero at each place after them.
 pub fn padded<T: Copy>(numbers: &[T], zero: T) -> [T; 16]
-    requires { length numbers.now ≤ 16 }
+    requires { length numbers.now ≤ MAX_VERTICES }
     ensures same { (v : ℕ) → v < length numbers.now → slice_index_or result v zero ≡ slice_index_or numbers.now v zero }
     ensures zero { (v : ℕ) → length numbers.now ≤ v → slice_index_or result v zero ≡ zero }
 {

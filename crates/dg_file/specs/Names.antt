@@ -8,6 +8,7 @@
 --   name_at names v     == the name of the vertex v
 use Rattle.std.specs.Prelude.{ℕ, ◌≤◌, ◌||◌, ◌&&◌, Bool, IsTrue, List, [], ◌∷◌, ◌++◌, length, Option, cond, leb, ◌==◌, bytes_eq, All, position}
 use Rattle.std.specs.List.{list_any, slice_index_or}
+use Rattle.dg_file.specs.declared.names.TheConstants.{MAX_NAME}
 
 abbrev pub is_from_to : ℕ → ℕ → ℕ → Bool
 is_from_to low high b = leb low b && leb b high
@@ -18,7 +19,7 @@ is_name_byte b = is_from_to 48 57 b || is_from_to 65 90 b || is_from_to 97 122 b
 
 pub record IsName (bytes : List ℕ) : Type 0 where
   pub not_empty : 1 ≤ length bytes
-  pub short : length bytes ≤ 16
+  pub short : length bytes ≤ MAX_NAME
   pub each : All (λ b. IsTrue (is_name_byte b)) bytes
 
 abbrev pub has : List (List ℕ) → List ℕ → Bool

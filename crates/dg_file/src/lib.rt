@@ -7,7 +7,7 @@ mod shape;
 mod table_file;
 
 pub use fault::{FileFault, Shape};
-pub use names::{Names, is_name};
+pub use names::{MAX_NAME, Names, is_name};
 pub use table_file::{TableFile, read_table};
 
 #[cfg(test)]

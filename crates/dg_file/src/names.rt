@@ -4,16 +4,20 @@ ghost use Rattle.std.specs.List.{IsDistinct};
 ghost use Rattle.indexmap.specs.IndexSet.{index_set_len};
 ghost use Rattle.dg_file.specs.Names.{IsName, has, added, place_of, name_at};
 
+use dg_graph::MAX_VERTICES;
 use indexmap::IndexSet;
 use std::alloc::{AllocError, Global};
 use std::marker::Model;
+
+/// The most bytes of a name.
+pub const MAX_NAME: usize = 16;
 
 /// Whether the bytes are a name: 1 to 16 of them, each an ASCII letter, an ASCII digit or `_`.
 pub fn is_name(bytes: &[u8]) -> bool
     ensures { IsTrue result ↔ IsName bytes.now }
 {
     let len = bytes.len();
-    1 <= len && len <= 16 && bytes.iter().all(|byte| is_name_byte(*byte))
+    1 <= len && len <= MAX_NAME && bytes.iter().all(|byte| is_name_byte(*byte))
 }
 
 fn is_name_byte(byte: u8) -> bool
@@ -32,12 +36,13 @@ impl Model for Names {
     ghost use Rattle.std.specs.Prelude.{ℕ, List, map, string_bytes, ◌≤◌};
     ghost use Rattle.std.specs.List.{IsDistinct};
     ghost use Rattle.indexmap.specs.IndexSet.{index_set_len};
+    ghost use Rattle.dg_graph.specs.declared.limits.TheConstants.{MAX_VERTICES};
 
     ghost Value = { List (List ℕ) };
 
     ghost view = { λ names. map string_bytes names.set.keys };
 
-    ghost invariant = { λ names. index_set_len names.set ≤ 16 };
+    ghost invariant = { λ names. index_set_len names.set ≤ MAX_VERTICES };
 }
 
 impl Names {
@@ -53,7 +58,7 @@ impl Names {
     /// The number of names.
     pub fn len(&self) -> usize
         ensures len { result ≡ length self.now }
-        ensures few { result ≤ 16 }
+        ensures few { result ≤ MAX_VERTICES }
         ensures distinct { IsDistinct bytes_eq self.now }
     {
         self.set.len()
@@ -70,7 +75,7 @@ impl Names {
     ///
     /// Where memory is refused, nothing has changed.
     pub fn add(&mut self, alloc: Global, name: &str) -> Result<bool, AllocError>
-        requires { length self.old < 16 }
+        requires { length self.old < MAX_VERTICES }
         ensures added { IfOk result (λ added. added ≡ not (has self.old name.now)) }
         ensures names { IfOk result (λ _. self.new ≡ added self.old name.now) }
         ensures err { OnErr result (self.new ≡ self.old) }
@@ -84,7 +89,7 @@ impl Names {
     pub fn place(&self, name: &[u8]) -> Option<u8>
         ensures place { result ≡ place_of self.now name.now }
         ensures vertex { IfSome result (λ v. v < length self.now) }
-        ensures few { length self.now ≤ 16 }
+        ensures few { length self.now ≤ MAX_VERTICES }
     {
         let place = first_place(&self.set, name)?;
         Some(place as u8)

@@ -5,7 +5,7 @@ use crate::fault::FileFault;
 use crate::names::{Names, is_name};
 use crate::shape::{Content, Edge, content_of, value_of};
 use dg_chips::{ChipFault, Divisor, Start, StartFault};
-use dg_graph::{Graph, GraphFault};
+use dg_graph::{Graph, GraphFault, MAX_VERTICES};
 use std::alloc::{AllocError, Global};
 
 /// What a table file describes: the start of a game, and a name for each vertex of its graph.
@@ -48,7 +48,7 @@ pub fn read_table(alloc: Global, bytes: &[u8]) -> Result<TableFile, FileFault>
 
 fn table_of(alloc: Global, content: &Content<'_>) -> Result<TableFile, FileFault> {
     let vertices = content.vertices.as_slice();
-    if vertices.is_empty() || vertices.len() > 16 {
+    if vertices.is_empty() || vertices.len() > MAX_VERTICES {
         return Err(FileFault::Graph(GraphFault::Size));
     }
     let names = names_of(alloc, vertices)?;
@@ -61,7 +61,7 @@ fn table_of(alloc: Global, content: &Content<'_>) -> Result<TableFile, FileFault
 }
 
 fn names_of(alloc: Global, vertices: &[&str]) -> Result<Names, FileFault>
-    requires { length vertices.now ≤ 16 }
+    requires { length vertices.now ≤ MAX_VERTICES }
     ensures { IfOk result (λ names. length names ≡ length vertices.now) }
 {
     let mut names = Names::new(alloc);

@@ -12,6 +12,7 @@ use Rattle.std.specs.Int.RustNames.{unsigned_abs}
 use Rattle.dg_theory.specs.Multigraph.{Multigraph}
 use Rattle.dg_graph.specs.Graph.{IsGraph}
 use Rattle.dg_chips.specs.Vector.{Vector, at}
+use Rattle.dg_chips.specs.declared.limits.TheConstants.{MAX_ENTRY}
 use Rattle.dg_chips.specs.Opening.{Opening}
 use Rattle.dg_game.specs.Position.{Position, Shows}
 use Rattle.dg_game.specs.History.{position_after, gifts_in, scripts_played, script_by}
@@ -37,7 +38,7 @@ pub record IsState (s : State) : Type 0 where
   pub vertex : s.q < s.graph.size
   pub size : s.amounts.size ≡ s.graph.size
   pub drift_size : s.drift.size ≡ s.graph.size
-  pub drift_limit : (v : ℕ) → v < s.graph.size → unsigned_abs (at s.drift v) ≤ s.entries * 1000000000
+  pub drift_limit : (v : ℕ) → v < s.graph.size → unsigned_abs (at s.drift v) ≤ s.entries * MAX_ENTRY
   pub gifts : s.gifts ≤ s.entries
   pub entries : s.entries ≤ MAX_ENTRIES
 

@@ -20,7 +20,7 @@ ghost use Rattle.dg_game.specs.declared.entry.Request.TheVariants.{Move as MoveR
 use crate::entry::{MAX_GIFT, Plain, Refusal, Reply};
 use crate::finding::Finding;
 use crate::look::LookData;
-use dg_chips::{Divisor, Drift, Move, Start, apply};
+use dg_chips::{Divisor, Drift, MAX_ENTRY, Move, Start, apply};
 use dg_graph::Graph;
 use dg_verdict::{Verdict, judge, rebase};
 use std::marker::Model;
@@ -318,7 +318,7 @@ impl Game {
 
 /// A move lends, and borrows, at most 1,000,000,000 times at each vertex.
 fn lends_few(play: &Move)
-    ensures { (v : ℕ) → unsigned_abs (script_of play.now v) ≤ 1000000000 }
+    ensures { (v : ℕ) → unsigned_abs (script_of play.now v) ≤ MAX_ENTRY }
 {
     if let Move::Script(script) = play {
         let _size = script.size();

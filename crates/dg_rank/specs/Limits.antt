@@ -3,14 +3,15 @@
 --   IsPastLimits n k     == rank tests of degree k on n vertices are past one of the limits
 use Rattle.std.specs.Prelude.{◌≡◌, ℕ, ◌<◌, ◌≤◌, ◌⊎◌}
 use Rattle.dg_rank.specs.Trials.{AreCounted, AnyTrial}
+use Rattle.dg_graph.specs.declared.limits.TheConstants.{MAX_VERTICES}
 use Rattle.dg_rank.specs.declared.counting.TheConstants.{MAX_DEGREE, MAX_TRIALS}
 
 pub record IsWithinLimits (n k c : ℕ) : Type 0 where
   pub some : 0 < n
-  pub few : n ≤ 16
+  pub few : n ≤ MAX_VERTICES
   pub small : k ≤ MAX_DEGREE
   pub counted : AreCounted n k AnyTrial c
   pub limit : c ≤ MAX_TRIALS
 
 abbrev pub IsPastLimits : ℕ → ℕ → Type 0
-IsPastLimits n k = (n ≡ 0) ⊎ (16 < n) ⊎ (MAX_DEGREE < k) ⊎ ((c : ℕ) × (MAX_TRIALS < c) × AreCounted n k AnyTrial c)
+IsPastLimits n k = (n ≡ 0) ⊎ (MAX_VERTICES < n) ⊎ (MAX_DEGREE < k) ⊎ ((c : ℕ) × (MAX_TRIALS < c) × AreCounted n k AnyTrial c)

@@ -42,7 +42,7 @@ pub fn trial(n: usize, k: u32, i: u32) -> Divisor
 /// that n is 1 to 16, and that k is at most 1,000.
 pub(crate) fn count(n: usize, k: u32) -> u32
     requires some { 0 < n }
-    requires few { n ≤ 16 }
+    requires few { n ≤ MAX_VERTICES }
     requires small { k ≤ MAX_DEGREE }
     ensures { result ≡ min (MAX_TRIALS + 1) (trial_count n k) }
 {

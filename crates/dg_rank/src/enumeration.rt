@@ -7,6 +7,7 @@ ghost use Rattle.dg_rank.specs.Divisors.{HoldsTrial};
 
 use crate::counting::{MAX_DEGREE, MAX_TRIALS, count};
 use dg_chips::Divisor;
+use dg_graph::MAX_VERTICES;
 use std::marker::Model;
 
 /// A trial: an amount for each place, none of them a debt.
@@ -18,19 +19,20 @@ pub struct Trial {
 
 impl Model for Trial {
     ghost use Rattle.std.specs.Prelude.{ℕ, ◌≤◌, List, take};
+    ghost use Rattle.dg_graph.specs.declared.limits.TheConstants.{MAX_VERTICES};
 
     ghost Value = { List ℕ };
 
     ghost view = { λ a. take a.size a.amounts };
 
-    ghost invariant = { λ a. a.size ≤ 16 };
+    ghost invariant = { λ a. a.size ≤ MAX_VERTICES };
 }
 
 impl Trial {
     /// The number of places, at most 16.
     pub fn size(&self) -> usize
         ensures size { result ≡ length self.now }
-        ensures few { result ≤ 16 }
+        ensures few { result ≤ MAX_VERTICES }
     {
         self.size
     }
@@ -124,7 +126,7 @@ impl Trial {
 /// other places.
 fn first_amount(n: usize, k: u32, i: u32) -> (u32, u32)
     requires some { 0 < n }
-    requires few { n ≤ 16 }
+    requires few { n ≤ MAX_VERTICES }
     requires small { k ≤ MAX_DEGREE }
     requires number { i < trial_count (suc n) k }
     requires limit { i ≤ MAX_TRIALS }

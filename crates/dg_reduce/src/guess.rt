@@ -6,7 +6,7 @@ ghost use Rattle.dg_chips.specs.Vector.{at};
 ghost use Rattle.dg_reduce.specs.declared.limits.TheConstants.{MAX_START};
 
 use dg_chips::{Script, Wide};
-use dg_graph::Graph;
+use dg_graph::{Graph, MAX_VERTICES};
 use std::num::{nearest_i64_to_f64, saturating_f64_to_i64};
 
 /// The largest amount off q, debt or not, at which a reduction needs no guess.
@@ -111,7 +111,7 @@ fn amounts_off(q: usize, chips: &Wide) -> [f64; 16]
 
 /// Takes multiples of the pivot's row from the rows below it, so that they have 0 in the pivot's column.
 fn eliminate(size: usize, rows: &mut [[f64; 16]; 16], amounts: &mut [f64; 16], pivot: usize)
-    requires few { size ≤ 16 }
+    requires few { size ≤ MAX_VERTICES }
     requires pivot { pivot < size }
 {
     for v in pivot + 1..size {
@@ -131,7 +131,7 @@ fn less_times(
     factor: f64,
     other: &[f64; 16],
 ) -> [f64; 16]
-    requires { size ≤ 16 }
+    requires { size ≤ MAX_VERTICES }
 {
     let mut less = *row;
     for w in first..size {
@@ -142,7 +142,7 @@ fn less_times(
 
 /// Back substitution: the solution of equations whose matrix is upper triangular.
 fn solved(size: usize, rows: &[[f64; 16]; 16], amounts: &[f64; 16]) -> [f64; 16]
-    requires { size ≤ 16 }
+    requires { size ≤ MAX_VERTICES }
 {
     let mut solution = [0.0; 16];
     for v in (0..size).rev() {
@@ -153,7 +153,7 @@ fn solved(size: usize, rows: &[[f64; 16]; 16], amounts: &[f64; 16]) -> [f64; 16]
 
 /// The product of a row with the part of the solution that is known; the rest of it is 0.
 fn product(size: usize, row: &[f64; 16], solution: &[f64; 16]) -> f64
-    requires { size ≤ 16 }
+    requires { size ≤ MAX_VERTICES }
 {
     let mut sum = 0.0;
     for w in 0..size {

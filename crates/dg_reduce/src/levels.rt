@@ -10,7 +10,7 @@ ghost use Rattle.dg_reduce.specs.Reaching.{IsReached, spread};
 ghost use Rattle.dg_reduce.specs.States.{IsLargestDebt};
 
 use dg_chips::Wide;
-use dg_graph::{Graph, with_vertex};
+use dg_graph::{Graph, MAX_VERTICES, with_vertex};
 
 /// How far each vertex is from q: the number of edges on a shortest chain.
 pub fn levels_from(graph: &Graph, q: usize) -> [usize; 16]
@@ -73,7 +73,7 @@ pub fn largest_debt(levels: &[usize; 16], level: usize, chips: &Wide) -> i128
 
 /// The set of the vertices that are nearer than the level.
 pub fn nearer_set(size: usize, levels: &[usize; 16], level: usize) -> u16
-    requires { size ≤ 16 }
+    requires { size ≤ MAX_VERTICES }
     ensures { (v : ℕ) → v < size → in_set result v ≡ nat_lt (slice_index levels.now v) level }
 {
     let mut set = 0;

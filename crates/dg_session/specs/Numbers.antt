@@ -9,13 +9,14 @@
 use Rattle.std.specs.Prelude.{ℕ, zero, suc, ◌&&◌, ◌^◌, ℤ, pos, negsuc, Bool, List, Option, Some, None, cond, bytes_eq, decimal, leb, option_and_then}
 use Rattle.std.specs.Fmt.{signed_decimal}
 use Rattle.std.specs.Str.Parse.{signed_digits_value}
+use Rattle.dg_game.specs.declared.entry.TheConstants.{MAX_SEATS}
 
 unfoldable pub seat_up_to : ℕ → List ℕ → Option ℕ
 seat_up_to zero text = None
 seat_up_to (suc n) text = cond (bytes_eq text (decimal (suc n))) (Some (suc n)) (seat_up_to n text)
 
 unfoldable pub seat_of : List ℕ → Option ℕ
-seat_of text = seat_up_to 64 text
+seat_of text = seat_up_to MAX_SEATS text
 
 -- negsuc n is -(n + 1)
 abbrev pub is_within : ℤ → Bool

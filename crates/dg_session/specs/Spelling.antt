@@ -21,6 +21,7 @@ use Rattle.dg_session.specs.Cuts.{after, items}
 use Rattle.dg_file.specs.Names.{place_of}
 use Rattle.dg_session.specs.Commands.{set_of}
 use Rattle.dg_session.specs.Steps.{step_of}
+use Rattle.dg_game.specs.declared.entry.TheConstants.{MAX_SEATS}
 
 pub record IsWord (word : List ℕ) : Type 0 where
   pub not_empty : 1 ≤ length word
@@ -62,7 +63,7 @@ pub record IsSpelled (names : List (List ℕ)) (seat : ℕ) (command : Command) 
   pub text : List ℕ
   pub whole : line ≡ decimal seat ++ codes " " ++ text
   pub first : 1 ≤ seat
-  pub last : seat ≤ 64
+  pub last : seat ≤ MAX_SEATS
   pub means : IsCommandLine names command text
 
 abbrev pub StepsAreSpelled : Type 0

@@ -8,7 +8,7 @@ ghost use Rattle.dg_verdict.specs.Right.{IsRight};
 
 use dg_burn::burn;
 use dg_chips::{Divisor, Script, Wide};
-use dg_graph::Graph;
+use dg_graph::{Graph, MAX_VERTICES};
 use dg_reduce::reduce;
 
 /// Whether a divisor is winnable, with what shows it.
@@ -31,7 +31,7 @@ pub fn judge(graph: &Graph, q: usize, divisor: &Divisor) -> Verdict
     requires vertex { q < graph.now.size }
     ensures right { IsRight graph.now q (at divisor.now) result }
     ensures order { BurnsInOrder graph.now q (at result.reduced) (take graph.now.size result.order) }
-    ensures rest { (i : ℕ) → graph.now.size ≤ i → i < 16 → slice_index_or result.order i 0 ≡ 0 }
+    ensures rest { (i : ℕ) → graph.now.size ≤ i → i < MAX_VERTICES → slice_index_or result.order i 0 ≡ 0 }
 {
     let _size = graph.size();
     let reduced = reduce(graph, q, divisor);
