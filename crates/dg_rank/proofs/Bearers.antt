@@ -95,9 +95,12 @@ pub bears-left : (g : Multigraph) (B : Amounts) (E : List ℕ) (y z : Vector) (F
     IsEffectiveForm g F y → z.size ≡ g.size → ((v : ℕ) → v < g.size → at z v ≡ at y v +ℤ amounts_of E v) → Bears g B E z
 bears-left g B E y z F left form size more = let (script, fires) = form.led in record {
   size = size;
-  equivalent = (script, λ v inside.
-      let now : at y v ≡ fired g F script v = fires v inside in
-      omega (arith, ints, more v inside, left v inside));
+  equivalent = (
+    script,
+    λ v inside.
+        let now : at y v ≡ fired g F script v = fires v inside in
+        omega (arith, ints, more v inside, left v inside),
+  );
   enough = λ v inside.
       let rich : pos 0 ≤ℤ at y v = form.effective v inside in
       omega (arith, ints, more v inside);
