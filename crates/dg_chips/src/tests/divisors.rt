@@ -44,6 +44,27 @@ fn what_divisors_hold(rt: HostRuntime) -> Result<(), Fail> {
     Ok(())
 }
 
+// A divisor, another one, and the first less the second, or why it is refused.
+static DIFFERENCES: [([i64; 3], [i64; 3], Result<[i64; 3], ChipFault>); 5] = [
+    ([5, -7, 1], [1, 2, -3], Ok([4, -9, 4])),
+    (
+        [1_000_000, 0, -1_000_000],
+        [0, 0, 0],
+        Ok([1_000_000, 0, -1_000_000]),
+    ),
+    ([1_000_000, 0, 0], [-1, 0, 0], Err(ChipFault::Range(0))),
+    (
+        [0, -1_000_000, -1_000_000],
+        [0, 1, 1],
+        Err(ChipFault::Range(1)),
+    ),
+    (
+        [0, 0, 1_000_000],
+        [0, 0, -1_000_000],
+        Err(ChipFault::Range(2)),
+    ),
+];
+
 // The canonical divisor: the triangle has two edges at each vertex, and the two of three edges have three.
 #[test]
 fn what_divisors_become(rt: HostRuntime) -> Result<(), Fail> {
@@ -57,31 +78,12 @@ fn what_divisors_become(rt: HostRuntime) -> Result<(), Fail> {
     assert!(rt; Script::sized(&[5, -7]) == Script::new(&pair, &[5, -7])?);
     let sixteen = Divisor::sized(&[-1_000_000; 16]);
     assert_eq!(rt; (sixteen.size(), sixteen.get(15)), (16, -1_000_000));
-    let cases: [([i64; 3], [i64; 3], Result<[i64; 3], ChipFault>); 5] = [
-        ([5, -7, 1], [1, 2, -3], Ok([4, -9, 4])),
-        (
-            [1_000_000, 0, -1_000_000],
-            [0, 0, 0],
-            Ok([1_000_000, 0, -1_000_000]),
-        ),
-        ([1_000_000, 0, 0], [-1, 0, 0], Err(ChipFault::Range(0))),
-        (
-            [0, -1_000_000, -1_000_000],
-            [0, 1, 1],
-            Err(ChipFault::Range(1)),
-        ),
-        (
-            [0, 0, 1_000_000],
-            [0, 0, -1_000_000],
-            Err(ChipFault::Range(2)),
-        ),
-    ];
-    for (amounts, others, left) in cases {
-        let divisor = Divisor::new(&star, &amounts)?;
-        let other = Divisor::new(&triangle, &others)?;
+    for (amounts, others, left) in &DIFFERENCES {
+        let divisor = Divisor::new(&star, amounts)?;
+        let other = Divisor::new(&triangle, others)?;
         let held = match left {
-            Ok(amounts) => Ok(Divisor::new(&star, &amounts)?),
-            Err(fault) => Err(fault),
+            Ok(amounts) => Ok(Divisor::new(&star, amounts)?),
+            Err(fault) => Err(*fault),
         };
         assert!(rt; divisor.minus(&other) == held, "{amounts:?}");
     }

@@ -72,24 +72,44 @@ fn what_drifts_hold(rt: HostRuntime) -> Result<(), Fail> {
     Ok(())
 }
 
+// Two scripts, and the first less the second.
+static BETWEEN: [([i64; 3], [i64; 3], [i64; 3]); 3] = [
+    ([3, -4, 0], [0, 0, 0], [3, -4, 0]),
+    ([3, -4, 1], [5, 5, -6], [-2, -9, 7]),
+    (
+        [0, 1_000_000_000, -1_000_000_000],
+        [0, -1_000_000_000, 1_000_000_000],
+        [0, 2_000_000_000, -2_000_000_000],
+    ),
+];
+
+// An earlier script, and the greatest drift of the test less it, where that is within the limit.
+static EARLIER: [([i64; 3], Option<[i64; 3]>); 5] = [
+    (
+        [0, 0, 0],
+        Some([0, 99_999_999_983_616, -99_999_999_983_616]),
+    ),
+    (
+        [7, -16_384, 16_384],
+        Some([-7, 100_000_000_000_000, -100_000_000_000_000]),
+    ),
+    ([0, -16_385, 0], None),
+    ([0, 0, 16_385], None),
+    (
+        [0, 1_000_000_000, 0],
+        Some([0, 99_998_999_983_616, -99_999_999_983_616]),
+    ),
+];
+
 #[test]
 fn how_drifts_differ(rt: HostRuntime) -> Result<(), Fail> {
     let triangle = Graph::new(3, &[(0, 1, 1), (1, 2, 1), (0, 2, 1)])?;
     let zero = Script::new(&triangle, &[0, 0, 0])?;
-    let between: [([i64; 3], [i64; 3], [i64; 3]); 3] = [
-        ([3, -4, 0], [0, 0, 0], [3, -4, 0]),
-        ([3, -4, 1], [5, 5, -6], [-2, -9, 7]),
-        (
-            [0, 1_000_000_000, -1_000_000_000],
-            [0, -1_000_000_000, 1_000_000_000],
-            [0, 2_000_000_000, -2_000_000_000],
-        ),
-    ];
-    for (first, second, entries) in between {
-        let first = Script::new(&triangle, &first)?;
-        let second = Script::new(&triangle, &second)?;
+    for (first, second, entries) in &BETWEEN {
+        let first = Script::new(&triangle, first)?;
+        let second = Script::new(&triangle, second)?;
         assert!(rt;
-            holds(&Drift::between(&first, &second), &entries),
+            holds(&Drift::between(&first, &second), entries),
             "{entries:?}"
         );
     }
@@ -116,31 +136,26 @@ fn how_drifts_differ(rt: HostRuntime) -> Result<(), Fail> {
     );
     assert!(rt; most.size() == 3 && least.size() == 3);
     assert!(rt; most.since(&least).is_none() && least.since(&most).is_none());
-    let earlier: [([i64; 3], Option<[i64; 3]>); 5] = [
-        (
-            [0, 0, 0],
-            Some([0, 99_999_999_983_616, -99_999_999_983_616]),
-        ),
-        (
-            [7, -16_384, 16_384],
-            Some([-7, 100_000_000_000_000, -100_000_000_000_000]),
-        ),
-        ([0, -16_385, 0], None),
-        ([0, 0, 16_385], None),
-        (
-            [0, 1_000_000_000, 0],
-            Some([0, 99_998_999_983_616, -99_999_999_983_616]),
-        ),
-    ];
-    for (script, entries) in earlier {
-        let earlier = Drift::between(&Script::new(&triangle, &script)?, &zero);
+    for (script, entries) in &EARLIER {
+        let earlier = Drift::between(&Script::new(&triangle, script)?, &zero);
         match (most.since(&earlier), entries) {
-            (Some(drift), Some(entries)) => assert!(rt; holds(&drift, &entries), "{script:?}"),
+            (Some(drift), Some(entries)) => assert!(rt; holds(&drift, entries), "{script:?}"),
             (since, entries) => assert!(rt; since.is_none() && entries.is_none(), "{script:?}"),
         }
     }
     Ok(())
 }
+
+// Wide amounts, and whether a script with the greatest entries leads to them from 2 0 0.
+static FAR: [([i128; 3], bool); 4] = [
+    ([-2_999_999_998, 3_000_000_000, 0], true),
+    (
+        [-2_999_999_998, 3_000_000_000, 18_446_744_073_709_551_616],
+        false,
+    ),
+    ([i128::MAX, 3_000_000_000, 0], false),
+    ([-2_999_999_998, i128::MIN, 0], false),
+];
 
 #[test]
 fn where_scripts_and_drifts_lead(rt: HostRuntime) -> Result<(), Fail> {
@@ -181,18 +196,9 @@ fn where_scripts_and_drifts_lead(rt: HostRuntime) -> Result<(), Fail> {
     }
     let script = Script::new(&triangle, &[1_000_000_000, -1_000_000_000, 0])?;
     let from = Divisor::new(&triangle, &[2, 0, 0])?;
-    let far: [([i128; 3], bool); 4] = [
-        ([-2_999_999_998, 3_000_000_000, 0], true),
-        (
-            [-2_999_999_998, 3_000_000_000, 18_446_744_073_709_551_616],
-            false,
-        ),
-        ([i128::MAX, 3_000_000_000, 0], false),
-        ([-2_999_999_998, i128::MIN, 0], false),
-    ];
-    for (amounts, leads) in far {
-        let to = Wide::new(&triangle, &amounts)?;
-        assert!(rt; script.leads(&triangle, &from, &to) == leads, "far");
+    for (amounts, leads) in &FAR {
+        let to = Wide::new(&triangle, amounts)?;
+        assert!(rt; script.leads(&triangle, &from, &to) == *leads, "far");
     }
     Ok(())
 }
