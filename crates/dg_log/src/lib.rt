@@ -1,0 +1,16 @@
+//! The history of one table, in cells that are each set once, and receipts for its entries.
+#![tactic(auto)]
+
+mod digest;
+mod log;
+mod name;
+mod pen;
+mod receipt;
+mod row;
+
+pub use digest::Digest;
+pub use log::Log;
+pub use name::Name;
+pub use pen::Pen;
+pub use receipt::Receipt;
+pub use row::{LogFault, Row};

@@ -1,0 +1,61 @@
+//! The cells of a table's history, read by anyone.
+ghost use Rattle.std.specs.Prelude.{◌≡◌, ◌<◌, ◌≤◌, List, [], length, map, MatchOption, ⊤};
+ghost use Rattle.std.specs.Vec.{vec_len};
+ghost use Rattle.once_cell.specs.Once.{cell_name};
+ghost use Rattle.dg_game.specs.declared.game.TheConstants.{MAX_ENTRIES};
+
+use crate::name::Name;
+use crate::pen::Pen;
+use crate::receipt::Receipt;
+use crate::row::Row;
+use dg_game::Entry;
+use dg_known::{Facts, Known};
+use once_cell::race::OnceBox;
+use std::marker::PhantomData;
+
+/// The history of the table N as its cells hold it. Reading takes no lock, and needs no memory.
+#[derive(Drop)]
+pub struct Log<N: Name> {
+    pub(crate) cells: Vec<OnceBox<Entry>>,
+    of: PhantomData<N>,
+    ghost named: { map cell_name cells.items ≡ N.cells },
+    ghost fits: { vec_len cells ≤ MAX_ENTRIES },
+}
+
+impl<N: Name> Log<N> {
+    /// The log of an empty history, and the one pen that writes it. The condition is that N names the row.
+    pub fn new(row: Row) -> (Log<N>, Pen<N>)
+        requires { row ≡ N.cells }
+        ensures { result.1 ≡ record { entries = []; stuck = false } }
+    {
+        let log = Log {
+            cells: row.cells,
+            of: PhantomData,
+        };
+        (log, Pen::new())
+    }
+
+    /// The entry of a receipt.
+    pub fn entry(&self, receipt: &Receipt<N>) -> &Entry
+        ensures { result.now ≡ receipt.now.1 }
+    {
+        let cell = &self.cells[receipt.number() as usize];
+        let mut note = cell.note();
+        receipt.known.tell(&mut note);
+        match cell.get_as(&mut note) {
+            Some(entry) => entry,
+            None => unreachable!(),
+        }
+    }
+
+    /// The entry of a number, with a receipt for it; `None` past the last cell, and where the cell is found empty.
+    pub fn read(&self, number: u32) -> Option<(Receipt<N>, &Entry)>
+        ensures { MatchOption result ⊤ (λ r. (r.0.0 ≡ number) × (r.1.now ≡ r.0.1) × (number < length N.cells)) }
+    {
+        let cell = self.cells.get(number as usize)?;
+        let mut note = cell.note();
+        let entry = cell.get_as(&mut note)?;
+        let known = Known::of(&mut note);
+        Some((Receipt::of(number, known), entry))
+    }
+}

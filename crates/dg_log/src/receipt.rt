@@ -1,0 +1,64 @@
+//! Receipts: what shows that an entry stands in the history at its number.
+ghost use Rattle.std.specs.Prelude.{◌≡◌, ℕ, ◌<◌, length};
+ghost use Rattle.std.specs.List.{slice_get};
+ghost use Rattle.std.specs.declared.option.Option.TheVariants.{Some};
+ghost use Rattle.dg_game.specs.declared.entry.Entry.{Entry as EntryData};
+
+use crate::name::Name;
+use dg_game::Entry;
+use dg_known::Known;
+use std::marker::{Model, PhantomData};
+
+/// A receipt for an entry of the table N. A contract sees the entry's number and the entry. It takes four bytes, and can be
+/// copied and handed to other threads.
+#[derive(Drop)]
+pub struct Receipt<N: Name> {
+    number: u32,
+    pub(crate) known: Known<Entry>,
+    of: PhantomData<N>,
+}
+
+impl<N: Name> Model for Receipt<N> {
+    ghost Value = { ℕ × EntryData };
+
+    ghost view = { λ r. (r.number, r.known.value) };
+
+    ghost invariant = { λ r. slice_get N.cells r.number ≡ Some r.known.cell };
+}
+
+impl<N: Name> Receipt<N> {
+    /// A receipt for the entry that the cell of this number is known to hold.
+    pub(crate) fn of(number: u32, known: Known<Entry>) -> Receipt<N>
+        requires { slice_get N.cells number ≡ Some known.cell }
+        ensures { result ≡ (number, known.value) }
+    {
+        Receipt {
+            number,
+            known,
+            of: PhantomData,
+        }
+    }
+
+    /// The entry's number in the history, from 0.
+    pub fn number(&self) -> u32
+        ensures number { result ≡ self.now.0 }
+        ensures cell { result < length N.cells }
+    {
+        self.number
+    }
+
+    /// The same receipt once more.
+    pub fn again(&self) -> Receipt<N>
+        ensures { result ≡ self.now }
+    {
+        Receipt::of(self.number, self.known.again())
+    }
+
+    /// Two receipts of one number are for one entry. It does nothing. The condition is that their numbers are equal.
+    pub fn compare(&self, other: &Receipt<N>)
+        requires { other.now.0 ≡ self.now.0 }
+        ensures { other.now.1 ≡ self.now.1 }
+    {
+        self.known.agrees(&other.known);
+    }
+}

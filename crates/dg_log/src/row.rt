@@ -1,0 +1,70 @@
+//! The cells of a history, before a table has them.
+ghost use Rattle.std.specs.Prelude.{◌≡◌, ℕ, ◌≤◌, List, length, map, MatchResult};
+ghost use Rattle.std.specs.Vec.{vec_len};
+ghost use Rattle.once_cell.specs.Once.{cell_name};
+ghost use Rattle.dg_log.specs.Rows.{IsCapacity, RefusesRow};
+ghost use Rattle.dg_game.specs.declared.game.TheConstants.{MAX_ENTRIES};
+
+use dg_game::{Entry, MAX_ENTRIES};
+use once_cell::race::OnceBox;
+use std::alloc::{AllocError, Global};
+use std::marker::Model;
+
+/// Why there is no row of cells.
+#[derive(Clone, Copy, Debug, PartialEq, Eq)]
+pub enum LogFault {
+    /// It would have no cell, or more than 65,536.
+    Capacity,
+    /// There is not enough memory.
+    OutOfMemory,
+}
+
+/// Empty cells, one for each entry that the history of a table may have. A contract sees the cells' names.
+#[derive(Drop)]
+pub struct Row {
+    pub(crate) cells: Vec<OnceBox<Entry>>,
+}
+
+impl Model for Row {
+    ghost Value = { List ℕ };
+
+    ghost view = { λ r. map cell_name r.cells.items };
+
+    ghost invariant = { λ r. vec_len r.cells ≤ MAX_ENTRIES };
+}
+
+impl Row {
+    /// A row of this many cells, 1 to 65,536.
+    ///
+    /// Refused with `Capacity` where the number is another, and with `OutOfMemory`.
+    pub fn new(alloc: Global, capacity: u32) -> Result<Row, LogFault>
+        ensures { MatchResult result (λ r. (length r ≡ capacity) × IsCapacity capacity) (RefusesRow capacity) }
+    {
+        let count = capacity as usize;
+        if count == 0 || count > MAX_ENTRIES {
+            return Err(LogFault::Capacity);
+        }
+        let mut cells = Vec::with_capacity(alloc, count)?;
+        for _ in 0..count {
+            if cells.push(OnceBox::new(alloc)).is_err() {
+                return Err(LogFault::OutOfMemory);
+            }
+        }
+        Ok(Row { cells })
+    }
+
+    /// How many cells there are.
+    pub fn len(&self) -> u32
+        ensures { result ≡ length self.now }
+    {
+        self.cells.len() as u32
+    }
+}
+
+impl From<AllocError> for LogFault {
+    ghost from_gives = { λ _ fault. fault ≡ out_of_memory };
+
+    fn from(_: AllocError) -> LogFault {
+        LogFault::OutOfMemory
+    }
+}

@@ -1,0 +1,26 @@
+-- How a call is answered.
+--   IsAnsweredAfter o H request r x y   == the call of the seat x is answered by the receipt r after the history H, and
+--                                          leaves the seat y
+--   IsAnswered o request r x y          == it is so answered after some history
+use Rattle.std.specs.Prelude.{◌≡◌, ℕ, List, [], ◌∷◌, ◌++◌, length}
+use Rattle.dg_chips.specs.Opening.{Opening}
+use Rattle.dg_game.specs.Legal.{IsLegal}
+use Rattle.dg_game.specs.Replies.{Replies}
+use Rattle.dg_game.specs.declared.entry.Entry.{Entry}
+use Rattle.dg_game.specs.declared.entry.Request.{Request}
+use Rattle.dg_table.specs.Seats.{SeatView, Holds}
+
+-- the one history is H and the call's entry; its place in it is the last
+pub record IsAnsweredAfter (o : Opening) (H : List Entry) (request : Request) (r : ℕ × Entry) (x y : SeatView) : Type 0 where
+  pub place : r.0 ≡ length H
+  pub seat : r.1.seat ≡ x.number
+  pub request : r.1.request ≡ request
+  pub reply : Replies o H request r.1.reply
+  pub legal : IsLegal o (H ++ r.1 ∷ [])
+  pub holds : Holds (H ++ r.1 ∷ []) y
+  pub number : y.number ≡ x.number
+  pub mine : y.mine ≡ x.mine ++ r ∷ []
+  pub told : y.told ≡ x.told
+
+abbrev pub IsAnswered : Opening → Request → ℕ × Entry → SeatView → SeatView → Type 0
+IsAnswered o request r x y = (H : List Entry) × IsAnsweredAfter o H request r x y

@@ -1,0 +1,60 @@
+-- Closing a table.
+--   HasSeat xs s                 == the seat s is among the seats xs
+--   IsComplete n xs              == each of the seats 1 to n is among the seats xs
+--   AllHeld H xs                 == the history H holds what each of the seats xs knows
+--   IsClosed o n xs H            == the history H is legal, has calls of the seats 1 to n alone, and holds what each of the seats
+--                                   xs knows, among which are all n
+--   AreTotals o n xs H e g d c   == e, g and d are the number of entries of H, its gift count and the amounts after it; c has
+--                                   at each seat's place, from 0, the number of its calls, and 0 past the n seats; together
+--                                   they are the number of entries
+--   IsMissing n xs s             == s is the least of the seats 1 to n that is not among xs
+--   SomeKeepsMore H xs           == one of the seats xs is not admissible after H
+--   RefusesClose H n xs s        == s is the least seat that is missing; or s is 0, none is missing, and one of the seats is not
+--                                   admissible after H
+use Rattle.std.specs.Prelude.{◌≡◌, ℕ, ◌+◌, ◌<◌, ◌≤◌, List, length, slice_get, Some, ¬◌, sum}
+use Rattle.std.specs.List.{slice_index}
+use Rattle.dg_chips.specs.Opening.{Opening}
+use Rattle.dg_chips.specs.Vector.{Vector}
+use Rattle.dg_game.specs.Position.{Shows}
+use Rattle.dg_game.specs.History.{position_after, gifts_in}
+use Rattle.dg_game.specs.Legal.{IsLegal}
+use Rattle.dg_game.specs.declared.entry.Entry.{Entry}
+use Rattle.dg_game.specs.declared.entry.TheConstants.{MAX_SEATS}
+use Rattle.dg_table.specs.Seats.{SeatView, Holds, IsAdmissible}
+use Rattle.dg_table.specs.Lock.{AreSeated}
+
+abbrev pub HasSeat : List SeatView → ℕ → Type 0
+HasSeat xs s = (i : ℕ) × (x : SeatView) × (slice_get xs i ≡ Some x) × (x.number ≡ s)
+
+abbrev pub IsComplete : ℕ → List SeatView → Type 0
+IsComplete n xs = (s : ℕ) → 1 ≤ s → s ≤ n → HasSeat xs s
+
+abbrev pub AllHeld : List Entry → List SeatView → Type 0
+AllHeld H xs = (i : ℕ) (x : SeatView) → slice_get xs i ≡ Some x → Holds H x
+
+pub record IsClosed (o : Opening) (n : ℕ) (xs : List SeatView) (H : List Entry) : Type 0 where
+  pub legal : IsLegal o H
+  pub seated : AreSeated n H
+  pub complete : IsComplete n xs
+  pub held : AllHeld H xs
+
+pub record AreTotals (o : Opening) (n : ℕ) (xs : List SeatView) (H : List Entry) (entries gifts : ℕ) (position : Vector)
+    (calls : List ℕ) : Type 0 where
+  pub entries : entries ≡ length H
+  pub gifts : gifts ≡ gifts_in H
+  pub position : Shows (position_after o H) position
+  pub calls : (i : ℕ) (x : SeatView) → slice_get xs i ≡ Some x → (s : ℕ) → x.number ≡ s + 1 →
+      slice_index calls s ≡ length x.mine
+  pub others : (s : ℕ) → n ≤ s → s < MAX_SEATS → slice_index calls s ≡ 0
+  pub all : sum calls ≡ entries
+
+pub record IsMissing (n : ℕ) (xs : List SeatView) (s : ℕ) : Type 0 where
+  pub seat : (1 ≤ s) × (s ≤ n)
+  pub missing : ¬ HasSeat xs s
+  pub least : (t : ℕ) → 1 ≤ t → t < s → HasSeat xs t
+
+abbrev pub SomeKeepsMore : List Entry → List SeatView → Type 0
+SomeKeepsMore H xs = (i : ℕ) × (x : SeatView) × (slice_get xs i ≡ Some x) × (¬ IsAdmissible H x)
+
+abbrev pub RefusesClose : List Entry → ℕ → List SeatView → ℕ → Type 0
+RefusesClose H n xs s = IsMissing n xs s ⊎ ((s ≡ 0) × IsComplete n xs × SomeKeepsMore H xs)

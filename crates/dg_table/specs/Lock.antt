@@ -1,0 +1,37 @@
+-- What the lock holds.
+--   AreSeated n H          == each entry of the history H is one of the seats 1 to n
+--   AreCounted counts H    == the place of each seat, from 0, has the number of its entries in H
+--   AreRising n ps         == the numbers of the entries ps rise, the first being at least n
+--   AreOwn s ps            == the entries ps are of the seat s
+--   IsHeld o seats H h     == the game, the counts and the number of seats of h are those of the legal history H
+--   IsSeated seats row x   == what a seat of a table keeps fits together
+use Rattle.std.specs.Prelude.{◌≡◌, ℕ, ◌+◌, ◌<◌, ◌≤◌, List, [], ◌∷◌, length, slice_get, Some, ⊤}
+use Rattle.std.specs.List.{slice_index}
+use Rattle.dg_chips.specs.Opening.{Opening}
+use Rattle.dg_game.specs.Legal.{IsLegal}
+use Rattle.dg_game.specs.State.{State, LeadsTo}
+use Rattle.dg_game.specs.declared.entry.Entry.{Entry}
+use Rattle.dg_game.specs.declared.entry.TheConstants.{MAX_SEATS}
+use Rattle.dg_table.specs.Seats.{entries_of}
+
+abbrev pub AreSeated : ℕ → List Entry → Type 0
+AreSeated n H = (k : ℕ) (e : Entry) → slice_get H k ≡ Some e → (1 ≤ e.seat) × (e.seat ≤ n)
+
+abbrev pub AreCounted : List ℕ → List Entry → Type 0
+AreCounted counts H = (s : ℕ) → s < MAX_SEATS → slice_index counts s ≡ length (entries_of (s + 1) H)
+
+abbrev pub AreRising : ℕ → List (ℕ × Entry) → Type 0
+AreRising n [] = ⊤
+AreRising n (p ∷ ps) = (n ≤ p.0) × AreRising (p.0 + 1) ps
+
+abbrev pub AreOwn : ℕ → List (ℕ × Entry) → Type 0
+AreOwn s [] = ⊤
+AreOwn s (p ∷ ps) = (p.1.seat ≡ s) × AreOwn s ps
+
+pub record IsHeld (o : Opening) (seats : ℕ) (H : List Entry) (game : State) (counts : List ℕ) : Type 0 where
+  pub legal : IsLegal o H
+  pub game : LeadsTo o H game
+  pub seated : AreSeated seats H
+  pub counted : AreCounted counts H
+  pub places : length counts ≡ MAX_SEATS
+  pub few : seats ≤ MAX_SEATS
