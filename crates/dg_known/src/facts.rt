@@ -55,8 +55,7 @@ impl<T> Facts<T> {
     /// Wherever both have one cell they have one value of it. It does nothing.
     pub fn agree(&self, other: &Facts<T>)
         ensures { Agree self.now.items other.now.items }
-    {
-    }
+    {}
 }
 
 unsafe impl<T> Send for Facts<T> {}

@@ -46,15 +46,13 @@ impl<T> Known<T> {
     pub fn agrees(&self, other: &Known<T>)
         requires { self.now.cell ≡ other.now.cell }
         ensures { self.now.value ≡ other.now.value }
-    {
-    }
+    {}
 
     /// Lets a note of the cell know the value.
     pub fn tell(&self, note: &mut Note<T>)
         requires { note.old.cell ≡ self.now.cell }
         ensures { (note.new.cell ≡ note.old.cell) × (note.new.known ≡ Some self.now.value) }
-    {
-    }
+    {}
 }
 
 unsafe impl<T> Send for Known<T> {}

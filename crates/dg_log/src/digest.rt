@@ -1,5 +1,5 @@
 //! What many receipts say, in a few bytes.
-ghost use Rattle.std.specs.Prelude.{◌≡◌, ℕ, ◌<◌, ◌≤◌, List, [], ◌∷◌, ◌++◌, length, map, IsTrue};
+ghost use Rattle.std.specs.Prelude.{◌≡◌, ℕ, ◌<◌, ◌≤◌, List, [], ◌∷◌, ◌++◌, length, IsTrue, ◌↔◌};
 ghost use Rattle.dg_game.specs.declared.entry.Entry.{Entry as EntryData};
 ghost use Rattle.dg_log.specs.Numbered.{AreBelow};
 ghost use Rattle.dg_log.specs.Digests.{said_by, AreNamed, IsEnd};

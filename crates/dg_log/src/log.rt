@@ -1,5 +1,5 @@
 //! The cells of a table's history, read by anyone.
-ghost use Rattle.std.specs.Prelude.{◌≡◌, ◌<◌, ◌≤◌, List, [], length, map, MatchOption, ⊤};
+ghost use Rattle.std.specs.Prelude.{◌≡◌, ◌<◌, ◌≤◌, List, [], length, map, MatchOption, ⊤, false};
 ghost use Rattle.std.specs.Vec.{vec_len};
 ghost use Rattle.once_cell.specs.Once.{cell_name};
 ghost use Rattle.dg_game.specs.declared.game.TheConstants.{MAX_ENTRIES};
@@ -33,6 +33,14 @@ impl<N: Name> Log<N> {
             of: PhantomData,
         };
         (log, Pen::new())
+    }
+
+    /// How many entries the history may have, at most 65,536.
+    pub fn len(&self) -> u32
+        ensures length { result ≡ length N.cells }
+        ensures limit { result ≤ MAX_ENTRIES }
+    {
+        self.cells.len() as u32
     }
 
     /// The entry of a receipt.

@@ -1,5 +1,5 @@
 //! The pen: who has it writes the history.
-ghost use Rattle.std.specs.Prelude.{◌≡◌, ◌<◌, ◌≤◌, [], ◌∷◌, ◌++◌, length, map, take, MatchResult};
+ghost use Rattle.std.specs.Prelude.{◌≡◌, ◌<◌, ◌≤◌, [], ◌∷◌, ◌++◌, length, map, take, MatchResult, true, false};
 ghost use Rattle.std.specs.List.{slice_get};
 ghost use Rattle.std.specs.declared.option.Option.TheVariants.{Some};
 ghost use Rattle.dg_game.specs.declared.game.TheConstants.{MAX_ENTRIES};
@@ -23,6 +23,8 @@ pub struct Pen<N: Name> {
 }
 
 impl<N: Name> Model for Pen<N> {
+    ghost use Rattle.std.specs.Prelude.{◌≡◌, ◌≤◌, length, map, take};
+    ghost use Rattle.dg_game.specs.declared.game.TheConstants.{MAX_ENTRIES};
     ghost use Rattle.dg_log.specs.Written.{Written};
 
     ghost Value = { Written };
@@ -53,7 +55,7 @@ impl<N: Name> Pen<N> {
         requires { length self.old.entries < length N.cells }
         ensures { MatchResult result
             (λ r. (r ≡ (length self.old.entries, entry.value)) ×
-                (self.new ≡ record { entries = self.old.entries ++ entry.value ∷ []; stuck = false }))
+            (self.new ≡ record { entries = self.old.entries ++ entry.value ∷ []; stuck = false }))
             (λ b. (b.value ≡ entry.value) × (self.new ≡ record { entries = self.old.entries; stuck = true })) }
     {
         let cell = &log.cells[self.len as usize];

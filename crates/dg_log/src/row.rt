@@ -1,5 +1,5 @@
 //! The cells of a history, before a table has them.
-ghost use Rattle.std.specs.Prelude.{◌≡◌, ℕ, ◌≤◌, List, length, map, MatchResult};
+ghost use Rattle.std.specs.Prelude.{◌≡◌, ℕ, ◌≤◌, List, length, map, MatchResult, IfOk};
 ghost use Rattle.std.specs.Vec.{vec_len};
 ghost use Rattle.once_cell.specs.Once.{cell_name};
 ghost use Rattle.dg_log.specs.Rows.{IsCapacity, RefusesRow};
@@ -44,13 +44,21 @@ impl Row {
         if count == 0 || count > MAX_ENTRIES {
             return Err(LogFault::Capacity);
         }
+        match Row::empty(alloc, count) {
+            Ok(cells) => Ok(Row { cells }),
+            Err(AllocError) => Err(LogFault::OutOfMemory),
+        }
+    }
+
+    // So many empty cells.
+    fn empty(alloc: Global, count: usize) -> Result<Vec<OnceBox<Entry>>, AllocError>
+        ensures { IfOk result (λ cells. vec_len cells ≡ count) }
+    {
         let mut cells = Vec::with_capacity(alloc, count)?;
         for _ in 0..count {
-            if cells.push(OnceBox::new(alloc)).is_err() {
-                return Err(LogFault::OutOfMemory);
-            }
+            cells.push(OnceBox::new(alloc))?;
         }
-        Ok(Row { cells })
+        Ok(cells)
     }
 
     /// How many cells there are.
@@ -58,13 +66,5 @@ impl Row {
         ensures { result ≡ length self.now }
     {
         self.cells.len() as u32
-    }
-}
-
-impl From<AllocError> for LogFault {
-    ghost from_gives = { λ _ fault. fault ≡ out_of_memory };
-
-    fn from(_: AllocError) -> LogFault {
-        LogFault::OutOfMemory
     }
 }

@@ -3,7 +3,7 @@
 --   RefusesStep o cap H x b f    == the step after H of a seat x that has the space for it is refused with f; b says whether
 --                                   the pen is stuck after it
 --   RefusesCall o cap x f        == what is known where the call of the seat x was refused with f
-use Rattle.std.specs.Prelude.{◌≡◌, ℕ, ◌<◌, List, Bool, true, length, ⊤, ⊥, ¬◌}
+use Rattle.std.specs.Prelude.{◌≡◌, ℕ, ◌<◌, List, Bool, true, length, ⊤, ⊥}
 use Rattle.dg_chips.specs.Opening.{Opening}
 use Rattle.dg_game.specs.Legal.{IsLegal}
 use Rattle.dg_game.specs.declared.entry.Entry.{Entry}

@@ -1,0 +1,2 @@
+pub mod AllNoted
+pub mod Tokens
