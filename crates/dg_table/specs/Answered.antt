@@ -14,7 +14,7 @@ use Rattle.dg_table.specs.Seats.{SeatView, Holds}
 pub record IsAnsweredAfter (o : Opening) (H : List Entry) (request : Request) (r : ℕ × Entry) (x y : SeatView) : Type 0 where
   pub place : r.0 ≡ length H
   pub seat : r.1.seat ≡ x.number
-  pub request : r.1.request ≡ request
+  pub request' : r.1.request ≡ request
   pub reply : Replies o H request r.1.reply
   pub legal : IsLegal o (H ++ r.1 ∷ [])
   pub holds : Holds (H ++ r.1 ∷ []) y

@@ -11,7 +11,9 @@
 --   SomeKeepsMore H xs           == one of the seats xs is not admissible after H
 --   RefusesClose H n xs s        == s is the least seat that is missing; or s is 0, none is missing, and one of the seats is not
 --                                   admissible after H
-use Rattle.std.specs.Prelude.{◌≡◌, ℕ, ◌+◌, ◌<◌, ◌≤◌, List, length, slice_get, Some, sum}
+--   IsHistoryOf o n cap H        == the history H is legal, and has at most cap entries, of the seats 1 to n alone
+--   IsRefused o n cap xs s       == after some such history the close with the seats xs is refused with s
+use Rattle.std.specs.Prelude.{◌≡◌, ℕ, ◌+◌, ◌<◌, ◌≤◌, List, length, slice_get, Some, ◌⊎◌, sum}
 use Rattle.std.specs.List.{slice_index}
 use Rattle.dg_chips.specs.Opening.{Opening}
 use Rattle.dg_chips.specs.Vector.{Vector}
@@ -40,10 +42,10 @@ pub record IsClosed (o : Opening) (n : ℕ) (xs : List SeatView) (H : List Entry
 
 pub record AreTotals (o : Opening) (n : ℕ) (xs : List SeatView) (H : List Entry) (entries gifts : ℕ) (position : Vector)
     (calls : List ℕ) : Type 0 where
-  pub entries : entries ≡ length H
-  pub gifts : gifts ≡ gifts_in H
-  pub position : Shows (position_after o H) position
-  pub calls : (i : ℕ) (x : SeatView) → slice_get xs i ≡ Some x → (s : ℕ) → x.number ≡ s + 1 →
+  pub entries' : entries ≡ length H
+  pub gifts' : gifts ≡ gifts_in H
+  pub position' : Shows (position_after o H) position
+  pub calls' : (i : ℕ) (x : SeatView) → slice_get xs i ≡ Some x → (s : ℕ) → x.number ≡ s + 1 →
       slice_index calls s ≡ length x.mine
   pub others : (s : ℕ) → n ≤ s → s < MAX_SEATS → slice_index calls s ≡ 0
   pub all : sum calls ≡ entries
@@ -58,3 +60,11 @@ SomeKeepsMore H xs = (i : ℕ) × (x : SeatView) × (slice_get xs i ≡ Some x) 
 
 abbrev pub RefusesClose : List Entry → ℕ → List SeatView → ℕ → Type 0
 RefusesClose H n xs s = IsMissing n xs s ⊎ ((s ≡ 0) × IsComplete n xs × SomeKeepsMore H xs)
+
+pub record IsHistoryOf (o : Opening) (n cap : ℕ) (H : List Entry) : Type 0 where
+  pub legal : IsLegal o H
+  pub few : length H ≤ cap
+  pub seated : AreSeated n H
+
+abbrev pub IsRefused : Opening → ℕ → ℕ → List SeatView → ℕ → Type 0
+IsRefused o n cap xs s = (H : List Entry) × IsHistoryOf o n cap H × RefusesClose H n xs s

@@ -1,9 +1,9 @@
 -- Calls that are no entry.
 --   StandsFull o cap H x         == the history H is legal and has all cap entries, and what the seat x keeps stands in it
---   RefusesStep o cap H x b f    == the step after H of a seat x that has the space for it is refused with f; b says whether
---                                   the pen is stuck after it
+--   RefusesStep o cap H x b c f  == the step after H of a seat x that has the space for it is refused with f; b and c say
+--                                   whether the pen was stuck before it, and is after it
 --   RefusesCall o cap x f        == what is known where the call of the seat x was refused with f
-use Rattle.std.specs.Prelude.{◌≡◌, ℕ, ◌<◌, List, Bool, true, length, ⊤, ⊥}
+use Rattle.std.specs.Prelude.{◌≡◌, ℕ, ◌<◌, List, Bool, true, length, ⊤, ◌⊎◌}
 use Rattle.dg_chips.specs.Opening.{Opening}
 use Rattle.dg_game.specs.Legal.{IsLegal}
 use Rattle.dg_game.specs.declared.entry.Entry.{Entry}
@@ -18,10 +18,11 @@ pub record StandsFull (o : Opening) (cap : ℕ) (H : List Entry) (x : SeatView) 
   pub mine : StandIn H x.mine
   pub told : StandIn H x.told
 
-abbrev pub RefusesStep : Opening → ℕ → List Entry → SeatView → Bool → Fault → Type 0
-RefusesStep o cap H x stuck OutOfMemory = ⊥
-RefusesStep o cap H x stuck Full = StandsFull o cap H x
-RefusesStep o cap H x stuck Log = (length H < cap) × ((¬ IsAdmissible H x) ⊎ (stuck ≡ true))
+abbrev pub RefusesStep : Opening → ℕ → List Entry → SeatView → Bool → Bool → Fault → Type 0
+RefusesStep o cap H x b c OutOfMemory = ⊥
+RefusesStep o cap H x b c Full = StandsFull o cap H x × (c ≡ b)
+RefusesStep o cap H x b c Log =
+    (length H < cap) × (((¬ IsAdmissible H x) × (c ≡ b)) ⊎ (IsAdmissible H x × (c ≡ true)))
 
 abbrev pub RefusesCall : Opening → ℕ → SeatView → Fault → Type 0
 RefusesCall o cap x Full = (H : List Entry) × StandsFull o cap H x

@@ -1,5 +1,7 @@
 -- The locked table: what seats know, how they are answered, and how the table is closed.
 pub mod Seats
+pub mod SeatLaws
+pub mod Opened
 pub mod Answered
 pub mod Faults
 pub mod Closing

@@ -1,0 +1,5 @@
+pub mod Entries
+pub mod Numbered
+pub mod Counts
+pub mod Steps
+pub mod Totals

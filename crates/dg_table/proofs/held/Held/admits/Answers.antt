@@ -1,0 +1,15 @@
+use Rattle.std.proofs.Common.{rules}
+use Rattle.dg_table.specs.Seats.{IsAdmissible}
+use Rattle.dg_table.proofs.Entries.{all_own}
+use Rattle.dg_table.proofs.held.Held.admits.Goals as goal
+
+pub returns-clause-holds : goal.returns-clause-holds
+returns-clause-holds g c = λ is.
+    let admissible : IsAdmissible c.args.self.now.entries c.args.seat.now = search rules in
+    let count = rw (← c.seat.view_is, ← c.self.view_is) at admissible.count in
+    let seated = c.seat.invariant in
+    rw (← c.seat.view_is, ← c.self.view_is) (record {
+      mine = all_own c.seat.inside.number c.self.inside.pen.entries c.seat.inside.mine.items seated.rising seated.own
+          (rw seated.own_said at c.holds.ensures) count;
+      told = rw seated.told_said at c.holds-2.ensures;
+    })

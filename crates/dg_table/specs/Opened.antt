@@ -1,0 +1,23 @@
+-- Opening a table.
+--   MayHaveSeats n         == a table may have n seats
+--   AreFresh n xs          == xs are the seats 1 to n, in order, which know of no entry
+--   RefusesTable n fault   == a table with n seats is refused with the fault
+use Rattle.std.specs.Prelude.{◌≡◌, ℕ, ◌+◌, ◌≤◌, List, [], length, slice_get, Some}
+use Rattle.dg_game.specs.declared.entry.TheConstants.{MAX_SEATS}
+use Rattle.dg_table.specs.Seats.{SeatView}
+use Rattle.dg_table.specs.declared.fault.TableFault.{TableFault}
+use Rattle.dg_table.specs.declared.fault.TableFault.TheVariants.{Seats, OutOfMemory}
+
+abbrev pub MayHaveSeats : ℕ → Type 0
+MayHaveSeats n = (1 ≤ n) × (n ≤ MAX_SEATS)
+
+pub record AreFresh (n : ℕ) (xs : List SeatView) : Type 0 where
+  pub seats : MayHaveSeats n
+  pub count : length xs ≡ n
+  pub number : (i : ℕ) (x : SeatView) → slice_get xs i ≡ Some x → x.number ≡ i + 1
+  pub mine : (i : ℕ) (x : SeatView) → slice_get xs i ≡ Some x → x.mine ≡ []
+  pub told : (i : ℕ) (x : SeatView) → slice_get xs i ≡ Some x → x.told ≡ []
+
+abbrev pub RefusesTable : ℕ → TableFault → Type 0
+RefusesTable n Seats = ¬ MayHaveSeats n
+RefusesTable n OutOfMemory = MayHaveSeats n

@@ -1,0 +1,22 @@
+-- The laws of a seat's entries in a history.
+--   NoEntries      == the empty history has no entry of a seat
+--   OwnEntry       == one more entry of the seat is the last of its entries, its number being the history's length
+--   OtherEntry     == one more entry of another seat leaves the seat's entries
+--   EntriesStand   == the entries of a seat stand in the history
+use Rattle.std.specs.Prelude.{◌≡◌, ◌≢◌, ℕ, List, [], ◌∷◌, ◌++◌, length}
+use Rattle.dg_game.specs.declared.entry.Entry.{Entry}
+use Rattle.dg_log.specs.Numbered.{StandIn}
+use Rattle.dg_table.specs.Seats.{entries_of}
+
+abbrev pub NoEntries : Type 0
+NoEntries = (s : ℕ) → entries_of s [] ≡ []
+
+abbrev pub OwnEntry : Type 0
+OwnEntry = (s : ℕ) (H : List Entry) (e : Entry) → e.seat ≡ s →
+    entries_of s (H ++ e ∷ []) ≡ entries_of s H ++ (length H, e) ∷ []
+
+abbrev pub OtherEntry : Type 0
+OtherEntry = (s : ℕ) (H : List Entry) (e : Entry) → e.seat ≢ s → entries_of s (H ++ e ∷ []) ≡ entries_of s H
+
+abbrev pub EntriesStand : Type 0
+EntriesStand = (s : ℕ) (H : List Entry) → StandIn H (entries_of s H)

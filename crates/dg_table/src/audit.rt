@@ -1,0 +1,38 @@
+//! What is left of a table that was closed.
+ghost use Rattle.std.specs.Prelude.{◌≡◌, IfOk};
+
+use dg_chips::Divisor;
+use dg_game::Entry;
+use dg_log::{Log, Name, Pen};
+use std::alloc::{AllocError, Global};
+
+/// The history of a table that was closed, and what was counted in it.
+#[derive(Drop)]
+pub struct Audit<N: Name> {
+    /// How many entries there are.
+    pub entries: u32,
+    /// How many gifts were accepted.
+    pub gifts: u32,
+    /// The amounts after all entries.
+    pub position: Divisor,
+    /// How many entries each seat has; that of seat 1 comes first.
+    pub calls: [u64; 64],
+    /// The cells of the history.
+    pub log: Log<N>,
+    pub(crate) pen: Pen<N>,
+}
+
+impl<N: Name> Audit<N> {
+    /// The history: all entries, in order.
+    pub fn history(&self, alloc: Global) -> Result<Vec<Entry>, AllocError>
+        ensures { IfOk result (λ v. v.items ≡ self.now.pen.entries) }
+    {
+        let count = self.pen.len();
+        let mut entries = Vec::with_capacity(alloc, count as usize)?;
+        for number in 0..count {
+            let receipt = self.pen.receipt(number);
+            entries.push(*self.log.entry(&receipt))?;
+        }
+        Ok(entries)
+    }
+}

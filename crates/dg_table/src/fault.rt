@@ -1,0 +1,21 @@
+//! Why a call is no entry, and why there is no table.
+
+/// Why a call of a seat is refused; it is then no entry, and the seat is as it was.
+#[derive(Clone, Copy, Debug, PartialEq, Eq)]
+pub enum Fault {
+    /// There is not enough memory.
+    OutOfMemory,
+    /// The history has as many entries as it may have.
+    Full,
+    /// The seat keeps more than the history holds, or less of its own, or the cell refused the entry.
+    Log,
+}
+
+/// Why a table is not opened.
+#[derive(Clone, Copy, Debug, PartialEq, Eq)]
+pub enum TableFault {
+    /// It would have no seat, or more than 64.
+    Seats,
+    /// There is not enough memory.
+    OutOfMemory,
+}

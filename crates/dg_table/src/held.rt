@@ -1,0 +1,246 @@
+//! What the lock of a table holds.
+ghost use Rattle.std.specs.Prelude.{List, ◌≡◌, ◌<◌, ◌≤◌, ◌↔◌, [], ◌∷◌, ◌++◌, true, false, length, IsTrue, IfOk, IfErr, MatchOption, MatchResult, MatchBool};
+ghost use Rattle.dg_game.specs.History.{with_entry};
+ghost use Rattle.dg_game.specs.Legal.{IsSeat, IsLegal};
+ghost use Rattle.dg_game.specs.Replies.{Replies};
+ghost use Rattle.dg_game.specs.Schedule.{asked};
+ghost use Rattle.dg_game.specs.State.{LeadsTo};
+ghost use Rattle.dg_table.specs.Answered.{IsAnsweredAfter};
+ghost use Rattle.dg_table.specs.Closing.{HasSeat, IsComplete, AllHeld, AreTotals, IsMissing, SomeKeepsMore, RefusesClose, IsHistoryOf};
+ghost use Rattle.dg_table.specs.Faults.{RefusesStep};
+ghost use Rattle.dg_table.specs.Lock.{IsReady};
+ghost use Rattle.dg_table.specs.Opened.{MayHaveSeats};
+ghost use Rattle.dg_table.specs.Seats.{SeatView, Holds, IsAdmissible};
+
+use crate::audit::Audit;
+use crate::fault::Fault;
+use crate::seat::Seat;
+use dg_chips::Start;
+use dg_game::{Entry, Game, Plain, Reply, Request};
+use dg_log::{Log, Name, Pen, Receipt};
+use std::marker::Model;
+
+/// The game of the table N, the pen that writes its history, and how many entries each seat has. A contract sees what the
+/// pen has written; the rest is a function of it.
+#[derive(Drop)]
+pub struct Held<N: Name> {
+    game: Game,
+    pen: Pen<N>,
+    counts: [u64; 64],
+    seats: u8,
+}
+
+impl<N: Name> Model for Held<N> {
+    ghost use Rattle.dg_log.specs.Written.{Written};
+    ghost use Rattle.std.specs.Prelude.{◌≡◌};
+    ghost use Rattle.dg_table.specs.Lock.{IsHeld};
+
+    ghost Value = { Written };
+
+    ghost view = { λ h. h.pen };
+
+    ghost invariant = { λ h. IsHeld N.start N.seats h.pen.entries h.game h.counts × (h.seats ≡ N.seats) };
+}
+
+impl<N: Name> Held<N> {
+    /// What the lock of a table holds before its first entry.
+    pub(crate) fn new(pen: Pen<N>, start: &Start, seats: u8) -> Held<N>
+        requires pen { pen ≡ record { entries = []; stuck = false } }
+        requires start { start.now ≡ N.start }
+        requires seats { seats ≡ N.seats }
+        requires count { MayHaveSeats seats }
+        ensures { result ≡ record { entries = []; stuck = false } }
+    {
+        Held {
+            game: Game::new(start),
+            pen,
+            counts: [0; 64],
+            seats,
+        }
+    }
+
+    /// Whether the history has an entry of each number that the seat keeps, and as many entries of the seat as it keeps.
+    /// Then the history holds what the seat knows.
+    pub fn admits(&self, seat: &Seat<N>) -> bool
+        ensures admits { IsTrue result ↔ IsAdmissible self.now.entries seat.now }
+        ensures holds { IsTrue result → Holds self.now.entries seat.now }
+        ensures number { IsSeat seat.now.number }
+    {
+        let count = self.counts[usize::from(seat.number - 1)];
+        let len = self.pen.len();
+        if seat.mine.len() as u64 != count
+            || !seat.mine_digest.below(len)
+            || !seat.told_digest.below(len)
+        {
+            return false;
+        }
+        self.pen.holds(&seat.mine_digest);
+        self.pen.holds(&seat.told_digest);
+        true
+    }
+
+    /// Whether the history has room for an entry of the seat, which knows nothing that the history does not hold; or why not.
+    fn ready(&self, log: &Log<N>, seat: &Seat<N>) -> Result<(), Fault>
+        ensures { MatchResult result
+            (λ _. IsReady (length N.cells) self.now.entries seat.now)
+            (RefusesStep N.start (length N.cells) self.now.entries seat.now self.now.stuck self.now.stuck) }
+    {
+        let len = self.pen.len();
+        if len == log.len() {
+            if seat.mine_digest.below(len) {
+                self.pen.holds(&seat.mine_digest);
+            }
+            if seat.told_digest.below(len) {
+                self.pen.holds(&seat.told_digest);
+            }
+            return Err(Fault::Full);
+        }
+        if self.admits(seat) {
+            Ok(())
+        } else {
+            Err(Fault::Log)
+        }
+    }
+
+    /// Answers a call of a seat, enters it as the last of the history, and gives the seat its receipt. The condition is that
+    /// the seat has the space; the box is used for the entry.
+    ///
+    /// Refused with `Full` where the history has as many entries as it may have; then with `Log` where the seat is not
+    /// admitted, and where the cell refuses the entry.
+    pub fn call(
+        &mut self,
+        log: &Log<N>,
+        seat: &mut Seat<N>,
+        slot: Box<Entry>,
+        plain: Plain,
+    ) -> Result<Receipt<N>, Fault>
+        requires { seat.old.space ≡ true }
+        ensures entered { IfOk result (λ r. IsAnsweredAfter N.start self.old.entries (asked plain) r seat.old seat.new ×
+            (self.new ≡ record { entries = self.old.entries ++ r.1 ∷ []; stuck = false }) ×
+            (length self.old.entries < length N.cells) × IsAdmissible self.old.entries seat.old) }
+        ensures refused { IfErr result (λ f. (self.new.entries ≡ self.old.entries) × (seat.new ≡ seat.old) ×
+            RefusesStep N.start (length N.cells) self.old.entries seat.old self.old.stuck self.new.stuck f) }
+    {
+        self.ready(log, seat)?;
+        let mut game = self.game;
+        let reply = game.act(plain);
+        self.enter(log, seat, slot, plain.request(), reply, game)
+    }
+
+    /// Enters a reply as the last entry of the history, with the game that it leads to, and gives the seat its receipt.
+    fn enter(
+        &mut self,
+        log: &Log<N>,
+        seat: &mut Seat<N>,
+        slot: Box<Entry>,
+        request: Request,
+        reply: Reply,
+        game: Game,
+    ) -> Result<Receipt<N>, Fault>
+        requires space { seat.old.space ≡ true }
+        requires ready { IsReady (length N.cells) self.old.entries seat.old }
+        requires replies { Replies N.start self.old.entries request reply }
+        requires legal { IsLegal N.start (with_entry self.old.entries seat.old.number request reply) }
+        requires leads { LeadsTo N.start (with_entry self.old.entries seat.old.number request reply) game }
+        ensures entered { IfOk result (λ r. IsAnsweredAfter N.start self.old.entries request r seat.old seat.new ×
+            (self.new ≡ record { entries = self.old.entries ++ r.1 ∷ []; stuck = false })) }
+        ensures refused { IfErr result (λ f. (self.new ≡ record { entries = self.old.entries; stuck = true }) ×
+            (seat.new ≡ seat.old) ×
+            RefusesStep N.start (length N.cells) self.old.entries seat.old self.old.stuck self.new.stuck f) }
+    {
+        let mut slot = slot;
+        *slot = Entry {
+            seat: seat.number,
+            request,
+            reply,
+        };
+        let Ok(receipt) = self.pen.put(log, slot) else {
+            return Err(Fault::Log);
+        };
+        let place = usize::from(seat.number - 1);
+        self.game = game;
+        self.counts[place] += 1;
+        seat.mine_digest = seat.mine_digest.and(&receipt);
+        seat.mine.push(receipt.again()).unwrap();
+        Ok(receipt)
+    }
+
+    /// `None` where these are all the table's seats, and each is admitted; otherwise the least seat that is missing, or 0 where
+    /// none is missing.
+    pub fn missing(&self, seats: &[Seat<N>]) -> Option<u8>
+        ensures missing { MatchOption result
+            (IsComplete N.seats seats.now × AllHeld self.now.entries seats.now)
+            (RefusesClose self.now.entries N.seats seats.now) }
+        ensures history { IsHistoryOf N.start N.seats (length N.cells) self.now.entries }
+    {
+        let _entries = self.pen.len();
+        if let Some(number) = first_missing(seats, self.seats) {
+            return Some(number);
+        }
+        if self.admits_all(seats) {
+            None
+        } else {
+            Some(0)
+        }
+    }
+
+    /// Whether each of these seats is admitted.
+    fn admits_all(&self, seats: &[Seat<N>]) -> bool
+        ensures { MatchBool result
+            (AllHeld self.now.entries seats.now)
+            (SomeKeepsMore self.now.entries seats.now) }
+    {
+        for seat in seats {
+            if !self.admits(seat) {
+                return false;
+            }
+        }
+        true
+    }
+
+    /// What was counted, with the log and the pen of the history.
+    pub(crate) fn audit(self, log: Log<N>) -> Audit<N>
+        ensures history { result.pen.entries ≡ self.entries }
+        ensures totals { (xs : List SeatView) → AllHeld self.entries xs → AreTotals N.start N.seats xs self.entries
+            result.entries result.gifts result.position result.calls }
+    {
+        let Held {
+            game,
+            pen,
+            counts,
+            seats: _,
+        } = self;
+        Audit {
+            entries: game.entries(),
+            gifts: game.gifts(),
+            position: *game.position(),
+            calls: counts,
+            log,
+            pen,
+        }
+    }
+}
+
+/// The least of the seats 1 to `count` that is not among these.
+fn first_missing<N: Name>(seats: &[Seat<N>], count: u8) -> Option<u8>
+    ensures { MatchOption result (IsComplete count seats.now) (IsMissing count seats.now) }
+{
+    for i in 0..count {
+        if !has_seat(seats, i + 1) {
+            return Some(i + 1);
+        }
+    }
+    None
+}
+
+/// Whether the seat with this number is among these.
+fn has_seat<N: Name>(seats: &[Seat<N>], number: u8) -> bool
+    ensures { IsTrue result ↔ HasSeat seats.now number }
+{
+    for seat in seats {
+        if seat.number() == number {
+            return true;
+        }
+    }
+    false
+}

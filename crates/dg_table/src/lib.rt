@@ -1,0 +1,16 @@
+//! The locked table: seats call it from many threads, and each call is an entry of one history.
+#![tactic(auto)]
+
+mod audit;
+mod fault;
+mod held;
+pub mod laws;
+mod seat;
+mod table;
+#[cfg(test)]
+mod tests;
+
+pub use audit::Audit;
+pub use fault::{Fault, TableFault};
+pub use seat::Seat;
+pub use table::{CloseFault, Table};

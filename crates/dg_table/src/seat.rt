@@ -1,0 +1,115 @@
+//! Seats: who calls a table, and what they know of its history.
+ghost use Rattle.std.specs.Prelude.{◌≡◌, ◌≤◌, [], ◌∷◌, ◌++◌, length, true, IfOk, MatchResult};
+ghost use Rattle.dg_table.specs.Opened.{MayHaveSeats, AreFresh};
+ghost use Rattle.dg_table.specs.Seats.{Keeps};
+
+use dg_game::{Entry, Reply, Request};
+use dg_log::{Digest, Name, Receipt};
+use std::alloc::{AllocError, Global};
+use std::marker::Model;
+
+/// A seat of the table N: the receipts of its own calls, and of the entries that it was told of. A contract sees its number,
+/// these entries with their numbers, and whether it has space for one more call.
+#[derive(Drop)]
+pub struct Seat<N: Name> {
+    pub(crate) number: u8,
+    pub(crate) mine: Vec<Receipt<N>>,
+    pub(crate) told: Vec<Receipt<N>>,
+    pub(crate) mine_digest: Digest<N>,
+    pub(crate) told_digest: Digest<N>,
+}
+
+impl<N: Name> Model for Seat<N> {
+    ghost use Rattle.std.specs.Prelude.{◌&&◌, nat_lt};
+    ghost use Rattle.std.specs.Vec.{vec_len, vec_capacity};
+    ghost use Rattle.dg_table.specs.Seats.{SeatView};
+    ghost use Rattle.dg_table.specs.Lock.{IsSeated};
+
+    ghost Value = { SeatView };
+
+    ghost view = { λ x. record {
+      number = x.number;
+      mine = x.mine.items;
+      told = x.told.items;
+      space = nat_lt (vec_len x.mine) (vec_capacity x.mine) && nat_lt (vec_len x.told) (vec_capacity x.told);
+    } };
+
+    ghost invariant = { λ x. IsSeated N.seats x.number x.mine.items x.told.items x.mine_digest x.told_digest };
+}
+
+impl<N: Name> Seat<N> {
+    /// The seats 1 to `count`, which know of no entry.
+    pub(crate) fn all(alloc: Global, count: u8) -> Result<Vec<Seat<N>>, AllocError>
+        requires count { count ≡ N.seats }
+        requires seats { MayHaveSeats count }
+        ensures { IfOk result (λ v. AreFresh count v.items) }
+    {
+        let mut seats = Vec::with_capacity(alloc, usize::from(count))?;
+        for i in 0..count {
+            seats.push(Seat::new(alloc, i + 1))?;
+        }
+        Ok(seats)
+    }
+
+    /// The seat with this number, which knows of no entry.
+    pub(crate) fn new(alloc: Global, number: u8) -> Seat<N>
+        requires { (1 ≤ number) × (number ≤ N.seats) }
+        ensures number { result.number ≡ number }
+        ensures mine { result.mine ≡ [] }
+        ensures told { result.told ≡ [] }
+    {
+        Seat {
+            number,
+            mine: Vec::new(alloc),
+            told: Vec::new(alloc),
+            mine_digest: Digest::new(),
+            told_digest: Digest::new(),
+        }
+    }
+
+    /// The seat's number, from 1.
+    pub fn number(&self) -> u8
+        ensures { result ≡ self.now.number }
+    {
+        self.number
+    }
+
+    /// How many of the table's entries are the seat's.
+    pub fn calls(&self) -> u64
+        ensures { result ≡ length self.now.mine }
+    {
+        self.mine.len() as u64
+    }
+
+    /// Tells the seat of an entry; each later call then comes after it in the history.
+    ///
+    /// Refused where there is not enough memory, and then it knows what it knew.
+    pub fn learn(&mut self, receipt: &Receipt<N>) -> Result<(), AllocError>
+        ensures number { self.new.number ≡ self.old.number }
+        ensures mine { self.new.mine ≡ self.old.mine }
+        ensures told { MatchResult result
+            (λ _. self.new.told ≡ self.old.told ++ receipt.now ∷ [])
+            (λ _. self.new.told ≡ self.old.told) }
+    {
+        self.told.push(receipt.again())?;
+        self.told_digest = self.told_digest.and(receipt);
+        Ok(())
+    }
+
+    /// Makes space for one more call, and a box for its entry; what is in the box means nothing.
+    ///
+    /// Refused where there is not enough memory.
+    pub fn room(&mut self, alloc: Global) -> Result<Box<Entry>, AllocError>
+        ensures kept { Keeps self.old self.new }
+        ensures space { IfOk result (λ _. self.new.space ≡ true) }
+    {
+        self.mine.reserve(1)?;
+        self.told.reserve(1)?;
+        let entry = Entry {
+            seat: self.number,
+            request: Request::Look,
+            reply: Reply::Won,
+        };
+        Ok(Box::new(alloc, entry)?)
+    }
+}

@@ -1,0 +1,119 @@
+//! The table that seats call.
+ghost use Rattle.std.specs.Prelude.{◌≡◌, length, IfOk, IfErr, MatchResult};
+ghost use Rattle.dg_game.specs.Schedule.{asked};
+ghost use Rattle.dg_table.specs.Answered.{IsAnswered};
+ghost use Rattle.dg_table.specs.Closing.{IsClosed, AreTotals, IsRefused};
+ghost use Rattle.dg_table.specs.Faults.{RefusesCall};
+ghost use Rattle.dg_table.specs.Opened.{AreFresh, RefusesTable};
+ghost use Rattle.dg_table.specs.Seats.{Keeps};
+
+use crate::audit::Audit;
+use crate::fault::{Fault, TableFault};
+use crate::held::Held;
+use crate::seat::Seat;
+use dg_chips::Start;
+use dg_game::{MAX_SEATS, Plain};
+use dg_log::{Log, Name, Receipt, Row};
+use std::alloc::Global;
+use std::sync::{Mutex, Wait};
+
+/// The table N: one game, that seats call from any thread, and the history of their calls.
+#[derive(Drop)]
+pub struct Table<N: Name> {
+    held: Mutex<Held<N>>,
+    log: Log<N>,
+}
+
+/// Why a table is not closed. It goes on, and all comes back.
+#[derive(Drop)]
+pub struct CloseFault<N: Name> {
+    /// The least seat that was not handed in, or 0 where all were, and one of them is not admitted.
+    pub missing: u8,
+    /// The table.
+    pub table: Table<N>,
+    /// The seats that were handed in.
+    pub seats: Vec<Seat<N>>,
+}
+
+impl<N: Name> Table<N> {
+    /// A table with this many seats, 1 to 64, whose history may have as many entries as the row has cells. The seats come in
+    /// order, and know of no entry. The conditions are that N names the row, the start and the number of seats.
+    ///
+    /// Refused with `Seats` where there may not be so many, and with `OutOfMemory`; the row comes back.
+    pub fn open(
+        alloc: Global,
+        row: Row,
+        start: &Start,
+        seats: u8,
+    ) -> Result<(Table<N>, Vec<Seat<N>>), (Row, TableFault)>
+        requires row { row ≡ N.cells }
+        requires start { start.now ≡ N.start }
+        requires seats { seats ≡ N.seats }
+        ensures { MatchResult result
+            (λ r. AreFresh seats r.1.items)
+            (λ e. (e.0 ≡ row) × RefusesTable seats e.1) }
+    {
+        if seats < 1 || seats > MAX_SEATS {
+            return Err((row, TableFault::Seats));
+        }
+        let Ok(all) = Seat::all(alloc, seats) else {
+            return Err((row, TableFault::OutOfMemory));
+        };
+        let (log, pen) = Log::new(row);
+        let held = Mutex::new(Held::new(pen, start, seats));
+        Ok((Table { held, log }, all))
+    }
+
+    /// Every call that a seat makes is answered as the one-player dollar game answers it at the call's place in one legal
+    /// history, which holds each of the seat's calls once, in order, and every entry it was told of.
+    ///
+    /// It waits for the lock. Refused with `OutOfMemory`, before it waits; with `Full` where the history has as many entries
+    /// as it may have; and with `Log` where the seat keeps more than the history holds, or less of its own, or the cell refuses
+    /// the entry. A refused call is no entry, and the seat knows what it knew.
+    pub fn call(
+        &self,
+        rt: &impl Wait,
+        alloc: Global,
+        seat: &mut Seat<N>,
+        plain: Plain,
+    ) -> Result<Receipt<N>, Fault>
+        ensures answered { IfOk result (λ r. IsAnswered N.start (asked plain) r seat.old seat.new) }
+        ensures fault { IfErr result (λ f. Keeps seat.old seat.new ×
+            RefusesCall N.start (length N.cells) seat.new f) }
+    {
+        let Ok(slot) = seat.room(alloc) else {
+            return Err(Fault::OutOfMemory);
+        };
+        self.held.lock(rt).call(&self.log, seat, slot, plain)
+    }
+
+    /// The cells of the history, which anyone may read at any time.
+    pub fn log(&self) -> &Log<N> {
+        &self.log
+    }
+
+    /// Ends the game, where all its seats are handed in: each seat's calls are just its entries of the one history.
+    ///
+    /// Refused where a seat is missing, or one is not admitted.
+    pub fn close(self, seats: Vec<Seat<N>>) -> Result<Audit<N>, CloseFault<N>>
+        ensures { MatchResult result
+            (λ a. IsClosed N.start N.seats seats.items a.pen.entries ×
+            AreTotals N.start N.seats seats.items a.pen.entries a.entries a.gifts a.position a.calls)
+            (λ f. (f.seats.items ≡ seats.items) ×
+            IsRefused N.start N.seats (length N.cells) seats.items f.missing) }
+    {
+        let Table { held, log } = self;
+        let held = held.into_inner();
+        match held.missing(&seats) {
+            Some(missing) => {
+                let held = Mutex::new(held);
+                Err(CloseFault {
+                    missing,
+                    table: Table { held, log },
+                    seats,
+                })
+            }
+            None => Ok(held.audit(log)),
+        }
+    }
+}
