@@ -8,8 +8,9 @@ use dg_game::Plain;
 use dg_graph::Graph;
 use dg_log::{Name, Row};
 use dg_table::{Seat, Table};
-use std::alloc::Global;
+use std::alloc::{AllocGlobal, Global};
 use std::env;
+use std::env::Env;
 use std::marker::Brand;
 use std::process::ExitCode;
 use std::sync::Wait;
@@ -28,7 +29,7 @@ fn main(rt: HostRuntime) -> ExitCode {
 
 // How many entries there are at the end.
 fn played<R: Env + AllocGlobal + Threads + Wait + Sync>(rt: &R) -> Option<u32> {
-    let words = env::args(rt).ok()?.collect(rt.alloc()).ok()?;
+    let words: Vec<String> = env::args(rt).ok()?.collect(rt.alloc()).ok()?;
     let seats = words.get(1)?.parse::<u8>().ok()?;
     let calls = words.get(2)?.parse::<u32>().ok()?;
     let moves = words.get(3)?.as_str() == "moves";
