@@ -6,15 +6,15 @@
 --   entries_from          the entries of a seat in what follows the first entries of a history
 --   stands_from           they stand in it
 --   entries_stand         the entries of a seat stand in the history
---   few_from              rising entries of the seat that stand in it are no more than all of the seat's, and are all where they
---                         are as many
---   all_own               rising entries of the seat that stand in the history, as many as all of the seat's, are all of them
-use Rattle.std.proofs.Common.{◌≡◌, ◌≢◌, ℕ, zero, suc, ◌+◌, ◌<◌, ◌≤◌, ◌==◌, Bool, true, false, cond, List, [], ◌∷◌, ◌++◌, length, slice_get, Some, arith, refl, sym, ap, subst, ◌∙◌, inl, inr, eq-eqb, add-one}
+--   few_from              rising entries of the seat that stand in it are no more than all of the seat's, and are all
+--                         where they are as many
+--   all_own               rising entries of the seat that stand in the history, as many as all of the seat's, are all
+use Rattle.std.proofs.Common.{◌≡◌, ℕ, zero, suc, ◌+◌, ◌≤◌, ◌==◌, Bool, true, false, cond, List, [], ◌∷◌, ◌++◌, length, slice_get, Some, arith, refl, sym, ap, subst, ◌∙◌, eq-eqb}
 use Rattle.std.specs.Bool.{⊤}
 use Rattle.std.specs.List.{filter, enumerate_from}
 use Rattle.std.proofs.lemmas.List.{append-nil, nil_from_length}
 use Rattle.std.proofs.lemmas.List.Elements.{filter-append}
-use Rattle.std.proofs.lemmas.Bool.{ne_eqb, cases_eq}
+use Rattle.std.proofs.lemmas.Bool.{ne_eqb}
 use Rattle.dg_game.specs.declared.entry.Entry.{Entry}
 use Rattle.dg_log.specs.Numbered.{StandIn}
 use Rattle.dg_table.specs.Seats.{entries_of}
@@ -26,7 +26,8 @@ pub enumerate_from-more : {X : Type 0} (n : ℕ) (xs : List X) (x : X) →
 enumerate_from-more n [] x = let same : n ≡ n + 0 = omega arith in ap (λ i. (i, x) ∷ []) same
 enumerate_from-more {X} n (y ∷ xs) x =
     let same : (n + 1) + length xs ≡ n + suc (length xs) = omega arith in
-    ap (λ (ps : List (ℕ × X)). (n, y) ∷ ps) (enumerate_from-more (n + 1) xs x ∙ ap (λ i. enumerate_from (n + 1) xs ++ (i, x) ∷ []) same)
+    let place = ap (λ i. enumerate_from (n + 1) xs ++ (i, x) ∷ []) same in
+    ap (λ (ps : List (ℕ × X)). (n, y) ∷ ps) (enumerate_from-more (n + 1) xs x ∙ place)
 
 pub none_of : NoEntries
 none_of s = refl
@@ -49,7 +50,8 @@ own_more s H e own =
 
 pub other_more : OtherEntry
 other_more s H e other =
-    one_more s H e ∙ ap (λ b. entries_of s H ++ cond b ((length H, e) ∷ []) []) (ne_eqb e.seat s other) ∙ append-nil (entries_of s H)
+    one_more s H e ∙ ap (λ b. entries_of s H ++ cond b ((length H, e) ∷ []) []) (ne_eqb e.seat s other)
+    ∙ append-nil (entries_of s H)
 
 -- each of the entries ps stands in H, whose first entry has the number n
 abbrev StandFrom : ℕ → List Entry → List (ℕ × Entry) → Type 0
@@ -57,7 +59,8 @@ StandFrom n H [] = ⊤
 StandFrom n H (p ∷ ps) = ((k : ℕ) × (p.0 ≡ n + k) × (slice_get H k ≡ Some p.1)) × StandFrom n H ps
 
 -- what stands in the rest of a list stands in the list
-stands_after : (n : ℕ) (e : Entry) (H : List Entry) (ps : List (ℕ × Entry)) → StandFrom (n + 1) H ps → StandFrom n (e ∷ H) ps
+stands_after : (n : ℕ) (e : Entry) (H : List Entry) (ps : List (ℕ × Entry)) → StandFrom (n + 1) H ps →
+    StandFrom n (e ∷ H) ps
 stands_after n e H [] stand = tt
 stands_after n e H (p ∷ ps) ((k, number, at), stand) = ((suc k, omega arith, at), stands_after n e H ps stand)
 
@@ -125,7 +128,9 @@ few_from s n (e ∷ H) (p ∷ ps) (least, rising) (mine, own) ((suc k, number, a
 
 stand_from : (H : List Entry) (ps : List (ℕ × Entry)) → StandIn H ps → StandFrom 0 H ps
 stand_from H [] stand = tt
-stand_from H (p ∷ ps) (at, stand) = let number : p.0 ≡ 0 + p.0 = omega arith in ((p.0, number, at), stand_from H ps stand)
+stand_from H (p ∷ ps) (at, stand) =
+    let number : p.0 ≡ 0 + p.0 = omega arith in
+    ((p.0, number, at), stand_from H ps stand)
 
 pub all_own : (s : ℕ) (H : List Entry) (ps : List (ℕ × Entry)) → AreRising 0 ps → AreOwn s ps → StandIn H ps →
     length ps ≡ length (entries_of s H) → entries_of s H ≡ ps

@@ -1,44 +1,42 @@
 -- What is counted at the close of a table.
 --   totals       the counts of what the lock holds are those of the seats, and add up to the number of entries
 --   history_of   the history of what the lock holds is legal, and its entries are of the table's seats
-use Rattle.std.proofs.Common.{◌≡◌, ℕ, ◌+◌, ◌<◌, ◌≤◌, List, length, get_or, slice_get, Some, sum, arith, refl, sym, ap, ◌∙◌, inl, inr}
+use Rattle.std.proofs.Common.{◌≡◌, ℕ, ◌+◌, ◌≤◌, List, length, get_or, arith, sym, ap, ◌∙◌, inl, inr}
 use Rattle.std.proofs.lemmas.List.{get_or_past}
 use Rattle.std.proofs.lemmas.Bool.{cases_lt}
 use Rattle.dg_chips.specs.Opening.{Opening}
-use Rattle.dg_chips.specs.Vector.{Vector}
-use Rattle.dg_game.specs.State.{State, LeadsTo}
+use Rattle.dg_game.specs.State.{State}
 use Rattle.dg_game.specs.declared.entry.Entry.{Entry}
 use Rattle.dg_game.specs.declared.entry.TheConstants.{MAX_SEATS}
 use Rattle.dg_table.specs.Closing.{AllHeld, AreTotals, IsHistoryOf}
-use Rattle.dg_table.specs.Lock.{IsHeld, AreSeated}
+use Rattle.dg_table.specs.Lock.{IsHeld}
 use Rattle.dg_table.specs.Seats.{SeatView, entries_of}
 use Rattle.dg_table.proofs.Counts.{none_past, all_counted}
 
-counted_at : (o : Opening) (seats : ℕ) (H : List Entry) (game : State) (counts : List ℕ) (s : ℕ) → IsHeld o seats H game counts →
-    get_or counts s 0 ≡ length (entries_of (s + 1) H)
-counted_at o seats H game counts s held = elim (cases_lt s MAX_SEATS) [
+counted_at : {o : Opening} {seats : ℕ} {H : List Entry} {game : State} {counts : List ℕ} (s : ℕ) →
+    IsHeld o seats H game counts → get_or counts s 0 ≡ length (entries_of (s + 1) H)
+counted_at {o} {seats} {H} {game} {counts} s held = elim (cases_lt s MAX_SEATS) [
   | inl inside ↦ held.counted s inside
   | inr past ↦
       let none = none_past seats (s + 1) H held.seated (omega (arith, held.few)) in
       get_or_past counts s 0 (omega (arith, held.places)) ∙ ap length (sym none)
 ]
 
-pub totals : (o : Opening) (seats : ℕ) (xs : List SeatView) (H : List Entry) (game : State) (counts : List ℕ) →
+pub totals : {o : Opening} {seats : ℕ} {H : List Entry} {game : State} {counts : List ℕ} (xs : List SeatView) →
     IsHeld o seats H game counts → AllHeld H xs → AreTotals o seats xs H game.entries game.gifts game.amounts counts
-totals o seats xs H game counts held all =
-    let counted = counted_at o seats H game counts in
+totals {o} {seats} {H} {game} {counts} xs held all =
     record {
       entries' = held.game'.entries;
       gifts' = held.game'.gifts;
       position' = held.game'.amounts;
       calls' = λ i x at s number.
-          counted s held ∙ ap (λ n. length (entries_of n H)) (sym number) ∙ ap length (all i x at).mine;
-      others = λ s past below. counted s held ∙ ap length (none_past seats (s + 1) H held.seated (omega arith));
+          counted_at s held ∙ ap (λ n. length (entries_of n H)) (sym number) ∙ ap length (all i x at).mine;
+      others = λ s past below. counted_at s held ∙ ap length (none_past seats (s + 1) H held.seated (omega arith));
       all = all_counted counts H held.counted held.places (λ k e at.
           let (least, most) = held.seated k e at in
           (least, omega (arith, held.few))) ∙ sym held.game'.entries;
     }
 
-pub history_of : (o : Opening) (seats cap : ℕ) (H : List Entry) (game : State) (counts : List ℕ) → IsHeld o seats H game counts →
-    length H ≤ cap → IsHistoryOf o seats cap H
-history_of o seats cap H game counts held few = record { legal = held.legal; few = few; seated = held.seated }
+pub history_of : {o : Opening} {seats : ℕ} {H : List Entry} {game : State} {counts : List ℕ} (cap : ℕ) →
+    IsHeld o seats H game counts → length H ≤ cap → IsHistoryOf o seats cap H
+history_of cap held few = record { legal = held.legal; few = few; seated = held.seated }

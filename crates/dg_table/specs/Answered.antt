@@ -1,6 +1,7 @@
 -- How a call is answered.
 --   IsAnsweredAfter o H request r x y   == the call of the seat x is answered by the receipt r after the history H, and
---                                          leaves the seat y
+--                                          leaves the seat y; the one history is H and the call's entry, whose place in
+--                                          it is the last
 --   IsAnswered o request r x y          == it is so answered after some history
 use Rattle.std.specs.Prelude.{◌≡◌, ℕ, List, [], ◌∷◌, ◌++◌, length}
 use Rattle.dg_chips.specs.Opening.{Opening}
@@ -10,8 +11,8 @@ use Rattle.dg_game.specs.declared.entry.Entry.{Entry}
 use Rattle.dg_game.specs.declared.entry.Request.{Request}
 use Rattle.dg_table.specs.Seats.{SeatView, Holds}
 
--- the one history is H and the call's entry; its place in it is the last
-pub record IsAnsweredAfter (o : Opening) (H : List Entry) (request : Request) (r : ℕ × Entry) (x y : SeatView) : Type 0 where
+pub record IsAnsweredAfter (o : Opening) (H : List Entry) (request : Request) (r : ℕ × Entry) (x y : SeatView) :
+    Type 0 where
   pub place : r.0 ≡ length H
   pub seat : r.1.seat ≡ x.number
   pub request' : r.1.request ≡ request

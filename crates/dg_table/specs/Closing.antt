@@ -2,15 +2,15 @@
 --   HasSeat xs s                 == the seat s is among the seats xs
 --   IsComplete n xs              == each of the seats 1 to n is among the seats xs
 --   AllHeld H xs                 == the history H holds what each of the seats xs knows
---   IsClosed o n xs H            == the history H is legal, has calls of the seats 1 to n alone, and holds what each of the seats
---                                   xs knows, among which are all n
---   AreTotals o n xs H e g d c   == e, g and d are the number of entries of H, its gift count and the amounts after it; c has
---                                   at each seat's place, from 0, the number of its calls, and 0 past the n seats; together
---                                   they are the number of entries
+--   IsClosed o n xs H            == the history H is legal, has calls of the seats 1 to n alone, and holds what each of
+--                                   the seats xs knows, among which are all n
+--   AreTotals o n xs H e g d c   == e, g and d are the number of entries of H, its gift count and the amounts after it;
+--                                   c has at each seat's place, from 0, the number of its calls, and 0 past the n
+--                                   seats; together they are the number of entries
 --   IsMissing n xs s             == s is the least of the seats 1 to n that is not among xs
 --   SomeKeepsMore H xs           == one of the seats xs is not admissible after H
---   RefusesClose H n xs s        == s is the least seat that is missing; or s is 0, none is missing, and one of the seats is not
---                                   admissible after H
+--   RefusesClose H n xs s        == s is the least seat that is missing; or s is 0, none is missing, and one of the
+--                                   seats is not admissible after H
 --   IsHistoryOf o n cap H        == the history H is legal, and has at most cap entries, of the seats 1 to n alone
 --   IsRefused o n cap xs s       == after some such history the close with the seats xs is refused with s
 use Rattle.std.specs.Prelude.{◌≡◌, ℕ, ◌+◌, ◌<◌, ◌≤◌, List, length, slice_get, Some, ◌⊎◌, sum}
@@ -22,8 +22,7 @@ use Rattle.dg_game.specs.History.{position_after, gifts_in}
 use Rattle.dg_game.specs.Legal.{IsLegal}
 use Rattle.dg_game.specs.declared.entry.Entry.{Entry}
 use Rattle.dg_game.specs.declared.entry.TheConstants.{MAX_SEATS}
-use Rattle.dg_table.specs.Seats.{SeatView, Holds, IsAdmissible}
-use Rattle.dg_table.specs.Lock.{AreSeated}
+use Rattle.dg_table.specs.Seats.{SeatView, Holds, IsAdmissible, AreSeated}
 
 abbrev pub HasSeat : List SeatView → ℕ → Type 0
 HasSeat xs s = (i : ℕ) × (x : SeatView) × (slice_get xs i ≡ Some x) × (x.number ≡ s)

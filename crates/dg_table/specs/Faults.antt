@@ -1,8 +1,9 @@
 -- Calls that are no entry.
---   StandsFull o cap H x         == the history H is legal and has all cap entries, and what the seat x keeps stands in it
---   RefusesStep o cap H x b c f  == the step after H of a seat x that has the space for it is refused with f; b and c say
---                                   whether the pen was stuck before it, and is after it
---   RefusesCall o cap x f        == what is known where the call of the seat x was refused with f
+--   StandsFull o cap H x          == the history H is legal and has all cap entries, and what the seat x keeps stands in
+--                                    it
+--   RefusesStep o cap H x b c f   == the step after H of a seat x that has the space for it is refused with f; b and c
+--                                    say whether the pen was stuck before it, and is after it
+--   RefusesCall o cap x f         == what is known where the call of the seat x was refused with f
 use Rattle.std.specs.Prelude.{◌≡◌, ℕ, ◌<◌, List, Bool, true, length, ⊤, ◌⊎◌}
 use Rattle.dg_chips.specs.Opening.{Opening}
 use Rattle.dg_game.specs.Legal.{IsLegal}

@@ -1,18 +1,23 @@
 -- What a seat knows of the history.
 --   entries_of s H     == the entries of the seat s in the history H, each with its number, in order
---   Seat               == a seat's number, the entries of its own calls, the entries that it was told of, and whether it has
---                         space for one more call
---   Holds H x          == the history H holds what the seat x knows: the seat's entries in H are just those of its own calls,
---                         each once and in order, and every entry that it was told of stands in H at its number
---   IsAdmissible H x   == H has an entry of each number that the seat x keeps, and as many of the seat's entries as it keeps
+--   AreSeated n H      == each entry of the history H is one of the seats 1 to n
+--   SeatView           == a seat's number, the entries of its own calls, the entries that it was told of, and whether it
+--                         has space for one more call
+--   Holds H x          == the history H holds what the seat x knows: the seat's entries in H are just those of its own
+--                         calls, each once and in order, and every entry that it was told of stands in H at its number
+--   IsAdmissible H x   == H has an entry of each number that the seat x keeps, and as many of the seat's entries as it
+--                         keeps
 --   Keeps x y          == the seat y is the seat x and knows the same
-use Rattle.std.specs.Prelude.{◌≡◌, ℕ, ◌==◌, List, Bool, length}
+use Rattle.std.specs.Prelude.{◌≡◌, ℕ, ◌==◌, ◌≤◌, List, Bool, Some, length, slice_get}
 use Rattle.std.specs.List.{filter, enumerate_from}
 use Rattle.dg_game.specs.declared.entry.Entry.{Entry}
 use Rattle.dg_log.specs.Numbered.{AreBelow, StandIn}
 
 abbrev pub entries_of : ℕ → List Entry → List (ℕ × Entry)
 entries_of s H = filter (λ p. p.1.seat == s) (enumerate_from 0 H)
+
+abbrev pub AreSeated : ℕ → List Entry → Type 0
+AreSeated n H = (k : ℕ) (e : Entry) → slice_get H k ≡ Some e → (1 ≤ e.seat) × (e.seat ≤ n)
 
 pub record SeatView : Type 0 where
   pub number : ℕ

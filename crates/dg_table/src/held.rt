@@ -20,8 +20,8 @@ use dg_game::{Entry, Game, Plain, Reply, Request};
 use dg_log::{Log, Name, Pen, Receipt};
 use std::marker::Model;
 
-/// The game of the table N, the pen that writes its history, and how many entries each seat has. A contract sees what the
-/// pen has written; the rest is a function of it.
+/// The game of the table N, the pen that writes its history, and how many entries each seat has. A contract sees what
+/// the pen has written; the rest is a function of it.
 #[derive(Drop)]
 pub struct Held<N: Name> {
     game: Game,
@@ -31,8 +31,8 @@ pub struct Held<N: Name> {
 }
 
 impl<N: Name> Model for Held<N> {
-    ghost use Rattle.dg_log.specs.Written.{Written};
     ghost use Rattle.std.specs.Prelude.{◌≡◌};
+    ghost use Rattle.dg_log.specs.Written.{Written};
     ghost use Rattle.dg_table.specs.Lock.{IsHeld};
 
     ghost Value = { Written };
@@ -59,8 +59,8 @@ impl<N: Name> Held<N> {
         }
     }
 
-    /// Whether the history has an entry of each number that the seat keeps, and as many entries of the seat as it keeps.
-    /// Then the history holds what the seat knows.
+    /// Whether the history has an entry of each number that the seat keeps, and as many entries of the seat as it
+    /// keeps. Then the history holds what the seat knows.
     pub fn admits(&self, seat: &Seat<N>) -> bool
         ensures admits { IsTrue result ↔ IsAdmissible self.now.entries seat.now }
         ensures holds { IsTrue result → Holds self.now.entries seat.now }
@@ -79,7 +79,7 @@ impl<N: Name> Held<N> {
         true
     }
 
-    /// Whether the history has room for an entry of the seat, which knows nothing that the history does not hold; or why not.
+    /// Whether the history has room for an entry of the seat, and holds what the seat knows; or why not.
     fn ready(&self, log: &Log<N>, seat: &Seat<N>) -> Result<(), Fault>
         ensures { MatchResult result
             (λ _. IsReady (length N.cells) self.now.entries seat.now)
@@ -102,8 +102,8 @@ impl<N: Name> Held<N> {
         }
     }
 
-    /// Answers a call of a seat, enters it as the last of the history, and gives the seat its receipt. The condition is that
-    /// the seat has the space; the box is used for the entry.
+    /// Answers a call of a seat, enters it as the last of the history, and gives the seat its receipt. The condition is
+    /// that the seat has the space; the box is used for the entry.
     ///
     /// Refused with `Full` where the history has as many entries as it may have; then with `Log` where the seat is not
     /// admitted, and where the cell refuses the entry.
@@ -165,8 +165,8 @@ impl<N: Name> Held<N> {
         Ok(receipt)
     }
 
-    /// `None` where these are all the table's seats, and each is admitted; otherwise the least seat that is missing, or 0 where
-    /// none is missing.
+    /// `None` where these are all the table's seats, and each is admitted; otherwise the least seat that is missing, or
+    /// 0 where none is missing.
     pub fn missing(&self, seats: &[Seat<N>]) -> Option<u8>
         ensures missing { MatchOption result
             (IsComplete N.seats seats.now × AllHeld self.now.entries seats.now)

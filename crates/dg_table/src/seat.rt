@@ -8,8 +8,8 @@ use dg_log::{Digest, Name, Receipt};
 use std::alloc::{AllocError, Global};
 use std::marker::Model;
 
-/// A seat of the table N: the receipts of its own calls, and of the entries that it was told of. A contract sees its number,
-/// these entries with their numbers, and whether it has space for one more call.
+/// A seat of the table N: the receipts of its own calls, and of the entries that it was told of. A contract sees its
+/// number, these entries with their numbers, and whether it has space for one more call.
 #[derive(Drop)]
 pub struct Seat<N: Name> {
     pub(crate) number: u8,

@@ -36,8 +36,8 @@ pub struct CloseFault<N: Name> {
 }
 
 impl<N: Name> Table<N> {
-    /// A table with this many seats, 1 to 64, whose history may have as many entries as the row has cells. The seats come in
-    /// order, and know of no entry. The conditions are that N names the row, the start and the number of seats.
+    /// A table with this many seats, 1 to 64, whose history may have as many entries as the row has cells. The seats come
+    /// in order, and know of no entry. The conditions are that N names the row, the start and the number of seats.
     ///
     /// Refused with `Seats` where there may not be so many, and with `OutOfMemory`; the row comes back.
     pub fn open(
@@ -64,12 +64,12 @@ impl<N: Name> Table<N> {
         Ok((Table { held, log }, all))
     }
 
-    /// Every call that a seat makes is answered as the one-player dollar game answers it at the call's place in one legal
-    /// history, which holds each of the seat's calls once, in order, and every entry it was told of.
+    /// Every call that a seat makes is answered as the one-player dollar game answers it at the call's place in one
+    /// legal history, which holds each of the seat's calls once, in order, and every entry it was told of.
     ///
-    /// It waits for the lock. Refused with `OutOfMemory`, before it waits; with `Full` where the history has as many entries
-    /// as it may have; and with `Log` where the seat keeps more than the history holds, or less of its own, or the cell refuses
-    /// the entry. A refused call is no entry, and the seat knows what it knew.
+    /// It waits for the lock. Refused with `OutOfMemory`, before it waits; with `Full` where the history has as many
+    /// entries as it may have; and with `Log` where the seat keeps more than the history holds, or less of its own, or
+    /// the cell refuses the entry. A refused call is no entry, and the seat knows what it knew.
     pub fn call(
         &self,
         rt: &impl Wait,

@@ -5,10 +5,10 @@ use Rattle.dg_table.proofs.audit.Audit.history.Goals as goal
 
 pub loop-number-preserved : goal.loop-number-preserved
 loop-number-preserved g c =
+    let H = c.args.self.now.pen.entries in
+    let n = c.loop-number.number in
     let e = c.receipt-receipt.result.1 in
     let there = c.receipt-receipt.ensures.entry in
-    let next : get_or c.args.self.now.pen.entries c.loop-number.number e ≡ c.entry.result.now =
-    get_or_from_slice_get c.args.self.now.pen.entries c.loop-number.number e e there ∙ sym c.entry.ensures in
-    let longer = take_more c.args.self.now.pen.entries c.loop-number.number e (slice_get_within c.args.self.now.pen.entries c.loop-number.number e there) in
+    let next : c.entry.result.now ≡ get_or H n e = c.entry.ensures ∙ sym (get_or_from_slice_get H n e e there) in
     c.in_ok-push.ensures.items ∙ ap (λ es. es ++ c.entry.result.now ∷ []) c.loop-number.invariant
-    ∙ ap (λ x. take c.loop-number.number c.args.self.now.pen.entries ++ x ∷ []) (sym next) ∙ sym longer
+    ∙ ap (λ x. take n H ++ x ∷ []) next ∙ sym (take_more H n e (slice_get_within H n e there))

@@ -10,7 +10,8 @@ loop-seat-preserved g c = λ k x below at. elim (cases_lt k c.loop-seat.seat-ind
   | inr after ↦
       let here : k ≡ c.loop-seat.seat-index = omega arith in
       let read : slice_get c.args.seats.now c.loop-seat.seat-index ≡ Some c.seat-item.result =
-      slice_get_read c.args.seats.now (length c.args.seats.now) c.loop-seat.seat-index c.seat-item.result refl (omega arith) c.seat-item.is in
+      slice_get_read c.args.seats.now (length c.args.seats.now) c.loop-seat.seat-index c.seat-item.result refl
+      (omega arith) c.seat-item.is in
       let same : c.seat-item.result ≡ x = same_Some _ _ (sym read ∙ ap (slice_get c.args.seats.now) (sym here) ∙ at) in
       subst (Holds c.args.self.now.entries) same (c.admits.ensures.holds c.if-not-admits.false)
 ]

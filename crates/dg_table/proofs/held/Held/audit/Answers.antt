@@ -4,4 +4,4 @@ use Rattle.dg_table.proofs.held.Held.audit.Goals as goal
 pub returns-clause-totals : goal.returns-clause-totals
 returns-clause-totals g c = λ xs all.
     rw (c.entries.ensures.entries, c.gifts.ensures, c.position.ensures.amounts)
-    (totals g.N.Name.start g.N.Name.seats xs c.args.self.entries c.self.inside.game c.self.inside.counts (rw c.self.view_is at c.self.invariant.0) all)
+    (totals xs (rw c.self.view_is at c.self.invariant.0) all)

@@ -7,12 +7,13 @@ use Rattle.dg_table.proofs.held.Held.enter.Goals as goal
 pub invariant_of-self-2 : goal.invariant_of-self-2
 invariant_of-self-2 g c =
     let e : Entry = record { seat = c.seat.inside.number; request = c.args.request; reply = c.args.reply } in
-    let history : c.put.new.self.entries ≡ c.self.inside.pen.entries ++ e ∷ [] = ap (λ (w : Written). w.entries) c.in-Ok.ensures.1 in
+    let history : c.put.new.self.entries ≡ c.self.inside.pen.entries ++ e ∷ [] =
+    ap (λ (w : Written). w.entries) c.in-Ok.ensures.1 in
     let legal = rw (← c.self.view_is, ← c.seat.view_is) at c.requires.legal in
     let leads = rw (← c.self.view_is, ← c.seat.view_is) at c.requires.leads in
     let seated = c.seat.invariant in (
-      rw history (held_more g.N.Name.start g.N.Name.seats c.self.inside.pen.entries e c.self.inside.game c.args.game c.self.inside.counts
-          c.from-place.result _ c.self.invariant.0 legal leads (omega (arith, c.from-place.ensures, seated.least)) seated.most refl),
+      rw history (held_more e c.from-place.result _ c.self.invariant.0 legal leads
+          (omega (arith, c.from-place.ensures, seated.least)) seated.most refl),
       c.self.invariant.1,
     )
 
@@ -23,9 +24,8 @@ invariant_of-seat g c =
     let items : c.push.new.self.items ≡ c.seat.inside.mine.items ++ c.in-Ok.receipt ∷ [] =
     (rw c.unwrap.ensures at c.push.ensures.items) ∙ ap (λ p. c.seat.inside.mine.items ++ p ∷ []) c.again.ensures in
     let below = rw (← c.self.view_is, ← c.seat.view_is) at c.requires.ready.admissible.mine in
-    rw (items, c.and-seat-inside.ensures, receipt) (kept_more g.N.Name.seats c.seat.inside.number (length c.self.inside.pen.entries)
-    c.seat.inside.mine.items c.seat.inside.told.items c.seat.inside.mine_digest c.seat.inside.told_digest (length c.self.inside.pen.entries, e)
-    c.seat.invariant below (omega arith) refl)
+    let last = length c.self.inside.pen.entries in
+    rw (items, c.and-seat-inside.ensures, receipt) (kept_more last (last, e) c.seat.invariant below (omega arith) refl)
 
 pub returns-clause-entered : goal.returns-clause-entered
 returns-clause-entered g c =
@@ -37,4 +37,4 @@ returns-clause-entered g c =
     let legal = rw (← c.self.view_is, ← c.seat.view_is) at c.requires.legal in
     let holds = rw (← c.self.view_is, ← c.seat.view_is) at c.requires.ready.holds in
     rw (← c.self.view_is, ← c.seat.view_is, receipt)
-    (answered g.N.Name.start c.self.inside.pen.entries e _ _ replies legal holds refl refl (rw receipt at items) refl, c.in-Ok.ensures.1)
+    (answered e _ replies legal holds refl refl (rw receipt at items) refl, c.in-Ok.ensures.1)

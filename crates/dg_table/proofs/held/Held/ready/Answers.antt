@@ -1,4 +1,4 @@
-use Rattle.std.proofs.Common.{arith, refl, sym, ◌∙◌}
+use Rattle.std.proofs.Common.{◌≤◌, length, arith, refl}
 use Rattle.std.proofs.lemmas.Bool.{both_ways}
 use Rattle.dg_log.specs.Numbered.{StandIn}
 use Rattle.dg_table.proofs.held.Held.ready.Goals as goal
@@ -7,9 +7,10 @@ use Rattle.dg_table.proofs.held.Held.ready.Goals.{then-below, else-below}
 pub returns-then-below-2 : goal.returns-then-below-2
 returns-then-below-2 g c =
     let seated = c.seat.invariant in
+    let full : length g.N.Name.cells ≤ c.len-len.result = omega (arith, c.len.ensures.length) in
     let mine : StandIn c.self.inside.pen.entries c.seat.inside.mine_digest = elim c.if-below.branch [
       | then-below w ↦ w.holds.ensures
-      | else-below w ↦ absurd (both_ways _ w.if-below.false (c.below.ensures.cells (omega (arith, c.len-len.ensures.length, c.len.ensures.length))))
+      | else-below w ↦ absurd (both_ways _ w.if-below.false (c.below.ensures.cells full))
     ] in
     rw (← c.seat.view_is, ← c.self.view_is) (
       record {

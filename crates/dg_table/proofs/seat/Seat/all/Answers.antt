@@ -1,4 +1,4 @@
-use Rattle.std.proofs.Common.{◌≡◌, ◌+◌, [], ◌∷◌, ◌++◌, length, arith, ap, ◌∙◌, inl, inr, slice_get, Some}
+use Rattle.std.proofs.Common.{◌≡◌, ◌+◌, [], ◌∷◌, ◌++◌, length, arith, ap, ◌∙◌, inl, inr}
 use Rattle.std.proofs.lemmas.List.{length_push}
 use Rattle.dg_game.proofs.ListLaws.{more_holds}
 use Rattle.dg_table.proofs.seat.Seat.all.Goals as goal
@@ -11,7 +11,8 @@ loop-i-preserved g c =
       fresh = λ k x at. elim (more_holds c.loop-i.seats.items c.new.result k x (rw items at at)) [
         | inl old ↦ c.loop-i.invariant.fresh k x old.1
         | inr last ↦
-            let number : c.new.result.number ≡ k + 1 = omega (arith, c.new.ensures.number, last.0, c.loop-i.invariant.count) in
+            let number : c.new.result.number ≡ k + 1 =
+            omega (arith, c.new.ensures.number, last.0, c.loop-i.invariant.count) in
             rw last.1 (number, c.new.ensures.mine, c.new.ensures.told)
       ];
     }

@@ -5,5 +5,6 @@ use Rattle.dg_table.proofs.seat.Seat.all.Given as goal
 abbrev pub invariant-loop-i : goal.invariant-loop-i
 invariant-loop-i g l = record {
   count : length l.seats.items ≡ l.i;
-  fresh : (k : ℕ) (x : SeatView) → slice_get l.seats.items k ≡ Some x → (x.number ≡ k + 1) × (x.mine ≡ []) × (x.told ≡ []);
+  fresh : (k : ℕ) (x : SeatView) → slice_get l.seats.items k ≡ Some x →
+      (x.number ≡ k + 1) × (x.mine ≡ []) × (x.told ≡ []);
 }
