@@ -1,6 +1,7 @@
 //! Plays calls on one table: `table_program SEATS CALLS WORD`, where each seat plays CALLS calls in a thread of its own,
 //! claims where WORD is `claims`, and lendings and borrowings in turn where it is `moves`. Prints how many entries there are.
 #![tactic(auto)]
+
 ghost use Rattle.std.specs.Prelude.{◌≡◌};
 
 use dg_chips::{Divisor, Move, Start};
@@ -9,22 +10,21 @@ use dg_graph::Graph;
 use dg_log::{Name, Row};
 use dg_table::{Seat, Table};
 use std::alloc::{AllocGlobal, Global};
-use std::env;
 use std::env::Env;
 use std::marker::Brand;
 use std::process::ExitCode;
 use std::sync::Wait;
-use std::thread;
 use std::thread::Threads;
+use std::{env, thread};
 
 fn main(rt: HostRuntime) -> ExitCode {
-    match played(&rt) {
-        Some(entries) => {
-            let _ = println!(rt; "{entries}");
-            ExitCode::SUCCESS
-        }
-        None => ExitCode::FAILURE,
-    }
+    let Some(entries) = played(&rt) else {
+        return ExitCode::FAILURE;
+    };
+    let _ = println!(rt; "{entries}");
+    // Whoever measures reads the memory that it took, and then ends the input.
+    let _ = rt.read_line(&mut String::new(rt.alloc()));
+    ExitCode::SUCCESS
 }
 
 // How many entries there are at the end.
@@ -56,15 +56,25 @@ fn played_on<N: Name + Send + Sync, R: Threads + Wait + Sync>(
 {
     let (table, mut seats) = Table::<N>::open(alloc, row, start, count).ok()?;
     let shared = &table;
-    thread::for_each_mut(rt, seats.as_mut_slice(), usize::from(count), &|_, seat| {
-        play(rt, alloc, shared, seat, calls, moves)
-    });
+    thread::for_each_mut(
+        rt,
+        seats.as_mut_slice(),
+        usize::from(count),
+        &|_, seat| { play(rt, alloc, shared, seat, calls, moves) },
+    );
     let audit = table.close(seats).ok()?;
     Some(audit.entries)
 }
 
 // Plays a seat's calls, until one is refused.
-fn play<N: Name>(rt: &impl Wait, alloc: Global, table: &Table<N>, seat: &mut Seat<N>, calls: u32, moves: bool) {
+fn play<N: Name>(
+    rt: &impl Wait,
+    alloc: Global,
+    table: &Table<N>,
+    seat: &mut Seat<N>,
+    calls: u32,
+    moves: bool,
+) {
     for i in 0..calls {
         let plain = if !moves {
             Plain::Claim

@@ -5,9 +5,10 @@
 --   AreOwn s ps            == the entries ps are of the seat s
 --   IsHeld o seats H h     == the game, the counts and the number of seats of h are those of the legal history H
 --   IsReady cap H x        == the history H has room for an entry of the seat x, which is admissible, and holds what it knows
---   IsSeated seats s mine told first second   == what the seat s keeps fits together: its own entries and those that it was
---                             told of, and the entries that are in its two digests
-use Rattle.std.specs.Prelude.{◌≡◌, ℕ, ◌+◌, ◌<◌, ◌≤◌, List, [], ◌∷◌, length, slice_get, Some, ⊤}
+--   IsKept n ps look       == the look that is kept is the last of the entries ps, and shows n amounts
+--   IsSeated o seats s mine told first second look   == what the seat s keeps fits together: its own entries and those that it
+--                             was told of, the entries that are in its two digests, and its last look
+use Rattle.std.specs.Prelude.{◌≡◌, ℕ, ◌+◌, ◌<◌, ◌≤◌, List, [], ◌∷◌, length, slice_get, Option, Some, IfSome, ⊤}
 use Rattle.std.specs.List.{slice_index}
 use Rattle.dg_chips.specs.Opening.{Opening}
 use Rattle.dg_game.specs.Legal.{IsSeat, IsLegal}
@@ -15,6 +16,8 @@ use Rattle.dg_game.specs.State.{State, LeadsTo}
 use Rattle.dg_game.specs.declared.entry.Entry.{Entry}
 use Rattle.dg_game.specs.declared.entry.TheConstants.{MAX_SEATS}
 use Rattle.dg_game.specs.declared.game.TheConstants.{MAX_ENTRIES}
+use Rattle.dg_game.specs.declared.look.LookData.{LookData}
+use Rattle.dg_table.specs.Looks.{IsLastLook}
 use Rattle.dg_table.specs.Seats.{SeatView, Holds, IsAdmissible, entries_of}
 
 abbrev pub AreSeated : ℕ → List Entry → Type 0
@@ -46,10 +49,16 @@ pub record IsReady (cap : ℕ) (H : List Entry) (x : SeatView) : Type 0 where
   pub admissible : IsAdmissible H x
   pub holds : Holds H x
 
-pub record IsSeated (seats s : ℕ) (mine told first second : List (ℕ × Entry)) : Type 0 where
+pub record IsKept (n : ℕ) (ps : List (ℕ × Entry)) (look : Option LookData) : Type 0 where
+  pub last : IsLastLook ps look
+  pub size : IfSome look (λ x. x.position.size ≡ n)
+
+pub record IsSeated (o : Opening) (seats s : ℕ) (mine told first second : List (ℕ × Entry)) (look : Option LookData) :
+    Type 0 where
   pub least : 1 ≤ s
   pub most : s ≤ seats
   pub rising : AreRising 0 mine
   pub own : AreOwn s mine
   pub own_said : first ≡ mine
   pub told_said : second ≡ told
+  pub look_kept : IsKept o.graph.size mine look

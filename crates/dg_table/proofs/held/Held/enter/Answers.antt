@@ -23,9 +23,11 @@ invariant_of-seat g c =
     let items : c.push.new.self.items ≡ c.seat.inside.mine.items ++ c.in-Ok.receipt ∷ [] =
     (rw c.unwrap.ensures at c.push.ensures.items) ∙ ap (λ p. c.seat.inside.mine.items ++ p ∷ []) c.again.ensures in
     let below = rw (← c.self.view_is, ← c.seat.view_is) at c.requires.ready.admissible.mine in
-    rw (items, c.and-seat-inside.ensures, receipt) (kept_more g.N.Name.seats c.seat.inside.number (length c.self.inside.pen.entries)
-    c.seat.inside.mine.items c.seat.inside.told.items c.seat.inside.mine_digest c.seat.inside.told_digest (length c.self.inside.pen.entries, e)
-    c.seat.invariant below (omega arith) refl)
+    let seen = rw (← c.self.view_is, ← c.seat.view_is) at c.last_look-seen.ensures e refl refl in
+    rw (items, c.and-seat-inside.ensures, receipt) (kept_more g.N.Name.start g.N.Name.seats c.seat.inside.number
+    (length c.self.inside.pen.entries) c.seat.inside.mine.items c.seat.inside.told.items c.seat.inside.mine_digest
+    c.seat.inside.told_digest c.seat.inside.look c.last_look-seen.result (length c.self.inside.pen.entries, e)
+    c.seat.invariant below (omega arith) refl seen)
 
 pub returns-clause-entered : goal.returns-clause-entered
 returns-clause-entered g c =
