@@ -4,9 +4,11 @@
 --   kept_more     what a seat keeps fits together after it kept one more entry of its own, past all that it kept
 --   answered      how a call is answered by the receipt of an entry that the game allows
 --   settled       how a finding is entered, where its call is answered, its look stands and the seat is told of the look
+--   settling_refused   how a finding is refused, where its seat is admissible, its look's number is in the history, and the step
+--                 is refused
 --   held_none     what the lock holds at the start
 --   held_more     what the lock holds after one more entry
-use Rattle.std.proofs.Common.{◌≡◌, Option, ℕ, ◌+◌, ◌-◌, ◌<◌, ◌≤◌, List, [], ◌∷◌, ◌++◌, length, get_or, set, slice_get, Some, arith, refl, sym, ap, subst, ◌∙◌}
+use Rattle.std.proofs.Common.{inl, inr, Bool, ◌≡◌, Option, ℕ, ◌+◌, ◌-◌, ◌<◌, ◌≤◌, List, [], ◌∷◌, ◌++◌, length, get_or, set, slice_get, Some, arith, refl, sym, ap, subst, ◌∙◌}
 use Rattle.std.proofs.lemmas.List.{length-set}
 use Rattle.std.proofs.lemmas.Option.{slice_get_within}
 use Rattle.dg_chips.specs.Opening.{Opening}
@@ -21,6 +23,9 @@ use Rattle.dg_game.specs.declared.look.LookData.{LookData}
 use Rattle.dg_game.proofs.LegalLaws.{legal_none}
 use Rattle.dg_game.proofs.ListLaws.{slice_get-append, slice_get-seam}
 use Rattle.dg_table.specs.Answered.{IsAnsweredAfter}
+use Rattle.dg_table.specs.Faults.{RefusesStep, RefusesSettling}
+use Rattle.dg_table.specs.declared.fault.Fault.{Fault}
+use Rattle.dg_table.specs.declared.fault.Fault.TheVariants.{OutOfMemory, Full, Log}
 use Rattle.dg_table.specs.Lock.{AreRising, AreOwn, IsHeld, IsKept, IsSeated}
 use Rattle.dg_log.specs.Numbered.{AreBelow, StandIn}
 use Rattle.dg_table.specs.Looks.{IsLookOf}
@@ -103,6 +108,15 @@ settled o H look x f r s m t answered of stands kept number mine told =
       stale = stale_both o H look.0 f r.1.reply replies;
       carried = carried_over o H look.0 f r.1.reply kept replies;
     }
+
+pub settling_refused : (o : Opening) (cap : ℕ) (H : List Entry) (i : ℕ) (x : SeatView) (b c : Bool) (f : Fault) → IsAdmissible H x →
+    i < length H → RefusesStep o cap H x b c f → RefusesSettling o cap H i x b c f
+settling_refused o cap H i x b c OutOfMemory admissible read refused = refused
+settling_refused o cap H i x b c Full admissible read refused = refused
+settling_refused o cap H i x b c Log admissible read (room, refused) = (room, elim refused [
+  | inl other ↦ absurd (other.0 admissible)
+  | inr stuck ↦ inr (inr (admissible, read, stuck.1))
+])
 
 pub held_none : (o : Opening) (seats : ℕ) (game : State) (counts : List ℕ) → LeadsTo o [] game → length counts ≡ MAX_SEATS →
     ((s : ℕ) → s < MAX_SEATS → get_or counts s 0 ≡ 0) → seats ≤ MAX_SEATS → IsHeld o seats [] game counts

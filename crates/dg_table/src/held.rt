@@ -212,6 +212,7 @@ impl<N: Name> Held<N> {
         requires leads { LeadsTo N.start (with_entry self.old.entries seat.old.number request reply) game }
         ensures entered { IfOk result (λ r. IsAnsweredAfter N.start self.old.entries request r seat.old seat.new ×
             (self.new ≡ record { entries = self.old.entries ++ r.1 ∷ []; stuck = false })) }
+        ensures reply { IfOk result (λ r. r.1.reply ≡ reply) }
         ensures hears { seat.new.hears ≡ true }
         ensures refused { IfErr result (λ f. (self.new ≡ record { entries = self.old.entries; stuck = true }) ×
             (seat.new ≡ seat.old) ×
