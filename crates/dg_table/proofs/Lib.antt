@@ -3,3 +3,4 @@ pub mod Numbered
 pub mod Counts
 pub mod Steps
 pub mod Totals
+pub mod Findings

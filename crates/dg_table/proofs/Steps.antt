@@ -2,23 +2,37 @@
 --   holds_more    a history that holds what a seat knows, with one more entry of the seat, holds what it then knows
 --   kept_more     what a seat keeps fits together after it kept one more entry of its own, past all that it kept
 --   answered      how a call is answered by the receipt of an entry that the game allows
+--   settled       how a finding is entered, where its call is answered, its look stands and the seat is told of the look
+--   settling_refused   how a finding is refused, where its seat is admissible, its look's number is in the history, and the step
+--                 is refused
 --   held_none     what the lock holds at the start
 --   held_more     what the lock holds after one more entry
-use Rattle.std.proofs.Common.{◌≡◌, ℕ, ◌+◌, ◌<◌, ◌≤◌, List, [], ◌∷◌, ◌++◌, length, get_or, set, arith, refl, sym, ap, ◌∙◌}
+use Rattle.std.proofs.Common.{inl, inr, Bool, ◌≡◌, Option, ℕ, ◌+◌, ◌-◌, ◌<◌, ◌≤◌, List, [], ◌∷◌, ◌++◌, length, get_or, set, slice_get, Some, arith, refl, sym, ap, subst, ◌∙◌}
 use Rattle.std.proofs.lemmas.List.{length-set}
+use Rattle.std.proofs.lemmas.Option.{slice_get_within}
 use Rattle.dg_chips.specs.Opening.{Opening}
 use Rattle.dg_game.specs.Legal.{IsLegal}
+use Rattle.dg_game.specs.Look.{asked_for, KeepsFinding}
 use Rattle.dg_game.specs.Replies.{Replies}
 use Rattle.dg_game.specs.State.{State, LeadsTo}
 use Rattle.dg_game.specs.declared.entry.Entry.{Entry}
 use Rattle.dg_game.specs.declared.entry.TheConstants.{MAX_SEATS}
+use Rattle.dg_game.specs.declared.finding.Finding.{Finding}
+use Rattle.dg_game.specs.declared.look.LookData.{LookData}
 use Rattle.dg_game.proofs.LegalLaws.{legal_none}
-use Rattle.dg_log.specs.Numbered.{AreBelow}
+use Rattle.dg_game.proofs.ListLaws.{slice_get-append, slice_get-seam}
 use Rattle.dg_table.specs.Answered.{IsAnsweredAfter}
-use Rattle.dg_table.specs.Lock.{IsHeld, IsSeated}
-use Rattle.dg_table.specs.Seats.{SeatView, Holds, entries_of}
-use Rattle.dg_table.proofs.Entries.{own_more}
-use Rattle.dg_table.proofs.Numbered.{stand_longer, rising_more, owned_more}
+use Rattle.dg_table.specs.Faults.{RefusesStep, RefusesSettling}
+use Rattle.dg_table.specs.declared.fault.Fault.{Fault}
+use Rattle.dg_table.specs.declared.fault.Fault.TheVariants.{OutOfMemory, Full, Log}
+use Rattle.dg_table.specs.Lock.{AreRising, AreOwn, IsHeld, IsKept, IsSeated}
+use Rattle.dg_log.specs.Numbered.{AreBelow, StandIn}
+use Rattle.dg_table.specs.Looks.{IsLookOf}
+use Rattle.dg_table.specs.Seats.{SeatView, Holds, IsAdmissible, entries_of}
+use Rattle.dg_table.specs.Settled.{IsSettledAfter}
+use Rattle.dg_table.proofs.Entries.{own_more, all_own}
+use Rattle.dg_table.proofs.Findings.{stale_both, carried_over}
+use Rattle.dg_table.proofs.Numbered.{stand_more, stand_longer, rising_more, owned_more}
 use Rattle.dg_table.proofs.Counts.{seated_more, counted_more, counted_none}
 
 pub holds_more : (H : List Entry) (e : Entry) (x y : SeatView) → Holds H x → e.seat ≡ x.number → y.number ≡ x.number →
@@ -29,16 +43,18 @@ holds_more H e x y holds own number mine told = record {
   told = rw told (stand_longer H (e ∷ []) x.told holds.told);
 }
 
-pub kept_more : {seats s : ℕ} {mine told first second : List (ℕ × Entry)} (n : ℕ) (p : ℕ × Entry) →
-    IsSeated seats s mine told first second → AreBelow n mine → n ≤ p.0 → p.1.seat ≡ s →
-    IsSeated seats s (mine ++ p ∷ []) told (first ++ p ∷ []) second
-kept_more {seats} {s} {mine} {told} {first} {second} n p seated below past own = record {
+pub kept_more : {o : Opening} {seats s : ℕ} {mine told first second : List (ℕ × Entry)} {look : Option LookData} (n : ℕ)
+    (next : Option LookData) (p : ℕ × Entry) → IsSeated o seats s mine told first second look → AreBelow n mine → n ≤ p.0 →
+    p.1.seat ≡ s → IsKept o.graph.size (mine ++ p ∷ []) next →
+    IsSeated o seats s (mine ++ p ∷ []) told (first ++ p ∷ []) second next
+kept_more {o} {seats} {s} {mine} {told} {first} {second} {look} n next p seated below past own last = record {
   least = seated.least;
   most = seated.most;
   rising = rising_more 0 n mine p (omega arith) seated.rising below past;
   own = owned_more s mine p seated.own own;
   own_said = ap (λ ps. ps ++ p ∷ []) seated.own_said;
   told_said = seated.told_said;
+  look_kept = last;
 }
 
 pub answered : {o : Opening} {H : List Entry} {x : SeatView} (e : Entry) (y : SeatView) →
@@ -55,6 +71,45 @@ answered {o} {H} {x} e y replies legal holds own number mine told = record {
   mine = mine;
   told = told;
 }
+
+pub settled : (o : Opening) (H : List Entry) (look : ℕ × Entry) (x : LookData) (f : Finding) (r : ℕ × Entry) (s m t : SeatView) →
+    IsAnsweredAfter o H (asked_for x.number f) r s m → IsLookOf look x → slice_get H look.0 ≡ Some look.1 → KeepsFinding f r.1.reply →
+    t.number ≡ m.number → t.mine ≡ m.mine → t.told ≡ m.told ++ look ∷ [] → IsSettledAfter o H look x f r s t
+settled o H look x f r s m t answered of stands kept number mine told =
+    let hears : t.told ≡ s.told ++ look ∷ [] = told ∙ ap (λ ps. ps ++ look ∷ []) answered.told in
+    let there : slice_get (H ++ r.1 ∷ []) look.0 ≡ Some look.1 =
+    slice_get-append H (r.1 ∷ []) look.0 (slice_get_within H look.0 look.1 stands) ∙ stands in
+    let replies : Replies o H (asked_for look.0 f) r.1.reply =
+    subst (λ i. Replies o H (asked_for i f) r.1.reply) of.number answered.reply in
+    record {
+      entered = record {
+        place = answered.place;
+        seat = answered.seat;
+        request' = answered.request';
+        reply = answered.reply;
+        legal = answered.legal;
+        holds = record {
+          mine = ap (λ n. entries_of n (H ++ r.1 ∷ [])) number ∙ answered.holds.mine ∙ sym mine;
+          told = rw told (stand_more (H ++ r.1 ∷ []) m.told look answered.holds.told there);
+        };
+        number = number ∙ answered.number;
+        mine = mine ∙ answered.mine;
+        told = hears;
+      };
+      stands = stands;
+      kept = kept;
+      stale = stale_both o H look.0 f r.1.reply replies;
+      carried = carried_over o H look.0 f r.1.reply kept replies;
+    }
+
+pub settling_refused : (o : Opening) (cap : ℕ) (H : List Entry) (i : ℕ) (x : SeatView) (b c : Bool) (f : Fault) → IsAdmissible H x →
+    i < length H → RefusesStep o cap H x b c f → RefusesSettling o cap H i x b c f
+settling_refused o cap H i x b c OutOfMemory admissible read refused = refused
+settling_refused o cap H i x b c Full admissible read refused = refused
+settling_refused o cap H i x b c Log admissible read (room, refused) = (room, elim refused [
+  | inl other ↦ absurd (other.0 admissible)
+  | inr stuck ↦ inr (inr (admissible, read, stuck.1))
+])
 
 pub held_none : {o : Opening} {game : State} (seats : ℕ) (counts : List ℕ) → LeadsTo o [] game →
     length counts ≡ MAX_SEATS → ((s : ℕ) → s < MAX_SEATS → get_or counts s 0 ≡ 0) → seats ≤ MAX_SEATS →

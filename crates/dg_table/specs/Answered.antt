@@ -1,8 +1,9 @@
 -- How a call is answered.
---   IsAnsweredAfter o H request r x y   == the call of the seat x is answered by the receipt r after the history H, and
---                                          leaves the seat y; the one history is H and the call's entry, whose place in
---                                          it is the last
---   IsAnswered o request r x y          == it is so answered after some history
+--   IsEnteredAfter o H request known r x y   == the request of the seat x is entered with the receipt r after the history
+--                                               H, and leaves the seat y, which was told of the entries known; the one
+--                                               history is H and the entry, whose place in it is the last
+--   IsAnsweredAfter o H request r x y        == the call of the seat x is so entered, and the seat is told of nothing more
+--   IsAnswered o request r x y               == it is so answered after some history
 use Rattle.std.specs.Prelude.{◌≡◌, ℕ, List, [], ◌∷◌, ◌++◌, length}
 use Rattle.dg_chips.specs.Opening.{Opening}
 use Rattle.dg_game.specs.Legal.{IsLegal}
@@ -11,8 +12,8 @@ use Rattle.dg_game.specs.declared.entry.Entry.{Entry}
 use Rattle.dg_game.specs.declared.entry.Request.{Request}
 use Rattle.dg_table.specs.Seats.{SeatView, Holds}
 
-pub record IsAnsweredAfter (o : Opening) (H : List Entry) (request : Request) (r : ℕ × Entry) (x y : SeatView) :
-    Type 0 where
+pub record IsEnteredAfter (o : Opening) (H : List Entry) (request : Request) (known : List (ℕ × Entry)) (r : ℕ × Entry)
+    (x y : SeatView) : Type 0 where
   pub place : r.0 ≡ length H
   pub seat : r.1.seat ≡ x.number
   pub request' : r.1.request ≡ request
@@ -21,7 +22,10 @@ pub record IsAnsweredAfter (o : Opening) (H : List Entry) (request : Request) (r
   pub holds : Holds (H ++ r.1 ∷ []) y
   pub number : y.number ≡ x.number
   pub mine : y.mine ≡ x.mine ++ r ∷ []
-  pub told : y.told ≡ x.told
+  pub told : y.told ≡ known
+
+abbrev pub IsAnsweredAfter : Opening → List Entry → Request → ℕ × Entry → SeatView → SeatView → Type 0
+IsAnsweredAfter o H request r x y = IsEnteredAfter o H request x.told r x y
 
 abbrev pub IsAnswered : Opening → Request → ℕ × Entry → SeatView → SeatView → Type 0
 IsAnswered o request r x y = (H : List Entry) × IsAnsweredAfter o H request r x y

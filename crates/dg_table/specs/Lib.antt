@@ -3,6 +3,8 @@ pub mod Seats
 pub mod SeatLaws
 pub mod Opened
 pub mod Answered
+pub mod Looks
+pub mod Settled
 pub mod Faults
 pub mod Closing
 -- Words of private fields.

@@ -6,9 +6,10 @@
 --                                 seats 1 to n
 --   IsReady cap H x            == the history H has room for an entry of the seat x, which is admissible, and holds what
 --                                 it knows
---   IsSeated n s ps qs d e     == what the seat s of n keeps fits together: its own entries ps and those that it was told
---                                 of, qs; its two digests d and e are of these
-use Rattle.std.specs.Prelude.{◌≡◌, ℕ, ◌+◌, ◌<◌, ◌≤◌, List, [], ◌∷◌, length, ⊤}
+--   IsKept n ps look           == the look that is kept is the last of the entries ps, and shows n amounts
+--   IsSeated o n s ps qs d e look   == what the seat s of n keeps fits together: its own entries ps and those that it was
+--                                      told of, qs; its two digests d and e are of these, and look is its last look
+use Rattle.std.specs.Prelude.{◌≡◌, ℕ, ◌+◌, ◌<◌, ◌≤◌, List, [], ◌∷◌, length, Option, IfSome, ⊤}
 use Rattle.std.specs.List.{slice_index}
 use Rattle.dg_chips.specs.Opening.{Opening}
 use Rattle.dg_game.specs.Legal.{IsSeat, IsLegal}
@@ -16,6 +17,8 @@ use Rattle.dg_game.specs.State.{State, LeadsTo}
 use Rattle.dg_game.specs.declared.entry.Entry.{Entry}
 use Rattle.dg_game.specs.declared.entry.TheConstants.{MAX_SEATS}
 use Rattle.dg_game.specs.declared.game.TheConstants.{MAX_ENTRIES}
+use Rattle.dg_game.specs.declared.look.LookData.{LookData}
+use Rattle.dg_table.specs.Looks.{IsLastLook}
 use Rattle.dg_table.specs.Seats.{SeatView, Holds, IsAdmissible, AreSeated, entries_of}
 
 abbrev pub AreCounted : List ℕ → List Entry → Type 0
@@ -44,10 +47,15 @@ pub record IsReady (cap : ℕ) (H : List Entry) (x : SeatView) : Type 0 where
   pub admissible : IsAdmissible H x
   pub holds : Holds H x
 
-pub record IsSeated (n s : ℕ) (ps qs d e : List (ℕ × Entry)) : Type 0 where
+pub record IsKept (n : ℕ) (ps : List (ℕ × Entry)) (look : Option LookData) : Type 0 where
+  pub last : IsLastLook ps look
+  pub size : IfSome look (λ x. x.position.size ≡ n)
+
+pub record IsSeated (o : Opening) (n s : ℕ) (ps qs d e : List (ℕ × Entry)) (look : Option LookData) : Type 0 where
   pub least : 1 ≤ s
   pub most : s ≤ n
   pub rising : AreRising 0 ps
   pub own : AreOwn s ps
   pub own_said : d ≡ ps
   pub told_said : e ≡ qs
+  pub look_kept : IsKept o.graph.size ps look

@@ -1,8 +1,8 @@
 -- What a seat knows of the history.
 --   entries_of s H     == the entries of the seat s in the history H, each with its number, in order
 --   AreSeated n H      == each entry of the history H is one of the seats 1 to n
---   SeatView           == a seat's number, the entries of its own calls, the entries that it was told of, and whether it
---                         has space for one more call
+--   SeatView           == a seat's number, the entries of its own calls, the entries that it was told of, whether it has
+--                         space for one more call, and whether it has space to be told of one more entry
 --   Holds H x          == the history H holds what the seat x knows: the seat's entries in H are just those of its own
 --                         calls, each once and in order, and every entry that it was told of stands in H at its number
 --   IsAdmissible H x   == H has an entry of each number that the seat x keeps, and as many of the seat's entries as it
@@ -24,6 +24,7 @@ pub record SeatView : Type 0 where
   pub mine : List (ℕ × Entry)
   pub told : List (ℕ × Entry)
   pub space : Bool
+  pub hears : Bool
 
 pub record Holds (H : List Entry) (x : SeatView) : Type 0 where
   pub mine : entries_of x.number H ≡ x.mine

@@ -1,5 +1,5 @@
 //! What the lock of a table holds.
-ghost use Rattle.std.specs.Prelude.{List, ◌≡◌, ◌<◌, ◌≤◌, ◌↔◌, [], ◌∷◌, ◌++◌, true, false, length, IsTrue, IfOk, IfErr, MatchOption, MatchResult, MatchBool};
+ghost use Rattle.std.specs.Prelude.{ℕ, List, Some, slice_get, ◌≡◌, ◌<◌, ◌≤◌, ◌↔◌, [], ◌∷◌, ◌++◌, true, false, length, IsTrue, IfOk, IfSome, IfErr, MatchOption, MatchResult, MatchBool};
 ghost use Rattle.dg_game.specs.History.{with_entry};
 ghost use Rattle.dg_game.specs.Legal.{IsSeat, IsLegal};
 ghost use Rattle.dg_game.specs.Replies.{Replies};
@@ -7,16 +7,19 @@ ghost use Rattle.dg_game.specs.Schedule.{asked};
 ghost use Rattle.dg_game.specs.State.{LeadsTo};
 ghost use Rattle.dg_table.specs.Answered.{IsAnsweredAfter};
 ghost use Rattle.dg_table.specs.Closing.{HasSeat, IsComplete, AllHeld, AreTotals, IsMissing, SomeKeepsMore, RefusesClose, IsHistoryOf};
-ghost use Rattle.dg_table.specs.Faults.{RefusesStep};
-ghost use Rattle.dg_table.specs.Lock.{IsReady};
+ghost use Rattle.dg_table.specs.Faults.{RefusesStep, RefusesSettling};
+ghost use Rattle.dg_game.specs.declared.entry.Entry.{Entry as EntryData};
+ghost use Rattle.dg_table.specs.Lock.{IsReady, IsKept};
+ghost use Rattle.dg_table.specs.Looks.{IsLookOf, IsRightFor};
 ghost use Rattle.dg_table.specs.Opened.{MayHaveSeats};
 ghost use Rattle.dg_table.specs.Seats.{SeatView, Holds, IsAdmissible};
+ghost use Rattle.dg_table.specs.Settled.{IsSettledAfter};
 
 use crate::audit::Audit;
 use crate::fault::Fault;
 use crate::seat::Seat;
 use dg_chips::Start;
-use dg_game::{Entry, Game, Plain, Reply, Request};
+use dg_game::{Entry, Finding, Game, LookData, Plain, Reply, Request};
 use dg_log::{Log, Name, Pen, Receipt};
 use std::marker::Model;
 
@@ -127,6 +130,71 @@ impl<N: Name> Held<N> {
         self.enter(log, seat, slot, plain.request(), reply, game)
     }
 
+    /// Enters a finding on a look as the last of the history, gives the seat its receipt, and tells the seat of the look. The
+    /// conditions are that the seat has the space, that the data is that of the look, whatever its drift, and that the finding is
+    /// right for the amounts that it showed; the box is used for the entry.
+    ///
+    /// Refused as `call`; with `Log`, before the cell is tried, where the history has no entry of the look's number.
+    pub fn settle(
+        &mut self,
+        log: &Log<N>,
+        seat: &mut Seat<N>,
+        slot: Box<Entry>,
+        look: &Receipt<N>,
+        shown: &LookData,
+        finding: &Finding,
+    ) -> Result<Receipt<N>, Fault>
+        requires space { seat.old.space ≡ true }
+        requires look { IsLookOf look.now shown.now }
+        requires right { IsRightFor N.start shown.now finding.now }
+        ensures settled { IfOk result (λ r. IsSettledAfter N.start self.old.entries look.now shown.now finding.now r seat.old seat.new ×
+            (self.new ≡ record { entries = self.old.entries ++ r.1 ∷ []; stuck = false }) ×
+            (length self.old.entries < length N.cells) × IsAdmissible self.old.entries seat.old) }
+        ensures refused { IfErr result (λ f. (self.new.entries ≡ self.old.entries) × (seat.new ≡ seat.old) ×
+            RefusesSettling N.start (length N.cells) self.old.entries look.now.0 seat.old self.old.stuck self.new.stuck f) }
+    {
+        self.ready_on(log, seat, look)?;
+        let mut game = self.game;
+        let reply = game.settle(shown, finding);
+        let request = finding.request(shown.number);
+        let receipt = self.enter(log, seat, slot, request, reply, game)?;
+        seat.hear(look);
+        Ok(receipt)
+    }
+
+    /// Whether the history has room for an entry of the seat, which knows nothing that the history does not hold, and has the
+    /// entry of the receipt; or why not.
+    fn ready_on(&self, log: &Log<N>, seat: &Seat<N>, look: &Receipt<N>) -> Result<(), Fault>
+        ensures { MatchResult result
+            (λ _. IsReady (length N.cells) self.now.entries seat.now × (slice_get self.now.entries look.now.0 ≡ Some look.now.1))
+            (RefusesSettling N.start (length N.cells) self.now.entries look.now.0 seat.now self.now.stuck self.now.stuck) }
+    {
+        self.ready(log, seat)?;
+        let number = look.number();
+        if number >= self.pen.len() {
+            return Err(Fault::Log);
+        }
+        let known = self.pen.receipt(number);
+        look.compare(&known);
+        Ok(())
+    }
+
+    /// What a seat keeps of its last look after one more entry of it.
+    fn last_look(&self, seat: &Seat<N>, request: &Request, reply: &Reply) -> Option<LookData>
+        requires { Replies N.start self.now.entries request.now reply.now }
+        ensures { (e : EntryData) → e.request ≡ request.now → e.reply ≡ reply.now →
+            IsKept N.start.graph.size (seat.now.mine ++ (length self.now.entries, e) ∷ []) result }
+    {
+        match (request, reply) {
+            (Request::Look, Reply::Looked(gifts, position)) => Some(LookData {
+                gifts: *gifts,
+                position: *position,
+                ..self.game.look_data()
+            }),
+            _ => seat.look,
+        }
+    }
+
     /// Enters a reply as the last entry of the history, with the game that it leads to, and gives the seat its receipt.
     fn enter(
         &mut self,
@@ -144,10 +212,13 @@ impl<N: Name> Held<N> {
         requires leads { LeadsTo N.start (with_entry self.old.entries seat.old.number request reply) game }
         ensures entered { IfOk result (λ r. IsAnsweredAfter N.start self.old.entries request r seat.old seat.new ×
             (self.new ≡ record { entries = self.old.entries ++ r.1 ∷ []; stuck = false })) }
+        ensures reply { IfOk result (λ r. r.1.reply ≡ reply) }
+        ensures hears { seat.new.hears ≡ true }
         ensures refused { IfErr result (λ f. (self.new ≡ record { entries = self.old.entries; stuck = true }) ×
             (seat.new ≡ seat.old) ×
             RefusesStep N.start (length N.cells) self.old.entries seat.old self.old.stuck self.new.stuck f) }
     {
+        let seen = self.last_look(seat, &request, &reply);
         let mut slot = slot;
         *slot = Entry {
             seat: seat.number,
@@ -162,6 +233,7 @@ impl<N: Name> Held<N> {
         self.counts[place] += 1;
         seat.mine_digest = seat.mine_digest.and(&receipt);
         seat.mine.push(receipt.again()).unwrap();
+        seat.look = seen;
         Ok(receipt)
     }
 

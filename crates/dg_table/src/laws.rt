@@ -1,4 +1,5 @@
 //! The laws of seats, and the value that the lock of a table holds.
+ghost use Rattle.dg_table.specs.Looks.{LastLook};
 ghost use Rattle.dg_table.specs.SeatLaws.{NoEntries, OwnEntry, OtherEntry, EntriesStand};
 
 pub use crate::held::Held;
@@ -10,4 +11,9 @@ pub fn law_of_seats()
     ensures own { OwnEntry }
     ensures other { OtherEntry }
     ensures stand { EntriesStand }
+{}
+
+/// Which look of a seat is its last: the one after which it took no other.
+pub fn law_of_looks()
+    ensures { LastLook }
 {}

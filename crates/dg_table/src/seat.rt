@@ -1,15 +1,17 @@
 //! Seats: who calls a table, and what they know of its history.
-ghost use Rattle.std.specs.Prelude.{◌≡◌, ◌≤◌, [], ◌∷◌, ◌++◌, length, true, IfOk, MatchResult};
+ghost use Rattle.std.specs.Prelude.{◌≡◌, ◌≤◌, [], ◌∷◌, ◌++◌, length, true, None, IfOk, IfSome, MatchResult};
+ghost use Rattle.dg_table.specs.Looks.{IsLastLook};
 ghost use Rattle.dg_table.specs.Opened.{MayHaveSeats, AreFresh};
 ghost use Rattle.dg_table.specs.Seats.{Keeps};
 
-use dg_game::{Entry, Reply, Request};
+use dg_game::{Entry, LookData, Reply, Request};
 use dg_log::{Digest, Name, Receipt};
 use std::alloc::{AllocError, Global};
 use std::marker::Model;
 
 /// A seat of the table N: the receipts of its own calls, and of the entries that it was told of. A contract sees its
-/// number, these entries with their numbers, and whether it has space for one more call.
+/// number, these entries with their numbers, whether it has space for one more call, and whether it has space to be told of
+/// one more entry.
 #[derive(Drop)]
 pub struct Seat<N: Name> {
     pub(crate) number: u8,
@@ -17,6 +19,7 @@ pub struct Seat<N: Name> {
     pub(crate) told: Vec<Receipt<N>>,
     pub(crate) mine_digest: Digest<N>,
     pub(crate) told_digest: Digest<N>,
+    pub(crate) look: Option<LookData>,
 }
 
 impl<N: Name> Model for Seat<N> {
@@ -32,9 +35,10 @@ impl<N: Name> Model for Seat<N> {
       mine = x.mine.items;
       told = x.told.items;
       space = nat_lt (vec_len x.mine) (vec_capacity x.mine) && nat_lt (vec_len x.told) (vec_capacity x.told);
+      hears = nat_lt (vec_len x.told) (vec_capacity x.told);
     } };
 
-    ghost invariant = { λ x. IsSeated N.seats x.number x.mine.items x.told.items x.mine_digest x.told_digest };
+    ghost invariant = { λ x. IsSeated N.start N.seats x.number x.mine.items x.told.items x.mine_digest x.told_digest x.look };
 }
 
 impl<N: Name> Seat<N> {
@@ -64,6 +68,7 @@ impl<N: Name> Seat<N> {
             told: Vec::new(alloc),
             mine_digest: Digest::new(),
             told_digest: Digest::new(),
+            look: None,
         }
     }
 
@@ -81,6 +86,14 @@ impl<N: Name> Seat<N> {
         self.mine.len() as u64
     }
 
+    /// What the seat keeps of the last look that it took; `None` where it took none. The amounts are as many as the vertices.
+    pub fn look_data(&self) -> Option<LookData>
+        ensures look { IsLastLook self.now.mine result }
+        ensures size { IfSome result (λ x. x.position.size ≡ N.start.graph.size) }
+    {
+        self.look
+    }
+
     /// Tells the seat of an entry; each later call then comes after it in the history.
     ///
     /// Refused where there is not enough memory, and then it knows what it knew.
@@ -94,6 +107,17 @@ impl<N: Name> Seat<N> {
         self.told.push(receipt.again())?;
         self.told_digest = self.told_digest.and(receipt);
         Ok(())
+    }
+
+    /// Tells the seat of an entry. The condition is that it has space to be told.
+    pub(crate) fn hear(&mut self, receipt: &Receipt<N>)
+        requires { self.old.hears ≡ true }
+        ensures number { self.new.number ≡ self.old.number }
+        ensures mine { self.new.mine ≡ self.old.mine }
+        ensures told { self.new.told ≡ self.old.told ++ receipt.now ∷ [] }
+    {
+        self.told_digest = self.told_digest.and(receipt);
+        self.told.push(receipt.again()).unwrap();
     }
 
     /// Makes space for one more call, and a box for its entry; what is in the box means nothing.

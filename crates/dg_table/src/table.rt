@@ -4,15 +4,17 @@ ghost use Rattle.dg_game.specs.Schedule.{asked};
 ghost use Rattle.dg_table.specs.Answered.{IsAnswered};
 ghost use Rattle.dg_table.specs.Closing.{IsClosed, AreTotals, IsRefused};
 ghost use Rattle.dg_table.specs.Faults.{RefusesCall};
+ghost use Rattle.dg_table.specs.Looks.{IsLookOf, IsRightFor};
 ghost use Rattle.dg_table.specs.Opened.{AreFresh, RefusesTable};
 ghost use Rattle.dg_table.specs.Seats.{Keeps};
+ghost use Rattle.dg_table.specs.Settled.{IsSettled};
 
 use crate::audit::Audit;
 use crate::fault::{Fault, TableFault};
 use crate::held::Held;
 use crate::seat::Seat;
 use dg_chips::Start;
-use dg_game::{MAX_SEATS, Plain};
+use dg_game::{Finding, LookData, MAX_SEATS, Plain};
 use dg_log::{Log, Name, Receipt, Row};
 use std::alloc::Global;
 use std::sync::{Mutex, Wait};
@@ -22,6 +24,8 @@ use std::sync::{Mutex, Wait};
 pub struct Table<N: Name> {
     held: Mutex<Held<N>>,
     log: Log<N>,
+    start: Start,
+    ghost started: { start ≡ N.start },
 }
 
 /// Why a table is not closed. It goes on, and all comes back.
@@ -61,7 +65,12 @@ impl<N: Name> Table<N> {
         };
         let (log, pen) = Log::new(row);
         let held = Mutex::new(Held::new(pen, start, seats));
-        Ok((Table { held, log }, all))
+        let table = Table {
+            held,
+            log,
+            start: *start,
+        };
+        Ok((table, all))
     }
 
     /// Every call that a seat makes is answered as the one-player dollar game answers it at the call's place in one
@@ -87,6 +96,43 @@ impl<N: Name> Table<N> {
         self.held.lock(rt).call(&self.log, seat, slot, plain)
     }
 
+    /// Enters what was reckoned on a look that some receipt is for: as stale where gifts were accepted since; otherwise a verdict
+    /// that is right for the position at its place in the one history, with the reduced divisor and the burning order that were
+    /// found, or the answer of the rank test as it was found. The seat is told of the look. The conditions are that the
+    /// look's data is that of the receipt, whatever its drift, and that the finding is right for the amounts that it showed.
+    ///
+    /// It waits for the lock, but nothing is reckoned under it that was found before. Refused as `call`, and with `Log` where the
+    /// history has no entry of the look's number.
+    pub fn settle(
+        &self,
+        rt: &impl Wait,
+        alloc: Global,
+        seat: &mut Seat<N>,
+        look: &Receipt<N>,
+        shown: &LookData,
+        finding: &Finding,
+    ) -> Result<Receipt<N>, Fault>
+        requires look { IsLookOf look.now shown.now }
+        requires right { IsRightFor N.start shown.now finding.now }
+        ensures settled { IfOk result (λ r. IsSettled N.start look.now shown.now finding.now r seat.old seat.new) }
+        ensures fault { IfErr result (λ f. Keeps seat.old seat.new ×
+            RefusesCall N.start (length N.cells) seat.new f) }
+    {
+        let Ok(slot) = seat.room(alloc) else {
+            return Err(Fault::OutOfMemory);
+        };
+        self.held
+            .lock(rt)
+            .settle(&self.log, seat, slot, look, shown, finding)
+    }
+
+    /// The start of the game.
+    pub fn start(&self) -> &Start
+        ensures { result.now ≡ N.start }
+    {
+        &self.start
+    }
+
     /// The cells of the history, which anyone may read at any time.
     pub fn log(&self) -> &Log<N> {
         &self.log
@@ -102,14 +148,14 @@ impl<N: Name> Table<N> {
             (λ f. (f.seats.items ≡ seats.items) ×
             IsRefused N.start N.seats (length N.cells) seats.items f.missing) }
     {
-        let Table { held, log } = self;
+        let Table { held, log, start } = self;
         let held = held.into_inner();
         match held.missing(&seats) {
             Some(missing) => {
                 let held = Mutex::new(held);
                 Err(CloseFault {
                     missing,
-                    table: Table { held, log },
+                    table: Table { held, log, start },
                     seats,
                 })
             }

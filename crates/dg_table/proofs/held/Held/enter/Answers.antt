@@ -24,8 +24,10 @@ invariant_of-seat g c =
     let items : c.push.new.self.items ≡ c.seat.inside.mine.items ++ c.in-Ok.receipt ∷ [] =
     (rw c.unwrap.ensures at c.push.ensures.items) ∙ ap (λ p. c.seat.inside.mine.items ++ p ∷ []) c.again.ensures in
     let below = rw (← c.self.view_is, ← c.seat.view_is) at c.requires.ready.admissible.mine in
+    let seen = rw (← c.self.view_is, ← c.seat.view_is) at c.last_look-seen.ensures e refl refl in
     let last = length c.self.inside.pen.entries in
-    rw (items, c.and-seat-inside.ensures, receipt) (kept_more last (last, e) c.seat.invariant below (omega arith) refl)
+    rw (items, c.and-seat-inside.ensures, receipt)
+      (kept_more last c.last_look-seen.result (last, e) c.seat.invariant below (omega arith) refl seen)
 
 pub returns-clause-entered : goal.returns-clause-entered
 returns-clause-entered g c =

@@ -1,0 +1,78 @@
+-- Findings on older looks, and the last look of a seat.
+--   last_after       after a look, that look is the last
+--   last_kept        an entry that is no look leaves the last look
+--   look_kept        what is kept of the last look, with an entry that is no look
+--   look_seen        what is kept of a look, once it is the last entry of a seat
+--   looked_size      a right reply to a look shows an amount for each vertex of the start
+--   stale_both       the reply to a finding on an entry is stale just where a gift was accepted after that entry
+--   carried_over     where none was, the finding is carried to the position now
+--   found_for        what is right for a look, on the graph of the start, is right on the graph at the look
+use Rattle.std.proofs.Common.{◌≡◌, ◌≢◌, ◌↔◌, ℕ, Bool, true, false, cond, List, [], ◌∷◌, ◌++◌, length, take, slice_get, Option, Some, None, refl, sym, ap, subst, ◌∙◌}
+use Rattle.std.specs.List.{filter, last_or}
+use Rattle.std.proofs.lemmas.List.{append-nil}
+use Rattle.std.proofs.lemmas.List.Elements.{filter-append}
+use Rattle.dg_theory.specs.Multigraph.{Multigraph}
+use Rattle.dg_chips.specs.Opening.{Opening}
+use Rattle.dg_chips.specs.Vector.{Vector, at}
+use Rattle.dg_game.specs.History.{position_after, gifts_in}
+use Rattle.dg_game.specs.Look.{IsFoundFor, IsFoundOn, asked_for, KeepsFinding}
+use Rattle.dg_game.specs.Replies.{Replies}
+use Rattle.dg_game.specs.declared.entry.Entry.{Entry}
+use Rattle.dg_game.specs.declared.entry.Request.TheVariants.{Look}
+use Rattle.dg_game.specs.declared.entry.Reply.{Reply}
+use Rattle.dg_game.specs.declared.entry.Reply.TheVariants.{Looked, Verdict, Rank as RankReply, Stale}
+use Rattle.dg_game.specs.declared.finding.Finding.{Finding}
+use Rattle.dg_game.specs.declared.finding.Finding.TheVariants.{Judged, Ranked}
+use Rattle.dg_game.specs.declared.look.LookData.{LookData}
+use Rattle.dg_game.proofs.StepLaw.{graph_stays, vertices_stay}
+use Rattle.dg_table.specs.Lock.{IsKept}
+use Rattle.dg_table.specs.Looks.{LastLook, IsLastLook, IsLookOf, IsRightFor, is_look, last_look, asks_look}
+use Rattle.dg_table.specs.Settled.{IsCarriedTo}
+
+last_or-snoc : {A : Type 0} (o : Option A) (xs : List A) (x : A) → last_or o (xs ++ x ∷ []) ≡ Some x
+last_or-snoc o [] x = refl
+last_or-snoc o (y ∷ xs) x = last_or-snoc (Some y) xs x
+
+pub last_after : LastLook
+last_after ps p look =
+    let test : is_look p ≡ true = ap asks_look look in
+    ap (last_or None) (filter-append is_look ps (p ∷ []) ∙ ap (λ (b : Bool). filter is_look ps ++ cond b (p ∷ []) []) test)
+    ∙ last_or-snoc None (filter is_look ps) p
+
+pub last_kept : (ps : List (ℕ × Entry)) (p : ℕ × Entry) → is_look p ≡ false → last_look (ps ++ p ∷ []) ≡ last_look ps
+last_kept ps p test =
+    ap (last_or None) (filter-append is_look ps (p ∷ []) ∙ ap (λ (b : Bool). filter is_look ps ++ cond b (p ∷ []) []) test ∙ append-nil (filter is_look ps))
+
+pub look_kept : (n : ℕ) (ps : List (ℕ × Entry)) (p : ℕ × Entry) (look : Option LookData) → is_look p ≡ false → IsKept n ps look →
+    IsKept n (ps ++ p ∷ []) look
+look_kept n ps p None test kept = record { last = last_kept ps p test ∙ kept.last; size = tt }
+look_kept n ps p (Some x) test kept =
+    let (q, last, of) = kept.last in
+    record { last = (q, last_kept ps p test ∙ last, of); size = kept.size }
+
+pub look_seen : (n : ℕ) (ps : List (ℕ × Entry)) (p : ℕ × Entry) (x : LookData) → IsLookOf p x → x.position.size ≡ n →
+    IsKept n (ps ++ p ∷ []) (Some x)
+look_seen n ps p x of size = record { last = (p, last_after ps p of.look, of); size = size }
+
+pub looked_size : (o : Opening) (H : List Entry) (gifts : ℕ) (d : Vector) → Replies o H Look (Looked gifts d) → d.size ≡ o.graph.size
+looked_size o H gifts d right = right.1.size ∙ vertices_stay o H
+
+pub stale_both : (o : Opening) (H : List Entry) (i : ℕ) (f : Finding) (reply : Reply) → Replies o H (asked_for i f) reply →
+    (gifts_in (take i H) ≢ gifts_in H) ↔ (reply ≡ Stale (gifts_in H))
+stale_both o H i (Judged v) (Verdict w) right = ((λ other. absurd (other right.0)), (λ is. absurd (cc)))
+stale_both o H i (Judged v) (Stale count) right = ((λ other. ap Stale right.1), (λ is. right.0))
+stale_both o H i (Ranked v) (RankReply w) right = ((λ other. absurd (other right.0)), (λ is. absurd (cc)))
+stale_both o H i (Ranked v) (Stale count) right = ((λ other. ap Stale right.1), (λ is. right.0))
+stale_both o H i f reply right = absurd right
+
+pub carried_over : (o : Opening) (H : List Entry) (i : ℕ) (f : Finding) (reply : Reply) → KeepsFinding f reply →
+    Replies o H (asked_for i f) reply → gifts_in (take i H) ≡ gifts_in H → IsCarriedTo (position_after o H) o.q f reply
+carried_over o H i (Judged v) (Verdict w) kept right same = (right.1, rw kept.0 at right.1.led)
+carried_over o H i (Judged v) (Stale count) kept right same = right.0 same
+carried_over o H i (Ranked v) (RankReply w) kept right same = right.1
+carried_over o H i (Ranked v) (Stale count) kept right same = right.0 same
+carried_over o H i f reply kept right same = absurd right
+
+pub found_for : (o : Opening) (H : List Entry) (x : LookData) (f : Finding) → IsRightFor o x f → IsFoundOn o H x f
+found_for o H x f right =
+    subst (λ (g : Multigraph). IsFoundFor g o.q x f) (sym (graph_stays o (take x.number H))) right

@@ -1,0 +1,66 @@
+use Rattle.std.proofs.Common.{◌≡◌, Some, ap, sym, ◌∙◌, slice_get, length, ◌<◌, rules}
+use Rattle.std.proofs.lemmas.Option.{slice_get_within}
+use Rattle.dg_game.specs.Look.{KeepsFinding}
+use Rattle.dg_game.proofs.LegalLaws.{legal_looks}
+use Rattle.dg_table.proofs.Findings.{found_for}
+use Rattle.dg_table.proofs.Steps.{settling_refused, settled}
+use Rattle.dg_table.proofs.held.Held.settle.Goals as goal
+
+pub settle-reply-requires-clause-look : goal.settle-reply-requires-clause-look
+settle-reply-requires-clause-look g c =
+    let H = c.args.self.now.entries in
+    let held = rw c.self.view_is at c.self.invariant.0 in
+    let of = c.requires.look in
+    let stands : slice_get H c.args.shown.now.number ≡ Some c.args.look.now.1 = ap (slice_get H) of.number ∙ c.in_ok-ready_on.ensures.1 in
+    let look = legal_looks g.N.Name.start H c.args.look.now.1 c.args.shown.now held.legal stands of.look of.shown in
+    (g.N.Name.start, H, held.game', look, found_for g.N.Name.start H c.args.shown.now c.args.finding.now c.requires.right)
+
+pub enter-requires-clause-replies : goal.enter-requires-clause-replies
+enter-requires-clause-replies g c =
+    let H = c.args.self.now.entries in
+    let held = rw c.self.view_is at c.self.invariant.0 in
+    let of = c.requires.look in
+    let stands : slice_get H c.args.shown.now.number ≡ Some c.args.look.now.1 = ap (slice_get H) of.number ∙ c.in_ok-ready_on.ensures.1 in
+    let look = legal_looks g.N.Name.start H c.args.look.now.1 c.args.shown.now held.legal stands of.look of.shown in
+    rw c.request-request.ensures (c.settle-reply.ensures.replies g.N.Name.start H held.game' look)
+
+pub enter-requires-clause-legal : goal.enter-requires-clause-legal
+enter-requires-clause-legal g c =
+    let H = c.args.self.now.entries in
+    let held = rw c.self.view_is at c.self.invariant.0 in
+    let of = c.requires.look in
+    let stands : slice_get H c.args.shown.now.number ≡ Some c.args.look.now.1 = ap (slice_get H) of.number ∙ c.in_ok-ready_on.ensures.1 in
+    let look = legal_looks g.N.Name.start H c.args.look.now.1 c.args.shown.now held.legal stands of.look of.shown in
+    rw c.request-request.ensures (c.settle-reply.ensures.legal g.N.Name.start H c.args.seat.now.number held.game' look held.legal
+    c.in_ok-ready_on.ensures.0.seat)
+
+pub enter-requires-clause-leads : goal.enter-requires-clause-leads
+enter-requires-clause-leads g c =
+    let H = c.args.self.now.entries in
+    let held = rw c.self.view_is at c.self.invariant.0 in
+    let of = c.requires.look in
+    let stands : slice_get H c.args.shown.now.number ≡ Some c.args.look.now.1 = ap (slice_get H) of.number ∙ c.in_ok-ready_on.ensures.1 in
+    let look = legal_looks g.N.Name.start H c.args.look.now.1 c.args.shown.now held.legal stands of.look of.shown in
+    rw c.request-request.ensures (c.settle-reply.ensures.leads g.N.Name.start H c.args.seat.now.number held.game' look)
+
+pub returns-in_err-receipt-clause-refused : goal.returns-in_err-receipt-clause-refused
+returns-in_err-receipt-clause-refused g c =
+    let H = c.args.self.now.entries in
+    let ready = c.in_ok-ready_on.ensures.0 in
+    let stands = c.in_ok-ready_on.ensures.1 in
+    let read : c.args.look.now.0 < length H = slice_get_within H c.args.look.now.0 c.args.look.now.1 stands in
+    let step = c.in_err-receipt.ensures.refused in
+    let refused = settling_refused g.N.Name.start (length g.N.Name.cells) H c.args.look.now.0 c.args.seat.now c.args.self.now.stuck
+        c.enter.new.self.stuck c.in_err-receipt.field-0.0 ready.admissible read step.2 in
+    search rules
+
+pub returns-clause-settled : goal.returns-clause-settled
+returns-clause-settled g c =
+    let H = c.args.self.now.entries in
+    let entered = c.in_ok-receipt.ensures.entered in
+    let kept : KeepsFinding c.args.finding.now c.in_ok-receipt.receipt.1.reply =
+    rw c.in_ok-receipt.ensures.reply c.settle-reply.ensures.kept in
+    (settled g.N.Name.start H c.args.look.now c.args.shown.now c.args.finding.now c.in_ok-receipt.receipt c.args.seat.now c.enter.new.seat
+    c.hear.new.self (rw c.request-request.ensures at entered.0) c.requires.look c.in_ok-ready_on.ensures.1
+    kept c.hear.ensures.number c.hear.ensures.mine c.hear.ensures.told, entered.1,
+    c.in_ok-ready_on.ensures.0.room, c.in_ok-ready_on.ensures.0.admissible)

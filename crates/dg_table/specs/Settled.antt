@@ -1,0 +1,42 @@
+-- How a finding on an older look is entered.
+--   IsCarriedTo p q f reply          == the finding f is entered for the position p: a verdict that is right there, reckoned from
+--                                       the vertex q, whose script leads from the amounts of p to the divisor that was found; or
+--                                       a rank test that is right there
+--   IsSettledAfter o H look x f r s t   == the finding f on the look, of which x is kept, is entered by the seat s with the
+--                                       receipt r after the history H; the seat t is left, which was told of the look
+--   IsSettled o look x f r s t       == it is so entered after some history
+use Rattle.std.specs.Prelude.{◌≡◌, ◌≢◌, ◌↔◌, ℕ, List, [], ◌∷◌, ◌++◌, take, slice_get, Some}
+use Rattle.dg_theory.specs.Firing.{FiresTo}
+use Rattle.dg_chips.specs.Opening.{Opening}
+use Rattle.dg_chips.specs.Vector.{at}
+use Rattle.dg_verdict.specs.Right.{IsRight}
+use Rattle.dg_rank.specs.Ranks.{IsRankTest}
+use Rattle.dg_game.specs.Position.{Position}
+use Rattle.dg_game.specs.History.{position_after, gifts_in}
+use Rattle.dg_game.specs.Look.{asked_for, degree_of, KeepsFinding}
+use Rattle.dg_game.specs.declared.entry.Entry.{Entry}
+use Rattle.dg_game.specs.declared.entry.Reply.{Reply}
+use Rattle.dg_game.specs.declared.entry.Reply.TheVariants.{Verdict, Rank, Stale}
+use Rattle.dg_game.specs.declared.finding.Finding.{Finding}
+use Rattle.dg_game.specs.declared.finding.Finding.TheVariants.{Judged, Ranked}
+use Rattle.dg_game.specs.declared.look.LookData.{LookData}
+use Rattle.dg_table.specs.Answered.{IsEnteredAfter}
+use Rattle.dg_table.specs.Seats.{SeatView}
+
+abbrev pub IsCarriedTo : Position → ℕ → Finding → Reply → Type 0
+IsCarriedTo p q (Judged v) (Verdict w) = IsRight p.graph q p.amounts w × FiresTo p.graph (at w.script) p.amounts (at v.reduced)
+IsCarriedTo p q (Ranked v) (Rank w) = IsRankTest p.graph p.amounts (degree_of v) w
+IsCarriedTo p q f reply = ⊥
+
+pub record IsSettledAfter (o : Opening) (H : List Entry) (look : ℕ × Entry) (x : LookData) (f : Finding) (r : ℕ × Entry)
+    (s t : SeatView) : Type 0 where
+  pub entered : IsEnteredAfter o H (asked_for x.number f) (s.told ++ look ∷ []) r s t
+  pub stands : slice_get H look.0 ≡ Some look.1
+  pub kept : KeepsFinding f r.1.reply
+  -- gifts were accepted since the look
+  pub stale : (gifts_in (take look.0 H) ≢ gifts_in H) ↔ (r.1.reply ≡ Stale (gifts_in H))
+  -- no gift was
+  pub carried : gifts_in (take look.0 H) ≡ gifts_in H → IsCarriedTo (position_after o H) o.q f r.1.reply
+
+abbrev pub IsSettled : Opening → ℕ × Entry → LookData → Finding → ℕ × Entry → SeatView → SeatView → Type 0
+IsSettled o look x f r s t = (H : List Entry) × IsSettledAfter o H look x f r s t
