@@ -27,7 +27,7 @@ invariant_of-seat g c =
     let seen = rw (← c.self.view_is, ← c.seat.view_is) at c.last_look-seen.ensures e refl refl in
     let last = length c.self.inside.pen.entries in
     rw (items, c.and-seat-inside.ensures, receipt)
-      (kept_more last c.last_look-seen.result (last, e) c.seat.invariant below (omega arith) refl seen)
+    (kept_more last c.last_look-seen.result (last, e) c.seat.invariant below (omega arith) refl seen)
 
 pub returns-clause-entered : goal.returns-clause-entered
 returns-clause-entered g c =
