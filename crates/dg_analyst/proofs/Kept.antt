@@ -1,0 +1,22 @@
+-- What a seat keeps of a look that it just took.
+--   look_kept    where the last of a seat's entries is a look, the seat keeps something, which is that look's
+use Rattle.std.proofs.Common.{◌≡◌, ℕ, List, [], ◌∷◌, ◌++◌, Option, Some, None, MatchOption, ap, subst, ◌∙◌}
+use Rattle.dg_game.specs.declared.entry.Entry.{Entry}
+use Rattle.dg_game.specs.declared.entry.Request.TheVariants.{Look}
+use Rattle.dg_game.specs.declared.look.LookData.{LookData}
+use Rattle.dg_table.specs.Looks.{IsLookOf, IsLastLook, last_look}
+use Rattle.dg_table.proofs.Findings.{last_after}
+
+look_last : (ps qs : List (ℕ × Entry)) (p : ℕ × Entry) → p.1.request ≡ Look → qs ≡ ps ++ p ∷ [] → last_look qs ≡ Some p
+look_last ps qs p look more = ap last_look more ∙ last_after ps p look
+
+pub look_kept : (ps qs : List (ℕ × Entry)) (p : ℕ × Entry) (look : Option LookData) → p.1.request ≡ Look →
+    qs ≡ ps ++ p ∷ [] → IsLastLook qs look → MatchOption look ⊥ (λ x. IsLookOf p x)
+look_kept ps qs p None asks more none =
+    let last : last_look qs ≡ Some p = look_last ps qs p asks more in
+    cc
+look_kept ps qs p (Some x) asks more kept =
+    let (q, found, of) = kept in
+    let last : last_look qs ≡ Some p = look_last ps qs p asks more in
+    let same : q ≡ p = cc in
+    subst (λ (r : ℕ × Entry). IsLookOf r x) same of

@@ -1,0 +1,19 @@
+use Rattle.std.proofs.Common.{◌<◌, Some, None}
+use Rattle.dg_analyst.proofs.Kept.{look_kept}
+use Rattle.dg_analyst.proofs.looking.look.Goals as goal
+
+pub unreachable-requires : goal.unreachable-requires
+unreachable-requires g c =
+    let (history, entered) = c.in_ok-receipt.ensures.answered in
+    look_kept c.args.seat.now.mine c.call.new.seat.mine c.in_ok-receipt.receipt None entered.request' entered.mine
+    c.in_default.ensures.look
+
+pub invariant_of-result : goal.invariant_of-result
+invariant_of-result g c =
+    let (history, entered) = c.in_ok-receipt.ensures.answered in
+    let shown = c.in-Some.shown in
+    let kept = look_kept c.args.seat.now.mine c.call.new.seat.mine c.in_ok-receipt.receipt (Some shown) entered.request'
+    entered.mine c.in-Some.ensures.look in
+    let vertex : c.q.result < c.graph.result.now.size =
+    rw (c.q.ensures, c.graph.ensures.graph) c.graph.ensures.opening.vertex in
+    (record { look = kept; size = c.in-Some.ensures.size }, cc, cc, vertex)

@@ -1,0 +1,2 @@
+-- Looks, and what is reckoned on them.
+pub mod Views

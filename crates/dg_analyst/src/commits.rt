@@ -1,0 +1,64 @@
+//! Entering what was reckoned on a look.
+ghost use Rattle.std.specs.Prelude.{◌≡◌, length, IfOk, IfErr};
+ghost use Rattle.dg_table.specs.Faults.{RefusesCall};
+ghost use Rattle.dg_table.specs.Seats.{Keeps};
+ghost use Rattle.dg_table.specs.Settled.{IsSettled};
+
+use crate::reckoning::{Reckoned, Tried};
+use dg_game::Finding;
+use dg_log::{Name, Receipt};
+use dg_table::{Fault, Seat, Table};
+use std::alloc::Global;
+use std::sync::Wait;
+
+/// Enters a verdict that was reckoned on a look: as stale just where gifts were accepted since the look; otherwise as
+/// a verdict that is right for the position at its place in the one history, with the reduced divisor and the burning
+/// order that were found. The seat is told of the look, and need not be the one that looked.
+///
+/// It waits for the lock, but nothing is reckoned under it that was found before. Refused with `OutOfMemory`, before it
+/// waits; with `Full`; and with `Log`, also where the history has no entry of the look's number. What was reckoned
+/// comes back, the seat knows what it knew, and there is no entry.
+pub fn commit<N: Name>(
+    table: &Table<N>,
+    rt: &impl Wait,
+    alloc: Global,
+    seat: &mut Seat<N>,
+    reckoned: Reckoned<N>,
+) -> Result<Receipt<N>, (Reckoned<N>, Fault)>
+    ensures settled { IfOk result (λ r. IsSettled N.start reckoned.look.receipt reckoned.look.shown
+        (Finding.Judged reckoned.verdict) r seat.old seat.new) }
+    ensures fault { IfErr result (λ e. (e.0 ≡ reckoned) × Keeps seat.old seat.new ×
+        RefusesCall N.start (length N.cells) seat.new e.1) }
+{
+    let finding = Finding::Judged(reckoned.verdict);
+    let look = &reckoned.look;
+    match table.settle(rt, alloc, seat, &look.receipt, &look.shown, &finding) {
+        Ok(receipt) => Ok(receipt),
+        Err(fault) => Err((reckoned, fault)),
+    }
+}
+
+/// Enters the answer of a rank test on a look: as stale just where gifts were accepted since the look; otherwise as it
+/// was found, and it is right for the position at its place in the one history. The seat is told of the look, and need
+/// not be the one that looked.
+///
+/// It waits and is refused as `commit`. What was tried comes back, the seat knows what it knew, and there is no entry.
+pub fn commit_rank<N: Name>(
+    table: &Table<N>,
+    rt: &impl Wait,
+    alloc: Global,
+    seat: &mut Seat<N>,
+    tried: Tried<N>,
+) -> Result<Receipt<N>, (Tried<N>, Fault)>
+    ensures settled { IfOk result (λ r. IsSettled N.start tried.look.receipt tried.look.shown
+        (Finding.Ranked tried.verdict) r seat.old seat.new) }
+    ensures fault { IfErr result (λ e. (e.0 ≡ tried) × Keeps seat.old seat.new ×
+        RefusesCall N.start (length N.cells) seat.new e.1) }
+{
+    let finding = Finding::Ranked(tried.verdict);
+    let look = &tried.look;
+    match table.settle(rt, alloc, seat, &look.receipt, &look.shown, &finding) {
+        Ok(receipt) => Ok(receipt),
+        Err(fault) => Err((tried, fault)),
+    }
+}

@@ -1,0 +1,14 @@
+//! An analyst looks at a table, reckons without its lock while others play, and enters what it found.
+#![tactic(auto)]
+
+mod commits;
+mod looking;
+mod looks;
+mod reckoning;
+#[cfg(test)]
+mod tests;
+
+pub use commits::{commit, commit_rank};
+pub use looking::look;
+pub use looks::Look;
+pub use reckoning::{Reckoned, Tried, reckon, try_rank};

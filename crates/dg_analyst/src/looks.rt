@@ -1,0 +1,55 @@
+//! Looks at a table.
+ghost use Rattle.std.specs.Prelude.{◌≡◌};
+ghost use Rattle.dg_analyst.specs.Views.{IsTaken};
+
+use dg_chips::Divisor;
+use dg_game::LookData;
+use dg_graph::Graph;
+use dg_log::{Name, Receipt};
+use std::marker::Model;
+
+/// A look at the table N, with what is needed to reckon on it while others play. A contract sees the look's entry, with
+/// its number, and what is kept of it.
+#[derive(Drop)]
+pub struct Look<N: Name> {
+    pub(crate) receipt: Receipt<N>,
+    pub(crate) shown: LookData,
+    pub(crate) graph: Graph,
+    pub(crate) q: u8,
+}
+
+impl<N: Name> Model for Look<N> {
+    ghost use Rattle.std.specs.Prelude.{◌≡◌, ◌<◌};
+    ghost use Rattle.dg_analyst.specs.Views.{LookView, IsTaken};
+
+    ghost Value = { LookView };
+
+    ghost view = { λ l. record { receipt = l.receipt; shown = l.shown } };
+
+    ghost invariant = { λ l. IsTaken N.start (record { receipt = l.receipt; shown = l.shown }) ×
+        (l.graph ≡ N.start.graph) × (l.q ≡ N.start.q) × (l.q < l.graph.size) };
+}
+
+impl<N: Name> Look<N> {
+    /// The receipt of the look's entry.
+    pub fn receipt(&self) -> &Receipt<N>
+        ensures receipt { result.now ≡ self.now.receipt }
+        ensures taken { IsTaken N.start self.now }
+    {
+        &self.receipt
+    }
+
+    /// How many gifts were accepted before the look.
+    pub fn gifts(&self) -> u32
+        ensures { result ≡ self.now.shown.gifts }
+    {
+        self.shown.gifts
+    }
+
+    /// The amounts that the look showed.
+    pub fn position(&self) -> &Divisor
+        ensures { result.now ≡ self.now.shown.position }
+    {
+        &self.shown.position
+    }
+}

@@ -1,0 +1,130 @@
+//! What is reckoned on looks, with no table at hand.
+ghost use Rattle.std.specs.Prelude.{◌≡◌, MatchResult};
+ghost use Rattle.dg_analyst.specs.Views.{IsJudged, IsTried};
+ghost use Rattle.dg_rank.specs.Ranks.{IsRankFault};
+ghost use Rattle.dg_table.specs.Looks.{IsRightFor};
+
+use crate::looks::Look;
+use dg_game::Finding;
+use dg_log::Name;
+use dg_rank::{Gate, RankFault, RankVerdict, rank_with};
+use dg_verdict::{Verdict, judge};
+use std::marker::Model;
+use std::sync::Wait;
+use std::thread::Threads;
+
+/// A look at the table N, and the verdict on the amounts that it showed. A contract sees both.
+#[derive(Drop)]
+pub struct Reckoned<N: Name> {
+    pub(crate) look: Look<N>,
+    pub(crate) verdict: Verdict,
+}
+
+impl<N: Name> Model for Reckoned<N> {
+    ghost use Rattle.dg_analyst.specs.Views.{Found};
+    ghost use Rattle.dg_game.specs.declared.finding.Finding.TheVariants.{Judged};
+    ghost use Rattle.dg_table.specs.Looks.{IsRightFor};
+    ghost use Rattle.dg_verdict.specs.declared.verdict.Verdict.{Verdict as VerdictData};
+
+    ghost Value = { Found VerdictData };
+
+    ghost view = { λ r. record { look = r.look; verdict = r.verdict } };
+
+    ghost invariant = { λ r. IsRightFor N.start r.look.shown (Judged r.verdict) };
+}
+
+impl<N: Name> Reckoned<N> {
+    /// The look.
+    pub fn look(&self) -> &Look<N>
+        ensures { result.now ≡ self.now.look }
+    {
+        &self.look
+    }
+
+    /// The verdict.
+    pub fn verdict(&self) -> &Verdict
+        ensures verdict { result.now ≡ self.now.verdict }
+        ensures right { IsRightFor N.start self.now.look.shown (Finding.Judged self.now.verdict) }
+    {
+        &self.verdict
+    }
+}
+
+/// A look at the table N, and the answer of a rank test for the amounts that it showed. A contract sees both.
+#[derive(Drop)]
+pub struct Tried<N: Name> {
+    pub(crate) look: Look<N>,
+    pub(crate) verdict: RankVerdict,
+}
+
+impl<N: Name> Model for Tried<N> {
+    ghost use Rattle.dg_analyst.specs.Views.{Found};
+    ghost use Rattle.dg_game.specs.declared.finding.Finding.TheVariants.{Ranked};
+    ghost use Rattle.dg_rank.specs.declared.rank_verdict.RankVerdict.{RankVerdict as RankData};
+    ghost use Rattle.dg_table.specs.Looks.{IsRightFor};
+
+    ghost Value = { Found RankData };
+
+    ghost view = { λ t. record { look = t.look; verdict = t.verdict } };
+
+    ghost invariant = { λ t. IsRightFor N.start t.look.shown (Ranked t.verdict) };
+}
+
+impl<N: Name> Tried<N> {
+    /// The look.
+    pub fn look(&self) -> &Look<N>
+        ensures { result.now ≡ self.now.look }
+    {
+        &self.look
+    }
+
+    /// The answer of the rank test, with its degree.
+    pub fn verdict(&self) -> &RankVerdict
+        ensures verdict { result.now ≡ self.now.verdict }
+        ensures right { IsRightFor N.start self.now.look.shown (Finding.Ranked self.now.verdict) }
+    {
+        &self.verdict
+    }
+}
+
+/// The verdict on the amounts that a look showed, reckoned from the vertex of the start. It takes no lock, and needs no
+/// memory.
+pub fn reckon<N: Name>(look: Look<N>) -> Reckoned<N>
+    ensures look { result.look ≡ look }
+    ensures judged { IsJudged N.start look result.verdict }
+{
+    let verdict = judge(&look.graph, usize::from(look.q), &look.shown.position);
+    Reckoned { look, verdict }
+}
+
+/// The rank test of degree k for the amounts that a look showed, as `rank_with` makes it from the vertex of the start,
+/// with so many workers and this gate. It takes no lock of a table.
+///
+/// Refused with `TooMany` where the degree is above 1,000 or there are more than 200,000 trials; then with `Workers`
+/// where their number is not 1 to 16; then with `OutOfMemory`, and with `Spawn` where a thread could not be started.
+/// The look comes back.
+pub fn try_rank<N: Name, R: Threads + Wait, G: Gate>(
+    rt: &R,
+    look: Look<N>,
+    k: u32,
+    workers: u32,
+    gate: &G,
+) -> Result<Tried<N>, (Look<N>, RankFault)>
+    ensures { MatchResult result
+        (λ t. (t.look ≡ look) × IsTried N.start look k workers t.verdict)
+        (λ e. (e.0 ≡ look) × IsRankFault N.start.graph.size k workers e.1) }
+{
+    let position = &look.shown.position;
+    match rank_with(
+        rt,
+        &look.graph,
+        usize::from(look.q),
+        position,
+        k,
+        workers,
+        gate,
+    ) {
+        Ok(verdict) => Ok(Tried { look, verdict }),
+        Err(fault) => Err((look, fault)),
+    }
+}
