@@ -3,6 +3,7 @@
 --   last_kept        an entry that is no look leaves the last look
 --   look_kept        what is kept of the last look, with an entry that is no look
 --   look_seen        what is kept of a look, once it is the last entry of a seat
+--   look_of          what is kept of the last of entries, where that is a look
 --   looked_size      a right reply to a look shows an amount for each vertex of the start
 --   stale_both       the reply to a finding on an entry is stale just where a gift was accepted after that entry
 --   carried_over     where none was, the finding is carried to the position now
@@ -10,6 +11,7 @@
 use Rattle.std.proofs.Common.{◌≡◌, ◌≢◌, ◌↔◌, ℕ, Bool, true, false, cond, List, [], ◌∷◌, ◌++◌, length, take, slice_get, Option, Some, None, refl, sym, ap, subst, ◌∙◌}
 use Rattle.std.specs.List.{filter, last_or}
 use Rattle.std.proofs.lemmas.List.{append-nil}
+use Rattle.std.proofs.lemmas.Option.{same_Some}
 use Rattle.std.proofs.lemmas.List.Elements.{filter-append}
 use Rattle.dg_theory.specs.Multigraph.{Multigraph}
 use Rattle.dg_chips.specs.Opening.{Opening}
@@ -53,6 +55,11 @@ look_kept n ps p (Some x) test kept =
 pub look_seen : (n : ℕ) (ps : List (ℕ × Entry)) (p : ℕ × Entry) (x : LookData) → IsLookOf p x → x.position.size ≡ n →
     IsKept n (ps ++ p ∷ []) (Some x)
 look_seen n ps p x of size = record { last = (p, last_after ps p of.look, of); size = size }
+
+pub look_of : (ps : List (ℕ × Entry)) (p : ℕ × Entry) (x : LookData) → p.1.request ≡ Look → IsLastLook (ps ++ p ∷ []) (Some x) →
+    IsLookOf p x
+look_of ps p x look (q, last, of) =
+    subst (λ (r : ℕ × Entry). IsLookOf r x) (same_Some q p (sym last ∙ last_after ps p look)) of
 
 pub looked_size : (o : Opening) (H : List Entry) (gifts : ℕ) (d : Vector) → Replies o H Look (Looked gifts d) → d.size ≡ o.graph.size
 looked_size o H gifts d right = right.1.size ∙ vertices_stay o H
