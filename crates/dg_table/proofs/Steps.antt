@@ -113,10 +113,13 @@ pub settling_refused : (o : Opening) (cap : ℕ) (H : List Entry) (i : ℕ) (x :
     i < length H → RefusesStep o cap H x b c f → RefusesSettling o cap H i x b c f
 settling_refused o cap H i x b c OutOfMemory admissible read refused = refused
 settling_refused o cap H i x b c Full admissible read refused = refused
-settling_refused o cap H i x b c Log admissible read (room, refused) = (room, elim refused [
-  | inl other ↦ absurd (other.0 admissible)
-  | inr stuck ↦ inr (inr (admissible, read, stuck.1))
-])
+settling_refused o cap H i x b c Log admissible read (room, refused) = (
+  room,
+  elim refused [
+    | inl other ↦ absurd (other.0 admissible)
+    | inr stuck ↦ inr (inr (admissible, read, stuck.1))
+  ],
+)
 
 pub held_none : (o : Opening) (seats : ℕ) (game : State) (counts : List ℕ) → LeadsTo o [] game → length counts ≡ MAX_SEATS →
     ((s : ℕ) → s < MAX_SEATS → get_or counts s 0 ≡ 0) → seats ≤ MAX_SEATS → IsHeld o seats [] game counts

@@ -2,8 +2,8 @@
 ghost use Rattle.std.specs.Prelude.{◌≡◌, IfOk};
 ghost use Rattle.dg_table.specs.Looks.{IsLookOf};
 
-use crate::{Seat, Table};
 use crate::tests::{amounts, triangle};
+use crate::{Seat, Table};
 use dg_chips::{Drift, Move, Script, Start, Wide};
 use dg_game::{LookData, Plain, Refusal, Reply, Request, judge_look};
 use dg_graph::Graph;
@@ -32,14 +32,48 @@ fn findings_are_entered_later(rt: HostRuntime) -> Result<(), Fail> {
     let lend = Plain::Move(Move::Lend(0));
     let even = Reply::Moved(amounts(&[0, 0, 0])?);
     let won = Reply::Verdict(won_with(&owing, &[0, 0, 0])?);
-    settles_as::<Brand, _>(&rt, alloc, Row::new(alloc, 3)?, &owing, 2, &Case { call: lend, lendings: 0, answer: even, settled: won })?;
-    settles_as::<Brand, _>(&rt, alloc, Row::new(alloc, 3)?, &owing, 2, &Case { call: lend, lendings: 1, answer: even, settled: won })?;
+    settles_as::<Brand, _>(
+        &rt,
+        alloc,
+        Row::new(alloc, 3)?,
+        &owing,
+        2,
+        &Case {
+            call: lend,
+            lendings: 0,
+            answer: even,
+            settled: won,
+        },
+    )?;
+    settles_as::<Brand, _>(
+        &rt,
+        alloc,
+        Row::new(alloc, 3)?,
+        &owing,
+        2,
+        &Case {
+            call: lend,
+            lendings: 1,
+            answer: even,
+            settled: won,
+        },
+    )?;
     let given = Reply::Given(1, amounts(&[2, 0, -1])?);
-    let stale = Case { call: Plain::Gift(1, 1), lendings: 0, answer: given, settled: Reply::Stale(1) };
+    let stale = Case {
+        call: Plain::Gift(1, 1),
+        lendings: 0,
+        answer: given,
+        settled: Reply::Stale(1),
+    };
     settles_as::<Brand, _>(&rt, alloc, Row::new(alloc, 3)?, &owing, 2, &stale)?;
     let rich = triangle(&[1_000_000, 0, 0])?;
     let won = Reply::Verdict(won_with(&rich, &[1_000_000, 0, 0])?);
-    let refused = Case { call: Plain::Gift(0, 1), lendings: 0, answer: Reply::Refused(Refusal::Range), settled: won };
+    let refused = Case {
+        call: Plain::Gift(0, 1),
+        lendings: 0,
+        answer: Reply::Refused(Refusal::Range),
+        settled: won,
+    };
     settles_as::<Brand, _>(&rt, alloc, Row::new(alloc, 3)?, &rich, 2, &refused)
 }
 
@@ -80,7 +114,10 @@ fn settles_as<N: Name, R: Wait + Abort>(
     let shown = drifted(graph, shown, case.lendings)?;
     let finding = judge_look(graph, usize::from(table.start().q()), &shown);
     let entered = table.settle(rt, alloc, &mut first, &look, &shown, &finding)?;
-    assert_eq!(rt; (look.number(), called.number(), entered.number()), (0, 1, 2));
+    assert_eq!(rt;
+        (look.number(), called.number(), entered.number()),
+        (0, 1, 2)
+    );
     let entry = table.log().entry(&entered);
     assert!(rt; entry.seat == 1 && entry.request == Request::Judge(0));
     assert!(rt; entry.reply == case.settled);

@@ -51,7 +51,7 @@ returns-in_err-receipt-clause-refused g c =
     let read : c.args.look.now.0 < length H = slice_get_within H c.args.look.now.0 c.args.look.now.1 stands in
     let step = c.in_err-receipt.ensures.refused in
     let refused = settling_refused g.N.Name.start (length g.N.Name.cells) H c.args.look.now.0 c.args.seat.now c.args.self.now.stuck
-        c.enter.new.self.stuck c.in_err-receipt.field-0.0 ready.admissible read step.2 in
+    c.enter.new.self.stuck c.in_err-receipt.field-0.0 ready.admissible read step.2 in
     search rules
 
 pub returns-clause-settled : goal.returns-clause-settled
@@ -59,8 +59,11 @@ returns-clause-settled g c =
     let H = c.args.self.now.entries in
     let entered = c.in_ok-receipt.ensures.entered in
     let kept : KeepsFinding c.args.finding.now c.in_ok-receipt.receipt.1.reply =
-    rw c.in_ok-receipt.ensures.reply c.settle-reply.ensures.kept in
-    (settled g.N.Name.start H c.args.look.now c.args.shown.now c.args.finding.now c.in_ok-receipt.receipt c.args.seat.now c.enter.new.seat
-    c.hear.new.self (rw c.request-request.ensures at entered.0) c.requires.look c.in_ok-ready_on.ensures.1
-    kept c.hear.ensures.number c.hear.ensures.mine c.hear.ensures.told, entered.1,
-    c.in_ok-ready_on.ensures.0.room, c.in_ok-ready_on.ensures.0.admissible)
+    rw c.in_ok-receipt.ensures.reply c.settle-reply.ensures.kept in (
+      settled g.N.Name.start H c.args.look.now c.args.shown.now c.args.finding.now c.in_ok-receipt.receipt c.args.seat.now c.enter.new.seat
+          c.hear.new.self (rw c.request-request.ensures at entered.0) c.requires.look c.in_ok-ready_on.ensures.1
+          kept c.hear.ensures.number c.hear.ensures.mine c.hear.ensures.told,
+      entered.1,
+      c.in_ok-ready_on.ensures.0.room,
+      c.in_ok-ready_on.ensures.0.admissible,
+    )
