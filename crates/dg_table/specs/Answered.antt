@@ -1,6 +1,6 @@
 -- How a call is answered.
---   IsEnteredAfter o H request known r x y  == the request of the seat x is entered with the receipt r after the history H, and
---                                              leaves the seat y, which was told of the entries known
+--   IsEnteredAfter o H request known r x y  == the request of the seat x is entered with the receipt r after the
+--                                              history H, and leaves the seat y, which was told of the entries known
 --   IsAnsweredAfter o H request r x y       == the call of the seat x is so entered, and the seat is told of nothing
 --   IsAnswered o request r x y              == it is so answered after some history
 use Rattle.std.specs.Prelude.{◌≡◌, ℕ, List, [], ◌∷◌, ◌++◌, length}

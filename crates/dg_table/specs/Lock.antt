@@ -6,8 +6,8 @@
 --   IsHeld o seats H h     == the game, the counts and the number of seats of h are those of the legal history H
 --   IsReady cap H x        == the history H has room for an entry of the seat x, which is admissible, and holds what it knows
 --   IsKept n ps look       == the look that is kept is the last of the entries ps, and shows n amounts
---   IsSeated o seats s mine told first second look   == what the seat s keeps fits together: its own entries and those that it
---                             was told of, the entries that are in its two digests, and its last look
+--   IsSeated o seats s mine told first second look   == what the seat s keeps fits together: its own entries and those
+--                             that it was told of, the entries that are in its two digests, and its last look
 use Rattle.std.specs.Prelude.{◌≡◌, ℕ, ◌+◌, ◌<◌, ◌≤◌, List, [], ◌∷◌, length, slice_get, Option, Some, IfSome, ⊤}
 use Rattle.std.specs.List.{slice_index}
 use Rattle.dg_chips.specs.Opening.{Opening}

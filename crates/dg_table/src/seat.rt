@@ -10,8 +10,8 @@ use std::alloc::{AllocError, Global};
 use std::marker::Model;
 
 /// A seat of the table N: the receipts of its own calls, and of the entries that it was told of. A contract sees its number,
-/// these entries with their numbers, whether it has space for one more call, and whether it has space to be told of one more
-/// entry.
+/// these entries with their numbers, whether it has space for one more call, and whether it has space to be told of one
+/// more entry.
 #[derive(Drop)]
 pub struct Seat<N: Name> {
     pub(crate) number: u8,
@@ -86,7 +86,7 @@ impl<N: Name> Seat<N> {
         self.mine.len() as u64
     }
 
-    /// What the seat keeps of the last look that it took; `None` where it took none. The amounts are as many as the vertices.
+    /// What the seat keeps of the last look that it took; `None` where it took none. There is an amount for each vertex.
     pub fn look_data(&self) -> Option<LookData>
         ensures look { IsLastLook self.now.mine result }
         ensures size { IfSome result (λ x. x.position.size ≡ N.start.graph.size) }
