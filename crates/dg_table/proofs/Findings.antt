@@ -3,19 +3,23 @@
 --   last_kept        an entry that is no look leaves the last look
 --   look_kept        what is kept of the last look, with an entry that is no look
 --   look_seen        what is kept of a look, once it is the last entry of a seat
+--   look_of          what is kept of the last of entries, where that is a look
 --   looked_size      a right reply to a look shows an amount for each vertex of the start
---   stale_both       the reply to a finding on an entry is stale just where a gift was accepted after that entry
+--   stale_both       the reply to a finding on an entry is stale just where a gift was accepted after it
 --   carried_over     where none was, the finding is carried to the position now
+--   look_stands      what is kept of an entry of a legal history that is a look, is of a look of it
 --   found_for        what is right for a look, on the graph of the start, is right on the graph at the look
 use Rattle.std.proofs.Common.{◌≡◌, ◌≢◌, ◌↔◌, ℕ, Bool, true, false, cond, List, [], ◌∷◌, ◌++◌, length, take, slice_get, Option, Some, None, refl, sym, ap, subst, ◌∙◌}
 use Rattle.std.specs.List.{filter, last_or}
 use Rattle.std.proofs.lemmas.List.{append-nil}
+use Rattle.std.proofs.lemmas.Option.{same_Some}
 use Rattle.std.proofs.lemmas.List.Elements.{filter-append}
 use Rattle.dg_theory.specs.Multigraph.{Multigraph}
 use Rattle.dg_chips.specs.Opening.{Opening}
 use Rattle.dg_chips.specs.Vector.{Vector, at}
 use Rattle.dg_game.specs.History.{position_after, gifts_in}
-use Rattle.dg_game.specs.Look.{IsFoundFor, IsFoundOn, asked_for, KeepsFinding}
+use Rattle.dg_game.specs.Legal.{IsLegal}
+use Rattle.dg_game.specs.Look.{IsLookAt, IsFoundFor, IsFoundOn, asked_for, KeepsFinding}
 use Rattle.dg_game.specs.Replies.{Replies}
 use Rattle.dg_game.specs.declared.entry.Entry.{Entry}
 use Rattle.dg_game.specs.declared.entry.Request.TheVariants.{Look}
@@ -24,6 +28,7 @@ use Rattle.dg_game.specs.declared.entry.Reply.TheVariants.{Looked, Verdict, Rank
 use Rattle.dg_game.specs.declared.finding.Finding.{Finding}
 use Rattle.dg_game.specs.declared.finding.Finding.TheVariants.{Judged, Ranked}
 use Rattle.dg_game.specs.declared.look.LookData.{LookData}
+use Rattle.dg_game.proofs.LegalLaws.{legal_looks}
 use Rattle.dg_game.proofs.StepLaw.{graph_stays, vertices_stay}
 use Rattle.dg_table.specs.Lock.{IsKept}
 use Rattle.dg_table.specs.Looks.{LastLook, IsLastLook, IsLookOf, IsRightFor, is_look, last_look, asks_look}
@@ -54,6 +59,11 @@ pub look_seen : (n : ℕ) (ps : List (ℕ × Entry)) (p : ℕ × Entry) (x : Loo
     IsKept n (ps ++ p ∷ []) (Some x)
 look_seen n ps p x of size = record { last = (p, last_after ps p of.look, of); size = size }
 
+pub look_of : (ps : List (ℕ × Entry)) (p : ℕ × Entry) (x : LookData) → p.1.request ≡ Look → IsLastLook (ps ++ p ∷ []) (Some x) →
+    IsLookOf p x
+look_of ps p x look (q, last, of) =
+    subst (λ (r : ℕ × Entry). IsLookOf r x) (same_Some q p (sym last ∙ last_after ps p look)) of
+
 pub looked_size : (o : Opening) (H : List Entry) (gifts : ℕ) (d : Vector) → Replies o H Look (Looked gifts d) → d.size ≡ o.graph.size
 looked_size o H gifts d right = right.1.size ∙ vertices_stay o H
 
@@ -72,6 +82,10 @@ carried_over o H i (Judged v) (Stale count) kept right same = right.0 same
 carried_over o H i (Ranked v) (RankReply w) kept right same = right.1
 carried_over o H i (Ranked v) (Stale count) kept right same = right.0 same
 carried_over o H i f reply kept right same = absurd right
+
+pub look_stands : (o : Opening) (H : List Entry) (p : ℕ × Entry) (x : LookData) → IsLegal o H → IsLookOf p x →
+    slice_get H p.0 ≡ Some p.1 → IsLookAt o H x
+look_stands o H p x legal of stands = legal_looks o H p.1 x legal (ap (slice_get H) of.number ∙ stands) of.look of.shown
 
 pub found_for : (o : Opening) (H : List Entry) (x : LookData) (f : Finding) → IsRightFor o x f → IsFoundOn o H x f
 found_for o H x f right =

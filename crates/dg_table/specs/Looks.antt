@@ -1,11 +1,11 @@
 -- Looks of a seat, and what is kept of them.
 --   is_look p            == whether the entry p, with its number, asks for a look
 --   last_look ps         == the last of the entries ps that is a look, if there is one
---   IsLookOf p x         == the entry p is a look, and x holds its number, and the gift count and the amounts that it showed;
---                           any drift
+--   IsLookOf p x         == the entry p is a look, and x holds its number, and the gift count and the amounts that it
+--                           showed; any drift
 --   IsLastLook ps look   == what is kept is that of the last look among the entries ps; nothing where there is none
---   IsRightFor o x f     == the finding f is right for the amounts of the look x, from the vertex q of the opening o, on the
---                           graph on which the look was taken: that of o
+--   IsRightFor o x f     == the finding f is right for the amounts of the look x, from the vertex q of the opening o, on
+--                           the graph on which the look was taken: that of o
 --   LastLook             == after a look there is a last look, and it is that look
 use Rattle.std.specs.Prelude.{◌≡◌, ℕ, List, [], ◌∷◌, ◌++◌, Option, Some, None, Bool, true, false, MatchOption}
 use Rattle.std.specs.List.{filter, last_or}
@@ -34,7 +34,9 @@ pub record IsLookOf (p : ℕ × Entry) (x : LookData) : Type 0 where
   pub number : x.number ≡ p.0
 
 abbrev pub IsLastLook : List (ℕ × Entry) → Option LookData → Type 0
-IsLastLook ps look = MatchOption look (last_look ps ≡ None) (λ x. (p : ℕ × Entry) × (last_look ps ≡ Some p) × IsLookOf p x)
+IsLastLook ps look = MatchOption look
+    (last_look ps ≡ None)
+    (λ x. (p : ℕ × Entry) × (last_look ps ≡ Some p) × IsLookOf p x)
 
 abbrev pub IsRightFor : Opening → LookData → Finding → Type 0
 IsRightFor o x f = IsFoundFor o.graph o.q x f

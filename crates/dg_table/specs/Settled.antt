@@ -1,10 +1,10 @@
 -- How a finding on an older look is entered.
---   IsCarriedTo p q f reply          == the finding f is entered for the position p: a verdict that is right there, reckoned from
---                                       the vertex q, whose script leads from the amounts of p to the divisor that was found; or
---                                       a rank test that is right there
---   IsSettledAfter o H look x f r s t   == the finding f on the look, of which x is kept, is entered by the seat s with the
---                                       receipt r after the history H; the seat t is left, which was told of the look
---   IsSettled o look x f r s t       == it is so entered after some history
+--   IsCarriedTo p q f reply      == the finding f is entered for the position p: a verdict that is right there, reckoned
+--                                   from the vertex q, whose script leads from the amounts of p to the divisor that was
+--                                   found; or a rank test that is right there
+--   IsSettledAfter o H look x f r s t   == the finding f on the look, of which x is kept, is entered by the seat s with
+--                                   the receipt r after the history H, and leaves the seat t, which was told of the look
+--   IsSettled o look x f r s t   == it is so entered after some history
 use Rattle.std.specs.Prelude.{◌≡◌, ◌≢◌, ◌↔◌, ℕ, List, [], ◌∷◌, ◌++◌, take, slice_get, Some}
 use Rattle.dg_theory.specs.Firing.{FiresTo}
 use Rattle.dg_chips.specs.Opening.{Opening}
@@ -24,7 +24,8 @@ use Rattle.dg_table.specs.Answered.{IsEnteredAfter}
 use Rattle.dg_table.specs.Seats.{SeatView}
 
 abbrev pub IsCarriedTo : Position → ℕ → Finding → Reply → Type 0
-IsCarriedTo p q (Judged v) (Verdict w) = IsRight p.graph q p.amounts w × FiresTo p.graph (at w.script) p.amounts (at v.reduced)
+IsCarriedTo p q (Judged v) (Verdict w) =
+    IsRight p.graph q p.amounts w × FiresTo p.graph (at w.script) p.amounts (at v.reduced)
 IsCarriedTo p q (Ranked v) (Rank w) = IsRankTest p.graph p.amounts (degree_of v) w
 IsCarriedTo p q f reply = ⊥
 

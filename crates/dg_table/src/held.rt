@@ -130,9 +130,9 @@ impl<N: Name> Held<N> {
         self.enter(log, seat, slot, plain.request(), reply, game)
     }
 
-    /// Enters a finding on a look as the last of the history, gives the seat its receipt, and tells the seat of the look. The
-    /// conditions are that the seat has the space, that the data is that of the look, whatever its drift, and that the finding is
-    /// right for the amounts that it showed; the box is used for the entry.
+    /// Enters a finding on a look as the last of the history, gives the seat its receipt, and tells the seat of the
+    /// look. The conditions are that the seat has the space, that the data is that of the look, whatever its drift, and
+    /// that the finding is right for the amounts that it showed; the box is used for the entry.
     ///
     /// Refused as `call`; with `Log`, before the cell is tried, where the history has no entry of the look's number.
     pub fn settle(
@@ -147,11 +147,13 @@ impl<N: Name> Held<N> {
         requires space { seat.old.space ≡ true }
         requires look { IsLookOf look.now shown.now }
         requires right { IsRightFor N.start shown.now finding.now }
-        ensures settled { IfOk result (λ r. IsSettledAfter N.start self.old.entries look.now shown.now finding.now r seat.old seat.new ×
+        ensures settled { IfOk result (λ r.
+            IsSettledAfter N.start self.old.entries look.now shown.now finding.now r seat.old seat.new ×
             (self.new ≡ record { entries = self.old.entries ++ r.1 ∷ []; stuck = false }) ×
             (length self.old.entries < length N.cells) × IsAdmissible self.old.entries seat.old) }
         ensures refused { IfErr result (λ f. (self.new.entries ≡ self.old.entries) × (seat.new ≡ seat.old) ×
-            RefusesSettling N.start (length N.cells) self.old.entries look.now.0 seat.old self.old.stuck self.new.stuck f) }
+            RefusesSettling N.start (length N.cells) self.old.entries look.now.0 seat.old
+            self.old.stuck self.new.stuck f) }
     {
         self.ready_on(log, seat, look)?;
         let mut game = self.game;
@@ -162,12 +164,14 @@ impl<N: Name> Held<N> {
         Ok(receipt)
     }
 
-    /// Whether the history has room for an entry of the seat, which knows nothing that the history does not hold, and has the
-    /// entry of the receipt; or why not.
+    /// Whether the history has room for an entry of the seat, which knows nothing that the history does not hold, and
+    /// has the entry of the receipt; or why not.
     fn ready_on(&self, log: &Log<N>, seat: &Seat<N>, look: &Receipt<N>) -> Result<(), Fault>
         ensures { MatchResult result
-            (λ _. IsReady (length N.cells) self.now.entries seat.now × (slice_get self.now.entries look.now.0 ≡ Some look.now.1))
-            (RefusesSettling N.start (length N.cells) self.now.entries look.now.0 seat.now self.now.stuck self.now.stuck) }
+            (λ _. IsReady (length N.cells) self.now.entries seat.now ×
+            (slice_get self.now.entries look.now.0 ≡ Some look.now.1))
+            (RefusesSettling N.start (length N.cells) self.now.entries look.now.0 seat.now
+            self.now.stuck self.now.stuck) }
     {
         self.ready(log, seat)?;
         let number = look.number();

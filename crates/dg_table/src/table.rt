@@ -96,13 +96,12 @@ impl<N: Name> Table<N> {
         self.held.lock(rt).call(&self.log, seat, slot, plain)
     }
 
-    /// Enters what was reckoned on a look that some receipt is for: as stale where gifts were accepted since; otherwise a verdict
-    /// that is right for the position at its place in the one history, with the reduced divisor and the burning order that were
-    /// found, or the answer of the rank test as it was found. The seat is told of the look. The conditions are that the
-    /// look's data is that of the receipt, whatever its drift, and that the finding is right for the amounts that it showed.
+    /// Enters what was reckoned on the look of a receipt: as stale where gifts were accepted since; otherwise a verdict
+    /// that is right for the position at its place in the one history, with the reduced divisor and the burning order
+    /// that were found, or the answer of the rank test as it was found. The seat is told of the look. The conditions are
+    /// that the data is that of the look, whatever its drift, and that the finding is right for the amounts that it showed.
     ///
-    /// It waits for the lock, but nothing is reckoned under it that was found before. Refused as `call`, and with `Log` where the
-    /// history has no entry of the look's number.
+    /// It waits for the lock. Refused as `call`, and with `Log` where the history has no entry of the look's number.
     pub fn settle(
         &self,
         rt: &impl Wait,

@@ -1,8 +1,7 @@
-use Rattle.std.proofs.Common.{◌≡◌, Some, ap, sym, ◌∙◌, slice_get, length, ◌<◌, rules}
+use Rattle.std.proofs.Common.{◌<◌, length, rules}
 use Rattle.std.proofs.lemmas.Option.{slice_get_within}
 use Rattle.dg_game.specs.Look.{KeepsFinding}
-use Rattle.dg_game.proofs.LegalLaws.{legal_looks}
-use Rattle.dg_table.proofs.Findings.{found_for}
+use Rattle.dg_table.proofs.Findings.{look_stands, found_for}
 use Rattle.dg_table.proofs.Steps.{settling_refused, settled}
 use Rattle.dg_table.proofs.held.Held.settle.Goals as goal
 
@@ -10,27 +9,21 @@ pub settle-reply-requires-clause-look : goal.settle-reply-requires-clause-look
 settle-reply-requires-clause-look g c =
     let H = c.args.self.now.entries in
     let held = rw c.self.view_is at c.self.invariant.0 in
-    let of = c.requires.look in
-    let stands : slice_get H c.args.shown.now.number ≡ Some c.args.look.now.1 = ap (slice_get H) of.number ∙ c.in_ok-ready_on.ensures.1 in
-    let look = legal_looks g.N.Name.start H c.args.look.now.1 c.args.shown.now held.legal stands of.look of.shown in
+    let look = look_stands g.N.Name.start H c.args.look.now c.args.shown.now held.legal c.requires.look c.in_ok-ready_on.ensures.1 in
     (g.N.Name.start, H, held.game', look, found_for g.N.Name.start H c.args.shown.now c.args.finding.now c.requires.right)
 
 pub enter-requires-clause-replies : goal.enter-requires-clause-replies
 enter-requires-clause-replies g c =
     let H = c.args.self.now.entries in
     let held = rw c.self.view_is at c.self.invariant.0 in
-    let of = c.requires.look in
-    let stands : slice_get H c.args.shown.now.number ≡ Some c.args.look.now.1 = ap (slice_get H) of.number ∙ c.in_ok-ready_on.ensures.1 in
-    let look = legal_looks g.N.Name.start H c.args.look.now.1 c.args.shown.now held.legal stands of.look of.shown in
+    let look = look_stands g.N.Name.start H c.args.look.now c.args.shown.now held.legal c.requires.look c.in_ok-ready_on.ensures.1 in
     rw c.request-request.ensures (c.settle-reply.ensures.replies g.N.Name.start H held.game' look)
 
 pub enter-requires-clause-legal : goal.enter-requires-clause-legal
 enter-requires-clause-legal g c =
     let H = c.args.self.now.entries in
     let held = rw c.self.view_is at c.self.invariant.0 in
-    let of = c.requires.look in
-    let stands : slice_get H c.args.shown.now.number ≡ Some c.args.look.now.1 = ap (slice_get H) of.number ∙ c.in_ok-ready_on.ensures.1 in
-    let look = legal_looks g.N.Name.start H c.args.look.now.1 c.args.shown.now held.legal stands of.look of.shown in
+    let look = look_stands g.N.Name.start H c.args.look.now c.args.shown.now held.legal c.requires.look c.in_ok-ready_on.ensures.1 in
     rw c.request-request.ensures (c.settle-reply.ensures.legal g.N.Name.start H c.args.seat.now.number held.game' look held.legal
     c.in_ok-ready_on.ensures.0.seat)
 
@@ -38,9 +31,7 @@ pub enter-requires-clause-leads : goal.enter-requires-clause-leads
 enter-requires-clause-leads g c =
     let H = c.args.self.now.entries in
     let held = rw c.self.view_is at c.self.invariant.0 in
-    let of = c.requires.look in
-    let stands : slice_get H c.args.shown.now.number ≡ Some c.args.look.now.1 = ap (slice_get H) of.number ∙ c.in_ok-ready_on.ensures.1 in
-    let look = legal_looks g.N.Name.start H c.args.look.now.1 c.args.shown.now held.legal stands of.look of.shown in
+    let look = look_stands g.N.Name.start H c.args.look.now c.args.shown.now held.legal c.requires.look c.in_ok-ready_on.ensures.1 in
     rw c.request-request.ensures (c.settle-reply.ensures.leads g.N.Name.start H c.args.seat.now.number held.game' look)
 
 pub returns-in_err-receipt-clause-refused : goal.returns-in_err-receipt-clause-refused
