@@ -1,4 +1,5 @@
 -- Looks of a seat, and what is kept of them.
+--   asks_look request    == whether the request is for a look
 --   is_look p            == whether the entry p, with its number, asks for a look
 --   last_look ps         == the last of the entries ps that is a look, if there is one
 --   IsLookOf p x         == the entry p is a look, and x holds its number, and the gift count and the amounts that it
