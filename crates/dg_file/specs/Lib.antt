@@ -1,2 +1,6 @@
--- Names of vertices.
+-- Names of vertices, what a table file says and describes, and why it is refused.
 pub mod Names
+pub mod Content
+pub mod TableFiles
+pub mod FileFaults
+pub mod FileLaws

@@ -1,0 +1,105 @@
+-- Why bytes are refused as a table file: each case says that all that is judged before it is good.
+--   IsEdgeFault value i             == the value is an array, and its item i is the first that is no edge
+--   IsShapeFaultOf parts shape      == the first of the four parts that has another shape than it should
+--   IsShapeFault value shape        == the value has not the four parts, or the first of them that has another shape
+--   HasText names i P               == there is a name i, and it is P
+--   IsNameFault names i             == the name i is the first that is no name or stood before, and it is no name
+--   IsTwiceFault names i            == the name i is the first that is no name or stood before, and it stood before
+--   IsGraphFault content fault      == the names are names, unless their number is at fault, and the fault is the first of
+--                                      the graph
+--   GivesGraph content              == the names are names, and the vertices and edges give a graph
+--   GivesDivisor content            == the amounts are those of a divisor, one for each name
+--   RefusesTable content fault      == the first fault of the content
+--   IsRefusedTable bytes fault      == the bytes say a content, and that is its first fault
+--   RefusesFile bytes fault         == the first fault of the bytes; of want of memory nothing is said
+use Rattle.std.specs.Prelude.{◌≡◌, ◌≢◌, ℕ, ◌<◌, List, length, take, slice_get, Option, Some, None, IsSome, IsTrue, ⊤}
+use Rattle.serde_json.specs.Data.{Data, Items}
+use Rattle.serde_json.specs.Find.{as_array, as_str, get_item}
+use Rattle.dg_theory.specs.Multigraph.{Multigraph}
+use Rattle.dg_graph.specs.Faults.{IsSize, IsFirstFault}
+use Rattle.dg_graph.specs.Items.{IsGiven}
+use Rattle.dg_graph.specs.declared.fault.GraphFault.{GraphFault}
+use Rattle.dg_graph.specs.declared.fault.GraphFault.TheVariants.{Size}
+use Rattle.dg_chips.specs.Vector.{Vector, HoldsNumbers, IsDivisor}
+use Rattle.dg_chips.specs.DivisorFaults.{IsFirstChipFault}
+use Rattle.dg_file.specs.Content.{Content, Parts, Reads, IsNotJson, HasParts, texts_in, edge_in, edges_in, numbers_in, IsContent}
+use Rattle.dg_file.specs.Names.{IsName, has, place_of}
+use Rattle.dg_file.specs.TableFiles.{AreNames, items_of}
+use Rattle.dg_file.specs.declared.fault.Shape.{Shape}
+use Rattle.dg_file.specs.declared.fault.Shape.TheVariants.{Top, Vertices, Edges, Edge, Amounts, Q}
+use Rattle.dg_file.specs.declared.fault.FileFault.{FileFault}
+use Rattle.dg_file.specs.declared.fault.FileFault.TheVariants.{Json, Shape as OfShape, Graph, Name, Twice, Chip, NoQ, OutOfMemory}
+
+pub record IsEdgeFault (value : Data) (i : ℕ) : Type 0 where
+  pub items : Items
+  pub array : as_array value ≡ Some items
+  pub before : (k : ℕ) → k < i → (edge : Data) → get_item k items ≡ Some edge → IsSome (edge_in edge)
+  pub item : Data
+  pub there : get_item i items ≡ Some item
+  pub no_edge : edge_in item ≡ None
+
+abbrev pub IsShapeFaultOf : Parts → Shape → Type 0
+IsShapeFaultOf parts Top = ⊥
+IsShapeFaultOf parts Vertices = texts_in parts.vertices ≡ None
+IsShapeFaultOf parts Edges = IsSome (texts_in parts.vertices) × (as_array parts.edges ≡ None)
+IsShapeFaultOf parts (Edge i) = IsSome (texts_in parts.vertices) × IsEdgeFault parts.edges i
+IsShapeFaultOf parts Amounts =
+    IsSome (texts_in parts.vertices) × IsSome (edges_in parts.edges) × (numbers_in parts.amounts ≡ None)
+IsShapeFaultOf parts Q =
+    IsSome (texts_in parts.vertices) × IsSome (edges_in parts.edges) × IsSome (numbers_in parts.amounts)
+    × (as_str parts.q ≡ None)
+
+abbrev pub IsShapeFault : Data → Shape → Type 0
+IsShapeFault value Top = (parts : Parts) → ¬ HasParts value parts
+IsShapeFault value shape = (parts : Parts) × HasParts value parts × IsShapeFaultOf parts shape
+
+abbrev pub HasText : List (List ℕ) → ℕ → (List ℕ → Type 0) → Type 0
+HasText names i P = (name : List ℕ) × (slice_get names i ≡ Some name) × P name
+
+pub record IsNameFault (names : List (List ℕ)) (i : ℕ) : Type 0 where
+  pub size : IsSize (length names)
+  pub before : AreNames (take i names)
+  pub refused : HasText names i (λ name. ¬ IsName name)
+
+pub record IsTwiceFault (names : List (List ℕ)) (i : ℕ) : Type 0 where
+  pub size : IsSize (length names)
+  pub before : AreNames (take i names)
+  pub refused : HasText names i (λ name. IsName name × IsTrue (has (take i names) name))
+
+pub record IsGraphFault (content : Content) (fault : GraphFault) : Type 0 where
+  pub names : fault ≢ Size → AreNames content.vertices
+  pub first : IsFirstFault (length content.vertices) (items_of content) fault
+
+pub record GivesGraph (content : Content) : Type 0 where
+  pub names : AreNames content.vertices
+  pub graph : Multigraph
+  pub given : IsGiven (length content.vertices) (items_of content) graph
+
+pub record GivesDivisor (content : Content) : Type 0 where
+  pub divisor : Vector
+  pub size : divisor.size ≡ length content.vertices
+  pub amounts : HoldsNumbers content.amounts divisor
+  pub within : IsDivisor divisor
+
+abbrev pub RefusesTable : Content → FileFault → Type 0
+RefusesTable content Json = ⊥
+RefusesTable content (OfShape shape) = ⊥
+RefusesTable content (Graph fault) = IsGraphFault content fault
+RefusesTable content (Name i) = IsNameFault content.vertices i
+RefusesTable content (Twice i) = IsTwiceFault content.vertices i
+RefusesTable content (Chip fault) = GivesGraph content × IsFirstChipFault (length content.vertices) content.amounts fault
+RefusesTable content NoQ = GivesGraph content × GivesDivisor content × (place_of content.vertices content.q ≡ None)
+RefusesTable content OutOfMemory = ⊥
+
+pub record IsRefusedTable (bytes : List ℕ) (fault : FileFault) : Type 0 where
+  pub value : Data
+  pub reads : Reads bytes value
+  pub content : Content
+  pub says : IsContent value content
+  pub refused : RefusesTable content fault
+
+abbrev pub RefusesFile : List ℕ → FileFault → Type 0
+RefusesFile bytes Json = IsNotJson bytes
+RefusesFile bytes (OfShape shape) = (value : Data) × Reads bytes value × IsShapeFault value shape
+RefusesFile bytes OutOfMemory = ⊤
+RefusesFile bytes fault = IsRefusedTable bytes fault

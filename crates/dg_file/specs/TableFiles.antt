@@ -1,0 +1,44 @@
+-- What a table file describes: the start of a game, and the names of its vertices.
+--   AreNames names                 == each is a name, and no two are the same
+--   vertex_of names name           == the vertex of that name, or the number of vertices, which is none of them
+--   item_of names edge             == the edge as an item of a graph
+--   items_of content               == the edges of the content as items of a graph
+--   IsTable content o names        == the content describes the opening o with these names
+--   IsTableFile bytes o names      == the bytes are a table file, and describe the opening o with these names
+use Rattle.std.specs.Prelude.{◌≡◌, ℕ, List, length, map, Option, Some, All, bytes_eq, unwrap_or}
+use Rattle.std.specs.List.{IsDistinct}
+use Rattle.serde_json.specs.Data.{Data}
+use Rattle.dg_graph.specs.Items.{Item, IsGiven}
+use Rattle.dg_chips.specs.Opening.{Opening}
+use Rattle.dg_chips.specs.Vector.{HoldsNumbers, IsDivisor}
+use Rattle.dg_file.specs.Content.{Edge, Content, Reads, IsContent}
+use Rattle.dg_file.specs.Names.{IsName, place_of}
+
+pub record AreNames (names : List (List ℕ)) : Type 0 where
+  pub each : All IsName names
+  pub different : IsDistinct bytes_eq names
+
+abbrev pub vertex_of : List (List ℕ) → List ℕ → ℕ
+vertex_of names name = unwrap_or (place_of names name) (length names)
+
+abbrev pub item_of : List (List ℕ) → Edge → Item
+item_of names edge = (vertex_of names edge.one, vertex_of names edge.other, edge.count)
+
+abbrev pub items_of : Content → List Item
+items_of content = map (item_of content.vertices) content.edges
+
+pub record IsTable (content : Content) (o : Opening) (names : List (List ℕ)) : Type 0 where
+  pub given : names ≡ content.vertices
+  pub are_names : AreNames names
+  pub graph : IsGiven (length names) (items_of content) o.graph
+  pub size : o.divisor.size ≡ length names
+  pub amounts : HoldsNumbers content.amounts o.divisor
+  pub within : IsDivisor o.divisor
+  pub vertex : place_of names content.q ≡ Some o.q
+
+pub record IsTableFile (bytes : List ℕ) (o : Opening) (names : List (List ℕ)) : Type 0 where
+  pub value : Data
+  pub reads : Reads bytes value
+  pub content : Content
+  pub says : IsContent value content
+  pub describes : IsTable content o names
