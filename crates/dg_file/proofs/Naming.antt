@@ -1,11 +1,12 @@
 -- A set of texts seen as the list of their bytes: whether a name is in it, what `insert` leaves, and a name's first place.
 use Rattle.std.proofs.Common.{◌≡◌, ℕ, ◌+◌, ◌||◌, cond, not, length, List, [], ◌∷◌, ◌++◌, Bool, true, false, refl, ap, ◌∙◌, map, string_bytes}
 use Rattle.std.specs.Prelude.{bytes_eq, String, string_eq, position}
-use Rattle.std.specs.List.{AllByRecursion, IsDistinct, list_any, prefix_len}
+use Rattle.std.specs.List.{list_any, prefix_len}
 use Rattle.std.proofs.lemmas.List.{length-map, map-append}
 use Rattle.std.specs.declared.alloc.Global.{Global}
 use Rattle.indexmap.specs.IndexSet.{insert_key}
-use Rattle.dg_file.specs.Names.{has, added, place_of}
+use Rattle.dg_file.specs.Names.{IsName, has, added, place_of}
+use Rattle.dg_file.proofs.NamesLaws.{is_new-named}
 
 abbrev bytes_of : List (String Global) → List (List ℕ)
 bytes_of keys = map string_bytes keys
@@ -20,11 +21,12 @@ pub has_text : (keys : List (String Global)) (key : String Global) (names : List
 has_text keys key names name e f = rw (← e, ← f) (has-bytes_of keys (string_bytes key))
 
 pub insert_text : (keys : List (String Global)) (key : String Global) (names : List (List ℕ)) (name : List ℕ)
-    → bytes_of keys ≡ names → string_bytes key ≡ name → bytes_of (insert_key string_eq keys key) ≡ added names name
-insert_text keys key names name e f =
-    rw (← has_text keys key names name e f)
+    → IsName name → bytes_of keys ≡ names → string_bytes key ≡ name
+    → bytes_of (insert_key string_eq keys key) ≡ added names name
+insert_text keys key names name is e f =
+    rw (is_new-named names name is, ← has_text keys key names name e f)
     (elim (list_any (string_eq key) keys) as
-    (λ t. bytes_of (cond t keys (keys ++ key ∷ [])) ≡ cond t names (names ++ name ∷ []))
+    (λ t. bytes_of (cond t keys (keys ++ key ∷ [])) ≡ cond (not t) (names ++ name ∷ []) names)
     [ true ↦ e | false ↦ map-append string_bytes keys (key ∷ []) ∙ ap (λ front. front ++ string_bytes key ∷ []) e ∙ ap (λ last. names ++ last ∷ []) f ])
 
 prefix_len-map : (p : List ℕ → Bool) (keys : List (String Global))
@@ -38,13 +40,3 @@ unfolding place_of
 position_text keys names name e =
     let size : length (bytes_of keys) ≡ length keys = length-map keys _ in
     rw (← e, prefix_len-map (λ own. not (bytes_eq own name)) keys, size) refl
-
-others-bytes_of : (key : String Global) (keys : List (String Global)) → AllByRecursion (λ other. string_eq key other ≡ false) keys
-    → AllByRecursion (λ other. bytes_eq (string_bytes key) other ≡ false) (bytes_of keys)
-others-bytes_of key [] each = tt
-others-bytes_of key (other ∷ keys) each = (each.0, others-bytes_of key keys each.1)
-
-pub distinct_texts : (keys : List (String Global)) → IsDistinct string_eq keys → IsDistinct bytes_eq (bytes_of keys)
-unfolding IsDistinct
-distinct_texts [] distinct = tt
-distinct_texts (key ∷ keys) distinct = (others-bytes_of key keys distinct.0, distinct_texts keys distinct.1)

@@ -4,3 +4,5 @@ pub mod Content
 pub mod TableFiles
 pub mod FileFaults
 pub mod FileLaws
+-- What serves the reading alone.
+pub mod Reading

@@ -89,3 +89,25 @@ impl From<Shape> for FileFault {
         FileFault::Shape(shape)
     }
 }
+
+impl From<GraphFault> for FileFault {
+    ghost use Rattle.dg_file.specs.declared.fault.FileFault.TheVariants.{Graph};
+    ghost use Rattle.std.specs.Prelude.{◌≡◌};
+
+    ghost from_gives = { λ graph fault. fault ≡ Graph graph };
+
+    fn from(fault: GraphFault) -> FileFault {
+        FileFault::Graph(fault)
+    }
+}
+
+impl From<ChipFault> for FileFault {
+    ghost use Rattle.dg_file.specs.declared.fault.FileFault.TheVariants.{Chip};
+    ghost use Rattle.std.specs.Prelude.{◌≡◌};
+
+    ghost from_gives = { λ chip fault. fault ≡ Chip chip };
+
+    fn from(fault: ChipFault) -> FileFault {
+        FileFault::Chip(fault)
+    }
+}

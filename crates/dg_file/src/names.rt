@@ -38,12 +38,14 @@ impl Model for Names {
     ghost use Rattle.std.specs.List.{IsDistinct};
     ghost use Rattle.indexmap.specs.IndexSet.{index_set_len};
     ghost use Rattle.dg_graph.specs.declared.limits.TheConstants.{MAX_VERTICES};
+    ghost use Rattle.dg_file.specs.TableFiles.{AreNames};
 
     ghost Value = { List (List ℕ) };
 
     ghost view = { λ names. map string_bytes names.set.keys };
 
-    ghost invariant = { λ names. index_set_len names.set ≤ MAX_VERTICES };
+    ghost invariant = { λ names. (index_set_len names.set ≤ MAX_VERTICES)
+        × AreNames (map string_bytes names.set.keys) };
 }
 
 impl Names {

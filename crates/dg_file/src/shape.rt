@@ -1,9 +1,15 @@
 //! The shape of a table file: the JSON value, its four members, and what they hold.
+ghost use Rattle.std.specs.Prelude.{◌≡◌, ◌<◌, Some, IfOk, IfErr, MatchOption, map};
+ghost use Rattle.serde_json.specs.View.{view};
+ghost use Rattle.dg_file.specs.Content.{Parts, HasParts, Reads, IsContent, texts_in, numbers_in, edges_in, edge_in};
+ghost use Rattle.dg_file.specs.FileFaults.{RefusesFile};
+ghost use Rattle.dg_file.specs.Reading.{parts_of, RefusesValue, IsUnread, IsUnreadEdge};
+ghost use Rattle.dg_file.specs.declared.fault.Shape.TheVariants.{Vertices, Amounts};
 
 use crate::fault::{FileFault, Shape};
 use serde_json::Value;
 use std::alloc::Global;
-use std::str;
+use std::marker::Model;
 
 /// What a table file says, before names, graph and amounts are judged.
 #[derive(Drop)]
@@ -18,8 +24,21 @@ pub struct Content<'v> {
     pub q: &'v str,
 }
 
+impl<'v> Model for Content<'v> {
+    ghost use Rattle.std.specs.Prelude.{map};
+    ghost use Rattle.dg_file.specs.Content.{Content as Says};
+
+    ghost Value = { Says };
+
+    ghost view = { λ c. record {
+        vertices = map (λ vertex. vertex.now) c.vertices.items;
+        edges = c.edges.items;
+        amounts = c.amounts.items;
+        q = c.q.now } };
+}
+
 /// An edge as a table file gives it.
-#[derive(Clone, Copy)]
+#[derive(Drop)]
 pub struct Edge<'v> {
     /// The name of one end.
     pub one: &'v str,
@@ -29,12 +48,20 @@ pub struct Edge<'v> {
     pub count: u8,
 }
 
+impl<'v> Model for Edge<'v> {
+    ghost use Rattle.dg_file.specs.Content.{Edge as Says};
+
+    ghost Value = { Says };
+
+    ghost view = { λ e. record { one = e.one.now; other = e.other.now; count = e.count } };
+}
+
 /// The JSON value of the bytes.
-pub fn value_of(alloc: Global, bytes: &[u8]) -> Result<Value, FileFault> {
-    let Ok(text) = str::from_utf8(bytes) else {
-        return Err(FileFault::Json);
-    };
-    match Value::from_str(alloc, text) {
+pub fn value_of(alloc: Global, bytes: &[u8]) -> Result<Value, FileFault>
+    ensures reads { IfOk result (λ value. Reads bytes.now (view value)) }
+    ensures refused { IfErr result (RefusesFile bytes.now) }
+{
+    match Value::from_slice(alloc, bytes) {
         Ok(value) => Ok(value),
         Err(error) if error.is_memory() => Err(FileFault::OutOfMemory),
         Err(_) => Err(FileFault::Json),
@@ -42,8 +69,11 @@ pub fn value_of(alloc: Global, bytes: &[u8]) -> Result<Value, FileFault> {
 }
 
 /// What a JSON value says as a table file. Its members are judged in the order of `Shape`.
-pub fn content_of<'v>(alloc: Global, value: &'v Value) -> Result<Content<'v>, FileFault> {
-    let members = members_of(value)?;
+pub fn content_of<'v>(alloc: Global, value: &'v Value) -> Result<Content<'v>, FileFault>
+    ensures says { IfOk result (IsContent (view value.now)) }
+    ensures refused { IfErr result (RefusesValue (view value.now)) }
+{
+    let members = members_of(value).ok_or(Shape::Top)?;
     let vertices = vertices_of(alloc, members.vertices)?;
     let edges = edges_of(alloc, members.edges)?;
     let amounts = amounts_of(alloc, members.amounts)?;
@@ -65,20 +95,26 @@ struct Members<'v> {
     q: &'v Value,
 }
 
-fn members_of(value: &Value) -> Result<Members<'_>, Shape> {
-    let object = value.as_object().ok_or(Shape::Top)?;
-    if object.len() != 4 {
-        return Err(Shape::Top);
+fn members_of(value: &Value) -> Option<Members<'_>>
+    ensures { MatchOption result ((parts : Parts) → ¬ HasParts (view value.now) parts)
+        (λ members. HasParts (view value.now) (parts_of members)) }
+{
+    if value.as_object()?.len() != 4 {
+        return None;
     }
-    Ok(Members {
-        vertices: object.get("vertices").ok_or(Shape::Top)?,
-        edges: object.get("edges").ok_or(Shape::Top)?,
-        amounts: object.get("amounts").ok_or(Shape::Top)?,
-        q: object.get("q").ok_or(Shape::Top)?,
+    Some(Members {
+        vertices: value.get("vertices")?,
+        edges: value.get("edges")?,
+        amounts: value.get("amounts")?,
+        q: value.get("q")?,
     })
 }
 
-fn vertices_of(alloc: Global, value: &Value) -> Result<Vec<&str>, FileFault> {
+fn vertices_of(alloc: Global, value: &Value) -> Result<Vec<&str>, FileFault>
+    ensures texts { IfOk result (λ texts.
+        texts_in (view value.now) ≡ Some (map (λ vertex. vertex.now) texts.items)) }
+    ensures refused { IfErr result (λ fault. IsUnread Vertices fault (texts_in (view value.now))) }
+{
     let mut vertices = Vec::new(alloc);
     for vertex in value.as_array().ok_or(Shape::Vertices)? {
         vertices.push(vertex.as_str().ok_or(Shape::Vertices)?)?;
@@ -86,7 +122,10 @@ fn vertices_of(alloc: Global, value: &Value) -> Result<Vec<&str>, FileFault> {
     Ok(vertices)
 }
 
-fn edges_of(alloc: Global, value: &Value) -> Result<Vec<Edge<'_>>, FileFault> {
+fn edges_of(alloc: Global, value: &Value) -> Result<Vec<Edge<'_>>, FileFault>
+    ensures edges { IfOk result (λ edges. edges_in (view value.now) ≡ Some edges.items) }
+    ensures refused { IfErr result (IsUnreadEdge (view value.now)) }
+{
     let mut edges = Vec::new(alloc);
     for (i, edge) in value.as_array().ok_or(Shape::Edges)?.iter().enumerate() {
         edges.push(edge_of(edge).ok_or(Shape::Edge(i))?)?;
@@ -94,7 +133,9 @@ fn edges_of(alloc: Global, value: &Value) -> Result<Vec<Edge<'_>>, FileFault> {
     Ok(edges)
 }
 
-fn edge_of(value: &Value) -> Option<Edge<'_>> {
+fn edge_of(value: &Value) -> Option<Edge<'_>>
+    ensures { result ≡ edge_in (view value.now) }
+{
     let [one, other, count] = value.as_array()?.as_slice() else {
         return None;
     };
@@ -105,7 +146,10 @@ fn edge_of(value: &Value) -> Option<Edge<'_>> {
     })
 }
 
-fn amounts_of(alloc: Global, value: &Value) -> Result<Vec<i64>, FileFault> {
+fn amounts_of(alloc: Global, value: &Value) -> Result<Vec<i64>, FileFault>
+    ensures numbers { IfOk result (λ amounts. numbers_in (view value.now) ≡ Some amounts.items) }
+    ensures refused { IfErr result (λ fault. IsUnread Amounts fault (numbers_in (view value.now))) }
+{
     let mut amounts = Vec::new(alloc);
     for amount in value.as_array().ok_or(Shape::Amounts)? {
         amounts.push(amount.as_i64().ok_or(Shape::Amounts)?)?;

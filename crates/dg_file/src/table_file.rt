@@ -1,7 +1,9 @@
 //! Table files: the start of a game, and the names of its vertices.
-ghost use Rattle.std.specs.Prelude.{◌≡◌, ◌≤◌, length, IfOk, IfErr};
-ghost use Rattle.dg_file.specs.TableFiles.{IsTableFile, vertex_of};
+ghost use Rattle.std.specs.Prelude.{◌≡◌, length, map, IfOk, IfErr};
+ghost use Rattle.dg_graph.specs.Faults.{IsSize};
+ghost use Rattle.dg_file.specs.TableFiles.{AreNames, IsTable, IsTableFile, vertex_of, item_of};
 ghost use Rattle.dg_file.specs.FileFaults.{RefusesFile};
+ghost use Rattle.dg_file.specs.Reading.{RefusesContent, IsBadName};
 
 use crate::fault::FileFault;
 use crate::names::{Names, is_name};
@@ -49,23 +51,28 @@ pub fn read_table(alloc: Global, bytes: &[u8]) -> Result<TableFile, FileFault>
     table_of(alloc, &content)
 }
 
-fn table_of(alloc: Global, content: &Content<'_>) -> Result<TableFile, FileFault> {
+fn table_of(alloc: Global, content: &Content<'_>) -> Result<TableFile, FileFault>
+    ensures table { IfOk result (λ table. IsTable content.now table.start table.names) }
+    ensures refused { IfErr result (RefusesContent content.now) }
+{
     let vertices = content.vertices.as_slice();
     if vertices.is_empty() || vertices.len() > MAX_VERTICES {
         return Err(FileFault::Graph(GraphFault::Size));
     }
     let names = names_of(alloc, vertices)?;
     let items = items_of(alloc, content.edges.as_slice(), &names)?;
-    let graph = Graph::new(vertices.len(), items.as_slice()).map_err(FileFault::Graph)?;
-    let divisor = Divisor::new(&graph, content.amounts.as_slice()).map_err(FileFault::Chip)?;
+    let graph = Graph::new(vertices.len(), items.as_slice())?;
+    let divisor = Divisor::new(&graph, content.amounts.as_slice())?;
     let q = names.place(content.q.as_bytes()).ok_or(FileFault::NoQ)?;
     let start = Start::new(graph, divisor, q).map_err(fault_of_start)?;
     Ok(TableFile { start, names })
 }
 
 fn names_of(alloc: Global, vertices: &[&str]) -> Result<Names, FileFault>
-    requires { length vertices.now ≤ MAX_VERTICES }
-    ensures { IfOk result (λ names. length names ≡ length vertices.now) }
+    requires { IsSize (length vertices.now) }
+    ensures names { IfOk result (λ names. names ≡ map (λ vertex. vertex.now) vertices.now) }
+    ensures are_names { IfOk result AreNames }
+    ensures refused { IfErr result (IsBadName (map (λ vertex. vertex.now) vertices.now)) }
 {
     let mut names = Names::new(alloc);
     for (v, vertex) in vertices.iter().enumerate() {
@@ -83,7 +90,9 @@ fn items_of(
     alloc: Global,
     edges: &[Edge<'_>],
     names: &Names,
-) -> Result<Vec<(u8, u8, u8)>, AllocError> {
+) -> Result<Vec<(u8, u8, u8)>, AllocError>
+    ensures { IfOk result (λ items. items.items ≡ map (item_of names.now) edges.now) }
+{
     let mut items = Vec::with_capacity(alloc, edges.len())?;
     for edge in edges {
         let one = vertex_of(names, edge.one);

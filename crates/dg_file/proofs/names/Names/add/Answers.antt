@@ -1,14 +1,49 @@
 -- What `insert` leaves, as a list of names.
 use Rattle.dg_file.proofs.Naming.{has_text, insert_text}
-use Rattle.std.proofs.Common.{ap, not, ◌∙◌, List, map, string_bytes}
+use Rattle.dg_file.proofs.NamesLaws.{is_new-named, is_new-no_name, AreNames-added}
+use Rattle.std.proofs.Common.{◌≡◌, ℕ, ◌≤◌, Bool, true, false, ap, not, cond, ◌∙◌, sym, length, List, [], ◌∷◌, ◌++◌, map, string_bytes, arith}
+use Rattle.std.proofs.lemmas.Bool.{false≢true}
+use Rattle.std.proofs.lemmas.List.{length-map}
 use Rattle.std.specs.Prelude.{String}
 use Rattle.std.specs.declared.alloc.Global.{Global}
+use Rattle.dg_file.specs.Names.{IsName, added}
 use Rattle.dg_file.proofs.names.Names.add.Goals as goal
+use Rattle.dg_file.proofs.names.Names.add.Goals.{In_ok-is_new, Then-not-is_name}
+
+at_most_one : (b : Bool) → cond {A = ℕ} b 1 0 ≤ 1
+at_most_one true = omega arith
+at_most_one false = omega arith
+
+named : (c : In_ok-is_new) → IsName c.args.name.now
+named c = rw (← c.as_bytes.ensures.value) (c.is_name.ensures.0 c.if-not-is_name.false)
+
+not_named : (c : Then-not-is_name) → ¬ IsName c.args.name.now
+not_named c = λ is. false≢true (sym c.if-not-is_name.true ∙ c.is_name.ensures.1 (rw c.as_bytes.ensures.value is))
+
+left : (c : In_ok-is_new) → map string_bytes c.insert.new.self.keys ≡ added c.args.self.now c.args.name.now
+left c =
+    ap (λ (keys : List (String Global)). map string_bytes keys) c.in_ok-is_new.ensures.keys
+    ∙ insert_text c.self.inside.set.keys c.in_ok-own.own _ _ (named c) c.self.view_is c.in_ok-own.ensures.ok
 
 pub returns-clause-added : goal.returns-clause-added
 returns-clause-added c =
     c.in_ok-is_new.ensures.added ∙ ap not (has_text c.self.inside.set.keys c.in_ok-own.own _ _ c.self.view_is c.in_ok-own.ensures.ok)
+    ∙ sym (is_new-named c.args.self.now c.args.name.now (named c))
 
 pub returns-clause-names : goal.returns-clause-names
-returns-clause-names c =
-    ap (λ (keys : List (String Global)). map string_bytes keys) c.in_ok-is_new.ensures.keys ∙ insert_text c.self.inside.set.keys c.in_ok-own.own _ _ c.self.view_is c.in_ok-own.ensures.ok
+returns-clause-names c = left c
+
+pub returns-then-not-is_name-clause-added : goal.returns-then-not-is_name-clause-added
+returns-then-not-is_name-clause-added c = sym (is_new-no_name c.args.self.now c.args.name.now (not_named c))
+
+pub returns-then-not-is_name-clause-names : goal.returns-then-not-is_name-clause-names
+returns-then-not-is_name-clause-names c =
+    sym (ap (λ new. cond new (c.args.self.now ++ c.args.name.now ∷ []) c.args.self.now)
+    (is_new-no_name c.args.self.now c.args.name.now (not_named c)))
+
+pub invariant_of-self-2 : goal.invariant_of-self-2
+invariant_of-self-2 c = 
+    let old : length c.self.inside.set.keys ≡ length c.args.self.now =
+    sym (length-map c.self.inside.set.keys string_bytes) ∙ ap length c.self.view_is in
+    (omega (arith, old, at_most_one c.in_ok-is_new.is_new, c.in_ok-is_new.ensures.len, c.requires),
+    rw (left c) (AreNames-added c.args.self.now c.args.name.now (rw c.self.view_is at c.self.invariant.1)))

@@ -1,0 +1,14 @@
+-- The key at the vertex, as the name there.
+use Rattle.std.proofs.Common.{◌≡◌, ap, ◌∙◌, [], map, string_bytes, option_map}
+use Rattle.std.proofs.lemmas.Option.{slice_get-map, get_or_from_slice_get}
+use Rattle.dg_file.specs.Names.{name_at}
+use Rattle.dg_file.proofs.NamesLaws.{place_of-name_at}
+use Rattle.dg_file.proofs.names.Names.name.Goals as goal
+
+pub returns-clause-placed : goal.returns-clause-placed
+returns-clause-placed c =
+    let keys = c.self.inside.set.keys in
+    let is : name_at c.args.self.now c.args.v ≡ c.as_str.result.now = rw (← c.self.view_is, c.as_str.ensures.value)
+    (get_or_from_slice_get (map string_bytes keys) c.args.v (string_bytes c.index.result.now) []
+    (slice_get-map string_bytes keys c.args.v ∙ ap (option_map string_bytes) c.index.ensures)) in
+    rw is at (place_of-name_at c.args.self.now c.args.v (rw c.self.view_is at c.self.invariant.1) c.requires)

@@ -1,0 +1,6 @@
+use Rattle.std.proofs.Common.{arith}
+use Rattle.dg_file.proofs.NamesLaws.{AreNames-nil}
+use Rattle.dg_file.proofs.names.Names.new.Goals as goal
+
+pub invariant_of-result : goal.invariant_of-result
+invariant_of-result c = (omega arith, rw c.new.ensures.empty AreNames-nil)
