@@ -1,3 +1,4 @@
 -- The lemmas that the proofs cite.
 mod Naming
 mod NamesLaws
+mod Listing

@@ -1,7 +1,7 @@
 //! The shape of a table file: the JSON value, its four members, and what they hold.
 ghost use Rattle.std.specs.Prelude.{◌≡◌, ◌<◌, Some, IfOk, IfErr, MatchOption, map};
 ghost use Rattle.serde_json.specs.View.{view};
-ghost use Rattle.dg_file.specs.Content.{Parts, HasParts, Reads, IsContent, texts_in, numbers_in, edges_in, edge_in};
+ghost use Rattle.dg_file.specs.Content.{Parts, HasParts, Reads, IsContent, texts_in, numbers_in, edges_in, edge_in, count_in};
 ghost use Rattle.dg_file.specs.FileFaults.{RefusesFile};
 ghost use Rattle.dg_file.specs.Reading.{parts_of, RefusesValue, IsUnread, IsUnreadEdge};
 ghost use Rattle.dg_file.specs.declared.fault.Shape.TheVariants.{Vertices, Amounts};
@@ -117,7 +117,8 @@ fn vertices_of(alloc: Global, value: &Value) -> Result<Vec<&str>, FileFault>
 {
     let mut vertices = Vec::new(alloc);
     for vertex in value.as_array().ok_or(Shape::Vertices)? {
-        vertices.push(vertex.as_str().ok_or(Shape::Vertices)?)?;
+        let name = vertex.as_str().ok_or(Shape::Vertices)?;
+        vertices.push(name)?;
     }
     Ok(vertices)
 }
@@ -127,8 +128,9 @@ fn edges_of(alloc: Global, value: &Value) -> Result<Vec<Edge<'_>>, FileFault>
     ensures refused { IfErr result (IsUnreadEdge (view value.now)) }
 {
     let mut edges = Vec::new(alloc);
-    for (i, edge) in value.as_array().ok_or(Shape::Edges)?.iter().enumerate() {
-        edges.push(edge_of(edge).ok_or(Shape::Edge(i))?)?;
+    for (i, item) in value.as_array().ok_or(Shape::Edges)?.iter().enumerate() {
+        let edge = edge_of(item).ok_or(Shape::Edge(i))?;
+        edges.push(edge)?;
     }
     Ok(edges)
 }
@@ -136,14 +138,22 @@ fn edges_of(alloc: Global, value: &Value) -> Result<Vec<Edge<'_>>, FileFault>
 fn edge_of(value: &Value) -> Option<Edge<'_>>
     ensures { result ≡ edge_in (view value.now) }
 {
-    let [one, other, count] = value.as_array()?.as_slice() else {
+    let items = value.as_array()?;
+    if items.len() != 3 {
         return None;
-    };
+    }
+    let (one, other, count) = (&items[0], &items[1], &items[2]);
     Some(Edge {
         one: one.as_str()?,
         other: other.as_str()?,
-        count: u8::try_from(count.as_i64()?).ok()?,
+        count: count_of(count)?,
     })
+}
+
+fn count_of(value: &Value) -> Option<u8>
+    ensures { result ≡ count_in (view value.now) }
+{
+    u8::try_from(value.as_i64()?).ok()
 }
 
 fn amounts_of(alloc: Global, value: &Value) -> Result<Vec<i64>, FileFault>
@@ -151,8 +161,9 @@ fn amounts_of(alloc: Global, value: &Value) -> Result<Vec<i64>, FileFault>
     ensures refused { IfErr result (λ fault. IsUnread Amounts fault (numbers_in (view value.now))) }
 {
     let mut amounts = Vec::new(alloc);
-    for amount in value.as_array().ok_or(Shape::Amounts)? {
-        amounts.push(amount.as_i64().ok_or(Shape::Amounts)?)?;
+    for item in value.as_array().ok_or(Shape::Amounts)? {
+        let amount = item.as_i64().ok_or(Shape::Amounts)?;
+        amounts.push(amount)?;
     }
     Ok(amounts)
 }

@@ -1,10 +1,11 @@
-use Rattle.std.proofs.Common.{◌≡◌, ◌<◌, Some, IfOk, IfErr, MatchOption, map, ℕ, ◌+◌, ◌-◌, ◌*◌, ◌≤◌, length, ℤ, pos, ◌+ℤ◌, ◌-ℤ◌, ◌*ℤ◌, ◌≤ℤ◌, ◌<ℤ◌, FitsSigned, to_z, of_z}
-use Rattle.serde_json.specs.View.{view}
-use Rattle.dg_file.specs.Content.{Parts, HasParts, Reads, IsContent, texts_in, numbers_in, edges_in, edge_in}
-use Rattle.dg_file.specs.FileFaults.{RefusesFile}
-use Rattle.dg_file.specs.Reading.{parts_of, RefusesValue, IsUnread, IsUnreadEdge}
-use Rattle.dg_file.specs.declared.fault.Shape.TheVariants.{Vertices, Amounts}
+use Rattle.std.proofs.Common.{◌≡◌, drop}
+use Rattle.serde_json.specs.View.{items_view}
+use Rattle.dg_file.specs.Content.{each, whole}
+use Rattle.dg_file.proofs.Listing.{after}
 use Rattle.dg_file.proofs.shape.amounts_of.Given as goal
 
-abbrev pub invariant-loop-amount : goal.invariant-loop-amount
-invariant-loop-amount l = ?
+abbrev pub invariant-loop-item : goal.invariant-loop-item
+invariant-loop-item l =
+    each whole (items_view l.item-items)
+    ≡ after l.amounts.items
+    (each whole (items_view (drop l.item-index l.item-items)))

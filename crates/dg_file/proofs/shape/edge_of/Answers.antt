@@ -1,31 +1,39 @@
-use Rattle.std.proofs.Common.{rules, ◌≡◌, ◌<◌, Some, IfOk, IfErr, MatchOption, map, ℕ, ◌+◌, ◌-◌, ◌*◌, ◌≤◌, length, ◌/◌, ◌%◌, Bool, true, false, nat_eq, nat_lt, List, [], ◌∷◌, ◌++◌, slice_index_or, slice_set, bit_and, bit_or, Fits, w8, w32, w64, Bor, MutBor, ℤ, pos, ◌+ℤ◌, ◌-ℤ◌, ◌*ℤ◌, ◌≤ℤ◌, ◌<ℤ◌, FitsSigned, to_z, of_z}
+-- The array has three items, and each is what an edge wants there.
+use Rattle.std.proofs.Common.{◌≡◌, sym, ◌∙◌, arith}
+use Rattle.serde_json.specs.Find.{as_str}
 use Rattle.serde_json.specs.View.{view}
-use Rattle.dg_file.specs.Content.{Parts, HasParts, Reads, IsContent, texts_in, numbers_in, edges_in, edge_in}
-use Rattle.dg_file.specs.FileFaults.{RefusesFile}
-use Rattle.dg_file.specs.Reading.{parts_of, RefusesValue, IsUnread, IsUnreadEdge}
-use Rattle.dg_file.specs.declared.fault.Shape.TheVariants.{Vertices, Amounts}
+use Rattle.dg_file.specs.Content.{edge_in, edge_from, count_in}
+use Rattle.dg_file.proofs.Listing.{edge-three, edge-others}
 use Rattle.dg_file.proofs.shape.edge_of.Goals as goal
+use Rattle.dg_file.proofs.shape.edge_of.Goals.{After-index-3}
 
--- src/shape.rt:140:9
-pub returns-in_default : goal.returns-in_default
-returns-in_default c = ?
+parts : (c : After-index-3)
+    → edge_in (view c.args.value.now)
+    ≡ edge_from (as_str (view c.index.result.now)) (as_str (view c.index-2.result.now)) (count_in (view c.index-3.result.now))
+parts c =
+    edge-three (view c.args.value.now) c.in_ok-items.items.now.items c.index.result.now c.index-2.result.now c.index-3.result.now
+    c.in_ok-items.ensures (omega (arith, c.in_ok-items.items.now.ok.0, c.len.ensures, c.if-len-ne3.false)) c.index.ensures c.index-2.ensures c.index-3.ensures
 
--- src/shape.rt:143:14
+pub returns-then-len-ne3 : goal.returns-then-len-ne3
+returns-then-len-ne3 c =
+    sym (edge-others _ c.in_ok-items.items.now.items c.in_ok-items.ensures (λ three.
+    c.if-len-ne3.true (omega (arith, c.in_ok-items.items.now.ok.0, c.len.ensures, three))))
+
 pub returns-in_err-as_str : goal.returns-in_err-as_str
-returns-in_err-as_str c = ?
+returns-in_err-as_str c =
+    c.from_residual-in_err-as_str.ensures
+    ∙ sym (rw (← c.in_err-as_str.ensures) at (parts (goal.at.returns-in_err-as_str c).After-index-3))
 
--- src/shape.rt:144:16
 pub returns-in_err-as_str-2 : goal.returns-in_err-as_str-2
-returns-in_err-as_str-2 c = ?
+returns-in_err-as_str-2 c =
+    c.from_residual-in_err-as_str-2.ensures
+    ∙ sym (rw (← c.in_ok-as_str.ensures, ← c.in_err-as_str-2.ensures) at (parts (goal.at.returns-in_err-as_str-2 c).After-index-3))
 
--- src/shape.rt:145:29
-pub returns-in_err-as_i64 : goal.returns-in_err-as_i64
-returns-in_err-as_i64 c = ?
+pub returns-in_err-count_of : goal.returns-in_err-count_of
+returns-in_err-count_of c =
+    c.from_residual-in_err-count_of.ensures
+    ∙ sym (rw (← c.in_ok-as_str.ensures, ← c.in_ok-as_str-2.ensures, ← c.in_err-count_of.ensures) at (parts (goal.at.returns-in_err-count_of c).After-index-3))
 
--- src/shape.rt:145:16
-pub returns-in_err-ok : goal.returns-in_err-ok
-returns-in_err-ok c = ?
-
--- src/shape.rt:136:1
 pub returns : goal.returns
-returns c = ?
+returns c =
+    sym (rw (← c.in_ok-as_str.ensures, ← c.in_ok-as_str-2.ensures, ← c.in_ok-count_of.ensures) at (parts (goal.at.returns c).After-index-3))

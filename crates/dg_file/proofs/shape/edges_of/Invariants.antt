@@ -1,10 +1,14 @@
-use Rattle.std.proofs.Common.{◌≡◌, ◌<◌, Some, IfOk, IfErr, MatchOption, map, ℕ, ◌+◌, ◌-◌, ◌*◌, ◌≤◌, length}
-use Rattle.serde_json.specs.View.{view}
-use Rattle.dg_file.specs.Content.{Parts, HasParts, Reads, IsContent, texts_in, numbers_in, edges_in, edge_in}
-use Rattle.dg_file.specs.FileFaults.{RefusesFile}
-use Rattle.dg_file.specs.Reading.{parts_of, RefusesValue, IsUnread, IsUnreadEdge}
-use Rattle.dg_file.specs.declared.fault.Shape.TheVariants.{Vertices, Amounts}
+use Rattle.std.proofs.Common.{◌≡◌, ℕ, ◌<◌, Some, drop}
+use Rattle.std.specs.Prelude.{IsSome}
+use Rattle.serde_json.specs.Data.{Data}
+use Rattle.serde_json.specs.Find.{get_item}
+use Rattle.serde_json.specs.View.{items_view}
+use Rattle.dg_file.specs.Content.{each, edge_in}
+use Rattle.dg_file.proofs.Listing.{after}
 use Rattle.dg_file.proofs.shape.edges_of.Given as goal
 
 abbrev pub invariant-loop-i : goal.invariant-loop-i
-invariant-loop-i l = ?
+invariant-loop-i l = record {
+  read : each edge_in (items_view l.item-items) ≡ after l.edges.items (each edge_in (items_view (drop l.i l.item-items)));
+  before : (k : ℕ) → k < l.i → (d : Data) → get_item k (items_view l.item-items) ≡ Some d → IsSome (edge_in d);
+}

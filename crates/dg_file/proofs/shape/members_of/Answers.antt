@@ -1,15 +1,13 @@
-use Rattle.std.proofs.Common.{rules, ◌≡◌, ◌<◌, Some, IfOk, IfErr, MatchOption, map, ℕ, ◌+◌, ◌-◌, ◌*◌, ◌≤◌, length, ◌/◌, ◌%◌, Bool, true, false, nat_eq, nat_lt, List, [], ◌∷◌, ◌++◌, slice_index_or, slice_set, bit_and, bit_or, Fits, w8, w32, w64, Bor, MutBor}
-use Rattle.serde_json.specs.View.{view}
-use Rattle.dg_file.specs.Content.{Parts, HasParts, Reads, IsContent, texts_in, numbers_in, edges_in, edge_in}
-use Rattle.dg_file.specs.FileFaults.{RefusesFile}
-use Rattle.dg_file.specs.Reading.{parts_of, RefusesValue, IsUnread, IsUnreadEdge}
-use Rattle.dg_file.specs.declared.fault.Shape.TheVariants.{Vertices, Amounts}
+-- The object has four members, and each part is found in it.
+use Rattle.std.proofs.Common.{◌∙◌, sym}
+use Rattle.dg_file.proofs.Listing.{parts-given, parts-counted}
 use Rattle.dg_file.proofs.shape.members_of.Goals as goal
 
--- src/shape.rt:103:9
 pub returns-then-len-ne4 : goal.returns-then-len-ne4
-returns-then-len-ne4 c = ?
+returns-then-len-ne4 c = λ parts. parts-counted _ c.in_ok-as_object.field-0.now.entries parts c.in_ok-as_object.ensures
+    (λ four. c.if-len-ne4.true (c.len.ensures.len ∙ four))
 
--- src/shape.rt:98:1
 pub returns : goal.returns
-returns c = ?
+returns c = parts-given _ c.in_ok-as_object.field-0.now.entries _ c.in_ok-as_object.ensures
+    (sym c.len.ensures.len ∙ c.if-len-ne4.false) c.in_ok-get.ensures c.in_ok-get-2.ensures c.in_ok-get-3.ensures
+    c.in_ok-get-4.ensures

@@ -1,10 +1,12 @@
-use Rattle.std.proofs.Common.{◌≡◌, ◌<◌, Some, IfOk, IfErr, MatchOption, map, ℕ, ◌+◌, ◌-◌, ◌*◌, ◌≤◌, length}
-use Rattle.serde_json.specs.View.{view}
-use Rattle.dg_file.specs.Content.{Parts, HasParts, Reads, IsContent, texts_in, numbers_in, edges_in, edge_in}
-use Rattle.dg_file.specs.FileFaults.{RefusesFile}
-use Rattle.dg_file.specs.Reading.{parts_of, RefusesValue, IsUnread, IsUnreadEdge}
-use Rattle.dg_file.specs.declared.fault.Shape.TheVariants.{Vertices, Amounts}
+use Rattle.std.proofs.Common.{◌≡◌, ℕ, List, map, drop, Bor}
+use Rattle.serde_json.specs.Find.{as_str}
+use Rattle.serde_json.specs.View.{items_view}
+use Rattle.dg_file.specs.Content.{each}
+use Rattle.dg_file.proofs.Listing.{after}
 use Rattle.dg_file.proofs.shape.vertices_of.Given as goal
 
 abbrev pub invariant-loop-vertex : goal.invariant-loop-vertex
-invariant-loop-vertex l = ?
+invariant-loop-vertex l =
+    each as_str (items_view l.vertex-items)
+    ≡ after (map (λ (text : Bor (List ℕ)). text.now) l.vertices.items)
+    (each as_str (items_view (drop l.vertex-index l.vertex-items)))
