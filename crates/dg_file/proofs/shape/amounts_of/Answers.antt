@@ -1,5 +1,6 @@
 -- The numbers read so far, and the values that are left.
-use Rattle.std.proofs.Common.{◌≡◌, sym, ◌∙◌}
+use Rattle.std.proofs.Common.{◌≡◌, sym, ◌∙◌, w64, rules}
+use Rattle.std.proofs.lemmas.Int.{to_z-of_z}
 use Rattle.std.proofs.lemmas.Result.{err_from_is_err_and}
 use Rattle.serde_json.specs.View.{view, items_view}
 use Rattle.dg_file.specs.Content.{numbers_in, each, whole}
@@ -18,7 +19,7 @@ loop-item-init c = rw c.new-amounts.ensures.items (each-start whole c.deref-item
 
 pub loop-item-preserved : goal.loop-item-preserved
 loop-item-preserved c =
-    rw c.in_ok-push.ensures.items
+    rw (c.in_ok-push.ensures.items, to_z-of_z w64 c.in_ok-amount.amount (search rules))
     (each-more whole c.deref-item-items.result.now c.loop-item.item-index c.item-item.result c.loop-item.amounts.items
     c.in_ok-amount.amount c.loop-item-test.true c.item-item.is (sym c.as_i64.ensures ∙ c.in_ok-amount.ensures.ok_part)
     c.loop-item.invariant)
