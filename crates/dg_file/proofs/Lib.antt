@@ -1,4 +1,5 @@
 -- The lemmas that the proofs cite.
-mod Naming
 mod NamesLaws
+mod Naming
+mod NamesRead
 mod Listing

@@ -1,9 +1,7 @@
-use Rattle.std.proofs.Common.{◌≡◌, length, map, IfOk, IfErr, ℕ, ◌+◌, ◌-◌, ◌*◌, ◌<◌, ◌≤◌}
-use Rattle.dg_graph.specs.Faults.{IsSize}
-use Rattle.dg_file.specs.TableFiles.{AreNames, IsTable, IsTableFile, vertex_of, item_of}
-use Rattle.dg_file.specs.FileFaults.{RefusesFile}
-use Rattle.dg_file.specs.Reading.{RefusesContent, IsBadName}
+use Rattle.std.proofs.Common.{◌≡◌, take}
+use Rattle.dg_file.specs.TableFiles.{AreNames}
+use Rattle.dg_file.proofs.NamesRead.{texts}
 use Rattle.dg_file.proofs.table_file.names_of.Given as goal
 
 abbrev pub invariant-loop-v : goal.invariant-loop-v
-invariant-loop-v l = ?
+invariant-loop-v l = record { so_far : l.names ≡ take l.v (texts l.vertices); are : AreNames l.names }

@@ -1,0 +1,6 @@
+use Rattle.std.proofs.Common.{◌≡◌, take, map}
+use Rattle.dg_file.specs.TableFiles.{item_of}
+use Rattle.dg_file.proofs.table_file.items_of.Given as goal
+
+abbrev pub invariant-loop-edge : goal.invariant-loop-edge
+invariant-loop-edge l = l.items.items ≡ map (item_of l.names) (take l.edge-index l.edges)
