@@ -8,7 +8,7 @@ ghost use Rattle.dg_file.specs.Reading.{RefusesContent, IsBadName};
 use crate::fault::FileFault;
 use crate::names::{Names, is_name};
 use crate::shape::{Content, Edge, content_of, value_of};
-use dg_chips::{ChipFault, Divisor, Start, StartFault};
+use dg_chips::{Divisor, Start};
 use dg_graph::{Graph, GraphFault, MAX_VERTICES};
 use std::alloc::{AllocError, Global};
 
@@ -60,12 +60,25 @@ fn table_of(alloc: Global, content: &Content<'_>) -> Result<TableFile, FileFault
         return Err(FileFault::Graph(GraphFault::Size));
     }
     let names = names_of(alloc, vertices)?;
-    let items = items_of(alloc, content.edges.as_slice(), &names)?;
-    let graph = Graph::new(vertices.len(), items.as_slice())?;
+    let start = start_of(alloc, content, &names)?;
+    Ok(TableFile { start, names })
+}
+
+fn start_of(alloc: Global, content: &Content<'_>, names: &Names) -> Result<Start, FileFault>
+    requires given { names.now ≡ content.now.vertices }
+    requires are_names { AreNames names.now }
+    requires size { IsSize (length names.now) }
+    ensures table { IfOk result (λ start. IsTable content.now start names.now) }
+    ensures refused { IfErr result (RefusesContent content.now) }
+{
+    let items = items_of(alloc, content.edges.as_slice(), names)?;
+    let graph = Graph::new(names.len(), items.as_slice())?;
     let divisor = Divisor::new(&graph, content.amounts.as_slice())?;
     let q = names.place(content.q.as_bytes()).ok_or(FileFault::NoQ)?;
-    let start = Start::new(graph, divisor, q).map_err(fault_of_start)?;
-    Ok(TableFile { start, names })
+    match Start::new(graph, divisor, q) {
+        Ok(start) => Ok(start),
+        Err(_) => unreachable!(),
+    }
 }
 
 fn names_of(alloc: Global, vertices: &[&str]) -> Result<Names, FileFault>
@@ -107,11 +120,4 @@ fn vertex_of(names: &Names, name: &str) -> u8
     ensures { result ≡ vertex_of names.now name.now }
 {
     names.place(name.as_bytes()).unwrap_or(names.len() as u8)
-}
-
-fn fault_of_start(fault: StartFault) -> FileFault {
-    match fault {
-        StartFault::Length => FileFault::Chip(ChipFault::Length),
-        StartFault::Vertex => FileFault::NoQ,
-    }
 }
