@@ -6,5 +6,7 @@ mod Listing
 -- Files have one meaning.
 mod OneContent
 mod OneShape
+mod OneName
 mod OneGraph
 mod OneTable
+mod OneFile

@@ -51,12 +51,12 @@ is_name-no_name bytes bad = false_from_ne_true (is_name bytes) (λ passes. bad (
 
 pub AreNames-nil : AreNames []
 unfolding IsDistinct
-AreNames-nil = record { each = All-nil IsName; different = tt; }
+AreNames-nil = record { each = All-nil IsName; different = tt }
 
 bytes_eq-refl : (xs : List ℕ) → bytes_eq xs xs ≡ true
 bytes_eq-refl xs = (bytes_eq-Decides xs xs).1 refl
 
-bytes_eq-swap : (xs ys : List ℕ) → bytes_eq xs ys ≡ false → bytes_eq ys xs ≡ false
+pub bytes_eq-swap : (xs ys : List ℕ) → bytes_eq xs ys ≡ false → bytes_eq ys xs ≡ false
 bytes_eq-swap xs ys differ = false_from_ne_true (bytes_eq ys xs)
     (λ same. let e : ys ≡ xs = (bytes_eq-Decides ys xs).0 same in
     false≢true (sym differ ∙ (bytes_eq-Decides xs ys).1 (sym e)))

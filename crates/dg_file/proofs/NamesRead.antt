@@ -6,7 +6,7 @@
 --   names-few      before the last vertex there is room for a name
 --   name-fault     a text that is no name
 --   twice-fault    a name that is not new
-use Rattle.std.proofs.Common.{◌≡◌, ℕ, ◌+◌, ◌<◌, ◌≤◌, true, false, cond, List, [], ◌∷◌, ◌++◌, length, get_or, take, map, Some, Bor, option_map, IsTrue, sym, ap, subst, ◌∙◌, arith}
+use Rattle.std.proofs.Common.{◌≡◌, ℕ, ◌+◌, ◌<◌, ◌≤◌, true, false, cond, List, [], ◌∷◌, ◌++◌, length, get_or, take, map, Some, Bor, option_map, sym, ap, ◌∙◌, arith}
 use Rattle.std.specs.Prelude.{slice_get}
 use Rattle.std.proofs.lemmas.Bool.{not-false}
 use Rattle.std.proofs.lemmas.List.{length-map, length-take, take-map, take_all, map_more}
@@ -53,8 +53,15 @@ module _ (vertices : List (Bor (List ℕ))) (v : ℕ) (d : Bor (List ℕ)) (name
   twice-fault size are is old = record {
     size = rw length-map size;
     before = rw so_far at are;
-    refused = ((get_or vertices v d).now, text-at, (is, rw so_far at
-        (not-false (has names (get_or vertices v d).now) (sym (is_new-named names (get_or vertices v d).now is) ∙ old))));
+    refused = (
+      (get_or vertices v d).now,
+      text-at,
+      (
+        is,
+        rw so_far at
+            (not-false (has names (get_or vertices v d).now) (sym (is_new-named names (get_or vertices v d).now is) ∙ old)),
+      ),
+    );
   }
 
 pub names-all : (vertices : List (Bor (List ℕ))) (v : ℕ) (names : List (List ℕ)) → length vertices ≤ v

@@ -1,7 +1,7 @@
 -- A list of items has one fault at most, and none where it gives a graph.
 --   graph-one     one fault
 --   graph-none    no fault where there is a graph
-use Rattle.std.proofs.Common.{◌≡◌, ℕ, ◌<◌, ◌≤◌, List, length, Some, inl, inr, ⊎_elim, refl, sym, ap, ◌∙◌, arith}
+use Rattle.std.proofs.Common.{◌≡◌, ℕ, ◌<◌, ◌≤◌, List, inl, inr, ⊎_elim, refl, ap, arith}
 use Rattle.std.specs.Prelude.{slice_get}
 use Rattle.std.proofs.lemmas.Bool.{cases_order}
 use Rattle.std.proofs.lemmas.Option.{slice_get_within}
@@ -10,7 +10,7 @@ use Rattle.dg_theory.specs.Sums.{total_below}
 use Rattle.dg_theory.proofs.Chains.{JoinedIn-cong}
 use Rattle.dg_theory.proofs.TotalLaws.{total_below-cong}
 use Rattle.dg_graph.specs.Items.{Item, IsItem, IsItems, IsRightBefore, HasItem, IsGiven, edges_listed, valence_listed}
-use Rattle.dg_graph.specs.Faults.{IsSize, NamesNoVertex, IsLoop, IsEmptyItem, IsFirstHigh, IsParted, IsFirstFault}
+use Rattle.dg_graph.specs.Faults.{NamesNoVertex, IsLoop, IsEmptyItem, IsFirstHigh, IsParted, IsFirstFault}
 use Rattle.dg_graph.specs.declared.fault.GraphFault.{GraphFault}
 use Rattle.dg_graph.specs.declared.fault.GraphFault.TheVariants.{Size, NoVertex, Loop, Multiplicity, Valence, NotConnected}
 use Rattle.dg_file.proofs.OneContent.{found-once}
@@ -141,7 +141,7 @@ module _ (n : ℕ) (items : List Item) where
     joined : IsParted n items → ⊥
     joined fault =
         let chain = given.graph.multigraph.connected fault.one fault.other
-            (let s = given.size in omega (arith, fault.one_vertex)) (let s = given.size in omega (arith, fault.other_vertex)) in
+        (let s = given.size in omega (arith, fault.one_vertex)) (let s = given.size in omega (arith, fault.other_vertex)) in
         fault.parted (JoinedIn-cong (λ a b. given.edges a b) (rw given.size at chain))
 
     pub graph-none : (f : GraphFault) → IsFirstFault n items f → ⊥

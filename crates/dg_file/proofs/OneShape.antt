@@ -3,11 +3,11 @@
 --   shape-one     one shape at fault
 --   shape-none    no shape at fault where there is a content
 use Rattle.std.proofs.Common.{◌≡◌, ℕ, zero, suc, ◌<◌, ◌⊎◌, inl, inr, List, ◌∷◌, Option, Some, None, option_map, refl, sym, ap, ◌∙◌}
-use Rattle.std.specs.Prelude.{IsSome, option_and_then}
+use Rattle.std.specs.Prelude.{option_and_then}
 use Rattle.std.proofs.lemmas.Bool.{cases_order}
 use Rattle.serde_json.specs.Data.{Data, Items, no_items, item}
-use Rattle.serde_json.specs.Find.{get_item, as_array, as_str}
-use Rattle.dg_file.specs.Content.{Content, Parts, HasParts, IsContent, each, texts_in, edge_in, edges_in, numbers_in}
+use Rattle.serde_json.specs.Find.{get_item, as_array}
+use Rattle.dg_file.specs.Content.{Content, Parts, HasParts, IsContent, each, edge_in, edges_in}
 use Rattle.dg_file.specs.FileFaults.{IsEdgeFault, IsShapeFaultOf, IsShapeFault}
 use Rattle.dg_file.specs.declared.fault.Shape.{Shape}
 use Rattle.dg_file.specs.declared.fault.Shape.TheVariants.{Top, Vertices, Edges, Edge, Amounts, Q}

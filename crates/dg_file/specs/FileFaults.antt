@@ -12,7 +12,7 @@
 --   RefusesTable content fault      == the first fault of the content
 --   IsRefusedTable bytes fault      == the bytes say a content, and that is its first fault
 --   RefusesFile bytes fault         == the first fault of the bytes; of want of memory nothing is said
-use Rattle.std.specs.Prelude.{◌≡◌, ◌≢◌, ℕ, ◌<◌, List, length, take, slice_get, Option, Some, None, IsSome, IsTrue, ⊤}
+use Rattle.std.specs.Prelude.{◌≡◌, ◌≢◌, ℕ, ◌<◌, List, length, take, slice_get, Some, None, IsSome, IsTrue, ⊤}
 use Rattle.serde_json.specs.Data.{Data, Items}
 use Rattle.serde_json.specs.Find.{as_array, as_str, get_item}
 use Rattle.dg_theory.specs.Multigraph.{Multigraph}

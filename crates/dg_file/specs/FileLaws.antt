@@ -19,8 +19,8 @@ pub record AreAlike (o p : Opening) : Type 0 where
 
 pub record FilesHaveOneMeaning : Type 0 where
   pub table : (bytes : List ℕ) (o p : Opening) (names others : List (List ℕ))
-    → IsTableFile bytes o names → IsTableFile bytes p others → AreAlike o p × (names ≡ others)
+      → IsTableFile bytes o names → IsTableFile bytes p others → AreAlike o p × (names ≡ others)
   pub refused : (bytes : List ℕ) (fault : FileFault) (o : Opening) (names : List (List ℕ))
-    → fault ≢ OutOfMemory → RefusesFile bytes fault → ¬ IsTableFile bytes o names
+      → fault ≢ OutOfMemory → RefusesFile bytes fault → ¬ IsTableFile bytes o names
   pub fault : (bytes : List ℕ) (one other : FileFault)
-    → one ≢ OutOfMemory → other ≢ OutOfMemory → RefusesFile bytes one → RefusesFile bytes other → one ≡ other
+      → one ≢ OutOfMemory → other ≢ OutOfMemory → RefusesFile bytes one → RefusesFile bytes other → one ≡ other

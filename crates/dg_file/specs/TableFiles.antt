@@ -5,7 +5,7 @@
 --   items_of content               == the edges of the content as items of a graph
 --   IsTable content o names        == the content describes the opening o with these names
 --   IsTableFile bytes o names      == the bytes are a table file, and describe the opening o with these names
-use Rattle.std.specs.Prelude.{◌≡◌, ℕ, List, length, map, Option, Some, All, bytes_eq, unwrap_or}
+use Rattle.std.specs.Prelude.{◌≡◌, ℕ, List, length, map, Some, All, bytes_eq, unwrap_or}
 use Rattle.std.specs.List.{IsDistinct}
 use Rattle.serde_json.specs.Data.{Data}
 use Rattle.dg_graph.specs.Items.{Item, IsGiven}

@@ -31,10 +31,11 @@ impl<'v> Model for Content<'v> {
     ghost Value = { Says };
 
     ghost view = { λ c. record {
-        vertices = map (λ vertex. vertex.now) c.vertices.items;
-        edges = c.edges.items;
-        amounts = c.amounts.items;
-        q = c.q.now } };
+      vertices = map (λ vertex. vertex.now) c.vertices.items;
+      edges = c.edges.items;
+      amounts = c.amounts.items;
+      q = c.q.now;
+    } };
 }
 
 /// An edge as a table file gives it.

@@ -1,6 +1,34 @@
-use Rattle.dg_file.proofs.OneShape.{shape-one, shape-none}
-use Rattle.dg_file.proofs.OneGraph.{graph-one, graph-none}
+-- One value, one content, one table or one fault.
+use Rattle.std.proofs.Common.{◌≡◌, ℕ, List, length, sym, ap, ◌∙◌}
+use Rattle.dg_chips.specs.Opening.{Opening}
+use Rattle.dg_file.specs.Content.{Content}
+use Rattle.dg_file.specs.Names.{place_of}
+use Rattle.dg_file.specs.TableFiles.{IsTable, IsTableFile}
+use Rattle.dg_file.specs.FileLaws.{AreAlike}
+use Rattle.dg_file.proofs.OneContent.{found-once, same-value, same-content}
+use Rattle.dg_file.proofs.OneTable.{at-one}
+use Rattle.dg_file.proofs.OneFile.{file-none, file-one}
 use Rattle.dg_file.proofs.laws.files_have_one_meaning.Goals as goal
 
+alike : (content : Content) (o p : Opening) (names others : List (List ℕ)) → IsTable content o names
+    → IsTable content p others → AreAlike o p × (names ≡ others)
+alike content o p names others a b =
+    let same : names ≡ others = a.given ∙ sym b.given in (
+      record {
+        size = a.graph.size ∙ ap length same ∙ sym b.graph.size;
+        edges = λ u v. a.graph.edges u v ∙ sym (b.graph.edges u v);
+        amounts = at-one content.amounts o.divisor p.divisor a.amounts b.amounts a.within b.within;
+        vertex = found-once (place_of others content.q) o.q p.q (rw same at a.vertex) b.vertex;
+      },
+      same,
+    )
+
+one-table : (bytes : List ℕ) (o p : Opening) (names others : List (List ℕ)) → IsTableFile bytes o names
+    → IsTableFile bytes p others → AreAlike o p × (names ≡ others)
+one-table bytes o p names others a b =
+    let value : a.value ≡ b.value = same-value bytes a.value b.value a.reads b.reads in
+    let content : a.content ≡ b.content = same-content b.value a.content b.content (rw value at a.says) b.says in
+    alike b.content o p names others (rw content at a.describes) b.describes
+
 pub returns : goal.returns
-returns c = ?
+returns c = record { table = one-table; refused = file-none; fault = file-one }

@@ -27,10 +27,12 @@ loop-item-preserved c =
 pub returns-in_err-amount-clause-refused : goal.returns-in_err-amount-clause-refused
 returns-in_err-amount-clause-refused c =
     let p = err_from_is_err_and c.from_residual-in_err-amount.result c.from_residual-in_err-amount.ensures.1 in
-    rw (p.1, p.2) (fault-given c.as_i64.result _ _ c.in_err-amount.ensures.value c.in_err-amount.ensures.ok_part,
-    read (goal.at.returns-in_err-amount-clause-refused c).After-deref-item-items
-    ∙ each-failed whole c.deref-item-items.result.now c.loop-item.item-index c.item-item.result c.loop-item.amounts.items
-    c.loop-item-test.true c.item-item.is (sym c.as_i64.ensures ∙ c.in_err-amount.ensures.ok_part) c.loop-item.invariant)
+    rw (p.1, p.2) (
+      fault-given c.as_i64.result _ _ c.in_err-amount.ensures.value c.in_err-amount.ensures.ok_part,
+      read (goal.at.returns-in_err-amount-clause-refused c).After-deref-item-items
+          ∙ each-failed whole c.deref-item-items.result.now c.loop-item.item-index c.item-item.result c.loop-item.amounts.items
+          c.loop-item-test.true c.item-item.is (sym c.as_i64.ensures ∙ c.in_err-amount.ensures.ok_part) c.loop-item.invariant,
+    )
 
 pub returns-clause-numbers : goal.returns-clause-numbers
 returns-clause-numbers c =

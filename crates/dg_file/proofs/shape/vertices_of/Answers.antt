@@ -1,10 +1,9 @@
 -- The texts read so far, and the values that are left.
-use Rattle.std.proofs.Common.{◌≡◌, ℕ, List, map, Some, None, option_map, Bor, sym, ap, ◌∙◌}
+use Rattle.std.proofs.Common.{◌≡◌, ℕ, List, map, option_map, Bor, sym, ap, ◌∙◌}
 use Rattle.std.proofs.lemmas.List.{map_push}
 use Rattle.std.proofs.lemmas.Result.{err_from_is_err_and}
-use Rattle.serde_json.specs.Find.{as_str, as_array}
+use Rattle.serde_json.specs.Find.{as_str}
 use Rattle.serde_json.specs.View.{view, items_view}
-use Rattle.serde_json.specs.declared.value.Value.{Value}
 use Rattle.dg_file.specs.Content.{texts_in, each}
 use Rattle.dg_file.proofs.Listing.{each-start, each-more, each-failed, each-all, fault-given, listed-each}
 use Rattle.dg_file.proofs.shape.vertices_of.Goals as goal
@@ -29,12 +28,14 @@ loop-vertex-preserved c =
 pub returns-in_err-name-clause-refused : goal.returns-in_err-name-clause-refused
 returns-in_err-name-clause-refused c =
     let p = err_from_is_err_and c.from_residual-in_err-name.result c.from_residual-in_err-name.ensures.1 in
-    rw (p.1, p.2) (fault-given c.as_str.result _ _ c.in_err-name.ensures.value c.in_err-name.ensures.ok_part,
-    read (goal.at.returns-in_err-name-clause-refused c).After-deref-vertex-items
-    ∙ each-failed as_str c.deref-vertex-items.result.now c.loop-vertex.vertex-index c.vertex-item.result
-    (map (λ (name : Bor (List ℕ)). name.now) c.loop-vertex.vertices.items) c.loop-vertex-test.true
-    c.vertex-item.is (sym c.as_str.ensures ∙ ap (option_map (λ (name : Bor (List ℕ)). name.now)) c.in_err-name.ensures.ok_part)
-    c.loop-vertex.invariant)
+    rw (p.1, p.2) (
+      fault-given c.as_str.result _ _ c.in_err-name.ensures.value c.in_err-name.ensures.ok_part,
+      read (goal.at.returns-in_err-name-clause-refused c).After-deref-vertex-items
+          ∙ each-failed as_str c.deref-vertex-items.result.now c.loop-vertex.vertex-index c.vertex-item.result
+          (map (λ (name : Bor (List ℕ)). name.now) c.loop-vertex.vertices.items) c.loop-vertex-test.true
+          c.vertex-item.is (sym c.as_str.ensures ∙ ap (option_map (λ (name : Bor (List ℕ)). name.now)) c.in_err-name.ensures.ok_part)
+          c.loop-vertex.invariant,
+    )
 
 pub returns-clause-texts : goal.returns-clause-texts
 returns-clause-texts c =

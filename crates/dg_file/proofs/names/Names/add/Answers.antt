@@ -42,8 +42,9 @@ returns-then-not-is_name-clause-names c =
     (is_new-no_name c.args.self.now c.args.name.now (not_named c)))
 
 pub invariant_of-self-2 : goal.invariant_of-self-2
-invariant_of-self-2 c = 
+invariant_of-self-2 c =
     let old : length c.self.inside.set.keys ≡ length c.args.self.now =
-    sym (length-map c.self.inside.set.keys string_bytes) ∙ ap length c.self.view_is in
-    (omega (arith, old, at_most_one c.in_ok-is_new.is_new, c.in_ok-is_new.ensures.len, c.requires),
-    rw (left c) (AreNames-added c.args.self.now c.args.name.now (rw c.self.view_is at c.self.invariant.1)))
+    sym (length-map c.self.inside.set.keys string_bytes) ∙ ap length c.self.view_is in (
+      omega (arith, old, at_most_one c.in_ok-is_new.is_new, c.in_ok-is_new.ensures.len, c.requires),
+      rw (left c) (AreNames-added c.args.self.now c.args.name.now (rw c.self.view_is at c.self.invariant.1)),
+    )
