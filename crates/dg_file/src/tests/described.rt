@@ -7,6 +7,13 @@ use std::test::Fail;
 const THREE: &str =
     r#"{"q":"b_2","amounts":[2,-1,1000000],"edges":[["A","b_2",1],["3","b_2",2],["A","b_2",4]],"vertices":["A","b_2","3"]}"#;
 
+// Two edges of one pair of vertices, named in either order.
+const TWICE: &str =
+    r#"{"vertices":["a","b"],"edges":[["a","b",1],["b","a",2]],"amounts":[1,1],"q":"a"}"#;
+
+// One vertex, in debt.
+const ALONE: &str = r#"{"vertices":["a"],"edges":[],"amounts":[-1],"q":"a"}"#;
+
 #[test]
 fn table_files_are_read(rt: HostRuntime) -> Result<(), Fail> {
     let table = read_table(rt.alloc(), THREE.as_bytes())?;
@@ -23,6 +30,11 @@ fn table_files_are_read(rt: HostRuntime) -> Result<(), Fail> {
     assert_eq!(rt; divisor.size(), 3);
     assert!(rt; divisor.get(0) == 2 && divisor.get(1) == -1 && divisor.get(2) == 1_000_000);
     assert_eq!(rt; start.q(), 1);
+    let twice = read_table(rt.alloc(), TWICE.as_bytes())?;
+    assert_eq!(rt; twice.start().graph().edges(0, 1), 3);
+    let alone = read_table(rt.alloc(), ALONE.as_bytes())?;
+    assert_eq!(rt; alone.start().divisor().get(0), -1);
+    assert_eq!(rt; alone.start().q(), 0);
     Ok(())
 }
 

@@ -4,7 +4,7 @@ use crate::{FileFault, read_table};
 use std::test::Fail;
 
 // A table file, and the text of the fault for which it is refused.
-static REFUSED: [(&str, &str); 36] = [
+static REFUSED: [(&str, &str); 120] = [
     (r#"{"vertices":["a"]"#, "not JSON"),
     ("", "not JSON"),
     ("[]", "shape of top"),
@@ -139,6 +139,348 @@ static REFUSED: [(&str, &str); 36] = [
     (
         r#"{"vertices":["a"],"edges":[],"amounts":[0],"q":"b"}"#,
         "no vertex q",
+    ),
+    // Two faults each: not JSON comes before each fault of shape or content.
+    (
+        r#"{"vertices":["a","a"],"edges":[],"amounts":[0,0],"q":"a""#,
+        "not JSON",
+    ),
+    (r#"[1,2"#, "not JSON"),
+    (
+        r#"{"vertices":1,"edges":[],"amounts":[0],"q":"a"}}"#,
+        "not JSON",
+    ),
+    (
+        r#"{"vertices":["a"],"edges":[],"amounts":[1000001],"q":"a",}"#,
+        "not JSON",
+    ),
+    (
+        r#"{"vertices":["a b"],"edges":[],"amounts":[0],"q":'a'}"#,
+        "not JSON",
+    ),
+    (
+        r#"{"vertices":["a"],"edges":[],"amounts":[01],"q":"b"}"#,
+        "not JSON",
+    ),
+    // The top.
+    (
+        r#"{"vertices":1,"edges":[],"amounts":[0],"r":"a"}"#,
+        "shape of top",
+    ),
+    (
+        r#"{"vertices":["a"],"edges":0,"amounts":[0]}"#,
+        "shape of top",
+    ),
+    (
+        r#"{"vertices":["a","a"],"edges":[],"amounts":[0,0],"q":"a","more":0}"#,
+        "shape of top",
+    ),
+    (
+        r#"{"vertex":["a"],"edges":[["a"]],"amounts":[0],"q":"a"}"#,
+        "shape of top",
+    ),
+    (r#"{"vertices":[]}"#, "shape of top"),
+    (
+        r#"{"vertices":["a"],"edges":[],"amounts":["x"],"p":1}"#,
+        "shape of top",
+    ),
+    // The vertices.
+    (
+        r#"{"vertices":{},"edges":1,"amounts":[0],"q":"a"}"#,
+        "shape of vertices",
+    ),
+    (
+        r#"{"vertices":["a",null],"edges":[1],"amounts":[0,0],"q":"a"}"#,
+        "shape of vertices",
+    ),
+    (
+        r#"{"vertices":[1],"edges":[],"amounts":"x","q":"a"}"#,
+        "shape of vertices",
+    ),
+    (
+        r#"{"vertices":null,"edges":[],"amounts":[0],"q":1}"#,
+        "shape of vertices",
+    ),
+    (
+        r#"{"vertices":[["a"]],"edges":[],"amounts":[0],"q":"z"}"#,
+        "shape of vertices",
+    ),
+    (
+        r#"{"vertices":["a b",2],"edges":[],"amounts":[0,0],"q":"a"}"#,
+        "shape of vertices",
+    ),
+    (
+        r#"{"vertices":["a","a",true],"edges":[],"amounts":[0,0,0],"q":"a"}"#,
+        "shape of vertices",
+    ),
+    // The edges.
+    (
+        r#"{"vertices":["a"],"edges":null,"amounts":null,"q":"a"}"#,
+        "shape of edges",
+    ),
+    (
+        r#"{"vertices":["a"],"edges":"a","amounts":[0],"q":1}"#,
+        "shape of edges",
+    ),
+    (
+        r#"{"vertices":[],"edges":{},"amounts":[],"q":"a"}"#,
+        "shape of edges",
+    ),
+    (
+        r#"{"vertices":["a b"],"edges":5,"amounts":[0],"q":"a b"}"#,
+        "shape of edges",
+    ),
+    (
+        r#"{"vertices":["a"],"edges":true,"amounts":[],"q":"a"}"#,
+        "shape of edges",
+    ),
+    // An edge.
+    (
+        r#"{"vertices":["a","b"],"edges":[["a","b",1],["a"],["b"]],"amounts":[0,0],"q":"a"}"#,
+        "shape of edge 1",
+    ),
+    (
+        r#"{"vertices":["a","b"],"edges":[["a","b",300]],"amounts":[1.5,0],"q":"a"}"#,
+        "shape of edge 0",
+    ),
+    (
+        r#"{"vertices":["a","b"],"edges":[[1,"b",1]],"amounts":[0,0],"q":7}"#,
+        "shape of edge 0",
+    ),
+    (
+        r#"{"vertices":[],"edges":[["a","b","1"]],"amounts":[],"q":"a"}"#,
+        "shape of edge 0",
+    ),
+    (
+        r#"{"vertices":["a","a"],"edges":[["a","a",1],["b","a",null]],"amounts":[0,0],"q":"a"}"#,
+        "shape of edge 1",
+    ),
+    (
+        r#"{"vertices":["a"],"edges":[["a","a",1],{}],"amounts":[0],"q":"a"}"#,
+        "shape of edge 1",
+    ),
+    (
+        r#"{"vertices":["a","b"],"edges":[["a","z",1],["a","b",-2]],"amounts":[0,0],"q":"a"}"#,
+        "shape of edge 1",
+    ),
+    (
+        r#"{"vertices":["a","b"],"edges":[["a","b",1,1],["a","b",1.5]],"amounts":[0,0],"q":"a"}"#,
+        "shape of edge 0",
+    ),
+    // The amounts.
+    (
+        r#"{"vertices":["a"],"edges":[],"amounts":3,"q":3}"#,
+        "shape of amounts",
+    ),
+    (
+        r#"{"vertices":[],"edges":[],"amounts":["0"],"q":"a"}"#,
+        "shape of amounts",
+    ),
+    (
+        r#"{"vertices":["a b","c"],"edges":[],"amounts":[0,null],"q":"c"}"#,
+        "shape of amounts",
+    ),
+    (
+        r#"{"vertices":["a","a"],"edges":[],"amounts":{},"q":"a"}"#,
+        "shape of amounts",
+    ),
+    (
+        r#"{"vertices":["a"],"edges":[["a","a",1]],"amounts":[1e3],"q":"a"}"#,
+        "shape of amounts",
+    ),
+    (
+        r#"{"vertices":["a"],"edges":[],"amounts":[false],"q":"z"}"#,
+        "shape of amounts",
+    ),
+    // Q.
+    (
+        r#"{"vertices":["a b"],"edges":[],"amounts":[0],"q":["a"]}"#,
+        "shape of q",
+    ),
+    (
+        r#"{"vertices":["a","a"],"edges":[],"amounts":[0,0],"q":{}}"#,
+        "shape of q",
+    ),
+    (
+        r#"{"vertices":["a","b"],"edges":[["a","z",1]],"amounts":[0,0],"q":0}"#,
+        "shape of q",
+    ),
+    (
+        r#"{"vertices":["a"],"edges":[],"amounts":[],"q":true}"#,
+        "shape of q",
+    ),
+    (
+        r#"{"vertices":["a"],"edges":[],"amounts":[1000001],"q":null}"#,
+        "shape of q",
+    ),
+    // The number of vertices.
+    (
+        r#"{"vertices":[],"edges":[["a","b",1]],"amounts":[],"q":"a"}"#,
+        "number of vertices",
+    ),
+    (
+        r#"{"vertices":[],"edges":[],"amounts":[1],"q":"a"}"#,
+        "number of vertices",
+    ),
+    (
+        r#"{"vertices":["a","a","a","a","a","a","a","a","a","a","a","a","a","a","a","a","a"],"edges":[],"amounts":[],"q":"a"}"#,
+        "number of vertices",
+    ),
+    // The names.
+    (
+        r#"{"vertices":["a b","c d"],"edges":[],"amounts":[0,0],"q":"a b"}"#,
+        "name of vertex 0",
+    ),
+    (
+        r#"{"vertices":["a","a","a"],"edges":[],"amounts":[0,0,0],"q":"a"}"#,
+        "vertex 1 named twice",
+    ),
+    (
+        r#"{"vertices":["a","b","b","a"],"edges":[],"amounts":[0,0,0,0],"q":"a"}"#,
+        "vertex 2 named twice",
+    ),
+    (
+        r#"{"vertices":["a","b c","a"],"edges":[],"amounts":[0,0,0],"q":"a"}"#,
+        "name of vertex 1",
+    ),
+    (
+        r#"{"vertices":["","a"],"edges":[],"amounts":[0,0],"q":"a"}"#,
+        "name of vertex 0",
+    ),
+    (
+        r#"{"vertices":["a","b c"],"edges":[["a","a",1]],"amounts":[0,0],"q":"a"}"#,
+        "name of vertex 1",
+    ),
+    (
+        r#"{"vertices":["a","b","a"],"edges":[["a","b",0]],"amounts":[0,0,0],"q":"a"}"#,
+        "vertex 2 named twice",
+    ),
+    (
+        r#"{"vertices":["a","a"],"edges":[["a","z",1]],"amounts":[0,0],"q":"a"}"#,
+        "vertex 1 named twice",
+    ),
+    (
+        r#"{"vertices":["a","b","c-d"],"edges":[["a","b",1]],"amounts":[0],"q":"a"}"#,
+        "name of vertex 2",
+    ),
+    (
+        r#"{"vertices":["a","a"],"edges":[],"amounts":[1000001,0],"q":"a"}"#,
+        "vertex 1 named twice",
+    ),
+    (
+        r#"{"vertices":["a","A","a"],"edges":[],"amounts":[0,0,0],"q":"z"}"#,
+        "vertex 2 named twice",
+    ),
+    (
+        r#"{"vertices":["a."],"edges":[],"amounts":[0],"q":"b"}"#,
+        "name of vertex 0",
+    ),
+    // An edge's own faults, edge by edge.
+    (
+        r#"{"vertices":["a","b"],"edges":[["a","z",1],["a","a",1]],"amounts":[0,0],"q":"a"}"#,
+        "edge 0 has no vertex",
+    ),
+    (
+        r#"{"vertices":["a","b"],"edges":[["a","b",0],["a","z",1]],"amounts":[0,0],"q":"a"}"#,
+        "edge 0 is empty",
+    ),
+    (
+        r#"{"vertices":["a","b"],"edges":[["a","a",0]],"amounts":[0,0],"q":"a"}"#,
+        "edge 0 is a loop",
+    ),
+    (
+        r#"{"vertices":["a","b"],"edges":[["z","z",0]],"amounts":[0,0],"q":"a"}"#,
+        "edge 0 has no vertex",
+    ),
+    (
+        r#"{"vertices":["a","b"],"edges":[["a","b",1],["b","b",0],["z","a",1]],"amounts":[0,0],"q":"a"}"#,
+        "edge 1 is a loop",
+    ),
+    (
+        r#"{"vertices":["a","b"],"edges":[["a","b",64],["a","z",1]],"amounts":[0,0],"q":"a"}"#,
+        "edge 1 has no vertex",
+    ),
+    (
+        r#"{"vertices":["a","b"],"edges":[["a","b",64],["b","a",0]],"amounts":[0,0],"q":"a"}"#,
+        "edge 1 is empty",
+    ),
+    (
+        r#"{"vertices":["a","b","c"],"edges":[["a","b",1],["b","b",1]],"amounts":[0,0,0],"q":"a"}"#,
+        "edge 1 is a loop",
+    ),
+    (
+        r#"{"vertices":["a","b"],"edges":[["a","z",1]],"amounts":[0],"q":"a"}"#,
+        "edge 0 has no vertex",
+    ),
+    (
+        r#"{"vertices":["a","b"],"edges":[["a","b",0]],"amounts":[0,0],"q":"z"}"#,
+        "edge 0 is empty",
+    ),
+    (
+        r#"{"vertices":["a","b"],"edges":[["a","a",64]],"amounts":[1000001,0],"q":"a"}"#,
+        "edge 0 is a loop",
+    ),
+    (
+        r#"{"vertices":["a","b"],"edges":[["A","b",1]],"amounts":[],"q":"a"}"#,
+        "edge 0 has no vertex",
+    ),
+    // The graph as a whole.
+    (
+        r#"{"vertices":["a","b","c"],"edges":[["b","c",64]],"amounts":[0,0,0],"q":"a"}"#,
+        "valence of vertex 1",
+    ),
+    (
+        r#"{"vertices":["a","b"],"edges":[["a","b",32],["b","a",32]],"amounts":[],"q":"a"}"#,
+        "valence of vertex 0",
+    ),
+    (
+        r#"{"vertices":["a","b","c"],"edges":[["a","b",40],["b","c",40]],"amounts":[0,0,0],"q":"z"}"#,
+        "valence of vertex 1",
+    ),
+    (
+        r#"{"vertices":["a","b"],"edges":[["b","a",255]],"amounts":[0,2000000],"q":"a"}"#,
+        "valence of vertex 0",
+    ),
+    (
+        r#"{"vertices":["a","b"],"edges":[],"amounts":[0],"q":"a"}"#,
+        "not connected",
+    ),
+    (
+        r#"{"vertices":["a","b"],"edges":[],"amounts":[0,1000001],"q":"a"}"#,
+        "not connected",
+    ),
+    (
+        r#"{"vertices":["a","b","c"],"edges":[["a","b",1]],"amounts":[0,0,0],"q":"z"}"#,
+        "not connected",
+    ),
+    // The amounts, one for each vertex, and q last.
+    (
+        r#"{"vertices":["a","b"],"edges":[["a","b",1]],"amounts":[1000001],"q":"a"}"#,
+        "number of amounts",
+    ),
+    (
+        r#"{"vertices":["a","b"],"edges":[["a","b",1]],"amounts":[0,0,-1000001],"q":"a"}"#,
+        "number of amounts",
+    ),
+    (
+        r#"{"vertices":["a"],"edges":[],"amounts":[],"q":"z"}"#,
+        "number of amounts",
+    ),
+    (
+        r#"{"vertices":["a","b"],"edges":[["a","b",1]],"amounts":[1000001,-1000001],"q":"a"}"#,
+        "amount of vertex 0",
+    ),
+    (
+        r#"{"vertices":["a","b"],"edges":[["a","b",1]],"amounts":[0,-1000001],"q":"z"}"#,
+        "amount of vertex 1",
+    ),
+    (
+        r#"{"vertices":["a","b"],"edges":[["a","b",1]],"amounts":[1000000,1000001],"q":""}"#,
+        "amount of vertex 1",
+    ),
+    (
+        r#"{"vertices":["a","b"],"edges":[["a","b",1]],"amounts":[-1000001,5],"q":"A"}"#,
+        "amount of vertex 0",
     ),
 ];
 
