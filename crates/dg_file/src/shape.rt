@@ -100,7 +100,8 @@ fn members_of(value: &Value) -> Option<Members<'_>>
     ensures { MatchOption result ((parts : Parts) → ¬ HasParts (view value.now) parts)
         (λ members. HasParts (view value.now) (parts_of members)) }
 {
-    if value.as_object()?.len() != 4 {
+    let has_four = value.as_object()?.len() == 4;
+    if !has_four {
         return None;
     }
     Some(Members {
