@@ -1,9 +1,12 @@
 //! Lines: what a line spells, or why it is refused.
-ghost use Rattle.std.specs.Prelude.{◌≡◌};
+ghost use Rattle.std.specs.Prelude.{◌≡◌, IfOk, IfErr};
 ghost use Rattle.std.specs.Option.{option_copied};
 ghost use Rattle.dg_session.specs.Cuts.{items, words_after};
-ghost use Rattle.dg_session.specs.Commands.{only_word, lend_of, borrow_of, set_of, fire_of, bare, gift_of, rank_of, line_of};
-ghost use Rattle.dg_session.specs.Steps.{step_of};
+ghost use Rattle.dg_session.specs.Commands.{IsCommandLine};
+ghost use Rattle.dg_session.specs.LineFaults.{IsLineFault};
+ghost use Rattle.dg_session.specs.Steps.{IsStepLine, IsStepFault};
+ghost use Rattle.dg_session.specs.Read.{only_word, lend_of, borrow_of, set_of, fire_of, bare, gift_of, rank_of, line_of};
+ghost use Rattle.dg_session.specs.ReadSteps.{step_of};
 
 use crate::cuts::cut;
 use crate::number::{degree, integer, seat};
@@ -36,9 +39,10 @@ pub enum LineFault {
 /// The step that a line spells: a seat from 1 to 64, one space, and a command line.
 ///
 /// Refused with `Seat` first, then as the command line is: with `Word`, `Form`, `Name`, `Number`.
-#[tactic(auto, unfolding(crate::specs::Steps::step_of))]
+#[tactic(auto, unfolding(crate::specs::ReadSteps::step_of))]
 pub fn parse_step(line: &[u8], names: &Names) -> Result<Step, LineFault>
-    ensures { result ≡ step_of names.now line.now }
+    ensures step { IfOk result (λ step. IsStepLine names.now step line.now) }
+    ensures refused { IfErr result (λ fault. IsStepFault names.now fault line.now) }
 {
     let (text, rest) = cut(line, b' ');
     let seat = seat(text).ok_or(LineFault::Seat)?;
@@ -50,9 +54,10 @@ pub fn parse_step(line: &[u8], names: &Names) -> Result<Step, LineFault>
 /// The command that a line spells: a command word and what belongs to it.
 ///
 /// Refused with `Word` where the first word is no command, then with `Form`, then with `Name`, then with `Number`.
-#[tactic(auto, using(crate::proofs::Cutting::pieces_cut), unfolding(crate::specs::Commands::line_of, crate::specs::Commands::command_of))]
+#[tactic(auto, using(crate::proofs::Cutting::pieces_cut), unfolding(crate::specs::Read::line_of, crate::specs::Read::command_of))]
 pub fn parse_line(line: &[u8], names: &Names) -> Result<Command, LineFault>
-    ensures { result ≡ line_of names.now line.now }
+    ensures command { IfOk result (λ command. IsCommandLine names.now command line.now) }
+    ensures refused { IfErr result (λ fault. IsLineFault names.now fault line.now) }
 {
     let (word, rest) = cut(line, b' ');
     if word == b"lend".as_slice() {
@@ -74,7 +79,7 @@ pub fn parse_line(line: &[u8], names: &Names) -> Result<Command, LineFault>
     }
 }
 
-#[tactic(auto, unfolding(crate::specs::Commands::lend_of))]
+#[tactic(auto, unfolding(crate::specs::Read::lend_of))]
 fn lend(rest: Option<&[u8]>, names: &Names) -> Result<Command, LineFault>
     ensures { result ≡ lend_of names.now (words_after (option_copied rest.entry)) }
 {
@@ -83,7 +88,7 @@ fn lend(rest: Option<&[u8]>, names: &Names) -> Result<Command, LineFault>
     Ok(Command::Call(Plain::Move(Move::Lend(v))))
 }
 
-#[tactic(auto, unfolding(crate::specs::Commands::borrow_of))]
+#[tactic(auto, unfolding(crate::specs::Read::borrow_of))]
 fn borrow(rest: Option<&[u8]>, names: &Names) -> Result<Command, LineFault>
     ensures { result ≡ borrow_of names.now (words_after (option_copied rest.entry)) }
 {
@@ -92,7 +97,7 @@ fn borrow(rest: Option<&[u8]>, names: &Names) -> Result<Command, LineFault>
     Ok(Command::Call(Plain::Move(Move::Borrow(v))))
 }
 
-#[tactic(auto, unfolding(crate::specs::Commands::fire_of))]
+#[tactic(auto, unfolding(crate::specs::Read::fire_of))]
 fn fire(rest: Option<&[u8]>, names: &Names) -> Result<Command, LineFault>
     ensures { result ≡ fire_of names.now (words_after (option_copied rest.entry)) }
 {
@@ -102,7 +107,7 @@ fn fire(rest: Option<&[u8]>, names: &Names) -> Result<Command, LineFault>
 }
 
 /// The command, where nothing follows the command word.
-#[tactic(auto, using(crate::proofs::Cutting::pieces_cut), unfolding(crate::specs::Commands::bare))]
+#[tactic(auto, using(crate::proofs::Cutting::pieces_cut), unfolding(crate::specs::Read::bare))]
 fn bare(rest: Option<&[u8]>, command: Command) -> Result<Command, LineFault>
     ensures { result ≡ bare command (words_after (option_copied rest.entry)) }
 {
@@ -112,7 +117,7 @@ fn bare(rest: Option<&[u8]>, command: Command) -> Result<Command, LineFault>
     }
 }
 
-#[tactic(auto, using(crate::proofs::Cutting::pieces_cut), unfolding(crate::specs::Commands::gift_of))]
+#[tactic(auto, using(crate::proofs::Cutting::pieces_cut), unfolding(crate::specs::Read::gift_of))]
 fn gift(rest: Option<&[u8]>, names: &Names) -> Result<Command, LineFault>
     ensures { result ≡ gift_of names.now (words_after (option_copied rest.entry)) }
 {
@@ -126,7 +131,7 @@ fn gift(rest: Option<&[u8]>, names: &Names) -> Result<Command, LineFault>
     Ok(Command::Call(Plain::Gift(v, dollars)))
 }
 
-#[tactic(auto, unfolding(crate::specs::Commands::rank_of))]
+#[tactic(auto, unfolding(crate::specs::Read::rank_of))]
 fn rank(rest: Option<&[u8]>) -> Result<Command, LineFault>
     ensures { result ≡ rank_of (words_after (option_copied rest.entry)) }
 {
@@ -136,7 +141,7 @@ fn rank(rest: Option<&[u8]>) -> Result<Command, LineFault>
 }
 
 /// The one word of what follows the command word, where there is just one and it is not empty.
-#[tactic(auto, using(crate::proofs::Cutting::pieces_cut), unfolding(crate::specs::Commands::only_word))]
+#[tactic(auto, using(crate::proofs::Cutting::pieces_cut), unfolding(crate::specs::Read::only_word))]
 fn single_word(rest: Option<&[u8]>) -> Option<&[u8]>
     ensures { option_copied result ≡ only_word (words_after (option_copied rest.entry)) }
 {
@@ -148,7 +153,7 @@ fn single_word(rest: Option<&[u8]>) -> Option<&[u8]>
 }
 
 /// The set of the vertices that the items name, where each item names one that no earlier item names.
-#[tactic(auto, using(crate::proofs::Cutting::pieces_cut), unfolding(crate::specs::Commands::set_of))]
+#[tactic(auto, using(crate::proofs::Cutting::pieces_cut), unfolding(crate::specs::Read::set_of))]
 fn named_set(text: &[u8], names: &Names) -> Option<u16>
     ensures { result ≡ set_of names.now 0 (items text.now) }
 {
