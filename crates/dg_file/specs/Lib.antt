@@ -1,6 +1,2 @@
--- Names of vertices, what a table file says and describes, and why it is refused.
+-- Names of vertices.
 pub mod Names
-pub mod Content
-pub mod TableFiles
-pub mod FileFaults
-pub mod FileLaws

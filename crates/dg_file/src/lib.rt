@@ -2,13 +2,11 @@
 #![tactic(auto)]
 
 mod fault;
-mod laws;
 mod names;
 mod shape;
 mod table_file;
 
 pub use fault::{FileFault, Shape};
-pub use laws::files_have_one_meaning;
 pub use names::{MAX_NAME, Names, is_name};
 pub use table_file::{TableFile, read_table};
 

