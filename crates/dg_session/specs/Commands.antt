@@ -12,7 +12,7 @@ use Rattle.std.specs.Int.{w64}
 use Rattle.std.specs.Int.RustNames.{unsigned_abs}
 use Rattle.std.specs.Fmt.{signed_decimal}
 use Rattle.dg_graph.specs.Sets.{in_set, IsWithin}
-use Rattle.dg_chips.specs.Vector.{Vector, at, IsScript}
+use Rattle.dg_chips.specs.Vector.{Vector, at}
 use Rattle.dg_chips.specs.declared.limits.TheConstants.{MAX_ENTRY}
 use Rattle.dg_chips.specs.declared.moves.Move.{Move}
 use Rattle.dg_chips.specs.declared.moves.Move.TheVariants.{Lend, Borrow, Fire, Script}
@@ -35,9 +35,9 @@ number_given (first ∷ given) (x ∷ numbers) name = cond (bytes_eq first name)
 
 pub record IsScriptOf (names : List (List ℕ)) (given : List (List ℕ)) (numbers : List ℤ) (s : Vector) : Type 0 where
   pub are_given : AreGiven names given
-  pub is_script : IsScript s
   pub size : s.size ≡ length names
   pub entries : (v : ℕ) → v < length names → at s v ≡ number_given given numbers (name_at names v)
+  pub inside : (v : ℕ) → length names ≤ v → at s v ≡ pos 0
 
 pub record IsScriptWord (names : List (List ℕ)) (word : List ℕ) (s : Vector) : Type 0 where
   pub numbers : List ℤ

@@ -9,4 +9,3 @@ pub mod Schedules
 pub mod LineLaws
 pub mod Texts
 pub mod Read
-pub mod ReadSteps

@@ -6,9 +6,12 @@
 --   IsDigit byte                == an ASCII digit
 --   IsUnsigned text             == a digit from 1 to 9, and any digits after it
 --   IsNumeral text              == `0`, or an optional `-`, a digit from 1 to 9 and any digits after it
---   NumeralsAreDecimals         == the decimals of whole numbers are just the numerals, and none is that of two numbers
-use Rattle.std.specs.Prelude.{◌≡◌, ℕ, ◌≤◌, ℤ, ◌⊎◌, ◌↔◌, List, ◌∷◌, All, codes}
+--   IsShort z                   == the whole number z has at most 64 digits
+--   NumeralsAreDecimals         == of texts of at most 64 bytes, the decimals of whole numbers of at most 64 digits are just
+--                                  the numerals, and none is that of two numbers
+use Rattle.std.specs.Prelude.{◌≡◌, ℕ, ◌<◌, ◌≤◌, ◌^◌, ℤ, ◌⊎◌, ◌↔◌, List, ◌∷◌, length, All, codes}
 use Rattle.std.specs.Fmt.{signed_decimal}
+use Rattle.std.specs.Int.RustNames.{unsigned_abs}
 use Rattle.dg_chips.specs.Vector.{at}
 use Rattle.dg_chips.specs.declared.moves.Move.TheVariants.{Script}
 use Rattle.dg_game.specs.declared.step.Command.{Command}
@@ -59,6 +62,9 @@ pub record IsUnsigned (text : List ℕ) : Type 0 where
 abbrev pub IsNumeral : List ℕ → Type 0
 IsNumeral text = (text ≡ codes "0") ⊎ IsUnsigned text ⊎ ((rest : List ℕ) × (text ≡ 45 ∷ rest) × IsUnsigned rest)
 
+abbrev pub IsShort : ℤ → Type 0
+IsShort z = unsigned_abs z < 10 ^ 64
+
 pub record NumeralsAreDecimals : Type 0 where
-  pub just : (text : List ℕ) → ((z : ℤ) × (text ≡ signed_decimal z)) ↔ IsNumeral text
-  pub one : (y z : ℤ) → signed_decimal y ≡ signed_decimal z → y ≡ z
+  pub just : (text : List ℕ) → length text ≤ 64 → ((z : ℤ) × IsShort z × (text ≡ signed_decimal z)) ↔ IsNumeral text
+  pub one : (y z : ℤ) → IsShort y → IsShort z → signed_decimal y ≡ signed_decimal z → y ≡ z
