@@ -10,6 +10,7 @@
 --   set_members      the set of the vertices of names that are given rightly
 --   one_set          there is one such set
 --   no_members       where no names are given it is empty
+--   other_name       the name of another vertex is another name
 --   one_member       with one name more it has one vertex more
 --   HasTaken names given left set == `left` are the last of the names given, and the set is that of the names before them
 -- What a loop over the names does: none taken, one more, all, and where the next name refuses them; and the set that is read
@@ -192,8 +193,7 @@ no_members names = record {
   within = λ v e. absurd (let no : false ≡ true = sym (ap (λ k. k == 1) (bit_at-zero v)) ∙ e in cc);
 }
 
--- the name of another vertex is another name
-other_name : (names : List (List ℕ)) (name : List ℕ) (v w : ℕ) → IsDistinct bytes_eq names → v < length names → w < length names
+pub other_name : (names : List (List ℕ)) (name : List ℕ) (v w : ℕ) → IsDistinct bytes_eq names → v < length names → w < length names
     → name_at names v ≡ name → w ≢ v → bytes_eq (name_at names w) name ≡ false
 other_name names name v w distinct inside also named other = go (Rattle.std.proofs.Common.nat_lt w v) refl
   where

@@ -4,6 +4,7 @@ pub mod Numerals
 pub mod Integers
 pub mod Degrees
 pub mod Given
+pub mod Scripts
 pub mod Schedule
 pub mod Pairs
 pub mod Joining

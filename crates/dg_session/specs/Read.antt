@@ -13,10 +13,11 @@
 --   set_of names given           == that set, where the names are given rightly
 --   fire_set set                 == the move that fires the set, or `Name` where there is none
 --   fire_of names rest           == the command of the words after `fire`: names, with a comma between two
---   entries_of texts             == the entries of a script that the texts spell, where each spells one
+--   is_entry text                == whether the text spells an entry of a script
+--   value_of text                == the entry that it spells, and 0 where it spells none
 --   script_with names given xs   == the script that has at each vertex the number given for its name
---   script_to names given xs     == the move by that script, or `Number` where there are no numbers
---   script_pairs names given ts  == the move of the names given and the texts of their numbers, or `Name`, or `Number`
+--   script_to names given ts     == the move by the script of the names given and the texts of their numbers, or `Number`
+--   script_pairs names given ts  == the same, or `Name` where the names are not given rightly
 --   script_of names rest         == the command of the words after `script`: names and numbers, with a comma between two
 --                                   pairs
 --   bare command rest            == the command, where no words follow its own
@@ -31,7 +32,7 @@
 --   IsRefused names fault w rest == the first word w and the words after it are refused with the fault
 --   IsRead names w rest result   == the result is a command that they spell, or the fault with which they are refused
 --   IsRefusedPairs names word f  == the items of the word are refused with the fault f, as pairs of a script
-use Rattle.std.specs.Prelude.{◌≡◌, ℕ, ◌+◌, ◌*◌, ◌&&◌, ℤ, Bool, true, not, cond, List, [], ◌∷◌, length, map, All, Option, Some, None, IsSome, Result, Ok, Err, bytes_eq, codes, option_and_then, option_map}
+use Rattle.std.specs.Prelude.{◌≡◌, ℕ, ◌+◌, ◌*◌, ◌&&◌, ℤ, pos, Bool, true, not, cond, List, [], ◌∷◌, length, map, All, Option, Some, None, IsSome, Result, Ok, Err, bytes_eq, codes, unwrap_or, is_some}
 use Rattle.std.specs.List.{list_all}
 use Rattle.dg_chips.specs.Vector.{Vector}
 use Rattle.dg_chips.specs.declared.moves.Move.{Move}
@@ -92,19 +93,21 @@ fire_set (Some set) = Ok (play (Fire set))
 unfoldable pub fire_of : List (List ℕ) → List (List ℕ) → Result Command LineFault
 fire_of names rest = with_word (λ word. fire_set (set_of names (items word))) (only_word rest)
 
-unfoldable pub entries_of : List (List ℕ) → Option (List ℤ)
-entries_of [] = Some []
-entries_of (text ∷ texts) = option_and_then (λ x. option_map (λ xs. x ∷ xs) (entries_of texts)) (entry_of text)
+unfoldable pub is_entry : List ℕ → Bool
+is_entry text = is_some (entry_of text)
+
+unfoldable pub value_of : List ℕ → ℤ
+value_of text = unwrap_or (entry_of text) (pos 0)
 
 abbrev pub script_with : List (List ℕ) → List (List ℕ) → List ℤ → Vector
 script_with names given xs = record { size = length names; numbers = map (number_given given xs) names }
 
-abbrev pub script_to : List (List ℕ) → List (List ℕ) → Option (List ℤ) → Result Command LineFault
-script_to names given None = Err Number
-script_to names given (Some xs) = Ok (play (Script (script_with names given xs)))
+abbrev pub script_to : List (List ℕ) → List (List ℕ) → List (List ℕ) → Result Command LineFault
+script_to names given texts =
+    cond (list_all is_entry texts) (Ok (play (Script (script_with names given (map value_of texts))))) (Err Number)
 
 abbrev pub script_pairs : List (List ℕ) → List (List ℕ) → List (List ℕ) → Result Command LineFault
-script_pairs names given texts = cond (are_given names given) (script_to names given (entries_of texts)) (Err Name)
+script_pairs names given texts = cond (are_given names given) (script_to names given texts) (Err Name)
 
 unfoldable pub script_of : List (List ℕ) → List (List ℕ) → Result Command LineFault
 script_of names rest =

@@ -175,7 +175,7 @@ fn single_word(rest: Option<&[u8]>) -> Option<&[u8]>
 fn named_set(text: &[u8], names: &Names) -> Option<u16>
     ensures { result ≡ set_of names.now (items text.now) }
 {
-    names.len();
+    let _size = names.len();
     let mut set = 0;
     let mut rest = Some(text);
     'items: while let Some(text) = rest {
@@ -205,18 +205,23 @@ fn named_script(text: &[u8], names: &Names) -> Result<Script, LineFault>
     'items: while let Some(text) = rest {
         let (item, after) = cut(text, b',');
         let (name, number) = cut(item, b'=');
-        let v = usize::from(names.place(name).ok_or(LineFault::Name)?);
+        let Some(v) = names.place(name) else {
+            return Err(LineFault::Name);
+        };
+        let v = usize::from(v);
         if contains(given, v) {
             return Err(LineFault::Name);
         }
         given = with_vertex(given, v);
-        let number = entry(number.unwrap_or(&[]));
-        are_spelled = are_spelled && number.is_some();
-        entries[v] = number.unwrap_or(0);
+        let entry = entry(number.unwrap_or(&[]));
+        are_spelled &= entry.is_some();
+        entries[v] = entry.unwrap_or(0);
         rest = after;
     }
     if !are_spelled {
         return Err(LineFault::Number);
     }
-    Ok(Script::sized(&entries[..size]))
+    let script = Script::sized(&entries[..size]);
+    let _size = script.size();
+    Ok(script)
 }
