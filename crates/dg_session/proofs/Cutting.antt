@@ -8,7 +8,7 @@ use Rattle.std.proofs.lemmas.List.{take_all}
 use Rattle.std.proofs.lemmas.Bool.Decides.{nat_tests}
 use Rattle.std.specs.Option.{option_copied, unwrap_or}
 use Rattle.std.specs.List.{position, position_or_len}
-use Rattle.dg_session.specs.Cuts.{before, after, onto_first, pieces, pieces_after, lines}
+use Rattle.dg_session.specs.Cuts.{before, after, onto_first, pieces, pieces_after, words, words_after, lines}
 
 abbrev pub lines_after : Option (List ℕ) → List (List ℕ)
 lines_after None = []
@@ -121,3 +121,7 @@ pieces_left b rest text first more e front back =
 
 pub none_left : (b : ℕ) (rest : Option (Bor (List ℕ))) → rest ≡ None → pieces_after b (option_copied rest) ≡ []
 none_left b rest e = ap (λ (o : Option (Bor (List ℕ))). pieces_after b (option_copied o)) e
+
+pub line_cut : (line word : List ℕ) (rest : Option (List ℕ)) → word ≡ before 32 line → rest ≡ after 32 line → words line ≡ word ∷ words_after rest
+line_cut line word rest front back =
+    pieces_cut 32 line ∙ ap (λ first. first ∷ words_after (after 32 line)) (sym front) ∙ ap (λ more. word ∷ words_after more) (sym back)

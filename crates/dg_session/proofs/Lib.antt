@@ -5,6 +5,9 @@ pub mod Integers
 pub mod Degrees
 pub mod Given
 pub mod Scripts
+pub mod Exits
+pub mod Reading
+pub mod Stepping
 pub mod Schedule
 pub mod Pairs
 pub mod Joining
