@@ -8,6 +8,7 @@ pub mod Scripts
 pub mod Exits
 pub mod Reading
 pub mod Stepping
+pub mod Meaning
 pub mod Schedule
 pub mod Pairs
 pub mod Joining

@@ -252,13 +252,13 @@ any_read names word rest =
     either_read names (codes "script") word rest (script_of names rest) (command_of names word rest) (script_read names rest) (command_read names word rest)
 
 -- ---- the line
-line_command : (names : List (List ℕ)) (line keyword : List ℕ) (rest : List (List ℕ)) (result : Result Command LineFault)
+pub line_command : (names : List (List ℕ)) (line keyword : List ℕ) (rest : List (List ℕ)) (result : Result Command LineFault)
     → words line ≡ keyword ∷ rest → IsRead names keyword rest result → IfOk result (λ command. IsCommandLine names command line)
 unfolding IsRead
 line_command names line keyword rest (Ok command) cut read = record { keyword = keyword; rest = rest; cut = cut; formed = read.0; means = read.1 }
 line_command names line keyword rest (Err fault) cut read = tt
 
-line_fault : (names : List (List ℕ)) (line keyword : List ℕ) (rest : List (List ℕ)) (result : Result Command LineFault)
+pub line_fault : (names : List (List ℕ)) (line keyword : List ℕ) (rest : List (List ℕ)) (result : Result Command LineFault)
     → words line ≡ keyword ∷ rest → IsRead names keyword rest result → IfErr result (λ fault. IsLineFault names fault line)
 unfolding IsRead
 line_fault names line keyword rest (Ok command) cut read = tt
