@@ -9,6 +9,8 @@ pub mod Exits
 pub mod Reading
 pub mod Stepping
 pub mod Meaning
+pub mod StepMeaning
+pub mod Decimals
 pub mod Schedule
 pub mod Pairs
 pub mod Joining
