@@ -80,12 +80,11 @@ unsigned_value text known short = subst P (sym known.whole) (go known.first know
         let value : digit_value c + 48 ≡ c = digit_value_digit c (omega arith, high) in
         let digits : AllDigits 10 cs = each_digit cs each in
         let small : digits_value 10 (c ∷ cs) < 10 ^ 64 = short_value (c ∷ cs) (omega arith, digits) few in
-        let some : 0 < 0 * 10 + digit_value c = omega arith in
-        (
+        let some : 0 < 0 * 10 + digit_value c = omega arith in (
           omega (arith, le_value_after (0 * 10 + digit_value c) cs),
           small,
           sym (decimal_value_after (0 * 10 + digit_value c) cs some digits small
-          ∙ ap (λ x. x ++ cs) (decimal_digit (0 * 10 + digit_value c) (omega arith) ∙ ap (λ x. x ∷ []) (one_digit c value))),
+              ∙ ap (λ x. x ++ cs) (decimal_digit (0 * 10 + digit_value c) (omega arith) ∙ ap (λ x. x ∷ []) (one_digit c value))),
         )
       where
         one_digit : (d : ℕ) → digit_value d + 48 ≡ d → 48 + (0 * 10 + digit_value d) ≡ d

@@ -70,9 +70,10 @@ means_good names (Call (Play (Script s))) keyword rest (word, one, (key, known))
     good_at names keyword (codes "script") rest (word ∷ []) key one
     (known.script.are_given, spelled_entries (map number_part (items word)) known.numbers known.spelled known.limit)
 means_good names (Call (Gift v x)) keyword rest (key, known) =
-    good_at names keyword (codes "gift") rest (known.name ∷ signed_decimal x ∷ []) key known.given
-    (named_alone names known.name v known.vertex,
-     All-cons (IsNumberFor (codes "gift")) (signed_decimal x) [] (gift_number x known.fits) (All-nil (IsNumberFor (codes "gift"))))
+    good_at names keyword (codes "gift") rest (known.name ∷ signed_decimal x ∷ []) key known.given (
+      named_alone names known.name v known.vertex,
+      All-cons (IsNumberFor (codes "gift")) (signed_decimal x) [] (gift_number x known.fits) (All-nil (IsNumberFor (codes "gift"))),
+    )
 means_good names (Call Look) keyword rest (key, none) =
     good_at names keyword (codes "look") rest [] key none (none_given names, All-nil (IsNumberFor (codes "look")))
 means_good names (Call Claim) keyword rest (key, none) =
@@ -268,7 +269,7 @@ script_like : (names : List (List ℕ)) (word : List ℕ) (s : Vector) → only_
 script_like names word s only known = (
   script_with names given values,
   script_back names word only ((given_decides names given).1 known.script.are_given)
-  ((entries_decide texts).1 (spelled_entries texts known.numbers known.spelled known.limit)),
+      ((entries_decide texts).1 (spelled_entries texts known.numbers known.spelled known.limit)),
   (known.script.size, λ v. same v (Rattle.std.proofs.Common.nat_lt v (length names)) refl),
 )
   where
@@ -343,15 +344,15 @@ like_line names line keyword rest d cut known =
 pub lines_have_one_meaning : LinesHaveOneMeaning
 lines_have_one_meaning = record {
   some = λ names line.
-    read_words names line (before 32 line) (words_after (after 32 line)) (line_cut line (before 32 line) (after 32 line) refl refl)
-    (any_of names (before 32 line) (words_after (after 32 line))) (any_read names (before 32 line) (words_after (after 32 line)));
+      read_words names line (before 32 line) (words_after (after 32 line)) (line_cut line (before 32 line) (after 32 line) refl refl)
+      (any_of names (before 32 line) (words_after (after 32 line))) (any_read names (before 32 line) (words_after (after 32 line)));
   not_both = λ names line c fault known refused.
-    no_fault names c fault known.keyword known.rest known.formed known.means (fault_words names fault line known.keyword known.rest known.cut refused);
+      no_fault names c fault known.keyword known.rest known.formed known.means (fault_words names fault line known.keyword known.rest known.cut refused);
   command = λ names line c d first second.
-    join c d (any_of names first.keyword first.rest) (like_line names line first.keyword first.rest c first.cut first)
-    (like_line names line first.keyword first.rest d first.cut second);
+      join c d (any_of names first.keyword first.rest) (like_line names line first.keyword first.rest c first.cut first)
+      (like_line names line first.keyword first.rest d first.cut second);
   fault = λ names line one other first second.
-    let cut = line_cut line (before 32 line) (after 32 line) refl refl in
-    one_refusal names one other (before 32 line) (words_after (after 32 line)) (fault_words names one line (before 32 line) (words_after (after 32 line)) cut first)
-    (fault_words names other line (before 32 line) (words_after (after 32 line)) cut second);
+      let cut = line_cut line (before 32 line) (after 32 line) refl refl in
+      one_refusal names one other (before 32 line) (words_after (after 32 line)) (fault_words names one line (before 32 line) (words_after (after 32 line)) cut first)
+      (fault_words names other line (before 32 line) (words_after (after 32 line)) cut second);
 }

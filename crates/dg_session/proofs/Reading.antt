@@ -246,6 +246,7 @@ command_read names word rest no_script =
     either_read names (codes "commit") word rest _ _ (commit_read names rest) (λ no_commit.
     either_read names (codes "rank") word rest _ _ (rank_read names rest) (λ no_rank.
     no_command names word rest no_script no_lend no_borrow no_fire no_look no_gift no_claim no_commit no_rank))))))))
+
 pub any_read : (names : List (List ℕ)) (word : List ℕ) (rest : List (List ℕ)) → IsRead names word rest (any_of names word rest)
 unfolding any_of
 any_read names word rest =

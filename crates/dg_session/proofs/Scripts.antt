@@ -304,7 +304,7 @@ all_pairs names given texts left texts_left set entries flag e f known =
       are_given = subst (AreGiven names) names_are known.is_set.are_given;
       size = known.size;
       numbers = λ v less. known.numbers v less ∙ ap (λ gs. number_given gs (map value_of known.told) (name_at names v)) names_are
-        ∙ ap (λ ts. number_given given (map value_of ts) (name_at names v)) texts_are;
+          ∙ ap (λ ts. number_given given (map value_of ts) (name_at names v)) texts_are;
       spelled = known.spelled ∙ ap (list_all is_entry) texts_are;
     }
 
@@ -332,7 +332,7 @@ script_word names word entries flag n s known all_good script same few held =
         are_given = known.are_given;
         size = size;
         entries = λ v less.
-          held.numbers v (omega (arith, long)) ∙ get_or-take n entries v (pos 0) (omega arith) ∙ known.numbers v less;
+            held.numbers v (omega (arith, long)) ∙ get_or-take n entries v (pos 0) (omega arith) ∙ known.numbers v less;
         inside = λ v past. script.inside v (omega (arith, size));
       };
     }

@@ -67,9 +67,10 @@ one_fault names line one other (inr first) (inr second) =
 one_step : (names : List (List ℕ)) (line : List ℕ) (c d : Step) → IsStepLine names c line → IsStepLine names d line
     → (c.seat ≡ d.seat) × AreAlike c.command d.command
 one_step names line c d first second =
-    let same = one_seat line c.seat d.seat first.text second.text first.seated second.seated in
-    (same.0,
-     lines_have_one_meaning.command names second.text c.command d.command (subst (IsCommandLine names c.command) same.1 first.means) second.means)
+    let same = one_seat line c.seat d.seat first.text second.text first.seated second.seated in (
+      same.0,
+      lines_have_one_meaning.command names second.text c.command d.command (subst (IsCommandLine names c.command) same.1 first.means) second.means,
+    )
 
 pub steps_have_one_meaning : StepsHaveOneMeaning
 steps_have_one_meaning = record {

@@ -29,23 +29,23 @@ AreAlike c d = c ≡ d
 
 pub record LinesHaveOneMeaning : Type 0 where
   pub some : (names : List (List ℕ)) (line : List ℕ)
-    → ((c : Command) × IsCommandLine names c line) ⊎ ((fault : LineFault) × IsLineFault names fault line)
+      → ((c : Command) × IsCommandLine names c line) ⊎ ((fault : LineFault) × IsLineFault names fault line)
   pub not_both : (names : List (List ℕ)) (line : List ℕ) (c : Command) (fault : LineFault)
-    → IsCommandLine names c line → ¬ IsLineFault names fault line
+      → IsCommandLine names c line → ¬ IsLineFault names fault line
   pub command : (names : List (List ℕ)) (line : List ℕ) (c d : Command)
-    → IsCommandLine names c line → IsCommandLine names d line → AreAlike c d
+      → IsCommandLine names c line → IsCommandLine names d line → AreAlike c d
   pub fault : (names : List (List ℕ)) (line : List ℕ) (one other : LineFault)
-    → IsLineFault names one line → IsLineFault names other line → one ≡ other
+      → IsLineFault names one line → IsLineFault names other line → one ≡ other
 
 pub record StepsHaveOneMeaning : Type 0 where
   pub some : (names : List (List ℕ)) (line : List ℕ)
-    → ((step : Step) × IsStepLine names step line) ⊎ ((fault : LineFault) × IsStepFault names fault line)
+      → ((step : Step) × IsStepLine names step line) ⊎ ((fault : LineFault) × IsStepFault names fault line)
   pub not_both : (names : List (List ℕ)) (line : List ℕ) (step : Step) (fault : LineFault)
-    → IsStepLine names step line → ¬ IsStepFault names fault line
+      → IsStepLine names step line → ¬ IsStepFault names fault line
   pub step : (names : List (List ℕ)) (line : List ℕ) (c d : Step)
-    → IsStepLine names c line → IsStepLine names d line → (c.seat ≡ d.seat) × AreAlike c.command d.command
+      → IsStepLine names c line → IsStepLine names d line → (c.seat ≡ d.seat) × AreAlike c.command d.command
   pub fault : (names : List (List ℕ)) (line : List ℕ) (one other : LineFault)
-    → IsStepFault names one line → IsStepFault names other line → one ≡ other
+      → IsStepFault names one line → IsStepFault names other line → one ≡ other
 
 pub record IsDigit (byte : ℕ) : Type 0 where
   pub low : 48 ≤ byte

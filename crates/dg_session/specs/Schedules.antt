@@ -15,7 +15,7 @@ use Rattle.dg_session.specs.Steps.{IsStepLine, IsStepFault}
 pub record AreStepsOf (names : List (List ℕ)) (steps : List Step) (lines : List (List ℕ)) : Type 0 where
   pub count : length steps ≡ length lines
   pub each : (k : ℕ) (step : Step) (line : List ℕ)
-    → slice_get steps k ≡ Some step → slice_get lines k ≡ Some line → IsStepLine names step line
+      → slice_get steps k ≡ Some step → slice_get lines k ≡ Some line → IsStepLine names step line
 
 abbrev pub AreSeated : List Step → Type 0
 AreSeated steps = (k : ℕ) (step : Step) → slice_get steps k ≡ Some step → IsSeat step.seat

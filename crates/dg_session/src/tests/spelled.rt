@@ -29,10 +29,7 @@ fn lines_are_commands(rt: HostRuntime) -> Result<(), Fail> {
         ("fire c,a", play(Move::Fire(5))),
         ("script a=1,c=-2", play(Move::Script(uneven))),
         ("script c=-2,a=1", play(Move::Script(uneven))),
-        (
-            "script c=-1000000000,a=1000000000",
-            play(Move::Script(far)),
-        ),
+        ("script c=-1000000000,a=1000000000", play(Move::Script(far))),
         ("script b=0", play(Move::Script(none))),
         ("gift b 1", gift(1, 1)),
         ("gift a -5", gift(0, -5)),
@@ -47,7 +44,10 @@ fn lines_are_commands(rt: HostRuntime) -> Result<(), Fail> {
         ("rank 4294967295", Command::Rank(4_294_967_295)),
     ];
     for (line, want) in table {
-        assert!(rt; parse_line(line.as_bytes(), &names) == Ok(want), "at {line:?}");
+        assert!(rt;
+            parse_line(line.as_bytes(), &names) == Ok(want),
+            "at {line:?}"
+        );
     }
     let names = named(rt.alloc(), &LETTERS)?;
     let line = b"script p=16,b=2,c=3,d=4,e=5,f=6,g=7,h=8,i=9,j=10,k=11,l=12,m=13,n=14,o=15,a=1";
