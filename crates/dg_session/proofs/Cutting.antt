@@ -8,7 +8,7 @@ use Rattle.std.proofs.lemmas.List.{take_all}
 use Rattle.std.proofs.lemmas.Bool.Decides.{nat_tests}
 use Rattle.std.specs.Option.{option_copied, unwrap_or}
 use Rattle.std.specs.List.{position, position_or_len}
-use Rattle.dg_session.specs.Cuts.{before, after, onto_first, pieces, pieces_after, lines}
+use Rattle.dg_session.specs.Cuts.{before, after, onto_first, pieces, pieces_after, words, words_after, lines}
 
 abbrev pub lines_after : Option (List ℕ) → List (List ℕ)
 lines_after None = []
@@ -109,3 +109,19 @@ lines_step xs line o other rest some first follows none is =
     lines_next xs some ∙ ap (λ front. front ∷ lines_after (after 10 xs)) (sym first)
     ∙ ap (λ back. line ∷ lines_after back) (sym follows)
     ∙ ap (λ back. line ∷ back) (lines_after-rest o other none ∙ ap (λ back. lines back.now) (sym is))
+
+-- the pieces that are left begin with the one that is cut off next
+pub pieces_left : (b : ℕ) (rest : Option (Bor (List ℕ))) (text : Bor (List ℕ)) (first : List ℕ) (more : Option (Bor (List ℕ)))
+    → rest ≡ Some text → first ≡ before b text.now → option_copied more ≡ after b text.now
+    → pieces_after b (option_copied rest) ≡ first ∷ pieces_after b (option_copied more)
+pieces_left b rest text first more e front back =
+    ap (λ (o : Option (Bor (List ℕ))). pieces_after b (option_copied o)) e ∙ pieces_cut b text.now
+    ∙ ap (λ front_is. front_is ∷ pieces_after b (after b text.now)) (sym front)
+    ∙ ap (λ back_is. first ∷ pieces_after b back_is) (sym back)
+
+pub none_left : (b : ℕ) (rest : Option (Bor (List ℕ))) → rest ≡ None → pieces_after b (option_copied rest) ≡ []
+none_left b rest e = ap (λ (o : Option (Bor (List ℕ))). pieces_after b (option_copied o)) e
+
+pub line_cut : (line word : List ℕ) (rest : Option (List ℕ)) → word ≡ before 32 line → rest ≡ after 32 line → words line ≡ word ∷ words_after rest
+line_cut line word rest front back =
+    pieces_cut 32 line ∙ ap (λ first. first ∷ words_after (after 32 line)) (sym front) ∙ ap (λ more. word ∷ words_after more) (sym back)

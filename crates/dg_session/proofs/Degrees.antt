@@ -1,15 +1,11 @@
 -- The decimals of degrees, which are the numbers from 0 to 2^32 - 1.
 --   degree_is     the decimal of a degree spells it
 --   is_degree     what spells a degree is its decimal
---   degree_word   it is a word
 use Rattle.std.proofs.Common.{◌≡◌, ℕ, suc, ◌<◌, ◌^◌, ℤ, pos, negsuc, List, Option, Some, None, true, false, cond, refl, ap, sym, subst, ◌∙◌, arith, decimal, FitsSigned, w64}
 use Rattle.std.specs.Prelude.{leb, option_and_then}
-use Rattle.std.proofs.lemmas.Fmt.{decimal_is_IsNumeral}
 use Rattle.std.proofs.lemmas.Bool.Decides.{nat_tests}
 use Rattle.dg_session.specs.Numbers.{integer_of, as_degree, degree_of}
-use Rattle.dg_session.specs.Spelling.{IsWord}
 use Rattle.dg_session.proofs.Integers.{integer_is, is_integer}
-use Rattle.dg_session.proofs.Joining.{no_space_in_digits}
 
 pub degree_is : (text : List ℕ) (k : ℕ) → k < 2 ^ 32 → text ≡ decimal k → degree_of text ≡ Some k
 unfolding degree_of
@@ -35,8 +31,3 @@ is_degree text k e = go (integer_of text) refl e
     go (Some (pos n)) found f =
         let known = small_of n k f in
         (known.0, (is_integer text (pos n) found).1 ∙ ap decimal known.1)
-
-pub degree_word : (k : ℕ) → k < 2 ^ 32 → IsWord (decimal k)
-degree_word k small =
-    let known = decimal_is_IsNumeral k (omega arith) in
-    record { not_empty = known.0.0; no_space = no_space_in_digits (decimal k) known.0.1 }

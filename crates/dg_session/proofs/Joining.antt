@@ -1,5 +1,4 @@
--- Cutting undone: the two parts with the byte between make the whole, and a whole made so is cut into its parts. And what
--- the one word of some words is.
+-- Cutting undone: the two parts with the byte between make the whole, and a whole made so is cut into its parts.
 use Rattle.std.proofs.Common.{◌≡◌, ℕ, ◌<◌, ◌≤◌, ◌==◌, cond, true, false, Bool, List, [], ◌∷◌, ◌++◌, length, Option, Some, None, refl, ap, sym, ◌∙◌, arith, subst}
 use Rattle.std.proofs.lemmas.Bool.Decides.{nat_tests}
 use Rattle.std.proofs.lemmas.Option.{none-some}
@@ -7,9 +6,6 @@ use Rattle.std.specs.Str.Parse.{AllDigits}
 use Rattle.std.specs.Char.{digit_value}
 use Rattle.std.proofs.lemmas.Bool.{eqb-true}
 use Rattle.dg_session.specs.Cuts.{before, after, pieces, pieces_after, words, words_after}
-use Rattle.dg_session.specs.Commands.{only_word}
-use Rattle.dg_session.specs.Spelling.{IsWord}
-use Rattle.dg_session.proofs.Cutting.{pieces_cut}
 
 same_byte : (b : ℕ) → (b == b) ≡ true
 same_byte b = grind (arith, nat_tests)
@@ -51,16 +47,6 @@ after_joined b (x ∷ xs) back e =
     → cond t (Some (xs ++ b ∷ back)) (after b (xs ++ b ∷ back)) ≡ Some back in
     (elim (x == b) as P [ true ↦ λ found. cc | false ↦ λ found. after_joined b xs back found ]) e
 
-pub no_cut_before : (b : ℕ) (xs : List ℕ) → after b (before b xs) ≡ None
-unfolding before after
-no_cut_before b [] = refl
-no_cut_before b (x ∷ xs) =
-    let P : Bool → Type 0 = λ t. (x == b) ≡ t → after b (cond t [] (x ∷ before b xs)) ≡ None in
-    (elim (x == b) as P [
-      | true ↦ λ same. refl
-      | false ↦ λ other. ap (λ t. cond t (Some (before b xs)) (after b (before b xs))) other ∙ no_cut_before b xs
-    ]) refl
-
 pub no_space_in_digits : (digits : List ℕ) → AllDigits 10 digits → after 32 digits ≡ None
 unfolding after
 no_space_in_digits [] each = refl
@@ -70,36 +56,3 @@ no_space_in_digits (x ∷ xs) each =
       | true ↦ λ same. absurd (not_a_digit x (eqb-true x 32 same) each.0)
       | false ↦ λ other. no_space_in_digits xs each.1
     ]) refl
-
--- there is always a first piece, so the words after a space are not none
-only_word-longer : (x : ℕ) (xs rest : List ℕ) → only_word ((x ∷ xs) ∷ pieces 32 rest) ≡ None
-unfolding only_word
-only_word-longer x xs rest = rw pieces_cut refl
-
-only_word-parts : (front : List ℕ) (back : Option (List ℕ)) (word : List ℕ) → only_word (front ∷ pieces_after 32 back) ≡ Some word
-    → (back ≡ None) × (front ≡ word) × (1 ≤ length word)
-unfolding only_word
-only_word-parts [] back word e = cc
-only_word-parts (x ∷ xs) None word e =
-    let same : x ∷ xs ≡ word = cc in (refl, same, omega (arith, ap length same))
-only_word-parts (x ∷ xs) (Some rest) word e = absurd (none-some _ (sym (only_word-longer x xs rest) ∙ e))
-
-one_word : (word : List ℕ) → 1 ≤ length word → only_word (word ∷ []) ≡ Some word
-unfolding only_word
-one_word [] some = absurd (omega arith)
-one_word (x ∷ xs) some = refl
-
-pub only_word-is : (rest : Option (List ℕ)) (word : List ℕ) → only_word (words_after rest) ≡ Some word
-    → (rest ≡ Some word) × IsWord word
-unfolding only_word
-only_word-is None word e = absurd (none-some word e)
-only_word-is (Some text) word e =
-    let parts = only_word-parts (before 32 text) (after 32 text) word (ap only_word (sym (pieces_cut 32 text)) ∙ e) in
-    let same : text ≡ word = sym (cut_whole 32 text parts.0) ∙ parts.1 in
-    (ap Some same, record { not_empty = parts.2; no_space = ap (after 32) (sym same) ∙ parts.0 })
-
-pub only_word-of : (word : List ℕ) → IsWord word → only_word (words word) ≡ Some word
-only_word-of word good =
-    ap only_word (pieces_cut 32 word ∙ ap (λ front. front ∷ pieces_after 32 (after 32 word)) (cut_whole 32 word good.no_space)
-    ∙ ap (λ back. word ∷ pieces_after 32 back) good.no_space)
-    ∙ one_word word good.not_empty

@@ -1,128 +1,73 @@
--- Command lines: what the words of a line spell. `names` are the names of the vertices, in vertex order; a line is cut
--- into words at each single space, so that two spaces in a row make an empty word.
---   only_word rest               == the one word of the list, where there is just one and it is not empty
---   play move                    == the command that plays the move
---   at_vertex move v             == the move at the vertex v, or `Name` where there is none
---   at_named names move word     == the move at the vertex that the word names, or `Form` where there is no word
---   lend_of names rest           == the command of the words after `lend`: the name of a vertex
---   borrow_of names rest         == the command of the words after `borrow`: the name of a vertex
---   set_of names set items       == the set with the vertices that the items name, where each item names a vertex that is
---                                   not in it yet
---   fire_set set                 == the move that fires the set, or `Name` where there is none
---   fire_items names word        == the move that fires the items of the word, or `Form` where there is no word
---   fire_of names rest           == the command of the words after `fire`: names, with a comma between two
---   bare command rest            == the command, where no words follow its own
---   gift_to v dollars            == the gift to the vertex v, or `Name` or `Number` where there is none
---   gift_named names name number == the gift to the vertex of that name, or `Form` where no number follows
---   gift_of names rest           == the command of the words after `gift`: the name of a vertex and a whole number, which
---                                   is read after the name is
---   rank_to k                    == the rank test of degree k, or `Number` where there is none
---   rank_word word               == the rank test of the degree that the word spells, or `Form` where there is no word
---   rank_of rest                 == the command of the words after `rank`: a degree
---   other_of names word rest     == the command of a first word that is no move's, and of the words after it
---   command_of names word rest   == the command of a first word, and of the words after it
---   command_of_words names words == the command of the words, or `Word` where there are none
---   line_of names line           == the command that the line spells, or why it is refused: first its word, then its form,
---                                   then its names, then its number
-use Rattle.std.specs.Prelude.{ℕ, ◌^◌, bit_or, ℤ, cond, List, [], ◌∷◌, Option, Some, None, Result, Ok, Err, bytes_eq, codes, option_and_then}
-use Rattle.dg_graph.specs.Sets.{in_set}
+-- Command lines: what a line spells. `names` are the names of the vertices, in vertex order.
+--   IsSetOf names given set              == the set has just the vertices of the names given
+--   number_given given numbers name      == the number beside the name, and 0 where the name is not given
+--   IsScriptOf names given numbers s     == s has at each vertex the number given for its name, and 0 where none is
+--   IsScriptWord names word s            == the items of the word spell the script: each a name, `=` and a number
+--   IsMoveWord names move keyword word   == the command word and the word after it spell the move
+--   MeansGift names v x rest             == the two words name the vertex v and spell the number x
+--   Means names command keyword rest     == the command word and the words after it spell the command
+--   IsCommandLine names command line     == the line has the right form, and its words spell the command
+use Rattle.std.specs.Prelude.{◌≡◌, ℕ, ◌<◌, ◌≤◌, ◌^◌, ℤ, pos, FitsSigned, List, [], ◌∷◌, length, map, cond, Some, All, bytes_eq, codes, decimal}
+use Rattle.std.specs.Int.{w64}
+use Rattle.std.specs.Int.RustNames.{unsigned_abs}
+use Rattle.std.specs.Fmt.{signed_decimal}
+use Rattle.dg_graph.specs.Sets.{in_set, IsWithin}
+use Rattle.dg_chips.specs.Vector.{Vector, at}
+use Rattle.dg_chips.specs.declared.limits.TheConstants.{MAX_ENTRY}
 use Rattle.dg_chips.specs.declared.moves.Move.{Move}
-use Rattle.dg_chips.specs.declared.moves.Move.TheVariants.{Lend, Borrow, Fire}
+use Rattle.dg_chips.specs.declared.moves.Move.TheVariants.{Lend, Borrow, Fire, Script}
 use Rattle.dg_game.specs.declared.step.Command.{Command}
 use Rattle.dg_game.specs.declared.step.Command.TheVariants.{Call, Commit, Rank}
-use Rattle.dg_game.specs.declared.entry.Plain.TheVariants.{Move as Play, Gift, Look}
-use Rattle.dg_session.specs.declared.line.LineFault.{LineFault}
-use Rattle.dg_session.specs.declared.line.LineFault.TheVariants.{Word, Form, Name, Number}
+use Rattle.dg_game.specs.declared.entry.Plain.TheVariants.{Move as Play, Gift, Look, Claim}
+use Rattle.dg_file.specs.Names.{has, place_of, name_at}
 use Rattle.dg_session.specs.Cuts.{words, items}
-use Rattle.dg_file.specs.Names.{place_of}
-use Rattle.dg_session.specs.Numbers.{integer_of, degree_of}
+use Rattle.dg_session.specs.CommandWords.{IsWellFormed, name_part, number_part, AreGiven}
 
-unfoldable pub only_word : List (List ℕ) → Option (List ℕ)
-only_word [] = None
-only_word ([] ∷ rest) = None
-only_word ((x ∷ xs) ∷ []) = Some (x ∷ xs)
-only_word ((x ∷ xs) ∷ word ∷ rest) = None
+pub record IsSetOf (names : List (List ℕ)) (given : List (List ℕ)) (set : ℕ) : Type 0 where
+  pub are_given : AreGiven names given
+  pub members : (v : ℕ) → v < length names → in_set set v ≡ has given (name_at names v)
+  pub within : IsWithin (length names) (in_set set)
 
-abbrev pub play : Move → Command
-play move = Call (Play move)
+unfoldable pub number_given : List (List ℕ) → List ℤ → List ℕ → ℤ
+number_given [] numbers name = pos 0
+number_given (first ∷ given) [] name = pos 0
+number_given (first ∷ given) (x ∷ numbers) name = cond (bytes_eq first name) x (number_given given numbers name)
 
-abbrev pub at_vertex : (ℕ → Move) → Option ℕ → Result Command LineFault
-at_vertex move None = Err Name
-at_vertex move (Some v) = Ok (play (move v))
+pub record IsScriptOf (names : List (List ℕ)) (given : List (List ℕ)) (numbers : List ℤ) (s : Vector) : Type 0 where
+  pub are_given : AreGiven names given
+  pub size : s.size ≡ length names
+  pub entries : (v : ℕ) → v < length names → at s v ≡ number_given given numbers (name_at names v)
+  pub inside : (v : ℕ) → length names ≤ v → at s v ≡ pos 0
 
-abbrev pub at_named : List (List ℕ) → (ℕ → Move) → Option (List ℕ) → Result Command LineFault
-at_named names move None = Err Form
-at_named names move (Some name) = at_vertex move (place_of names name)
+pub record IsScriptWord (names : List (List ℕ)) (word : List ℕ) (s : Vector) : Type 0 where
+  pub numbers : List ℤ
+  pub spelled : map number_part (items word) ≡ map signed_decimal numbers
+  pub limit : All (λ x. unsigned_abs x ≤ MAX_ENTRY) numbers
+  pub script : IsScriptOf names (map name_part (items word)) numbers s
 
-unfoldable pub lend_of : List (List ℕ) → List (List ℕ) → Result Command LineFault
-lend_of names rest = at_named names Lend (only_word rest)
+abbrev pub IsMoveWord : List (List ℕ) → Move → List ℕ → List ℕ → Type 0
+IsMoveWord names (Lend v) keyword word = (keyword ≡ codes "lend") × (place_of names word ≡ Some v)
+IsMoveWord names (Borrow v) keyword word = (keyword ≡ codes "borrow") × (place_of names word ≡ Some v)
+IsMoveWord names (Fire set) keyword word = (keyword ≡ codes "fire") × IsSetOf names (items word) set
+IsMoveWord names (Script s) keyword word = (keyword ≡ codes "script") × IsScriptWord names word s
 
-unfoldable pub borrow_of : List (List ℕ) → List (List ℕ) → Result Command LineFault
-borrow_of names rest = at_named names Borrow (only_word rest)
+pub record MeansGift (names : List (List ℕ)) (v : ℕ) (x : ℤ) (rest : List (List ℕ)) : Type 0 where
+  pub name : List ℕ
+  pub given : rest ≡ name ∷ signed_decimal x ∷ []
+  pub vertex : place_of names name ≡ Some v
+  pub fits : FitsSigned w64 x
 
-unfoldable pub set_of : List (List ℕ) → ℕ → List (List ℕ) → Option ℕ
-set_of names set [] = Some set
-set_of names set (item ∷ rest) =
-    option_and_then (λ v. cond (in_set set v) None (set_of names (bit_or set (2 ^ v)) rest)) (place_of names item)
+abbrev pub Means : List (List ℕ) → Command → List ℕ → List (List ℕ) → Type 0
+Means names (Call (Play move)) keyword rest = (word : List ℕ) × (rest ≡ word ∷ []) × IsMoveWord names move keyword word
+Means names (Call (Gift v x)) keyword rest = (keyword ≡ codes "gift") × MeansGift names v x rest
+Means names (Call Look) keyword rest = (keyword ≡ codes "look") × (rest ≡ [])
+Means names (Call Claim) keyword rest = (keyword ≡ codes "claim") × (rest ≡ [])
+Means names Commit keyword rest = (keyword ≡ codes "commit") × (rest ≡ [])
+Means names (Rank k) keyword rest = (keyword ≡ codes "rank") × (rest ≡ decimal k ∷ []) × (k < 2 ^ 32)
 
-abbrev pub fire_set : Option ℕ → Result Command LineFault
-fire_set None = Err Name
-fire_set (Some set) = Ok (play (Fire set))
-
-abbrev pub fire_items : List (List ℕ) → Option (List ℕ) → Result Command LineFault
-fire_items names None = Err Form
-fire_items names (Some word) = fire_set (set_of names 0 (items word))
-
-unfoldable pub fire_of : List (List ℕ) → List (List ℕ) → Result Command LineFault
-fire_of names rest = fire_items names (only_word rest)
-
-unfoldable pub bare : Command → List (List ℕ) → Result Command LineFault
-bare command [] = Ok command
-bare command (word ∷ rest) = Err Form
-
-abbrev pub gift_to : Option ℕ → Option ℤ → Result Command LineFault
-gift_to None dollars = Err Name
-gift_to (Some v) None = Err Number
-gift_to (Some v) (Some dollars) = Ok (Call (Gift v dollars))
-
-abbrev pub gift_named : List (List ℕ) → List ℕ → Option (List ℕ) → Result Command LineFault
-gift_named names name None = Err Form
-gift_named names name (Some number) = gift_to (place_of names name) (integer_of number)
-
-unfoldable pub gift_of : List (List ℕ) → List (List ℕ) → Result Command LineFault
-gift_of names [] = Err Form
-gift_of names ([] ∷ rest) = Err Form
-gift_of names ((x ∷ xs) ∷ rest) = gift_named names (x ∷ xs) (only_word rest)
-
-abbrev pub rank_to : Option ℕ → Result Command LineFault
-rank_to None = Err Number
-rank_to (Some k) = Ok (Rank k)
-
-abbrev pub rank_word : Option (List ℕ) → Result Command LineFault
-rank_word None = Err Form
-rank_word (Some number) = rank_to (degree_of number)
-
-unfoldable pub rank_of : List (List ℕ) → Result Command LineFault
-rank_of rest = rank_word (only_word rest)
-
-abbrev pub other_of : List (List ℕ) → List ℕ → List (List ℕ) → Result Command LineFault
-other_of names word rest =
-    cond (bytes_eq word (codes "look")) (bare (Call Look) rest)
-    (cond (bytes_eq word (codes "gift")) (gift_of names rest)
-    (cond (bytes_eq word (codes "commit")) (bare Commit rest)
-    (cond (bytes_eq word (codes "rank")) (rank_of rest)
-    (Err Word))))
-
-unfoldable pub command_of : List (List ℕ) → List ℕ → List (List ℕ) → Result Command LineFault
-command_of names word rest =
-    cond (bytes_eq word (codes "lend")) (lend_of names rest)
-    (cond (bytes_eq word (codes "borrow")) (borrow_of names rest)
-    (cond (bytes_eq word (codes "fire")) (fire_of names rest)
-    (other_of names word rest)))
-
-abbrev pub command_of_words : List (List ℕ) → List (List ℕ) → Result Command LineFault
-command_of_words names [] = Err Word
-command_of_words names (word ∷ rest) = command_of names word rest
-
-unfoldable pub line_of : List (List ℕ) → List ℕ → Result Command LineFault
-line_of names line = command_of_words names (words line)
+pub record IsCommandLine (names : List (List ℕ)) (command : Command) (line : List ℕ) : Type 0 where
+  pub keyword : List ℕ
+  pub rest : List (List ℕ)
+  pub cut : words line ≡ keyword ∷ rest
+  pub formed : IsWellFormed keyword rest
+  pub means : Means names command keyword rest

@@ -1,8 +1,11 @@
 -- The grammar of lines, and the texts of replies and of entries, all of them on lists of bytes.
 pub mod Cuts
 pub mod Numbers
+pub mod CommandWords
 pub mod Commands
+pub mod LineFaults
 pub mod Steps
 pub mod Schedules
+pub mod LineLaws
 pub mod Texts
-pub mod Spelling
+pub mod Read

@@ -1,24 +1,31 @@
 -- Steps: a seat from 1 to 64, one space, and a command line.
---   step_with seat command     == the step of a seat and a command, or why the command is refused
---   step_from names seat rest  == the step of what stands before the first space and what stands after it
---   step_of names line         == the step that the line spells, or why it is refused: the seat is judged first
-use Rattle.std.specs.Prelude.{ℕ, List, Option, Some, None, Result, Ok, Err}
-use Rattle.dg_game.specs.declared.step.Command.{Command}
+--   IsSeated seat text line        == the line is the decimal of a seat, a space and the text
+--   IsStepLine names step line     == the line is that of the step's seat and of a text that spells its command
+--   IsStepFault names fault line   == the line has no seat, or the text after it is refused so
+use Rattle.std.specs.Prelude.{◌≡◌, ℕ, ◌≤◌, List, ◌++◌, codes, decimal}
+use Rattle.dg_game.specs.declared.entry.TheConstants.{MAX_SEATS}
 use Rattle.dg_game.specs.declared.step.Step.{Step}
+use Rattle.dg_session.specs.Commands.{IsCommandLine}
+use Rattle.dg_session.specs.LineFaults.{IsLineFault}
 use Rattle.dg_session.specs.declared.line.LineFault.{LineFault}
-use Rattle.dg_session.specs.declared.line.LineFault.TheVariants.{Seat}
-use Rattle.dg_session.specs.Cuts.{before, after}
-use Rattle.dg_session.specs.Numbers.{seat_of}
-use Rattle.dg_session.specs.Commands.{line_of}
+use Rattle.dg_session.specs.declared.line.LineFault.TheVariants.{Seat, Word, Form, Name, Number}
 
-abbrev pub step_with : ℕ → Result Command LineFault → Result Step LineFault
-step_with seat (Err fault) = Err fault
-step_with seat (Ok command) = Ok (record { seat = seat; command = command })
+pub record IsSeated (seat : ℕ) (text : List ℕ) (line : List ℕ) : Type 0 where
+  pub whole : line ≡ decimal seat ++ codes " " ++ text
+  pub first : 1 ≤ seat
+  pub last : seat ≤ MAX_SEATS
 
-abbrev pub step_from : List (List ℕ) → Option ℕ → Option (List ℕ) → Result Step LineFault
-step_from names None rest = Err Seat
-step_from names (Some seat) None = Err Seat
-step_from names (Some seat) (Some rest) = step_with seat (line_of names rest)
+pub record IsStepLine (names : List (List ℕ)) (step : Step) (line : List ℕ) : Type 0 where
+  pub text : List ℕ
+  pub seated : IsSeated step.seat text line
+  pub means : IsCommandLine names step.command text
 
-unfoldable pub step_of : List (List ℕ) → List ℕ → Result Step LineFault
-step_of names line = step_from names (seat_of (before 32 line)) (after 32 line)
+pub record IsTextFault (names : List (List ℕ)) (fault : LineFault) (line : List ℕ) : Type 0 where
+  pub seat : ℕ
+  pub text : List ℕ
+  pub seated : IsSeated seat text line
+  pub refused : IsLineFault names fault text
+
+abbrev pub IsStepFault : List (List ℕ) → LineFault → List ℕ → Type 0
+IsStepFault names Seat line = (seat : ℕ) (text : List ℕ) → ¬ IsSeated seat text line
+IsStepFault names fault line = IsTextFault names fault line

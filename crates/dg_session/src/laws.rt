@@ -1,8 +1,18 @@
 //! Laws over what lines spell, each the contract of a function that does nothing.
-ghost use Rattle.dg_session.specs.Spelling.{StepsAreSpelled};
+ghost use Rattle.dg_session.specs.LineLaws.{LinesHaveOneMeaning, StepsHaveOneMeaning, NumeralsAreDecimals};
 
-/// The lines that are accepted as a step are just those that are spelled as its seat, its command word and what belongs
-/// to it, with one space between two.
-pub fn steps_are_spelled()
-    ensures { StepsAreSpelled }
+/// Each line spells a command or has a fault, and not both; it spells no two commands and has no two faults.
+pub fn lines_have_one_meaning()
+    ensures { LinesHaveOneMeaning }
+{}
+
+/// Each line spells a step or has a fault, and not both; it spells no two steps and has no two faults.
+pub fn steps_have_one_meaning()
+    ensures { StepsHaveOneMeaning }
+{}
+
+/// The decimals of whole numbers are `0` and those of a digit from 1 to 9 and further digits, with or without a `-` before
+/// them; and none is that of two numbers.
+pub fn numerals_are_decimals()
+    ensures { NumeralsAreDecimals }
 {}

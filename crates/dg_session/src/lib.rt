@@ -12,7 +12,7 @@ mod steps_file;
 mod text;
 
 pub use history::history_lines;
-pub use laws::steps_are_spelled;
+pub use laws::{lines_have_one_meaning, numerals_are_decimals, steps_have_one_meaning};
 pub use line::{LineFault, parse_line, parse_step};
 pub use number::{degree, natural};
 pub use steps_file::{StepsFault, parse_steps};

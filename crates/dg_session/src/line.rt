@@ -1,13 +1,15 @@
 //! Lines: what a line spells, or why it is refused.
-ghost use Rattle.std.specs.Prelude.{◌≡◌};
+ghost use Rattle.std.specs.Prelude.{◌≡◌, IfOk, IfErr, codes};
 ghost use Rattle.std.specs.Option.{option_copied};
 ghost use Rattle.dg_session.specs.Cuts.{items, words_after};
-ghost use Rattle.dg_session.specs.Commands.{only_word, lend_of, borrow_of, set_of, fire_of, bare, gift_of, rank_of, line_of};
-ghost use Rattle.dg_session.specs.Steps.{step_of};
+ghost use Rattle.dg_session.specs.Commands.{IsCommandLine, IsScriptWord};
+ghost use Rattle.dg_session.specs.LineFaults.{IsLineFault};
+ghost use Rattle.dg_session.specs.Steps.{IsStepLine, IsStepFault};
+ghost use Rattle.dg_session.specs.Read.{only_word, lend_of, borrow_of, set_of, fire_of, bare, gift_of, rank_of, command_of, IsRead, IsRefusedPairs};
 
 use crate::cuts::cut;
-use crate::number::{degree, integer, seat};
-use dg_chips::Move;
+use crate::number::{degree, entry, integer, seat};
+use dg_chips::{Move, Script};
 use dg_file::Names;
 use dg_game::{Command, Plain, Step};
 use dg_graph::{contains, with_vertex};
@@ -36,9 +38,9 @@ pub enum LineFault {
 /// The step that a line spells: a seat from 1 to 64, one space, and a command line.
 ///
 /// Refused with `Seat` first, then as the command line is: with `Word`, `Form`, `Name`, `Number`.
-#[tactic(auto, unfolding(crate::specs::Steps::step_of))]
 pub fn parse_step(line: &[u8], names: &Names) -> Result<Step, LineFault>
-    ensures { result ≡ step_of names.now line.now }
+    ensures step { IfOk result (λ step. IsStepLine names.now step line.now) }
+    ensures refused { IfErr result (λ fault. IsStepFault names.now fault line.now) }
 {
     let (text, rest) = cut(line, b' ');
     let seat = seat(text).ok_or(LineFault::Seat)?;
@@ -50,11 +52,23 @@ pub fn parse_step(line: &[u8], names: &Names) -> Result<Step, LineFault>
 /// The command that a line spells: a command word and what belongs to it.
 ///
 /// Refused with `Word` where the first word is no command, then with `Form`, then with `Name`, then with `Number`.
-#[tactic(auto, using(crate::proofs::Cutting::pieces_cut), unfolding(crate::specs::Commands::line_of, crate::specs::Commands::command_of))]
 pub fn parse_line(line: &[u8], names: &Names) -> Result<Command, LineFault>
-    ensures { result ≡ line_of names.now line.now }
+    ensures command { IfOk result (λ command. IsCommandLine names.now command line.now) }
+    ensures refused { IfErr result (λ fault. IsLineFault names.now fault line.now) }
 {
     let (word, rest) = cut(line, b' ');
+    if word == b"script".as_slice() {
+        script(rest, names)
+    } else {
+        other_command(word, rest, names)
+    }
+}
+
+/// The command of a first word, which is not `script`, and of what follows it.
+#[tactic(auto, unfolding(crate::specs::Read::command_of))]
+fn other_command(word: &[u8], rest: Option<&[u8]>, names: &Names) -> Result<Command, LineFault>
+    ensures { result ≡ command_of names.now word.now (words_after (option_copied rest.entry)) }
+{
     if word == b"lend".as_slice() {
         lend(rest, names)
     } else if word == b"borrow".as_slice() {
@@ -65,6 +79,8 @@ pub fn parse_line(line: &[u8], names: &Names) -> Result<Command, LineFault>
         bare(rest, Command::Call(Plain::Look))
     } else if word == b"gift".as_slice() {
         gift(rest, names)
+    } else if word == b"claim".as_slice() {
+        bare(rest, Command::Call(Plain::Claim))
     } else if word == b"commit".as_slice() {
         bare(rest, Command::Commit)
     } else if word == b"rank".as_slice() {
@@ -74,7 +90,7 @@ pub fn parse_line(line: &[u8], names: &Names) -> Result<Command, LineFault>
     }
 }
 
-#[tactic(auto, unfolding(crate::specs::Commands::lend_of))]
+#[tactic(auto, unfolding(crate::specs::Read::lend_of))]
 fn lend(rest: Option<&[u8]>, names: &Names) -> Result<Command, LineFault>
     ensures { result ≡ lend_of names.now (words_after (option_copied rest.entry)) }
 {
@@ -83,7 +99,7 @@ fn lend(rest: Option<&[u8]>, names: &Names) -> Result<Command, LineFault>
     Ok(Command::Call(Plain::Move(Move::Lend(v))))
 }
 
-#[tactic(auto, unfolding(crate::specs::Commands::borrow_of))]
+#[tactic(auto, unfolding(crate::specs::Read::borrow_of))]
 fn borrow(rest: Option<&[u8]>, names: &Names) -> Result<Command, LineFault>
     ensures { result ≡ borrow_of names.now (words_after (option_copied rest.entry)) }
 {
@@ -92,7 +108,7 @@ fn borrow(rest: Option<&[u8]>, names: &Names) -> Result<Command, LineFault>
     Ok(Command::Call(Plain::Move(Move::Borrow(v))))
 }
 
-#[tactic(auto, unfolding(crate::specs::Commands::fire_of))]
+#[tactic(auto, unfolding(crate::specs::Read::fire_of))]
 fn fire(rest: Option<&[u8]>, names: &Names) -> Result<Command, LineFault>
     ensures { result ≡ fire_of names.now (words_after (option_copied rest.entry)) }
 {
@@ -101,8 +117,16 @@ fn fire(rest: Option<&[u8]>, names: &Names) -> Result<Command, LineFault>
     Ok(Command::Call(Plain::Move(Move::Fire(set))))
 }
 
+fn script(rest: Option<&[u8]>, names: &Names) -> Result<Command, LineFault>
+    ensures { IsRead names.now (codes "script") (words_after (option_copied rest.entry)) result }
+{
+    let word = single_word(rest).ok_or(LineFault::Form)?;
+    let script = named_script(word, names)?;
+    Ok(Command::Call(Plain::Move(Move::Script(script))))
+}
+
 /// The command, where nothing follows the command word.
-#[tactic(auto, using(crate::proofs::Cutting::pieces_cut), unfolding(crate::specs::Commands::bare))]
+#[tactic(auto, using(crate::proofs::Cutting::pieces_cut), unfolding(crate::specs::Read::bare))]
 fn bare(rest: Option<&[u8]>, command: Command) -> Result<Command, LineFault>
     ensures { result ≡ bare command (words_after (option_copied rest.entry)) }
 {
@@ -112,7 +136,7 @@ fn bare(rest: Option<&[u8]>, command: Command) -> Result<Command, LineFault>
     }
 }
 
-#[tactic(auto, using(crate::proofs::Cutting::pieces_cut), unfolding(crate::specs::Commands::gift_of))]
+#[tactic(auto, using(crate::proofs::Cutting::pieces_cut), unfolding(crate::specs::Read::gift_of))]
 fn gift(rest: Option<&[u8]>, names: &Names) -> Result<Command, LineFault>
     ensures { result ≡ gift_of names.now (words_after (option_copied rest.entry)) }
 {
@@ -126,7 +150,7 @@ fn gift(rest: Option<&[u8]>, names: &Names) -> Result<Command, LineFault>
     Ok(Command::Call(Plain::Gift(v, dollars)))
 }
 
-#[tactic(auto, unfolding(crate::specs::Commands::rank_of))]
+#[tactic(auto, unfolding(crate::specs::Read::rank_of))]
 fn rank(rest: Option<&[u8]>) -> Result<Command, LineFault>
     ensures { result ≡ rank_of (words_after (option_copied rest.entry)) }
 {
@@ -136,7 +160,7 @@ fn rank(rest: Option<&[u8]>) -> Result<Command, LineFault>
 }
 
 /// The one word of what follows the command word, where there is just one and it is not empty.
-#[tactic(auto, using(crate::proofs::Cutting::pieces_cut), unfolding(crate::specs::Commands::only_word))]
+#[tactic(auto, using(crate::proofs::Cutting::pieces_cut), unfolding(crate::specs::Read::only_word))]
 fn single_word(rest: Option<&[u8]>) -> Option<&[u8]>
     ensures { option_copied result ≡ only_word (words_after (option_copied rest.entry)) }
 {
@@ -148,10 +172,10 @@ fn single_word(rest: Option<&[u8]>) -> Option<&[u8]>
 }
 
 /// The set of the vertices that the items name, where each item names one that no earlier item names.
-#[tactic(auto, using(crate::proofs::Cutting::pieces_cut), unfolding(crate::specs::Commands::set_of))]
 fn named_set(text: &[u8], names: &Names) -> Option<u16>
-    ensures { result ≡ set_of names.now 0 (items text.now) }
+    ensures { result ≡ set_of names.now (items text.now) }
 {
+    let _size = names.len();
     let mut set = 0;
     let mut rest = Some(text);
     'items: while let Some(text) = rest {
@@ -164,4 +188,40 @@ fn named_set(text: &[u8], names: &Names) -> Option<u16>
         rest = after;
     }
     Some(set)
+}
+
+/// The script of the items, each the name of a vertex that no earlier item names, `=` and a number.
+///
+/// Refused with `Name` before `Number`.
+fn named_script(text: &[u8], names: &Names) -> Result<Script, LineFault>
+    ensures script { IfOk result (λ script. IsScriptWord names.now text.now script) }
+    ensures refused { IfErr result (λ fault. IsRefusedPairs names.now text.now fault) }
+{
+    let size = names.len();
+    let mut given = 0;
+    let mut entries = [0; 16];
+    let mut are_spelled = true;
+    let mut rest = Some(text);
+    'items: while let Some(text) = rest {
+        let (item, after) = cut(text, b',');
+        let (name, number) = cut(item, b'=');
+        let Some(v) = names.place(name) else {
+            return Err(LineFault::Name);
+        };
+        let v = usize::from(v);
+        if contains(given, v) {
+            return Err(LineFault::Name);
+        }
+        given = with_vertex(given, v);
+        let entry = entry(number.unwrap_or(&[]));
+        are_spelled &= entry.is_some();
+        entries[v] = entry.unwrap_or(0);
+        rest = after;
+    }
+    if !are_spelled {
+        return Err(LineFault::Number);
+    }
+    let script = Script::sized(&entries[..size]);
+    let _size = script.size();
+    Ok(script)
 }

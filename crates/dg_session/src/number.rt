@@ -3,8 +3,9 @@ ghost use Rattle.std.specs.Prelude.{◌≡◌, ◌≢◌, ℕ, ◌<◌, ◌^◌,
 ghost use Rattle.std.specs.Prelude.{ℤ, FitsSigned};
 ghost use Rattle.std.specs.Fmt.{signed_decimal};
 ghost use Rattle.std.specs.Int.{w64};
-ghost use Rattle.dg_session.specs.Numbers.{seat_of, integer_of, degree_of};
+ghost use Rattle.dg_session.specs.Numbers.{seat_of, integer_of, entry_of, degree_of};
 
+use dg_chips::MAX_ENTRY;
 use itoa::Buffer;
 use std::str;
 
@@ -39,6 +40,19 @@ pub fn integer(text: &[u8]) -> Option<i64>
     };
     if Buffer::new().format(whole).as_bytes() == text {
         Some(whole)
+    } else {
+        None
+    }
+}
+
+/// The entry of a script, within 1,000,000,000, whose decimal the text is.
+#[tactic(auto, unfolding(crate::specs::Numbers::entry_of))]
+pub fn entry(text: &[u8]) -> Option<i64>
+    ensures { result ≡ entry_of text.now }
+{
+    let number = integer(text)?;
+    if number.unsigned_abs() <= MAX_ENTRY {
+        Some(number)
     } else {
         None
     }

@@ -1,80 +1,237 @@
 //! What lines spell.
 
-use crate::tests::triangle;
-use crate::{LineFault, StepsFault, parse_step, parse_steps};
-use dg_chips::Move;
+use crate::tests::{named, triangle};
+use crate::{LineFault, StepsFault, parse_line, parse_step, parse_steps};
+use dg_chips::{Move, Script};
 use dg_game::{Command, Plain, Step};
+use dg_graph::Graph;
 use std::test::Fail;
 
-fn step(seat: u8, play: Move) -> Result<Step, LineFault> {
-    call(seat, Plain::Move(play))
+fn play(play: Move) -> Command {
+    Command::Call(Plain::Move(play))
 }
 
-fn call(seat: u8, plain: Plain) -> Result<Step, LineFault> {
-    let command = Command::Call(plain);
-    Ok(Step { seat, command })
-}
-
-fn commit(seat: u8) -> Result<Step, LineFault> {
-    let command = Command::Commit;
-    Ok(Step { seat, command })
-}
-
-fn rank(seat: u8, k: u32) -> Result<Step, LineFault> {
-    let command = Command::Rank(k);
-    Ok(Step { seat, command })
+fn gift(v: u8, dollars: i64) -> Command {
+    Command::Call(Plain::Gift(v, dollars))
 }
 
 #[test]
-fn lines_are_rank_tests(rt: HostRuntime) -> Result<(), Fail> {
+fn lines_are_commands(rt: HostRuntime) -> Result<(), Fail> {
     let names = triangle(rt.alloc())?;
+    let graph = Graph::new(3, &[(0, 1, 1), (1, 2, 1)])?;
+    let uneven = Script::new(&graph, &[1, 0, -2])?;
+    let far = Script::new(&graph, &[1_000_000_000, 0, -1_000_000_000])?;
+    let none = Script::new(&graph, &[0, 0, 0])?;
     let table = [
-        ("1 rank 0", rank(1, 0)),
-        ("64 rank 4294967295", rank(64, u32::MAX)),
-        ("2 rank 631", rank(2, 631)),
-        ("1 rank 4294967296", Err(LineFault::Number)),
-        ("1 rank 9223372036854775808", Err(LineFault::Number)),
-        ("1 rank -1", Err(LineFault::Number)),
-        ("1 rank 01", Err(LineFault::Number)),
-        ("1 rank +1", Err(LineFault::Number)),
-        ("1 rank a", Err(LineFault::Number)),
-        ("1 rank", Err(LineFault::Form)),
-        ("1 rank ", Err(LineFault::Form)),
-        ("1 rank 1 2", Err(LineFault::Form)),
-        ("1 rank 1 ", Err(LineFault::Form)),
-        ("1 ranks 1", Err(LineFault::Word)),
+        ("lend a", play(Move::Lend(0))),
+        ("borrow c", play(Move::Borrow(2))),
+        ("fire a,b", play(Move::Fire(3))),
+        ("fire c,a", play(Move::Fire(5))),
+        ("script a=1,c=-2", play(Move::Script(uneven))),
+        ("script c=-2,a=1", play(Move::Script(uneven))),
+        ("script c=-1000000000,a=1000000000", play(Move::Script(far))),
+        ("script b=0", play(Move::Script(none))),
+        ("gift b 1", gift(1, 1)),
+        ("gift a -5", gift(0, -5)),
+        ("gift c 0", gift(2, 0)),
+        ("gift a 9223372036854775807", gift(0, i64::MAX)),
+        ("gift a -9223372036854775808", gift(0, i64::MIN)),
+        ("look", Command::Call(Plain::Look)),
+        ("claim", Command::Call(Plain::Claim)),
+        ("commit", Command::Commit),
+        ("rank 0", Command::Rank(0)),
+        ("rank 631", Command::Rank(631)),
+        ("rank 4294967295", Command::Rank(4_294_967_295)),
     ];
     for (line, want) in table {
-        assert!(rt; parse_step(line.as_bytes(), &names) == want, "at {line:?}");
+        assert!(rt;
+            parse_line(line.as_bytes(), &names) == Ok(want),
+            "at {line:?}"
+        );
+    }
+    let names = named(rt.alloc(), &LETTERS)?;
+    let line = b"script p=16,b=2,c=3,d=4,e=5,f=6,g=7,h=8,i=9,j=10,k=11,l=12,m=13,n=14,o=15,a=1";
+    let numbers = [1, 2, 3, 4, 5, 6, 7, 8, 9, 10, 11, 12, 13, 14, 15, 16];
+    let full = Script::new(&Graph::new(16, &PATH)?, &numbers)?;
+    assert!(rt; parse_line(line, &names) == Ok(play(Move::Script(full))));
+    let line = b"fire b,a,c,d,e,f,g,h,i,j,k,l,m,n,o,p";
+    assert!(rt; parse_line(line, &names) == Ok(play(Move::Fire(65535))));
+    Ok(())
+}
+
+static LETTERS: [&str; 16] = [
+    "a", "b", "c", "d", "e", "f", "g", "h", "i", "j", "k", "l", "m", "n", "o", "p",
+];
+
+// A path through 16 vertices.
+static PATH: [(u8, u8, u8); 15] = [
+    (0, 1, 1),
+    (1, 2, 1),
+    (2, 3, 1),
+    (3, 4, 1),
+    (4, 5, 1),
+    (5, 6, 1),
+    (6, 7, 1),
+    (7, 8, 1),
+    (8, 9, 1),
+    (9, 10, 1),
+    (10, 11, 1),
+    (11, 12, 1),
+    (12, 13, 1),
+    (13, 14, 1),
+    (14, 15, 1),
+];
+
+#[test]
+fn lines_are_refused(rt: HostRuntime) -> Result<(), Fail> {
+    let names = triangle(rt.alloc())?;
+    for (line, fault) in &REFUSED {
+        let want = Err(*fault);
+        assert!(rt; parse_line(line.as_bytes(), &names) == want, "at {line:?}");
+    }
+    let table = [
+        (b"\xff".as_slice(), LineFault::Word),
+        (b"lend \xff".as_slice(), LineFault::Name),
+        (b"fire a,\xff".as_slice(), LineFault::Name),
+        (b"script \xff=1".as_slice(), LineFault::Name),
+        (b"script a=\xff".as_slice(), LineFault::Number),
+        (b"gift a \xff".as_slice(), LineFault::Number),
+        (b"rank \xff".as_slice(), LineFault::Number),
+    ];
+    for (line, fault) in table {
+        assert!(rt; parse_line(line, &names) == Err(fault));
+    }
+    let long = [
+        ("", "a", LineFault::Word),
+        ("lend ", "a", LineFault::Name),
+        ("fire ", "a,", LineFault::Name),
+        ("script ", "a=1,", LineFault::Name),
+        ("script a=", "1", LineFault::Number),
+        ("gift a ", "1", LineFault::Number),
+        ("rank ", "1", LineFault::Number),
+        ("look", " ", LineFault::Form),
+    ];
+    for (head, part, fault) in long {
+        let mut line = Vec::new(rt.alloc());
+        line.extend_from_slice(head.as_bytes())?;
+        for _ in 0..100_000 {
+            line.extend_from_slice(part.as_bytes())?;
+        }
+        assert!(rt; parse_line(&line, &names) == Err(fault), "at {head:?}");
     }
     Ok(())
 }
 
+// Lines that are no commands, and why.
+static REFUSED: [(&str, LineFault); 86] = [
+    ("", LineFault::Word),
+    (" ", LineFault::Word),
+    ("Lend a", LineFault::Word),
+    (" lend a", LineFault::Word),
+    ("lend\ta", LineFault::Word),
+    ("ranks 1", LineFault::Word),
+    ("give a 1", LineFault::Word),
+    ("look\r", LineFault::Word),
+    ("lend", LineFault::Form),
+    ("lend ", LineFault::Form),
+    ("lend  a", LineFault::Form),
+    ("lend a b", LineFault::Form),
+    ("lend z ", LineFault::Form),
+    ("fire", LineFault::Form),
+    ("fire ", LineFault::Form),
+    ("fire a b", LineFault::Form),
+    ("script", LineFault::Form),
+    ("script ", LineFault::Form),
+    ("script a=1 c=2", LineFault::Form),
+    ("gift", LineFault::Form),
+    ("gift a", LineFault::Form),
+    ("gift a ", LineFault::Form),
+    ("gift a 1 ", LineFault::Form),
+    ("gift a 1 2", LineFault::Form),
+    ("gift  1", LineFault::Form),
+    ("gift z  01", LineFault::Form),
+    ("look ", LineFault::Form),
+    ("look a", LineFault::Form),
+    ("claim ", LineFault::Form),
+    ("claim a", LineFault::Form),
+    ("commit ", LineFault::Form),
+    ("commit a", LineFault::Form),
+    ("rank", LineFault::Form),
+    ("rank ", LineFault::Form),
+    ("rank 1 2", LineFault::Form),
+    ("rank 1 ", LineFault::Form),
+    ("lend z", LineFault::Name),
+    ("lend a,b", LineFault::Name),
+    ("lend a\r", LineFault::Name),
+    ("borrow A", LineFault::Name),
+    ("fire a,a", LineFault::Name),
+    ("fire a,", LineFault::Name),
+    ("fire ,a", LineFault::Name),
+    ("fire a,,b", LineFault::Name),
+    ("fire a=1", LineFault::Name),
+    ("script z", LineFault::Name),
+    ("script a=01,z=1", LineFault::Name),
+    ("script a,z", LineFault::Name),
+    ("script a=1,a=1", LineFault::Name),
+    ("script a,b,a", LineFault::Name),
+    ("script a=1,", LineFault::Name),
+    ("script ,a=1", LineFault::Name),
+    ("script =1", LineFault::Name),
+    ("gift z 01", LineFault::Name),
+    ("gift a,b 1", LineFault::Name),
+    ("script a", LineFault::Number),
+    ("script a=", LineFault::Number),
+    ("script b,a=1", LineFault::Number),
+    ("script a=1=2", LineFault::Number),
+    ("script a==1", LineFault::Number),
+    ("script a=1000000001", LineFault::Number),
+    ("script a=-1000000001", LineFault::Number),
+    ("script a=9223372036854775808", LineFault::Number),
+    ("script a=1,b=01", LineFault::Number),
+    ("script a=00", LineFault::Number),
+    ("script a=-0", LineFault::Number),
+    ("script a=+1", LineFault::Number),
+    ("script a=1\r", LineFault::Number),
+    ("gift a 01", LineFault::Number),
+    ("gift a 00", LineFault::Number),
+    ("gift a -01", LineFault::Number),
+    ("gift a -0", LineFault::Number),
+    ("gift a +1", LineFault::Number),
+    ("gift a -", LineFault::Number),
+    ("gift a one", LineFault::Number),
+    ("gift a 1\r", LineFault::Number),
+    ("gift a 9223372036854775808", LineFault::Number),
+    ("gift a -9223372036854775809", LineFault::Number),
+    ("rank -1", LineFault::Number),
+    ("rank 01", LineFault::Number),
+    ("rank 00", LineFault::Number),
+    ("rank -0", LineFault::Number),
+    ("rank +1", LineFault::Number),
+    ("rank a", LineFault::Number),
+    ("rank 4294967296", LineFault::Number),
+    ("rank 9223372036854775808", LineFault::Number),
+];
+
 #[test]
-fn lines_are_steps_or_refused(rt: HostRuntime) -> Result<(), Fail> {
+fn lines_are_steps(rt: HostRuntime) -> Result<(), Fail> {
     let names = triangle(rt.alloc())?;
+    let command = play(Move::Lend(0));
     let table = [
-        ("1 fire a,b", step(1, Move::Fire(3))),
-        ("64 borrow c", step(64, Move::Borrow(2))),
-        ("10 lend a", step(10, Move::Lend(0))),
-        ("1 fire c", step(1, Move::Fire(4))),
-        ("1 fire a,a", Err(LineFault::Name)),
-        ("1 fire", Err(LineFault::Form)),
-        ("1 fire ", Err(LineFault::Form)),
-        ("1 fire a,", Err(LineFault::Name)),
-        ("1 fire a b", Err(LineFault::Form)),
-        ("1 lend  a", Err(LineFault::Form)),
-        ("1 Lend a", Err(LineFault::Word)),
-        ("1 lend a b", Err(LineFault::Form)),
+        ("1 lend a", Ok(Step { seat: 1, command })),
+        ("10 lend a", Ok(Step { seat: 10, command })),
+        ("64 lend a", Ok(Step { seat: 64, command })),
         ("1 lend z", Err(LineFault::Name)),
-        ("1 lend a\r", Err(LineFault::Name)),
+        ("1 rank -1", Err(LineFault::Number)),
+        ("1 lend", Err(LineFault::Form)),
         ("1 ", Err(LineFault::Word)),
         ("1  lend a", Err(LineFault::Word)),
         ("0 lend a", Err(LineFault::Seat)),
         ("65 lend a", Err(LineFault::Seat)),
         ("01 lend a", Err(LineFault::Seat)),
         ("+1 lend a", Err(LineFault::Seat)),
+        ("-1 lend a", Err(LineFault::Seat)),
         (" lend a", Err(LineFault::Seat)),
+        ("lend a", Err(LineFault::Seat)),
         ("1", Err(LineFault::Seat)),
         ("", Err(LineFault::Seat)),
     ];
@@ -83,61 +240,6 @@ fn lines_are_steps_or_refused(rt: HostRuntime) -> Result<(), Fail> {
     }
     Ok(())
 }
-
-#[test]
-fn lines_are_looks_gifts_and_commits(rt: HostRuntime) -> Result<(), Fail> {
-    let names = triangle(rt.alloc())?;
-    let table = [
-        ("1 look", call(1, Plain::Look)),
-        ("1 gift b 1", call(1, Plain::Gift(1, 1))),
-        ("1 gift a -5", call(1, Plain::Gift(0, -5))),
-        ("1 gift c 0", call(1, Plain::Gift(2, 0))),
-        (
-            "2 gift a 9223372036854775807",
-            call(2, Plain::Gift(0, i64::MAX)),
-        ),
-        (
-            "2 gift a -9223372036854775808",
-            call(2, Plain::Gift(0, i64::MIN)),
-        ),
-        ("64 commit", commit(64)),
-    ];
-    for (line, want) in table {
-        assert!(rt; parse_step(line.as_bytes(), &names) == want, "at {line:?}");
-    }
-    for (line, fault) in &REFUSED {
-        let want = Err(*fault);
-        assert!(rt; parse_step(line.as_bytes(), &names) == want, "at {line:?}");
-    }
-    Ok(())
-}
-
-// Lines that are no looks, gifts or commits, and why.
-static REFUSED: [(&str, LineFault); 23] = [
-    ("1 look ", LineFault::Form),
-    ("1 look a", LineFault::Form),
-    ("1 gift a 9223372036854775808", LineFault::Number),
-    ("1 gift a -9223372036854775809", LineFault::Number),
-    ("1 gift a 01", LineFault::Number),
-    ("1 gift a -01", LineFault::Number),
-    ("1 gift a -0", LineFault::Number),
-    ("1 gift a +1", LineFault::Number),
-    ("1 gift a -", LineFault::Number),
-    ("1 gift a one", LineFault::Number),
-    ("1 gift z 01", LineFault::Name),
-    ("1 gift a,b 1", LineFault::Name),
-    ("1 gift", LineFault::Form),
-    ("1 gift a", LineFault::Form),
-    ("1 gift a ", LineFault::Form),
-    ("1 gift a 1 ", LineFault::Form),
-    ("1 gift a 1 2", LineFault::Form),
-    ("1 gift  1", LineFault::Form),
-    ("1 gift z  01", LineFault::Form),
-    ("1 commit ", LineFault::Form),
-    ("1 commit a", LineFault::Form),
-    ("1 give a 1", LineFault::Word),
-    ("1 ", LineFault::Word),
-];
 
 #[test]
 fn a_file_is_its_lines(rt: HostRuntime) -> Result<(), Fail> {
