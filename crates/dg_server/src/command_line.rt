@@ -258,9 +258,11 @@ or borrows one along each, or a set of vertices lends at once, or each vertex le
     1 fire a,c
     2 script a=2,b=-1
 
-A seat may also claim that nobody is in debt (`1 claim`), look at the amounts, give a vertex some dollars, or commit: reckon whether the table that it looked at
-last is winnable, and enter the verdict. Once a gift was accepted, an earlier look is stale. A rank test is entered like a commit:
+A seat may also claim that nobody is in debt, look at the amounts, give a vertex some dollars, or commit: reckon whether
+the table that it looked at last is winnable, and enter the verdict. Once a gift was accepted, an earlier look is stale.
+A rank test is entered like a commit:
 
+    1 claim
     1 look
     2 gift b 1
     1 commit
