@@ -1,4 +1,5 @@
--- What a rehearsal, a judgement and a rank test print, and when they are refused; and the exit statuses.
+-- What is known of files; what a rehearsal, a judgement and a rank test print, and when they are refused; and how runs end.
+pub mod Held
 pub mod Rehearsals
 pub mod Judgements
 pub mod RankTests

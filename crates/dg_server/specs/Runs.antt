@@ -1,45 +1,120 @@
--- Runs of the program: what is printed, and how a run ends. Output stands for its bytes, where those are known.
---   IsAnswer task text      == the text is the answer to the task, for some table, and for some bytes of steps
---   IsText asked text       == the text is the answer to the task that is asked for, or the text of a call for help
---   Performs asked old new  == the output has grown by a text of what is asked for
---   Succeeds old new        == the output has grown by a text of something that may be asked for
---   Fails n old new         == n is the status of a fault, and the output is as it was, unless that fault is its own
-use Rattle.std.specs.Prelude.{◌≡◌, ◌≢◌, ℕ, List, Option, string_bytes}
+-- Runs of the program: what is printed, when nothing is, and how a run ends. `held` tells what is known of the file of each
+-- name, and output stands for its bytes, where those are known.
+--   DescribesTable h o names      == bytes that the file h may hold are a table file, of the opening o with these names
+--   IsAnswer held task text       == the text is the answer to the task, for what the files hold that it names
+--   IsAnswerOn held file P        == the file of that name describes a table, and P holds of its opening and names
+--   IsOfSteps h P                 == P holds of the lines of bytes that the file h may hold
+--   RefusesTable h fault          == bytes that the file h may hold are refused as a table file, with that fault
+--   file_of task                  == the name of the task's table file
+--   RefusesItsTable h fault       == the table file h is not read, or it is refused
+--   RefusesOn held o names task fault == the task is refused so on the table o with these names: STEPS is not read, or it is
+--                                    refused; or the test is past the limits, or the dual is no divisor
+--   RefusesTask held task fault   == the table file is refused so, or it is good, and the task is refused so on its table
+--   IsText held asked text        == the text is the answer to the task that is asked for, or the text of a call for help
+--   Refuses held asked fault      == what is asked for is refused so; a call for help never is
+--   Performs held asked old new   == the output has grown by a text of what is asked for
+--   Succeeds held old new         == the output has grown by a text of something that may be asked for
+--   IsCause held fault            == the command line is refused, or memory, or the output takes no more, or something that may
+--                                    be asked for is refused so
+--   Fails held n old new          == n is the status of a fault that has its cause, and the output is as it was, unless that
+--                                    fault is its own
+use Rattle.std.specs.Prelude.{◌≡◌, ◌≢◌, ◌⊎◌, ℕ, List, Option, string_bytes, ⊤}
 use Rattle.std.specs.Io.KnownBytes.{Appends, Keeps}
-use Rattle.dg_file.specs.declared.table_file.TableFile.{TableFile}
+use Rattle.dg_chips.specs.Opening.{Opening}
+use Rattle.dg_file.specs.TableFiles.{IsTableFile}
+use Rattle.dg_file.specs.FileFaults.{RefusesFile}
+use Rattle.dg_file.specs.declared.fault.FileFault.{FileFault}
 use Rattle.dg_session.specs.Cuts.{lines}
+use Rattle.dg_server.specs.Held.{Held, IsHeld, RefusesHeld}
 use Rattle.dg_server.specs.Rehearsals.{IsPrinted}
 use Rattle.dg_server.specs.Judgements.{IsJudgement}
-use Rattle.dg_server.specs.RankTests.{IsRankAnswer, IsRiemannRoch}
+use Rattle.dg_server.specs.RankTests.{IsRankAnswer, IsRiemannRoch, RefusesRank, RefusesRiemannRoch}
+use Rattle.dg_server.specs.Refusals.{RefusesSchedule}
 use Rattle.dg_server.specs.Status.{status}
 use Rattle.dg_server.specs.declared.command_line.Asked.{Asked}
 use Rattle.dg_server.specs.declared.command_line.Asked.TheVariants.{Task as Asks, Text}
 use Rattle.dg_server.specs.declared.command_line.Task.{Task}
 use Rattle.dg_server.specs.declared.command_line.Task.TheVariants.{Rehearse, Judge, Rank, RiemannRoch}
 use Rattle.dg_server.specs.declared.fault.Fault.{Fault}
-use Rattle.dg_server.specs.declared.fault.Fault.TheVariants.{Write}
+use Rattle.dg_server.specs.declared.fault.Fault.TheVariants.{CommandLine, Words, Source, File, OutOfMemory, Write}
 
-abbrev pub IsAnswer : Task → List ℕ → Type 0
-IsAnswer (Rehearse file steps) text =
-    (table : TableFile) × (bytes : List ℕ) × IsPrinted table.start table.names (lines bytes) text
-IsAnswer (Judge file) text = (table : TableFile) × IsJudgement table.start table.names text
-IsAnswer (Rank file k) text = (table : TableFile) × IsRankAnswer table.start k table.names text
-IsAnswer (RiemannRoch file) text = (table : TableFile) × IsRiemannRoch table.start text
+pub record DescribesTable (h : Held) (o : Opening) (names : List (List ℕ)) : Type 0 where
+  pub bytes : List ℕ
+  pub held : IsHeld h bytes
+  pub table : IsTableFile bytes o names
 
-abbrev pub IsText : Asked → List ℕ → Type 0
-IsText (Asks task) text = IsAnswer task text
-IsText (Text help) text = text ≡ string_bytes help
+pub record IsAnswerOn (held : List ℕ → Held) (file : List ℕ) (P : Opening → List (List ℕ) → Type 0) : Type 0 where
+  pub opening : Opening
+  pub names : List (List ℕ)
+  pub table : DescribesTable (held file) opening names
+  pub answers : P opening names
 
-pub record Performs (asked : Asked) (old new : Option (List ℕ)) : Type 0 where
+pub record IsOfSteps (h : Held) (P : List (List ℕ) → Type 0) : Type 0 where
+  pub bytes : List ℕ
+  pub held : IsHeld h bytes
+  pub spelled : P (lines bytes)
+
+abbrev pub IsAnswer : (List ℕ → Held) → Task → List ℕ → Type 0
+IsAnswer held (Rehearse file steps) text =
+    IsAnswerOn held file.now (λ o names. IsOfSteps (held steps.now) (λ all. IsPrinted o names all text))
+IsAnswer held (Judge file) text = IsAnswerOn held file.now (λ o names. IsJudgement o names text)
+IsAnswer held (Rank file k) text = IsAnswerOn held file.now (λ o names. IsRankAnswer o k names text)
+IsAnswer held (RiemannRoch file) text = IsAnswerOn held file.now (λ o names. IsRiemannRoch o text)
+
+pub record RefusesTable (h : Held) (fault : FileFault) : Type 0 where
+  pub bytes : List ℕ
+  pub held : IsHeld h bytes
+  pub refused : RefusesFile bytes fault
+
+abbrev pub RefusesOn : (List ℕ → Held) → Opening → List (List ℕ) → Task → Fault → Type 0
+RefusesOn held o names (Rehearse file steps) (Source fault) = RefusesHeld (held steps.now) fault
+RefusesOn held o names (Rehearse file steps) fault =
+    IsOfSteps (held steps.now) (λ all. RefusesSchedule o.graph.size names all fault)
+RefusesOn held o names (Judge file) fault = fault ≡ OutOfMemory
+RefusesOn held o names (Rank file k) fault = RefusesRank o.graph.size k fault
+RefusesOn held o names (RiemannRoch file) fault = RefusesRiemannRoch o fault
+
+abbrev pub file_of : Task → List ℕ
+file_of (Rehearse file steps) = file.now
+file_of (Judge file) = file.now
+file_of (Rank file k) = file.now
+file_of (RiemannRoch file) = file.now
+
+abbrev pub RefusesItsTable : Held → Fault → Type 0
+RefusesItsTable h (Source fault) = RefusesHeld h fault
+RefusesItsTable h (File fault) = RefusesTable h fault
+RefusesItsTable h fault = ⊥
+
+abbrev pub RefusesTask : (List ℕ → Held) → Task → Fault → Type 0
+RefusesTask held task fault = RefusesItsTable (held (file_of task)) fault
+    ⊎ IsAnswerOn held (file_of task) (λ o names. RefusesOn held o names task fault)
+
+abbrev pub IsText : (List ℕ → Held) → Asked → List ℕ → Type 0
+IsText held (Asks task) text = IsAnswer held task text
+IsText held (Text help) text = text ≡ string_bytes help
+
+abbrev pub Refuses : (List ℕ → Held) → Asked → Fault → Type 0
+Refuses held (Asks task) fault = RefusesTask held task fault
+Refuses held (Text help) fault = ⊥
+
+pub record Performs (held : List ℕ → Held) (asked : Asked) (old new : Option (List ℕ)) : Type 0 where
   pub text : List ℕ
-  pub is_text : IsText asked text
+  pub is_text : IsText held asked text
   pub written : Appends old new text
 
-pub record Succeeds (old new : Option (List ℕ)) : Type 0 where
+pub record Succeeds (held : List ℕ → Held) (old new : Option (List ℕ)) : Type 0 where
   pub asked : Asked
-  pub performed : Performs asked old new
+  pub performed : Performs held asked old new
 
-pub record Fails (n : ℕ) (old new : Option (List ℕ)) : Type 0 where
+abbrev pub IsCause : (List ℕ → Held) → Fault → Type 0
+IsCause held (CommandLine text) = ⊤
+IsCause held Words = ⊤
+IsCause held OutOfMemory = ⊤
+IsCause held Write = ⊤
+IsCause held fault = (asked : Asked) × Refuses held asked fault
+
+pub record Fails (held : List ℕ → Held) (n : ℕ) (old new : Option (List ℕ)) : Type 0 where
   pub fault : Fault
   pub tells : status fault ≡ n
+  pub cause : IsCause held fault
   pub silent : fault ≢ Write → Keeps old new

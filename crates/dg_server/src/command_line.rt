@@ -215,6 +215,10 @@ that borrows takes a dollar along each. A table is winnable where this can clear
 
 `dollar rehearse --help` shows a table file and what can be played on it; `dollar judge --help` how a verdict is read;
 `dollar rank --help` and `dollar rr --help` how much a table can lose.
+
+A run that fails prints nothing but a line that says why, on standard error. The status is 0 where the answer was
+printed, whatever it says; 2 where the command line is refused; 3 where a file, a line or a limit is; 4 where memory is
+wanting; 5 where a file can't be read or the output can't be written.
 ";
 
 const FILE_HELP: &str =
@@ -243,16 +247,22 @@ FILE names the vertices, gives each edge as two names and how often it is there,
       \"q\": \"a\"
     }
 
-STEPS has one step a line. A vertex lends a dollar along each of its edges, or borrows one along each,
-or a set of vertices lends at once:
+A graph has 1 to 16 vertices, at most 63 edges at each, and is connected. A name has 1 to 16 letters, digits or `_`, an
+amount is from -1000000 to 1000000, and a file has at most 1048576 bytes.
+
+STEPS has one step a line, up to 65536, with one space between two words. A vertex lends a dollar along each of its edges,
+or borrows one along each, or a set of vertices lends at once, or each vertex lends or borrows as often as is said:
 
     1 lend a
     2 borrow b
     1 fire a,c
+    2 script a=2,b=-1
 
-A seat may also look at the amounts, give a vertex some dollars, or commit: reckon whether the table that it looked at
-last is winnable, and enter the verdict. Once a gift was accepted, an earlier look is stale. A rank test is entered like a commit:
+A seat may also claim that nobody is in debt, look at the amounts, give a vertex some dollars, or commit: reckon whether
+the table that it looked at last is winnable, and enter the verdict. Once a gift was accepted, an earlier look is stale.
+A rank test is entered like a commit:
 
+    1 claim
     1 look
     2 gift b 1
     1 commit

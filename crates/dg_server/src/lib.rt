@@ -13,7 +13,7 @@ pub use fault::{Fault, report, status_of};
 pub use printed::{judgement, rehearsal};
 pub use program::{perform, run};
 pub use ranks::{rank_answer, riemann_roch};
-pub use sources::{Disk, MAX_FILE, SourceFault, Sources, read_within};
+pub use sources::{Disk, MAX_FILE, Shelf, SourceFault, Sources, read_within};
 
 #[cfg(test)]
 mod tests;

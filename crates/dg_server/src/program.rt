@@ -1,7 +1,7 @@
 //! A run of the program: what the words of a command line come to.
 ghost use Rattle.std.specs.Prelude.{◌≡◌, ◌≢◌, IfOk, IfErr, OnOk};
 ghost use Rattle.std.specs.Io.KnownBytes.{Appends, Keeps};
-ghost use Rattle.dg_server.specs.Runs.{IsAnswer, Performs, Succeeds, Fails};
+ghost use Rattle.dg_server.specs.Runs.{IsAnswer, Performs, Succeeds, Refuses, RefusesTask, RefusesItsTable, DescribesTable, Fails};
 ghost use Rattle.dg_server.specs.Status.{IsStatus};
 
 use crate::command_line::{Asked, Task, asked_by};
@@ -30,8 +30,8 @@ where
     O: Write,
     F: Write,
     ensures status { IsStatus result }
-    ensures done { result ≡ 0 → Succeeds (O.contents output.old) (O.contents output.new) }
-    ensures failed { result ≢ 0 → Fails result (O.contents output.old) (O.contents output.new) }
+    ensures done { result ≡ 0 → Succeeds (S.held sources.now) (O.contents output.old) (O.contents output.new) }
+    ensures failed { result ≢ 0 → Fails (S.held sources.now) result (O.contents output.old) (O.contents output.new) }
 {
     drop(input);
     let done = match asked_by(rt.alloc(), words) {
@@ -51,9 +51,9 @@ where
     R: Files + AllocGlobal,
     S: Sources,
     O: Write,
-    ensures done { OnOk result (Performs asked.entry (O.contents output.old) (O.contents output.new)) }
-    ensures silent { IfErr result (λ fault. fault ≢ Fault.Write →
-        Keeps (O.contents output.old) (O.contents output.new)) }
+    ensures done { OnOk result (Performs (S.held sources.now) asked.entry (O.contents output.old) (O.contents output.new)) }
+    ensures refused { IfErr result (λ fault. fault ≢ Fault.Write →
+        Refuses (S.held sources.now) asked.entry fault × Keeps (O.contents output.old) (O.contents output.new)) }
 {
     match asked {
         Asked::Text(text) => write_whole(output, text.as_bytes()),
@@ -79,7 +79,8 @@ fn answer<R, S>(rt: &R, task: Task<'_>, sources: &S) -> Result<Vec<u8>, Fault>
 where
     R: Files + AllocGlobal,
     S: Sources,
-    ensures { IfOk result (λ text. IsAnswer task.entry text.items) }
+    ensures done { IfOk result (λ text. IsAnswer (S.held sources.now) task.entry text.items) }
+    ensures refused { IfErr result (RefusesTask (S.held sources.now) task.entry) }
 {
     match task {
         Task::Rehearse { file, steps } => {
@@ -99,6 +100,8 @@ fn table_in<R, S>(rt: &R, sources: &S, file: &str) -> Result<TableFile, Fault>
 where
     R: Files + AllocGlobal,
     S: Sources,
+    ensures table { IfOk result (λ table. DescribesTable (S.held sources.now file.entry.now) table.start table.names) }
+    ensures refused { IfErr result (RefusesItsTable (S.held sources.now file.entry.now)) }
 {
     let file = sources.bytes(rt, file)?;
     Ok(read_table(rt.alloc(), file.as_slice())?)

@@ -1,5 +1,6 @@
 //! Where the bytes of files come from.
-ghost use Rattle.std.specs.Prelude.{◌≡◌, ◌<◌, ◌≤◌, length, vec_len, IfOk, IfSome};
+ghost use Rattle.std.specs.Prelude.{◌≡◌, ◌≢◌, ◌<◌, ◌≤◌, ℕ, List, length, map, vec_len, IfOk, IfErr, IfSome};
+ghost use Rattle.dg_server.specs.Held.{Held, IsHeld, RefusesHeld, held_among};
 
 use std::alloc::Global;
 use std::fs;
@@ -40,12 +41,15 @@ impl From<io::Error> for SourceFault {
 
 /// Where a file's bytes come from.
 pub trait Sources {
+    ghost held: { Self → List ℕ → Held };
+
     /// The bytes of the file with this name, at most 1,048,576.
     ///
     /// Refused with `Unreadable` where there is no such file or a read fails, with `TooLong` where one more byte can be
     /// read, and with `OutOfMemory` at the growth that was refused.
     fn bytes<R: Files + AllocGlobal>(&self, rt: &R, name: &str) -> Result<Vec<u8>, SourceFault>
-        ensures { IfOk result (λ bytes. vec_len bytes ≤ MAX_FILE) };
+        ensures read { IfOk result (λ bytes. IsHeld (held self.now name.now) bytes.items) }
+        ensures refused { IfErr result (RefusesHeld (held self.now name.now)) };
 }
 
 /// The files of the machine.
@@ -53,8 +57,48 @@ pub trait Sources {
 pub struct Disk;
 
 impl Sources for Disk {
+    ghost use Rattle.dg_server.specs.Held.{unknown};
+
+    ghost held = { λ _ name. unknown };
+
     fn bytes<R: Files + AllocGlobal>(&self, rt: &R, name: &str) -> Result<Vec<u8>, SourceFault> {
         read_within(rt.alloc(), fs::open(rt, name)?)
+    }
+}
+
+/// Files in memory: each a name and its bytes. Of two with one name the first counts.
+#[derive(Clone, Copy)]
+pub struct Shelf<'a> {
+    /// The files.
+    pub files: &'a [(&'a str, &'a [u8])],
+}
+
+impl Sources for Shelf<'_> {
+    ghost use Rattle.std.specs.Prelude.{map};
+    ghost use Rattle.dg_server.specs.Held.{held_among};
+
+    ghost held = { λ shelf. held_among (map (λ file. (file.0.now, file.1.now)) shelf.files.now) };
+
+    fn bytes<R: Files + AllocGlobal>(&self, rt: &R, name: &str) -> Result<Vec<u8>, SourceFault> {
+        let found = self.files.iter().find(|file| file.0 == name);
+        let (_, bytes) = found.ok_or(SourceFault::Unreadable)?;
+        copied(rt.alloc(), bytes)
+    }
+}
+
+/// A copy of the bytes, where they are at most 1,048,576.
+fn copied(alloc: Global, bytes: &[u8]) -> Result<Vec<u8>, SourceFault>
+    ensures read { IfOk result (λ copy. (copy.items ≡ bytes.now) × (length bytes.now ≤ MAX_FILE)) }
+    ensures refused { IfErr result (λ fault. fault ≢ SourceFault.Unreadable) }
+    ensures long { result ≡ Err SourceFault.TooLong → MAX_FILE < length bytes.now }
+{
+    if bytes.len() > MAX_FILE {
+        return Err(SourceFault::TooLong);
+    }
+    let mut copy = Vec::new(alloc);
+    match copy.extend_from_slice(bytes) {
+        Ok(()) => Ok(copy),
+        Err(_) => Err(SourceFault::OutOfMemory),
     }
 }
 
