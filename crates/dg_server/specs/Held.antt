@@ -4,8 +4,9 @@
 --                           just those
 --   RefusesHeld h fault  == the file may be refused so: as unreadable where it is not known that it is there, as too long where
 --                           it is not known that it has no more bytes than a file may have; of want of memory nothing is said
+--   held_by read         == these bytes, or that there is no file
 --   held_among files name == the bytes of the first of the files with that name, and that there is none where no file has it
-use Rattle.std.specs.Prelude.{◌≡◌, ℕ, ◌<◌, ◌≤◌, List, [], ◌∷◌, length, cond, bytes_eq, ⊤}
+use Rattle.std.specs.Prelude.{◌≡◌, ℕ, ◌<◌, ◌≤◌, List, [], ◌∷◌, length, Option, Some, None, cond, bytes_eq, ⊤}
 use Rattle.dg_server.specs.declared.sources.TheConstants.{MAX_FILE}
 use Rattle.dg_server.specs.declared.sources.SourceFault.{SourceFault}
 use Rattle.dg_server.specs.declared.sources.SourceFault.TheVariants.{Unreadable, TooLong, OutOfMemory}
@@ -35,3 +36,7 @@ RefusesHeld (bytes known) TooLong = MAX_FILE < length known
 unfoldable pub held_among : List (List ℕ × List ℕ) → List ℕ → Held
 held_among [] name = missing
 held_among (file ∷ files) name = cond (bytes_eq file.0 name) (bytes file.1) (held_among files name)
+
+abbrev pub held_by : Option (List ℕ) → Held
+held_by None = missing
+held_by (Some known) = bytes known

@@ -1,11 +1,12 @@
 -- Runs of the program: what is printed, when nothing is, and how a run ends. `held` tells what is known of the file of each
 -- name, and output stands for its bytes, where those are known.
 --   DescribesTable h o names      == bytes that the file h may hold are a table file, of the opening o with these names
---   IsAnswer held task text       == the text is the answer to the task, for what the files hold that it names
---   IsAnswerOn held file P        == the file of that name describes a table, and P holds of its opening and names
+--   IsOnTable h P                 == the file h describes a table, and P holds of its opening and names
 --   IsOfSteps h P                 == P holds of the lines of bytes that the file h may hold
---   RefusesTable h fault          == bytes that the file h may hold are refused as a table file, with that fault
+--   Answers held o names task text == the text is the answer to the task on the opening o with these names
 --   file_of task                  == the name of the task's table file
+--   IsAnswer held task text       == the text is the answer to the task, for what the files hold that it names
+--   RefusesTable h fault          == bytes that the file h may hold are refused as a table file, with that fault
 --   RefusesItsTable h fault       == the table file h is not read, or it is refused
 --   RefusesOn held o names task fault == the task is refused so on the table o with these names: STEPS is not read, or it is
 --                                    refused; or the test is past the limits, or the dual is no divisor
@@ -14,6 +15,7 @@
 --   Refuses held asked fault      == what is asked for is refused so; a call for help never is
 --   Performs held asked old new   == the output has grown by a text of what is asked for
 --   Succeeds held old new         == the output has grown by a text of something that may be asked for
+--   IsOfWords fault               == the words of the command line are refused, or memory
 --   IsCause held fault            == the command line is refused, or memory, or the output takes no more, or something that may
 --                                    be asked for is refused so
 --   Fails held n old new          == n is the status of a fault that has its cause, and the output is as it was, unless that
@@ -43,23 +45,31 @@ pub record DescribesTable (h : Held) (o : Opening) (names : List (List ℕ)) : T
   pub held : IsHeld h bytes
   pub table : IsTableFile bytes o names
 
-pub record IsAnswerOn (held : List ℕ → Held) (file : List ℕ) (P : Opening → List (List ℕ) → Type 0) : Type 0 where
+pub record IsOnTable (h : Held) (P : Opening → List (List ℕ) → Type 0) : Type 0 where
   pub opening : Opening
   pub names : List (List ℕ)
-  pub table : DescribesTable (held file) opening names
-  pub answers : P opening names
+  pub table : DescribesTable h opening names
+  pub holds : P opening names
 
 pub record IsOfSteps (h : Held) (P : List (List ℕ) → Type 0) : Type 0 where
   pub bytes : List ℕ
   pub held : IsHeld h bytes
-  pub spelled : P (lines bytes)
+  pub holds : P (lines bytes)
+
+abbrev pub Answers : (List ℕ → Held) → Opening → List (List ℕ) → Task → List ℕ → Type 0
+Answers held o names (Rehearse file steps) text = IsOfSteps (held steps.now) (λ all. IsPrinted o names all text)
+Answers held o names (Judge file) text = IsJudgement o names text
+Answers held o names (Rank file k) text = IsRankAnswer o k names text
+Answers held o names (RiemannRoch file) text = IsRiemannRoch o text
+
+abbrev pub file_of : Task → List ℕ
+file_of (Rehearse file steps) = file.now
+file_of (Judge file) = file.now
+file_of (Rank file k) = file.now
+file_of (RiemannRoch file) = file.now
 
 abbrev pub IsAnswer : (List ℕ → Held) → Task → List ℕ → Type 0
-IsAnswer held (Rehearse file steps) text =
-    IsAnswerOn held file.now (λ o names. IsOfSteps (held steps.now) (λ all. IsPrinted o names all text))
-IsAnswer held (Judge file) text = IsAnswerOn held file.now (λ o names. IsJudgement o names text)
-IsAnswer held (Rank file k) text = IsAnswerOn held file.now (λ o names. IsRankAnswer o k names text)
-IsAnswer held (RiemannRoch file) text = IsAnswerOn held file.now (λ o names. IsRiemannRoch o text)
+IsAnswer held task text = IsOnTable (held (file_of task)) (λ o names. Answers held o names task text)
 
 pub record RefusesTable (h : Held) (fault : FileFault) : Type 0 where
   pub bytes : List ℕ
@@ -74,12 +84,6 @@ RefusesOn held o names (Judge file) fault = fault ≡ OutOfMemory
 RefusesOn held o names (Rank file k) fault = RefusesRank o.graph.size k fault
 RefusesOn held o names (RiemannRoch file) fault = RefusesRiemannRoch o fault
 
-abbrev pub file_of : Task → List ℕ
-file_of (Rehearse file steps) = file.now
-file_of (Judge file) = file.now
-file_of (Rank file k) = file.now
-file_of (RiemannRoch file) = file.now
-
 abbrev pub RefusesItsTable : Held → Fault → Type 0
 RefusesItsTable h (Source fault) = RefusesHeld h fault
 RefusesItsTable h (File fault) = RefusesTable h fault
@@ -87,7 +91,7 @@ RefusesItsTable h fault = ⊥
 
 abbrev pub RefusesTask : (List ℕ → Held) → Task → Fault → Type 0
 RefusesTask held task fault = RefusesItsTable (held (file_of task)) fault
-    ⊎ IsAnswerOn held (file_of task) (λ o names. RefusesOn held o names task fault)
+    ⊎ IsOnTable (held (file_of task)) (λ o names. RefusesOn held o names task fault)
 
 abbrev pub IsText : (List ℕ → Held) → Asked → List ℕ → Type 0
 IsText held (Asks task) text = IsAnswer held task text
@@ -105,6 +109,12 @@ pub record Performs (held : List ℕ → Held) (asked : Asked) (old new : Option
 pub record Succeeds (held : List ℕ → Held) (old new : Option (List ℕ)) : Type 0 where
   pub asked : Asked
   pub performed : Performs held asked old new
+
+abbrev pub IsOfWords : Fault → Type 0
+IsOfWords (CommandLine text) = ⊤
+IsOfWords Words = ⊤
+IsOfWords OutOfMemory = ⊤
+IsOfWords fault = ⊥
 
 abbrev pub IsCause : (List ℕ → Held) → Fault → Type 0
 IsCause held (CommandLine text) = ⊤

@@ -1,6 +1,6 @@
 //! The command line: what its words ask for, and what is said of them.
-ghost use Rattle.std.specs.Prelude.{◌≡◌, ◌⊎◌, IfErr};
-ghost use Rattle.dg_server.specs.Status.{status};
+ghost use Rattle.std.specs.Prelude.{◌≡◌, IfErr};
+ghost use Rattle.dg_server.specs.Runs.{file_of, IsOfWords};
 
 use crate::fault::Fault;
 use clap::error::ErrorKind;
@@ -39,6 +39,20 @@ pub enum Task<'a> {
     },
 }
 
+impl Task<'_> {
+    /// The name of the table file.
+    pub fn file(&self) -> &str
+        ensures { result.now ≡ file_of self.now }
+    {
+        match self {
+            Task::Rehearse { file, steps: _ } => file,
+            Task::Judge { file } => file,
+            Task::Rank { file, degree: _ } => file,
+            Task::RiemannRoch { file } => file,
+        }
+    }
+}
+
 /// What a command line that is not refused comes to.
 #[derive(Drop)]
 pub enum Asked<'a> {
@@ -52,7 +66,7 @@ pub enum Asked<'a> {
 ///
 /// Refused with `Words` where one of them is no text, and with `OutOfMemory`.
 pub fn words_of<R: Env + AllocGlobal>(rt: &R) -> Result<Vec<String>, Fault>
-    ensures { IfErr result (λ fault. (status fault ≡ 2) ⊎ (status fault ≡ 4)) }
+    ensures { IfErr result IsOfWords }
 {
     match env::args(rt) {
         Ok(words) => Ok(words.collect(rt.alloc())?),
@@ -65,7 +79,7 @@ pub fn words_of<R: Env + AllocGlobal>(rt: &R) -> Result<Vec<String>, Fault>
 ///
 /// Refused with `CommandLine` and what is to be said of it, and with `OutOfMemory`.
 pub fn asked_by<'a>(alloc: Global, words: &'a [String]) -> Result<Asked<'a>, Fault>
-    ensures { IfErr result (λ fault. (status fault ≡ 2) ⊎ (status fault ≡ 4)) }
+    ensures { IfErr result IsOfWords }
 {
     match task_of(alloc, words) {
         Ok(task) => Ok(Asked::Task(task)),

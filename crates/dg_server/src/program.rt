@@ -1,7 +1,7 @@
 //! A run of the program: what the words of a command line come to.
 ghost use Rattle.std.specs.Prelude.{◌≡◌, ◌≢◌, IfOk, IfErr, OnOk};
 ghost use Rattle.std.specs.Io.KnownBytes.{Appends, Keeps};
-ghost use Rattle.dg_server.specs.Runs.{IsAnswer, Performs, Succeeds, Refuses, RefusesTask, RefusesItsTable, DescribesTable, Fails};
+ghost use Rattle.dg_server.specs.Runs.{IsAnswer, Answers, RefusesOn, Performs, Succeeds, Refuses, RefusesTask, RefusesItsTable, DescribesTable, Fails};
 ghost use Rattle.dg_server.specs.Status.{IsStatus};
 
 use crate::command_line::{Asked, Task, asked_by};
@@ -34,12 +34,11 @@ where
     ensures failed { result ≢ 0 → Fails (S.held sources.now) result (O.contents output.old) (O.contents output.new) }
 {
     drop(input);
-    let done = match asked_by(rt.alloc(), words) {
-        Ok(asked) => perform(rt, asked, sources, output),
-        Err(fault) => Err(fault),
-    };
-    match done {
-        Ok(()) => 0,
+    match asked_by(rt.alloc(), words) {
+        Ok(asked) => match perform(rt, asked, sources, output) {
+            Ok(()) => 0,
+            Err(fault) => report(&fault, faults),
+        },
         Err(fault) => report(&fault, faults),
     }
 }
@@ -58,7 +57,7 @@ where
     match asked {
         Asked::Text(text) => write_whole(output, text.as_bytes()),
         Asked::Task(task) => {
-            let text = answer(rt, task, sources)?;
+            let text = answer(rt, &task, sources)?;
             write_whole(output, text.as_slice())
         }
     }
@@ -75,34 +74,65 @@ fn write_whole<O: Write>(output: &mut O, text: &[u8]) -> Result<(), Fault>
 }
 
 /// The answer to a task, as text.
-fn answer<R, S>(rt: &R, task: Task<'_>, sources: &S) -> Result<Vec<u8>, Fault>
+fn answer<R, S>(rt: &R, task: &Task<'_>, sources: &S) -> Result<Vec<u8>, Fault>
 where
     R: Files + AllocGlobal,
     S: Sources,
-    ensures done { IfOk result (λ text. IsAnswer (S.held sources.now) task.entry text.items) }
-    ensures refused { IfErr result (RefusesTask (S.held sources.now) task.entry) }
+    ensures done { IfOk result (λ text. IsAnswer (S.held sources.now) task.now text.items) }
+    ensures refused { IfErr result (RefusesTask (S.held sources.now) task.now) }
 {
-    match task {
-        Task::Rehearse { file, steps } => {
-            let table = table_in(rt, sources, file)?;
-            let steps = sources.bytes(rt, steps)?;
-            rehearsal(rt.alloc(), &table, steps.as_slice())
-        }
-        Task::Judge { file } => judgement(rt.alloc(), &table_in(rt, sources, file)?),
-        Task::Rank { file, degree } => {
-            rank_answer(rt.alloc(), &table_in(rt, sources, file)?, degree)
-        }
-        Task::RiemannRoch { file } => riemann_roch(rt.alloc(), &table_in(rt, sources, file)?),
+    let table = match table_in(rt, sources, task.file()) {
+        Ok(table) => table,
+        Err(fault) => return Err(fault),
+    };
+    match answer_on(rt, &table, task, sources) {
+        Ok(text) => Ok(text),
+        Err(fault) => Err(fault),
     }
 }
 
+/// The table of the file with that name.
 fn table_in<R, S>(rt: &R, sources: &S, file: &str) -> Result<TableFile, Fault>
 where
     R: Files + AllocGlobal,
     S: Sources,
-    ensures table { IfOk result (λ table. DescribesTable (S.held sources.now file.entry.now) table.start table.names) }
-    ensures refused { IfErr result (RefusesItsTable (S.held sources.now file.entry.now)) }
+    ensures table { IfOk result (λ table. DescribesTable (S.held sources.now file.now) table.start table.names) }
+    ensures refused { IfErr result (RefusesItsTable (S.held sources.now file.now)) }
 {
-    let file = sources.bytes(rt, file)?;
-    Ok(read_table(rt.alloc(), file.as_slice())?)
+    let bytes = match sources.bytes(rt, file) {
+        Ok(bytes) => bytes,
+        Err(fault) => return Err(Fault::Source(fault)),
+    };
+    match read_table(rt.alloc(), bytes.as_slice()) {
+        Ok(table) => Ok(table),
+        Err(fault) => Err(Fault::File(fault)),
+    }
+}
+
+/// The answer to a task on its table.
+fn answer_on<R, S>(
+    rt: &R,
+    table: &TableFile,
+    task: &Task<'_>,
+    sources: &S,
+) -> Result<Vec<u8>, Fault>
+where
+    R: Files + AllocGlobal,
+    S: Sources,
+    ensures done { IfOk result (λ text.
+        Answers (S.held sources.now) table.now.start table.now.names task.now text.items) }
+    ensures refused { IfErr result (RefusesOn (S.held sources.now) table.now.start table.now.names task.now) }
+{
+    match task {
+        Task::Rehearse { file: _, steps } => {
+            let steps = match sources.bytes(rt, steps) {
+                Ok(steps) => steps,
+                Err(fault) => return Err(Fault::Source(fault)),
+            };
+            rehearsal(rt.alloc(), table, steps.as_slice())
+        }
+        Task::Judge { file: _ } => judgement(rt.alloc(), table),
+        Task::Rank { file: _, degree } => rank_answer(rt.alloc(), table, *degree),
+        Task::RiemannRoch { file: _ } => riemann_roch(rt.alloc(), table),
+    }
 }

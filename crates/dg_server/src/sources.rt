@@ -1,6 +1,7 @@
 //! Where the bytes of files come from.
 ghost use Rattle.std.specs.Prelude.{◌≡◌, ◌≢◌, ◌<◌, ◌≤◌, ℕ, List, length, map, vec_len, IfOk, IfErr, IfSome};
-ghost use Rattle.dg_server.specs.Held.{Held, IsHeld, RefusesHeld, held_among};
+ghost use Rattle.dg_server.specs.Held.{Held, IsHeld, RefusesHeld, held_among, held_by};
+ghost use Rattle.std.specs.Option.{option_copied};
 
 use std::alloc::Global;
 use std::fs;
@@ -80,9 +81,23 @@ impl Sources for Shelf<'_> {
     ghost held = { λ shelf. held_among (map (λ file. (file.0.now, file.1.now)) shelf.files.now) };
 
     fn bytes<R: Files + AllocGlobal>(&self, rt: &R, name: &str) -> Result<Vec<u8>, SourceFault> {
-        let found = self.files.iter().find(|file| file.0 == name);
-        let (_, bytes) = found.ok_or(SourceFault::Unreadable)?;
-        copied(rt.alloc(), bytes)
+        match found(self.files, name) {
+            Some(bytes) => copied(rt.alloc(), bytes),
+            None => Err(SourceFault::Unreadable),
+        }
+    }
+}
+
+/// The bytes of the first of the files with that name.
+#[tactic(auto, unfolding(crate::specs::Held::held_among))]
+fn found<'a>(files: &[(&'a str, &'a [u8])], name: &str) -> Option<&'a [u8]>
+    ensures { held_among (map (λ file. (file.0.now, file.1.now)) files.now) name.now ≡ held_by (option_copied result) }
+{
+    let (file, after) = files.split_first()?;
+    if file.0 == name {
+        Some(file.1)
+    } else {
+        found(after, name)
     }
 }
 
@@ -92,7 +107,7 @@ fn copied(alloc: Global, bytes: &[u8]) -> Result<Vec<u8>, SourceFault>
     ensures refused { IfErr result (λ fault. fault ≢ SourceFault.Unreadable) }
     ensures long { result ≡ Err SourceFault.TooLong → MAX_FILE < length bytes.now }
 {
-    if bytes.len() > MAX_FILE {
+    if MAX_FILE < bytes.len() {
         return Err(SourceFault::TooLong);
     }
     let mut copy = Vec::new(alloc);

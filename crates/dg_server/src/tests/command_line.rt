@@ -1,6 +1,6 @@
 //! Command lines that are calls for help, or are refused.
 
-use crate::tests::runs::{Shelf, TRIANGLE, outcome_of};
+use crate::tests::runs::{Given, TRIANGLE, outcome_of};
 use std::test::Fail;
 
 // Command lines that call for help.
@@ -37,19 +37,19 @@ static REFUSED: [&str; 18] = [
 
 #[test]
 fn command_lines_are_judged(rt: HostRuntime) -> Result<(), Fail> {
-    let shelf = Shelf {
+    let given = Given {
         file: Some(TRIANGLE),
         steps: Some("1 lend a\n"),
     };
     for line in &HELP {
-        let outcome = outcome_of(&rt, &shelf, line)?;
+        let outcome = outcome_of(&rt, &given, line)?;
         assert!(rt;
             outcome.status == 0 && !outcome.output.is_empty() && outcome.faults.is_empty(),
             "{line}"
         );
     }
     for line in &REFUSED {
-        let outcome = outcome_of(&rt, &shelf, line)?;
+        let outcome = outcome_of(&rt, &given, line)?;
         assert!(rt;
             outcome.status == 2 && outcome.output.is_empty() && !outcome.faults.is_empty(),
             "{line}"

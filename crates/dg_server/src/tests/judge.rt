@@ -1,7 +1,7 @@
 //! `judge`: tables that are judged and printed.
 
 use crate::tests::runs::{
-    ONE_VERTEX, SECOND_OF_THREE, Shelf, TRIANGLE, TWICE_JOINED, ends, prints,
+    Given, ONE_VERTEX, SECOND_OF_THREE, TRIANGLE, TWICE_JOINED, ends, prints,
 };
 use std::alloc::{AllocError, Global};
 use std::test::Fail;
@@ -45,18 +45,18 @@ static REFUSED: [(Option<&str>, &str, u8); 2] = [
 #[test]
 fn tables_are_judged(rt: HostRuntime) -> Result<(), Fail> {
     for (file, printed) in &JUDGED {
-        let shelf = Shelf {
+        let given = Given {
             file: Some(file),
             steps: None,
         };
-        assert!(rt; prints(&rt, &shelf, JUDGE, printed)?, "{file}");
+        assert!(rt; prints(&rt, &given, JUDGE, printed)?, "{file}");
     }
     for (file, fault, status) in &REFUSED {
-        let shelf = Shelf {
+        let given = Given {
             file: *file,
             steps: None,
         };
-        assert!(rt; ends(&rt, &shelf, JUDGE, fault, *status)?, "{fault}");
+        assert!(rt; ends(&rt, &given, JUDGE, fault, *status)?, "{fault}");
     }
     Ok(())
 }
@@ -118,14 +118,14 @@ fn judges_the_largest_amounts(rt: HostRuntime) -> Result<(), Fail> {
         ("-1000000", "unwinnable", "-250000", "-16000000"),
     ] {
         let table = table_of_sixteen(alloc, amount)?;
-        let shelf = Shelf {
+        let given = Given {
             file: Some(table.as_str()),
             steps: None,
         };
         let by = pairs_of_sixteen(alloc, "0", script)?;
         let to = pairs_of_sixteen(alloc, sum, "0")?;
         let line = format!(in alloc; "{word} by {by} to {to}\n")?;
-        assert!(rt; prints(&rt, &shelf, JUDGE, line.as_str())?, "{amount}");
+        assert!(rt; prints(&rt, &given, JUDGE, line.as_str())?, "{amount}");
     }
     Ok(())
 }

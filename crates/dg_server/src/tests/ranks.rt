@@ -1,6 +1,6 @@
 //! Runs of `rank` and `rr`.
 
-use crate::tests::runs::{REHEARSE, Shelf, outcome_of};
+use crate::tests::runs::{Given, REHEARSE, outcome_of};
 use std::test::Fail;
 
 const ONE_ON_THREE: &str =
@@ -100,12 +100,12 @@ static TOLD: [(&str, &str, &str); 16] = [
 fn ranks_are_printed(rt: HostRuntime) -> Result<(), Fail> {
     let alloc = rt.alloc();
     for (file, command, printed) in &TOLD {
-        let shelf = Shelf {
+        let given = Given {
             file: Some(file),
             steps: None,
         };
         let line = format!(in alloc; "dollar {command}")?;
-        let outcome = outcome_of(&rt, &shelf, line.as_str())?;
+        let outcome = outcome_of(&rt, &given, line.as_str())?;
         assert!(rt;
             outcome.status == 0
                 && outcome.output.as_slice() == printed.as_bytes()
@@ -144,12 +144,12 @@ static REFUSED: [(&str, &str, &str, u8); 9] = [
 fn rank_tests_are_refused(rt: HostRuntime) -> Result<(), Fail> {
     let alloc = rt.alloc();
     for (file, command, fault, status) in &REFUSED {
-        let shelf = Shelf {
+        let given = Given {
             file: Some(file),
             steps: None,
         };
         let line = format!(in alloc; "dollar {command}")?;
-        let outcome = outcome_of(&rt, &shelf, line.as_str())?;
+        let outcome = outcome_of(&rt, &given, line.as_str())?;
         let told = format!(in alloc; "dollar: {fault}\n")?;
         assert!(rt;
             outcome.status == *status
@@ -185,11 +185,11 @@ static STEPS: [(&str, Result<&str, &str>); 7] = [
 fn rank_tests_are_steps(rt: HostRuntime) -> Result<(), Fail> {
     let alloc = rt.alloc();
     for (steps, want) in &STEPS {
-        let shelf = Shelf {
+        let given = Given {
             file: Some(ONE_ON_THREE),
             steps: Some(steps),
         };
-        let outcome = outcome_of(&rt, &shelf, REHEARSE)?;
+        let outcome = outcome_of(&rt, &given, REHEARSE)?;
         let right = match want {
             Ok(printed) => outcome.status == 0 && outcome.output.as_slice() == printed.as_bytes(),
             Err(fault) => {

@@ -1,7 +1,7 @@
 //! `rehearse`: schedules that are played and printed, or refused.
 
 use crate::tests::runs::{
-    ONE_VERTEX, REHEARSE, SECOND_OF_THREE, Shelf, TRIANGLE, TWICE_JOINED, ends, outcome_of, prints,
+    Given, ONE_VERTEX, REHEARSE, SECOND_OF_THREE, TRIANGLE, TWICE_JOINED, ends, outcome_of, prints,
 };
 use std::alloc::AllocError;
 use std::test::Fail;
@@ -81,11 +81,11 @@ static PLAYED: [(&str, &str, &str); 18] = [
 #[test]
 fn schedules_are_played(rt: HostRuntime) -> Result<(), Fail> {
     for (file, steps, printed) in &PLAYED {
-        let shelf = Shelf {
+        let given = Given {
             file: Some(file),
             steps: Some(steps),
         };
-        assert!(rt; prints(&rt, &shelf, REHEARSE, printed)?, "{steps}");
+        assert!(rt; prints(&rt, &given, REHEARSE, printed)?, "{steps}");
     }
     Ok(())
 }
@@ -128,11 +128,11 @@ static ENDED: [(Option<&str>, Option<&str>, &str, u8); 11] = [
 #[test]
 fn schedules_are_refused(rt: HostRuntime) -> Result<(), Fail> {
     for (file, steps, fault, status) in &ENDED {
-        let shelf = Shelf {
+        let given = Given {
             file: *file,
             steps: *steps,
         };
-        assert!(rt; ends(&rt, &shelf, REHEARSE, fault, *status)?, "{fault}");
+        assert!(rt; ends(&rt, &given, REHEARSE, fault, *status)?, "{fault}");
     }
     Ok(())
 }
@@ -146,11 +146,11 @@ fn a_file_may_be_so_long(rt: HostRuntime) -> Result<(), Fail> {
     ] {
         let mut file = String::from_str(alloc, TRIANGLE)?;
         fill_up(&mut file, length)?;
-        let shelf = Shelf {
+        let given = Given {
             file: Some(file.as_str()),
             steps: Some("1 lend a\n"),
         };
-        let outcome = outcome_of(&rt, &shelf, REHEARSE)?;
+        let outcome = outcome_of(&rt, &given, REHEARSE)?;
         assert!(rt;
             outcome.status == status && outcome.faults.as_slice() == line.as_bytes(),
             "{length}"
@@ -175,11 +175,11 @@ fn the_history_has_room(rt: HostRuntime) -> Result<(), Fail> {
         for _ in 0..count {
             steps.push_str("1 fire a,b,c\n")?;
         }
-        let shelf = Shelf {
+        let given = Given {
             file: Some(TRIANGLE),
             steps: Some(steps.as_str()),
         };
-        let outcome = outcome_of(&rt, &shelf, REHEARSE)?;
+        let outcome = outcome_of(&rt, &given, REHEARSE)?;
         assert!(rt;
             outcome.status == status
                 && outcome.faults.as_slice() == line.as_bytes()

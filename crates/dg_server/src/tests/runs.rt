@@ -1,27 +1,38 @@
 //! Runs over files in memory, and tables that several of them are played on.
 
-use crate::{SourceFault, Sources, read_within, run};
+use crate::{Shelf, run};
 use std::alloc::{AllocError, Global};
-use std::rt::Files;
+use std::io::Write;
 
-// A table file and a file of steps in memory, each of which may be missing.
+// A table file and a file of steps, each of which may be missing.
 #[derive(Drop)]
-pub(super) struct Shelf<'a> {
+pub(super) struct Given<'a> {
     pub(super) file: Option<&'a str>,
     pub(super) steps: Option<&'a str>,
 }
 
-impl Sources for Shelf<'_> {
-    fn bytes<R: Files + AllocGlobal>(&self, rt: &R, name: &str) -> Result<Vec<u8>, SourceFault> {
-        let text = match name {
-            "table.json" => self.file,
-            "steps.txt" => self.steps,
-            _ => None,
-        };
-        match text {
-            Some(text) => read_within(rt.alloc(), text.as_bytes()),
-            None => Err(SourceFault::Unreadable),
-        }
+impl Given<'_> {
+    pub(super) fn run(
+        &self,
+        rt: &HostRuntime,
+        words: &[String],
+        output: &mut impl Write,
+        faults: &mut impl Write,
+    ) -> u8 {
+        let files = [
+            named("table.json", self.file),
+            named("steps.txt", self.steps),
+        ];
+        let shelf = Shelf { files: &files };
+        run(rt, words, &shelf, b"".as_slice(), output, faults)
+    }
+}
+
+// A file that is missing has a name that nobody asks for.
+fn named<'a>(name: &'a str, text: Option<&'a str>) -> (&'a str, &'a [u8]) {
+    match text {
+        Some(text) => (name, text.as_bytes()),
+        None => ("", b"".as_slice()),
     }
 }
 
@@ -36,15 +47,14 @@ pub(super) struct Outcome {
 // The words stand in one line, with a space between two.
 pub(super) fn outcome_of(
     rt: &HostRuntime,
-    shelf: &Shelf<'_>,
+    given: &Given<'_>,
     line: &str,
 ) -> Result<Outcome, AllocError> {
     let alloc = rt.alloc();
     let words = words_in(alloc, line)?;
     let mut output = Vec::new(alloc);
     let mut faults = Vec::new(alloc);
-    let input = b"".as_slice();
-    let status = run(rt, words.as_slice(), shelf, input, &mut output, &mut faults);
+    let status = given.run(rt, words.as_slice(), &mut output, &mut faults);
     Ok(Outcome {
         output,
         faults,
@@ -65,11 +75,11 @@ pub(super) fn words_in(alloc: Global, line: &str) -> Result<Vec<String>, AllocEr
 // Whether a run ends well, and prints just the text.
 pub(super) fn prints(
     rt: &HostRuntime,
-    shelf: &Shelf<'_>,
+    given: &Given<'_>,
     line: &str,
     text: &str,
 ) -> Result<bool, AllocError> {
-    let outcome = outcome_of(rt, shelf, line)?;
+    let outcome = outcome_of(rt, given, line)?;
     Ok(
         outcome.status == 0
             && outcome.output.as_slice() == text.as_bytes()
@@ -80,12 +90,12 @@ pub(super) fn prints(
 // Whether a run prints nothing, and ends with the status and the line of the fault.
 pub(super) fn ends(
     rt: &HostRuntime,
-    shelf: &Shelf<'_>,
+    given: &Given<'_>,
     line: &str,
     fault: &str,
     status: u8,
 ) -> Result<bool, AllocError> {
-    let outcome = outcome_of(rt, shelf, line)?;
+    let outcome = outcome_of(rt, given, line)?;
     let told = format!(in rt.alloc(); "dollar: {fault}\n")?;
     Ok(
         outcome.status == status

@@ -1,7 +1,7 @@
 //! Readers and writers that fail.
 
-use crate::tests::runs::{REHEARSE, Shelf, TRIANGLE, words_in};
-use crate::{SourceFault, read_within, run};
+use crate::tests::runs::{Given, REHEARSE, TRIANGLE, words_in};
+use crate::{SourceFault, read_within};
 use std::io;
 use std::io::{Read, Write};
 use std::test::Fail;
@@ -30,7 +30,7 @@ impl Write for Narrow {
 #[test]
 fn an_output_that_is_refused_is_a_fault(rt: HostRuntime) -> Result<(), Fail> {
     let alloc = rt.alloc();
-    let shelf = Shelf {
+    let given = Given {
         file: Some(TRIANGLE),
         steps: Some("1 lend a\n"),
     };
@@ -42,15 +42,7 @@ fn an_output_that_is_refused_is_a_fault(rt: HostRuntime) -> Result<(), Fail> {
     ] {
         let mut output = Narrow { room };
         let mut faults = Vec::new(alloc);
-        let input = b"".as_slice();
-        let got = run(
-            &rt,
-            words.as_slice(),
-            &shelf,
-            input,
-            &mut output,
-            &mut faults,
-        );
+        let got = given.run(&rt, words.as_slice(), &mut output, &mut faults);
         assert!(rt;
             got == status && faults.as_slice() == line.as_bytes(),
             "{room}"

@@ -21,7 +21,7 @@ vertices-preserved g c =
     let held : FitsSigned w128 c.amount.result = search rules in
     let shown : c.push_pair.new.text.items ≡ c.if-v-gt0.text.items ++ pair (name_at c.args.names.now v) (amounts v) =
     pair_written c.if-v-gt0.text.items c.push_pair.new.text.items c.name.result.now (name_at c.args.names.now v)
-    c.amount.result (amounts v) held c.in_ok-push_pair.ensures c.name.ensures c.amount.ensures in
+    c.amount.result (amounts v) held c.in_ok-push_pair.ensures c.name.ensures.name c.amount.ensures in
     pairs_step (c.args.text.now.items ++ pairs c.args.names.now amounts) c.vertices.text.items c.if-v-gt0.text.items c.push_pair.new.text.items c.args.names.now amounts v
     c.vertices.invariant spaced shown (omega arith)
 
