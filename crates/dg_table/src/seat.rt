@@ -88,7 +88,7 @@ impl<N: Name> Seat<N> {
 
     /// What the seat keeps of the last look that it took; `None` where it took none. The amounts are as many as the vertices.
     pub fn look_data(&self) -> Option<LookData>
-        ensures look { IsLastLook self.now.mine result }
+        ensures look { IsLastLook N.start self.now.mine result }
         ensures size { IfSome result (λ x. x.position.size ≡ N.start.graph.size) }
     {
         self.look
