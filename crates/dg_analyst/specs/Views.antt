@@ -1,12 +1,12 @@
 -- Looks, and what was found on them.
 --   LookView          == a look's entry, with its number, and what is kept of it
 --   Found A           == a look, and what was found on it: a verdict, or the answer of a rank test
---   IsTaken o x       == what is kept of the look x is that of its entry, with an amount for each vertex of the
---                        opening o
---   IsJudged o x v    == the verdict v is right for the amounts of the look x; its order is that in which the least
---                        vertex burns first, and has zeros past the last vertex
---   IsTried o x k w v == v is the right answer of the rank test of degree k for the amounts of the look x; the degree
---                        is within the limits, and there may be w workers
+--   IsTaken o x       == what is kept of the look x of a table with the opening o is that of its entry, with an amount
+--                        for each vertex of its graph
+--   IsJudged q x v    == the verdict v, from the vertex q, is right for the look x, its amounts on its graph; its order
+--                        is that in which the least vertex burns first, and has zeros past the last vertex
+--   IsTried x k w v   == v is the right answer of the rank test of degree k for the look x, its amounts on its graph;
+--                        the degree is within the limits, and there may be w workers
 use Rattle.std.specs.Prelude.{◌≡◌, ℕ, ◌<◌, ◌≤◌, take}
 use Rattle.std.specs.List.{slice_index_or}
 use Rattle.dg_theory.specs.Burning.{BurnsInOrder}
@@ -30,15 +30,15 @@ pub record Found (A : Type 0) : Type 0 where
   pub verdict : A
 
 pub record IsTaken (o : Opening) (x : LookView) : Type 0 where
-  pub look : IsLookOf x.receipt x.shown
-  pub size : x.shown.position.size ≡ o.graph.size
+  pub look : IsLookOf o x.receipt x.shown
+  pub size : x.shown.position.size ≡ x.shown.graph.size
 
-pub record IsJudged (o : Opening) (x : LookView) (v : Verdict) : Type 0 where
-  pub right : IsRight o.graph o.q (at x.shown.position) v
-  pub order : BurnsInOrder o.graph o.q (at v.reduced) (take o.graph.size v.order)
-  pub rest : (i : ℕ) → o.graph.size ≤ i → i < MAX_VERTICES → slice_index_or v.order i 0 ≡ 0
+pub record IsJudged (q : ℕ) (x : LookView) (v : Verdict) : Type 0 where
+  pub right : IsRight x.shown.graph q (at x.shown.position) v
+  pub order : BurnsInOrder x.shown.graph q (at v.reduced) (take x.shown.graph.size v.order)
+  pub rest : (i : ℕ) → x.shown.graph.size ≤ i → i < MAX_VERTICES → slice_index_or v.order i 0 ≡ 0
 
-pub record IsTried (o : Opening) (x : LookView) (k w : ℕ) (v : RankVerdict) : Type 0 where
-  pub within : IsWithin o.graph.size k
+pub record IsTried (x : LookView) (k w : ℕ) (v : RankVerdict) : Type 0 where
+  pub within : IsWithin x.shown.graph.size k
   pub workers : MayHaveWorkers w
-  pub right : IsRankTest o.graph (at x.shown.position) k v
+  pub right : IsRankTest x.shown.graph (at x.shown.position) k v

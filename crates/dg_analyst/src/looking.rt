@@ -31,10 +31,10 @@ pub fn look<N: Name>(
         unreachable!()
     };
     let start = table.start();
+    let _graph = start.graph();
     Ok(Look {
         receipt,
         shown,
-        graph: *start.graph(),
         q: start.q(),
     })
 }

@@ -14,7 +14,6 @@ use std::marker::Model;
 pub struct Look<N: Name> {
     pub(crate) receipt: Receipt<N>,
     pub(crate) shown: LookData,
-    pub(crate) graph: Graph,
     pub(crate) q: u8,
 }
 
@@ -27,7 +26,7 @@ impl<N: Name> Model for Look<N> {
     ghost view = { λ l. record { receipt = l.receipt; shown = l.shown } };
 
     ghost invariant = { λ l. IsTaken N.start (record { receipt = l.receipt; shown = l.shown }) ×
-        (l.graph ≡ N.start.graph) × (l.q ≡ N.start.q) × (l.q < l.graph.size) };
+        (l.q ≡ N.start.q) × (l.q < l.shown.graph.size) };
 }
 
 impl<N: Name> Look<N> {
@@ -44,6 +43,13 @@ impl<N: Name> Look<N> {
         ensures { result ≡ self.now.shown.gifts }
     {
         self.shown.gifts
+    }
+
+    /// The graph on which the look was taken.
+    pub fn graph(&self) -> &Graph
+        ensures { result.now ≡ self.now.shown.graph }
+    {
+        &self.shown.graph
     }
 
     /// The amounts that the look showed.

@@ -2,7 +2,7 @@
 ghost use Rattle.std.specs.Prelude.{◌≡◌, MatchResult};
 ghost use Rattle.dg_analyst.specs.Views.{IsJudged, IsTried};
 ghost use Rattle.dg_rank.specs.Ranks.{IsRankFault};
-ghost use Rattle.dg_table.specs.Looks.{IsRightFor};
+ghost use Rattle.dg_game.specs.Look.{IsFoundFor};
 
 use crate::looks::Look;
 use dg_game::Finding;
@@ -23,14 +23,14 @@ pub struct Reckoned<N: Name> {
 impl<N: Name> Model for Reckoned<N> {
     ghost use Rattle.dg_analyst.specs.Views.{Found};
     ghost use Rattle.dg_game.specs.declared.finding.Finding.TheVariants.{Judged};
-    ghost use Rattle.dg_table.specs.Looks.{IsRightFor};
+    ghost use Rattle.dg_game.specs.Look.{IsFoundFor};
     ghost use Rattle.dg_verdict.specs.declared.verdict.Verdict.{Verdict as VerdictData};
 
     ghost Value = { Found VerdictData };
 
     ghost view = { λ r. record { look = r.look; verdict = r.verdict } };
 
-    ghost invariant = { λ r. IsRightFor N.start r.look.shown (Judged r.verdict) };
+    ghost invariant = { λ r. IsFoundFor N.start.q r.look.shown (Judged r.verdict) };
 }
 
 impl<N: Name> Reckoned<N> {
@@ -44,7 +44,7 @@ impl<N: Name> Reckoned<N> {
     /// The verdict.
     pub fn verdict(&self) -> &Verdict
         ensures verdict { result.now ≡ self.now.verdict }
-        ensures right { IsRightFor N.start self.now.look.shown (Finding.Judged self.now.verdict) }
+        ensures right { IsFoundFor N.start.q self.now.look.shown (Finding.Judged self.now.verdict) }
     {
         &self.verdict
     }
@@ -61,13 +61,13 @@ impl<N: Name> Model for Tried<N> {
     ghost use Rattle.dg_analyst.specs.Views.{Found};
     ghost use Rattle.dg_game.specs.declared.finding.Finding.TheVariants.{Ranked};
     ghost use Rattle.dg_rank.specs.declared.rank_verdict.RankVerdict.{RankVerdict as RankData};
-    ghost use Rattle.dg_table.specs.Looks.{IsRightFor};
+    ghost use Rattle.dg_game.specs.Look.{IsFoundFor};
 
     ghost Value = { Found RankData };
 
     ghost view = { λ t. record { look = t.look; verdict = t.verdict } };
 
-    ghost invariant = { λ t. IsRightFor N.start t.look.shown (Ranked t.verdict) };
+    ghost invariant = { λ t. IsFoundFor N.start.q t.look.shown (Ranked t.verdict) };
 }
 
 impl<N: Name> Tried<N> {
@@ -81,7 +81,7 @@ impl<N: Name> Tried<N> {
     /// The answer of the rank test, with its degree.
     pub fn verdict(&self) -> &RankVerdict
         ensures verdict { result.now ≡ self.now.verdict }
-        ensures right { IsRightFor N.start self.now.look.shown (Finding.Ranked self.now.verdict) }
+        ensures right { IsFoundFor N.start.q self.now.look.shown (Finding.Ranked self.now.verdict) }
     {
         &self.verdict
     }
@@ -91,9 +91,9 @@ impl<N: Name> Tried<N> {
 /// memory.
 pub fn reckon<N: Name>(look: Look<N>) -> Reckoned<N>
     ensures look { result.look ≡ look }
-    ensures judged { IsJudged N.start look result.verdict }
+    ensures judged { IsJudged N.start.q look result.verdict }
 {
-    let verdict = judge(&look.graph, usize::from(look.q), &look.shown.position);
+    let verdict = judge(&look.shown.graph, usize::from(look.q), &look.shown.position);
     Reckoned { look, verdict }
 }
 
@@ -111,13 +111,13 @@ pub fn try_rank<N: Name, R: Threads + Wait, G: Gate>(
     gate: &G,
 ) -> Result<Tried<N>, (Look<N>, RankFault)>
     ensures { MatchResult result
-        (λ t. (t.look ≡ look) × IsTried N.start look k workers t.verdict)
-        (λ e. (e.0 ≡ look) × IsRankFault N.start.graph.size k workers e.1) }
+        (λ t. (t.look ≡ look) × IsTried look k workers t.verdict)
+        (λ e. (e.0 ≡ look) × IsRankFault look.shown.graph.size k workers e.1) }
 {
     let position = &look.shown.position;
     match rank_with(
         rt,
-        &look.graph,
+        &look.shown.graph,
         usize::from(look.q),
         position,
         k,

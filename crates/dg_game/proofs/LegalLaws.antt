@@ -33,7 +33,7 @@ use Rattle.dg_game.specs.declared.finding.Finding.TheVariants.{Judged, Ranked}
 use Rattle.dg_game.specs.declared.look.LookData.{LookData}
 use Rattle.dg_game.specs.declared.step.Step.{Step}
 use Rattle.dg_game.proofs.ListLaws.{more_holds, slice_get_taken}
-use Rattle.dg_game.proofs.StepLaw.{vertices_stay}
+use Rattle.dg_game.proofs.StepLaw.{graph_stays, vertices_stay}
 
 pub legal_none : (o : Opening) → IsLegal o []
 legal_none o k e at = absurd (cc)
@@ -89,10 +89,10 @@ pub legal_sized : LegalIsSized
 legal_sized o H i e legal at = sized_reply o (take i H) o.graph.size e.request e.reply (vertices_stay o (take i H)) (legal i e at).2
 
 pub legal_looks : LooksAreShown
-legal_looks o H e x legal at asks shows =
+legal_looks o H e x legal at asks shows graph =
     let right : Replies o (take x.number H) e.request e.reply = (legal x.number e at).2 in
     let (gifts, amounts) = rw (asks, shows) at right in
-    record { look = (e, at, asks); gifts = gifts; amounts = amounts }
+    record { look = (e, at, asks); gifts = gifts; graph = graph ∙ sym (graph_stays o (take x.number H)); amounts = amounts }
 
 pub entries_more : (steps : List Step) (H : List Entry) (step : Step) (e : Entry) → slice_get steps (length H) ≡ Some step →
     IsEntryOf steps (length H) step e →

@@ -1,10 +1,10 @@
 -- What was reckoned on a look.
 --   moved_since             where the gift count is that of the look, moves lead from the look's amounts to those now,
---                           on the graph at the look
---   found_now               there, what was found on the look is right on the graph now
---   found_then              what is right for a look on the graph now is right on the graph at the look
+--                           on the graph of the look, which is that of the state
 --   judged_after            a verdict that is right in a state is a right reply after a history that leads to it
 --   ranked_after            the answer of a rank test that is right for a look is a right reply
+--   look_fits               a look shows an amount for each vertex of its graph
+--   look_vertices           the graph of a look has as many vertices as that of the state
 --   look_kept               a look stays a look of the history when an entry is added
 --   look_new                an entry that is a look is a look of the history
 --   look_size               a look shows as many vertices as the state
@@ -28,7 +28,7 @@ use Rattle.dg_rank.specs.Ranks.{IsRankTest}
 use Rattle.dg_rank.specs.declared.rank_verdict.RankVerdict.{RankVerdict}
 use Rattle.dg_game.specs.Position.{Position, fired_by}
 use Rattle.dg_game.specs.History.{position_after, script_by, scripts_played, gifts_in}
-use Rattle.dg_game.specs.Look.{IsLookAt, degree_of, IsFoundFor, IsFoundOn, asked_for}
+use Rattle.dg_game.specs.Look.{IsLookAt, degree_of, asked_for}
 use Rattle.dg_game.specs.Replies.{Replies}
 use Rattle.dg_game.specs.State.{State, IsState, LeadsTo, IsNext, amounts_after, gifts_after}
 use Rattle.dg_game.specs.declared.entry.Entry.{Entry}
@@ -42,11 +42,11 @@ use Rattle.dg_game.specs.declared.look.LookData.{LookData}
 use Rattle.dg_game.proofs.HistoryLaws.{gifts_in-append}
 use Rattle.dg_game.proofs.ListLaws.{slice_get-append, slice_get-seam}
 use Rattle.dg_game.proofs.RankTests.{rank_test-cong, rank_test_led}
-use Rattle.dg_game.proofs.StepLaw.{since_gift, graph_stays, vertices_stay}
+use Rattle.dg_game.proofs.StepLaw.{since_gift, vertices_stay}
 
 -- a history after a look, as the part before the look and the rest
 pub moved_since : (o : Opening) (H : List Entry) (s : State) (x : LookData) → LeadsTo o H s → IsLookAt o H x → s.gifts ≡ x.gifts →
-    (s.graph ≡ (position_after o (take x.number H)).graph) × (t : Amounts) × FiresTo s.graph t (at x.position) (at s.amounts)
+    (s.graph ≡ x.graph) × (t : Amounts) × FiresTo s.graph t (at x.position) (at s.amounts)
 moved_since o H s x leads look same =
     let K : List Entry = take x.number H in
     let L : List Entry = drop x.number H in
@@ -56,7 +56,7 @@ moved_since o H s x leads look same =
     let p : Position = position_after o K in
     let fires : position_after o H ≡ fired_by p (scripts_played L) = ap (position_after o) (sym whole) ∙ since_gift o K L none in
     let graph : s.graph ≡ p.graph = leads.graph ∙ ap (λ (r : Position). r.graph) fires in (
-      graph,
+      graph ∙ sym look.graph,
       scripts_played L,
       λ v below.
           let inside : v < p.graph.size = subst (λ (g : Multigraph). v < g.size) graph below in
@@ -67,21 +67,6 @@ moved_since o H s x leads look same =
           rw graph (omega (arith, ints, now, then', moved)),
     )
 
--- what was found on a look before which as many gifts were accepted is right on the graph of the state, and for its q
-pub found_now : (o : Opening) (H : List Entry) (s : State) (x : LookData) (f : Finding) → LeadsTo o H s → IsLookAt o H x →
-    s.gifts ≡ x.gifts → IsFoundOn o H x f → IsFoundFor s.graph s.q x f
-found_now o H s x f leads look same found =
-    let (graph, t, led) = moved_since o H s x leads look same in
-    rw (graph, leads.q) found
-
--- what is right for a look on the graph of the state, and for its q, is right on the graph at the look
-pub found_then : (o : Opening) (H : List Entry) (s : State) (x : LookData) (f : Finding) → LeadsTo o H s →
-    IsFoundFor s.graph s.q x f → IsFoundOn o H x f
-found_then o H s x f leads found =
-    let graph : s.graph ≡ (position_after o (take x.number H)).graph =
-    leads.graph ∙ graph_stays o H ∙ sym (graph_stays o (take x.number H)) in
-    subst (λ (g : Multigraph). IsFoundFor g o.q x f) graph (subst (λ (q : ℕ). IsFoundFor s.graph q x f) leads.q found)
-
 pub judged_after : (o : Opening) (H : List Entry) (s : State) (x : LookData) (verdict : AVerdict) → LeadsTo o H s → IsLookAt o H x →
     s.gifts ≡ x.gifts → IsRight s.graph s.q (at s.amounts) verdict → Replies o H (Judge x.number) (Verdict verdict)
 judged_after o H s x verdict leads look same right =
@@ -91,11 +76,12 @@ judged_after o H s x verdict leads look same right =
     (sym look.gifts ∙ sym same ∙ leads.gifts, right-cong p.graph o.q (at s.amounts) p.amounts verdict leads.amounts.amounts on_graph)
 
 pub ranked_after : (o : Opening) (H : List Entry) (s : State) (x : LookData) (k : ℕ) (verdict : RankVerdict) → LeadsTo o H s → IsLookAt o H x →
-    s.gifts ≡ x.gifts → IsRankTest s.graph (at x.position) k verdict → Replies o H (RankRequest x.number k) (RankReply verdict)
+    s.gifts ≡ x.gifts → IsRankTest x.graph (at x.position) k verdict → Replies o H (RankRequest x.number k) (RankReply verdict)
 ranked_after o H s x k verdict leads look same right =
     let p : Position = position_after o H in
     let (graph, t, led) = moved_since o H s x leads look same in
-    let now : IsRankTest s.graph (at s.amounts) k verdict = rank_test_led s.graph (at x.position) (at s.amounts) t k verdict led right in
+    let then' : IsRankTest s.graph (at x.position) k verdict = rw graph right in
+    let now : IsRankTest s.graph (at s.amounts) k verdict = rank_test_led s.graph (at x.position) (at s.amounts) t k verdict led then' in
     let on_graph : IsRankTest p.graph (at s.amounts) k verdict =
     subst (λ (g : Multigraph). IsRankTest g (at s.amounts) k verdict) leads.graph now in
     (sym look.gifts ∙ sym same ∙ leads.gifts, rank_test-cong p.graph (at s.amounts) p.amounts k verdict leads.amounts.amounts on_graph)
@@ -109,25 +95,36 @@ look_kept o H e x look =
     record {
       look = (entry, slice_get-append H (e ∷ []) x.number inside ∙ there, is);
       gifts = rw (take-append-le x.number H (e ∷ []) before) look.gifts;
+      graph = rw (take-append-le x.number H (e ∷ []) before) look.graph;
       amounts = rw (take-append-le x.number H (e ∷ []) before) look.amounts;
     }
 
 -- the look that is entered next
 pub look_new : (o : Opening) (H : List Entry) (s : State) (e : Entry) (x : LookData) → LeadsTo o H s → e.request ≡ Look →
-    x.number ≡ s.entries → x.gifts ≡ s.gifts → x.position ≡ s.amounts → IsLookAt o (H ++ e ∷ []) x
-look_new o H s e x leads is number gifts position =
+    x.number ≡ s.entries → x.gifts ≡ s.gifts → x.graph ≡ s.graph → x.position ≡ s.amounts → IsLookAt o (H ++ e ∷ []) x
+look_new o H s e x leads is number gifts graph position =
     let at_end : x.number ≡ length H = number ∙ leads.entries in
     let start : take x.number (H ++ e ∷ []) ≡ H = ap (λ n. take n (H ++ e ∷ [])) at_end ∙ take-append_seam H (e ∷ []) in
     record {
       look = (e, ap (slice_get (H ++ e ∷ [])) at_end ∙ slice_get-seam H e [], is);
       gifts = rw start (gifts ∙ leads.gifts);
+      graph = rw start (graph ∙ leads.graph);
       amounts = rw (start, position) leads.amounts;
     }
+
+pub look_fits : (o : Opening) (H : List Entry) (x : LookData) → IsLookAt o H x → x.position.size ≡ x.graph.size
+look_fits o H x look = look.amounts.size ∙ ap (λ (g : Multigraph). g.size) (sym look.graph)
+
+pub look_vertices : (o : Opening) (H : List Entry) (s : State) (x : LookData) → LeadsTo o H s → IsLookAt o H x →
+    x.graph.size ≡ s.graph.size
+look_vertices o H s x leads look =
+    ap (λ (g : Multigraph). g.size) look.graph ∙ vertices_stay o (take x.number H) ∙ sym (vertices_stay o H)
+    ∙ ap (λ (g : Multigraph). g.size) (sym leads.graph)
 
 pub look_size : (o : Opening) (H : List Entry) (s : State) (x : LookData) → LeadsTo o H s → IsLookAt o H x →
     x.position.size ≡ s.graph.size
 look_size o H s x leads look =
-    look.amounts.size ∙ vertices_stay o (take x.number H) ∙ sym (vertices_stay o H) ∙ ap (λ (g : Multigraph). g.size) (sym leads.graph)
+    look_fits o H x look ∙ look_vertices o H s x leads look
 
 -- the state with one entry more, and nothing else changed
 abbrev counted : State → State

@@ -99,14 +99,14 @@ no_look plain.Claim other uses = uses
 -- the looks kept after a call that is a look, and after one that is not
 pub looks_looked : (o : Opening) (H : List Entry) (steps : List Step) (r : Rehearsal) (seat : ℕ) (p : Plain) (x : LookData) (reply : Reply) →
     IsPlaying o steps H r → slice_get steps (length H) ≡ Some (record { seat = seat; command = Call p }) → IsSeat seat → p ≡ plain.Look →
-    x.number ≡ r.game.entries → x.gifts ≡ r.game.gifts → x.position ≡ r.game.amounts →
+    x.number ≡ r.game.entries → x.gifts ≡ r.game.gifts → x.graph ≡ r.game.graph → x.position ≡ r.game.amounts →
     AreLooks o (H ++ (record { seat = seat; request = asked p; reply = reply }) ∷ []) steps (set r.looks seat (Some x))
-looks_looked o H steps r seat p x reply playing there is look number gifts position =
+looks_looked o H steps r seat p x reply playing there is look number gifts graph position =
     let e : Entry = record { seat = seat; request = asked p; reply = reply } in
     let looks : slice_get steps (length H) ≡ Some (record { seat = seat; command = Call plain.Look }) = rw look at there in
     looks_set o H e steps (record { seat = seat; command = Call p }) r.looks (Some x) there playing.places is
     (keeps_new o H e steps seat x looks (number ∙ playing.leads.entries)
-    (look_new o H r.game e x playing.leads (ap asked look) number gifts position)) playing.looks
+    (look_new o H r.game e x playing.leads (ap asked look) number gifts graph position)) playing.looks
 
 pub looks_left : (o : Opening) (H : List Entry) (steps : List Step) (r : Rehearsal) (seat : ℕ) (p : Plain) (reply : Reply) →
     IsPlaying o steps H r → slice_get steps (length H) ≡ Some (record { seat = seat; command = Call p }) → (p ≡ plain.Look → ⊥) →

@@ -2,7 +2,7 @@
 --   in_range-cong        amounts that agree with some in range are in range
 --   out_of_range-cong    amounts that agree with some out of range are out of range
 --   replies-cong         a right reply to a call is right for amounts that agree
-use Rattle.std.proofs.Common.{◌≡◌, ℕ, ◌<◌, arith, ◌∙◌}
+use Rattle.std.proofs.Common.{◌≡◌, ℕ, arith, ◌∙◌}
 use Rattle.std.proofs.lemmas.Int.{ints}
 use Rattle.std.proofs.Math.IntN.{ℤ}
 use Rattle.dg_theory.specs.Multigraph.{Multigraph}

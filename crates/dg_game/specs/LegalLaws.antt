@@ -6,7 +6,8 @@
 --   PartsAreLegal         == what comes first in a legal history of two parts is a legal history
 --   HasSize n reply       == each divisor, script and wide amount in the reply is one of n vertices
 --   LegalIsSized          == each reply of a legal history has the size of the start
---   LooksAreShown         == a look of a legal history showed what `IsLookAt` says, whatever drift is kept with it
+--   LooksAreShown         == a look of a legal history showed what `IsLookAt` says, where the graph kept with it is that of
+--                            the start; whatever drift is kept
 use Rattle.std.specs.Prelude.{◌≡◌, ℕ, List, [], ◌∷◌, ◌++◌, take, slice_get, Some, ⊤}
 use Rattle.dg_chips.specs.Opening.{Opening}
 use Rattle.dg_rank.specs.declared.rank_verdict.RankVerdict.TheVariants.{AtLeast, Below}
@@ -46,4 +47,4 @@ LegalIsSized = (o : Opening) (H : List Entry) (i : ℕ) (e : Entry) → IsLegal 
 
 abbrev pub LooksAreShown : Type 0
 LooksAreShown = (o : Opening) (H : List Entry) (e : Entry) (x : LookData) → IsLegal o H → slice_get H x.number ≡ Some e →
-    e.request ≡ Look → e.reply ≡ Looked x.gifts x.position → IsLookAt o H x
+    e.request ≡ Look → e.reply ≡ Looked x.gifts x.position → x.graph ≡ o.graph → IsLookAt o H x

@@ -1,14 +1,12 @@
 -- What a seat keeps of a look, and what was reckoned on it.
---   IsLookAt o H x       == x holds the number of a look of the history H, and the gift count and the amounts at it, and
---                           any drift
+--   IsLookAt o H x       == x holds the number of a look of the history H, and the gift count, the graph and the amounts
+--                           at it, and any drift
 --   degree_of v          == the degree of the rank test whose verdict v is
---   IsFoundFor g q x f   == the finding f is right on the graph g, from the vertex q, for the amounts of the look x
---   IsFoundOn o H x f    == the finding f is right on the graph of the position at the look x of the history H
+--   IsFoundFor q x f     == the finding f is right on the graph of the look x, from the vertex q, for its amounts
 --   asked_for i f        == the request by which the finding f on the look of number i is entered
 --   KeepsFinding f reply == a verdict entered keeps the reduced divisor and the burning order that were found, and that
 --                           of a rank test is entered as it was found
 use Rattle.std.specs.Prelude.{◌≡◌, ℕ, List, take, ⊤}
-use Rattle.dg_theory.specs.Multigraph.{Multigraph}
 use Rattle.dg_chips.specs.Vector.{at}
 use Rattle.dg_chips.specs.Opening.{Opening}
 use Rattle.dg_verdict.specs.Right.{IsRight}
@@ -30,18 +28,16 @@ use Rattle.dg_game.specs.declared.finding.Finding.TheVariants.{Judged, Ranked}
 pub record IsLookAt (o : Opening) (H : List Entry) (x : LookData) : Type 0 where
   pub look : IsLookIn H x.number
   pub gifts : x.gifts ≡ gifts_in (take x.number H)
+  pub graph : x.graph ≡ (position_after o (take x.number H)).graph
   pub amounts : Shows (position_after o (take x.number H)) x.position
 
 abbrev pub degree_of : RankVerdict → ℕ
 degree_of (AtLeast k) = k
 degree_of (Below k E) = k
 
-abbrev pub IsFoundFor : Multigraph → ℕ → LookData → Finding → Type 0
-IsFoundFor g q x (Judged v) = IsRight g q (at x.position) v
-IsFoundFor g q x (Ranked v) = IsRankTest g (at x.position) (degree_of v) v
-
-abbrev pub IsFoundOn : Opening → List Entry → LookData → Finding → Type 0
-IsFoundOn o H x f = IsFoundFor (position_after o (take x.number H)).graph o.q x f
+abbrev pub IsFoundFor : ℕ → LookData → Finding → Type 0
+IsFoundFor q x (Judged v) = IsRight x.graph q (at x.position) v
+IsFoundFor q x (Ranked v) = IsRankTest x.graph (at x.position) (degree_of v) v
 
 abbrev pub asked_for : ℕ → Finding → Request
 asked_for i (Judged v) = Judge i

@@ -8,7 +8,6 @@ ghost use Rattle.dg_game.specs.declared.entry.Request.TheVariants.{Judge as Judg
 
 use crate::entry::Request;
 use crate::look::LookData;
-use dg_graph::Graph;
 use dg_rank::{RankFault, RankVerdict, rank_at_least};
 use dg_verdict::{Verdict, judge};
 
@@ -34,28 +33,27 @@ impl Finding {
     }
 }
 
-/// The verdict on the amounts that a look showed, reckoned from the vertex q of the graph. The conditions are that the
-/// look showed an amount for each vertex of the graph, and that q is one of them.
-pub fn judge_look(graph: &Graph, q: usize, look: &LookData) -> Finding
-    requires size { look.now.position.size ≡ graph.now.size }
-    requires vertex { q < graph.now.size }
-    ensures found { IsFoundFor graph.now q look.now result }
+/// The verdict on the amounts that a look showed, reckoned from the vertex q of its graph. The conditions are that the
+/// look showed an amount for each vertex of its graph, and that q is one of them.
+pub fn judge_look(q: usize, look: &LookData) -> Finding
+    requires size { look.now.position.size ≡ look.now.graph.size }
+    requires vertex { q < look.now.graph.size }
+    ensures found { IsFoundFor q look.now result }
     ensures asks { (i : ℕ) → asked_for i result ≡ JudgeRequest i }
 {
-    Finding::Judged(judge(graph, q, &look.position))
+    Finding::Judged(judge(&look.graph, q, &look.position))
 }
 
 /// The rank test of degree k for the amounts that a look showed. The conditions are those of `judge_look`.
 ///
 /// Refused with `TooMany` alone, where k is above 1,000 or there are more than 200,000 trials.
-pub fn rank_look(graph: &Graph, q: usize, look: &LookData, k: u32) -> Result<Finding, RankFault>
-    requires size { look.now.position.size ≡ graph.now.size }
-    requires vertex { q < graph.now.size }
+pub fn rank_look(q: usize, look: &LookData, k: u32) -> Result<Finding, RankFault>
+    requires size { look.now.position.size ≡ look.now.graph.size }
+    requires vertex { q < look.now.graph.size }
     ensures { MatchResult result
-        (λ f. IsWithin graph.now.size k × IsFoundFor graph.now q look.now f ×
-        ((i : ℕ) → asked_for i f ≡ RankRequest i k))
-        (λ e. (e ≡ TooMany) × IsPastLimits graph.now.size k) }
+        (λ f. IsWithin look.now.graph.size k × IsFoundFor q look.now f × ((i : ℕ) → asked_for i f ≡ RankRequest i k))
+        (λ e. (e ≡ TooMany) × IsPastLimits look.now.graph.size k) }
 {
-    let verdict = rank_at_least(graph, q, &look.position, k)?;
+    let verdict = rank_at_least(&look.graph, q, &look.position, k)?;
     Ok(Finding::Ranked(verdict))
 }

@@ -11,7 +11,7 @@ ghost use Rattle.dg_game.specs.GiftReplies.{RepliesToGift};
 ghost use Rattle.dg_game.specs.Replies.{Replies, RepliesAt, RepliesToClaim};
 ghost use Rattle.dg_game.specs.History.{with_entry};
 ghost use Rattle.dg_game.specs.Legal.{IsSeat, IsLegal};
-ghost use Rattle.dg_game.specs.Look.{IsLookAt, IsFoundOn, asked_for, KeepsFinding};
+ghost use Rattle.dg_game.specs.Look.{IsLookAt, IsFoundFor, asked_for, KeepsFinding};
 ghost use Rattle.dg_game.specs.State.{State, IsState, LeadsTo, IsNext, position_of};
 ghost use Rattle.dg_game.specs.Schedule.{asked};
 ghost use Rattle.dg_game.specs.declared.entry.Entry.{Entry};
@@ -130,12 +130,14 @@ impl Game {
     pub fn look_data(&self) -> LookData
         ensures number { result.number ≡ self.now.entries }
         ensures gifts { result.gifts ≡ self.now.gifts }
+        ensures graph { result.graph ≡ self.now.graph }
         ensures position { result.position ≡ self.now.amounts }
         ensures drift { result.drift ≡ self.now.drift }
     {
         LookData {
             number: self.entries,
             gifts: self.gifts,
+            graph: self.graph,
             position: self.amounts,
             drift: self.drift,
         }
@@ -159,11 +161,11 @@ impl Game {
     /// for the position now, with the reduced divisor and the burning order that were found, or the answer of the rank
     /// test as it was found. A legal history stays legal where a seat of 1 to 64 enters it. The conditions are that there
     /// are fewer than 65,536 entries, that the look is one of the history, whatever its drift, and that the finding is
-    /// right for the position that it showed.
+    /// right for the amounts of the look, on its graph.
     pub fn settle(&mut self, look: &LookData, finding: &Finding) -> Reply
         requires room { self.old.entries < MAX_ENTRIES }
-        requires look { (o : Opening) × (H : List Entry) × LeadsTo o H self.old ×
-            IsLookAt o H look.now × IsFoundOn o H look.now finding.now }
+        requires look { (o : Opening) × (H : List Entry) × LeadsTo o H self.old × IsLookAt o H look.now }
+        requires found { IsFoundFor self.old.q look.now finding.now }
         ensures replies { (o : Opening) (H : List Entry) → LeadsTo o H self.old →
             IsLookAt o H look.now → Replies o H (asked_for look.now.number finding.now) result }
         ensures leads { (o : Opening) (H : List Entry) (seat : ℕ) → LeadsTo o H self.old →
@@ -181,8 +183,8 @@ impl Game {
 
     /// The reply to what was reckoned on a look.
     fn reply_to(&self, look: &LookData, finding: &Finding) -> Reply
-        requires look { (o : Opening) × (H : List Entry) × LeadsTo o H self.now ×
-            IsLookAt o H look.now × IsFoundOn o H look.now finding.now }
+        requires look { (o : Opening) × (H : List Entry) × LeadsTo o H self.now × IsLookAt o H look.now }
+        requires found { IsFoundFor self.now.q look.now finding.now }
         ensures replies { (o : Opening) (H : List Entry) → LeadsTo o H self.now →
             IsLookAt o H look.now → Replies o H (asked_for look.now.number finding.now) result }
         ensures kept { KeepsFinding finding.now result }

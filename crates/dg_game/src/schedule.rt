@@ -2,7 +2,7 @@
 ghost use Rattle.std.specs.Prelude.{◌≡◌, ℕ, ◌<◌, ◌≤◌, List, [], ◌∷◌, ◌++◌, length, slice_get, Some, MatchResult, MatchOption};
 ghost use Rattle.dg_chips.specs.Opening.{Opening};
 ghost use Rattle.dg_game.specs.Legal.{IsSeat};
-ghost use Rattle.dg_game.specs.Look.{IsFoundOn, asked_for};
+ghost use Rattle.dg_game.specs.Look.{IsFoundFor, asked_for};
 ghost use Rattle.dg_game.specs.Schedule.{UsesUp, IsKept, IsAsked, IsRehearsal};
 ghost use Rattle.dg_game.specs.ScheduleFaults.{HasTrials, AreGoodBefore, IsFirstFault};
 ghost use Rattle.dg_game.specs.Rehearsal.{KeepsLook, IsPlaying, IsInPlay, PlaysOn, StopsAt};
@@ -130,7 +130,7 @@ impl Rehearsal {
             (λ e. PlaysOn self.old (record { seat = seat; command = Commit }) e self.new) }
     {
         let look = self.kept(seat)?;
-        let finding = judge_look(self.game.graph(), self.game.q(), &look);
+        let finding = judge_look(self.game.q(), &look);
         Some(self.enter(seat, &look, &finding))
     }
 
@@ -147,7 +147,7 @@ impl Rehearsal {
         let Some(look) = self.kept(seat) else {
             return Err(RehearseFault::NoLook(i));
         };
-        let Ok(finding) = rank_look(self.game.graph(), self.game.q(), &look, k) else {
+        let Ok(finding) = rank_look(self.game.q(), &look, k) else {
             return Err(RehearseFault::TooMany(i));
         };
         let entry = self.enter(seat, &look, &finding);
@@ -167,8 +167,8 @@ impl Rehearsal {
     /// Enters what was reckoned on the look that a seat keeps, and uses the look up.
     fn enter(&mut self, seat: u8, look: &LookData, finding: &Finding) -> Entry
         requires playing { (o : Opening) × (H : List Entry) × (steps : List Step) ×
-            IsPlaying o steps H self.old × KeepsLook o H steps seat (Some look.now) ×
-            IsFoundOn o H look.now finding.now }
+            IsPlaying o steps H self.old × KeepsLook o H steps seat (Some look.now) }
+        requires found { IsFoundFor self.old.game.q look.now finding.now }
         requires room { self.old.game.entries < MAX_ENTRIES }
         requires seat { IsSeat seat }
         ensures { (o : Opening) (H : List Entry) (steps : List Step) (c : Command) →

@@ -8,18 +8,16 @@
 --   stale_both       the reply to a finding on an entry is stale just where a gift was accepted after it
 --   carried_over     where none was, the finding is carried to the position now
 --   look_stands      what is kept of an entry of a legal history that is a look, is of a look of it
---   found_for        what is right for a look, on the graph of the start, is right on the graph at the look
-use Rattle.std.proofs.Common.{◌≡◌, ◌≢◌, ◌↔◌, ℕ, Bool, true, false, cond, List, [], ◌∷◌, ◌++◌, length, take, slice_get, Option, Some, None, refl, sym, ap, subst, ◌∙◌}
+use Rattle.std.proofs.Common.{◌≡◌, ◌≢◌, ◌↔◌, ℕ, Bool, true, false, cond, List, [], ◌∷◌, ◌++◌, take, slice_get, Option, Some, None, refl, sym, ap, subst, ◌∙◌}
 use Rattle.std.specs.List.{filter, last_or}
 use Rattle.std.proofs.lemmas.List.{append-nil}
 use Rattle.std.proofs.lemmas.Option.{same_Some}
 use Rattle.std.proofs.lemmas.List.Elements.{filter-append}
-use Rattle.dg_theory.specs.Multigraph.{Multigraph}
 use Rattle.dg_chips.specs.Opening.{Opening}
-use Rattle.dg_chips.specs.Vector.{Vector, at}
+use Rattle.dg_chips.specs.Vector.{Vector}
 use Rattle.dg_game.specs.History.{position_after, gifts_in}
 use Rattle.dg_game.specs.Legal.{IsLegal}
-use Rattle.dg_game.specs.Look.{IsLookAt, IsFoundFor, IsFoundOn, asked_for, KeepsFinding}
+use Rattle.dg_game.specs.Look.{IsLookAt, asked_for, KeepsFinding}
 use Rattle.dg_game.specs.Replies.{Replies}
 use Rattle.dg_game.specs.declared.entry.Entry.{Entry}
 use Rattle.dg_game.specs.declared.entry.Request.TheVariants.{Look}
@@ -29,9 +27,9 @@ use Rattle.dg_game.specs.declared.finding.Finding.{Finding}
 use Rattle.dg_game.specs.declared.finding.Finding.TheVariants.{Judged, Ranked}
 use Rattle.dg_game.specs.declared.look.LookData.{LookData}
 use Rattle.dg_game.proofs.LegalLaws.{legal_looks}
-use Rattle.dg_game.proofs.StepLaw.{graph_stays, vertices_stay}
+use Rattle.dg_game.proofs.StepLaw.{vertices_stay}
 use Rattle.dg_table.specs.Lock.{IsKept}
-use Rattle.dg_table.specs.Looks.{LastLook, IsLastLook, IsLookOf, IsRightFor, is_look, last_look, asks_look}
+use Rattle.dg_table.specs.Looks.{LastLook, IsLastLook, IsLookOf, is_look, last_look, asks_look}
 use Rattle.dg_table.specs.Settled.{IsCarriedTo}
 
 last_or-snoc : {A : Type 0} (o : Option A) (xs : List A) (x : A) → last_or o (xs ++ x ∷ []) ≡ Some x
@@ -48,21 +46,21 @@ pub last_kept : (ps : List (ℕ × Entry)) (p : ℕ × Entry) → is_look p ≡ 
 last_kept ps p test =
     ap (last_or None) (filter-append is_look ps (p ∷ []) ∙ ap (λ (b : Bool). filter is_look ps ++ cond b (p ∷ []) []) test ∙ append-nil (filter is_look ps))
 
-pub look_kept : (n : ℕ) (ps : List (ℕ × Entry)) (p : ℕ × Entry) (look : Option LookData) → is_look p ≡ false → IsKept n ps look →
-    IsKept n (ps ++ p ∷ []) look
-look_kept n ps p None test kept = record { last = last_kept ps p test ∙ kept.last; size = tt }
-look_kept n ps p (Some x) test kept =
+pub look_kept : (o : Opening) (ps : List (ℕ × Entry)) (p : ℕ × Entry) (look : Option LookData) → is_look p ≡ false → IsKept o ps look →
+    IsKept o (ps ++ p ∷ []) look
+look_kept o ps p None test kept = record { last = last_kept ps p test ∙ kept.last; size = tt }
+look_kept o ps p (Some x) test kept =
     let (q, last, of) = kept.last in
     record { last = (q, last_kept ps p test ∙ last, of); size = kept.size }
 
-pub look_seen : (n : ℕ) (ps : List (ℕ × Entry)) (p : ℕ × Entry) (x : LookData) → IsLookOf p x → x.position.size ≡ n →
-    IsKept n (ps ++ p ∷ []) (Some x)
-look_seen n ps p x of size = record { last = (p, last_after ps p of.look, of); size = size }
+pub look_seen : (o : Opening) (ps : List (ℕ × Entry)) (p : ℕ × Entry) (x : LookData) → IsLookOf o p x → x.position.size ≡ o.graph.size →
+    IsKept o (ps ++ p ∷ []) (Some x)
+look_seen o ps p x of size = record { last = (p, last_after ps p of.look, of); size = size }
 
-pub look_of : (ps : List (ℕ × Entry)) (p : ℕ × Entry) (x : LookData) → p.1.request ≡ Look → IsLastLook (ps ++ p ∷ []) (Some x) →
-    IsLookOf p x
-look_of ps p x look (q, last, of) =
-    subst (λ (r : ℕ × Entry). IsLookOf r x) (same_Some q p (sym last ∙ last_after ps p look)) of
+pub look_of : (o : Opening) (ps : List (ℕ × Entry)) (p : ℕ × Entry) (x : LookData) → p.1.request ≡ Look →
+    IsLastLook o (ps ++ p ∷ []) (Some x) → IsLookOf o p x
+look_of o ps p x look (q, last, of) =
+    subst (λ (r : ℕ × Entry). IsLookOf o r x) (same_Some q p (sym last ∙ last_after ps p look)) of
 
 pub looked_size : (o : Opening) (H : List Entry) (gifts : ℕ) (d : Vector) → Replies o H Look (Looked gifts d) → d.size ≡ o.graph.size
 looked_size o H gifts d right = right.1.size ∙ vertices_stay o H
@@ -83,10 +81,7 @@ carried_over o H i (Ranked v) (RankReply w) kept right same = right.1
 carried_over o H i (Ranked v) (Stale count) kept right same = right.0 same
 carried_over o H i f reply kept right same = absurd right
 
-pub look_stands : (o : Opening) (H : List Entry) (p : ℕ × Entry) (x : LookData) → IsLegal o H → IsLookOf p x →
+pub look_stands : (o : Opening) (H : List Entry) (p : ℕ × Entry) (x : LookData) → IsLegal o H → IsLookOf o p x →
     slice_get H p.0 ≡ Some p.1 → IsLookAt o H x
-look_stands o H p x legal of stands = legal_looks o H p.1 x legal (ap (slice_get H) of.number ∙ stands) of.look of.shown
-
-pub found_for : (o : Opening) (H : List Entry) (x : LookData) (f : Finding) → IsRightFor o x f → IsFoundOn o H x f
-found_for o H x f right =
-    subst (λ (g : Multigraph). IsFoundFor g o.q x f) (sym (graph_stays o (take x.number H))) right
+look_stands o H p x legal of stands =
+    legal_looks o H p.1 x legal (ap (slice_get H) of.number ∙ stands) of.look of.shown of.graph

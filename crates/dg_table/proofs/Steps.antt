@@ -7,7 +7,7 @@
 --                 is refused
 --   held_none     what the lock holds at the start
 --   held_more     what the lock holds after one more entry
-use Rattle.std.proofs.Common.{inl, inr, Bool, ◌≡◌, Option, ℕ, ◌+◌, ◌-◌, ◌<◌, ◌≤◌, List, [], ◌∷◌, ◌++◌, length, get_or, set, slice_get, Some, arith, refl, sym, ap, subst, ◌∙◌}
+use Rattle.std.proofs.Common.{inl, inr, Bool, ◌≡◌, Option, ℕ, ◌+◌, ◌<◌, ◌≤◌, List, [], ◌∷◌, ◌++◌, length, get_or, set, slice_get, Some, arith, refl, sym, ap, subst, ◌∙◌}
 use Rattle.std.proofs.lemmas.List.{length-set}
 use Rattle.std.proofs.lemmas.Option.{slice_get_within}
 use Rattle.dg_chips.specs.Opening.{Opening}
@@ -20,17 +20,17 @@ use Rattle.dg_game.specs.declared.entry.TheConstants.{MAX_SEATS}
 use Rattle.dg_game.specs.declared.finding.Finding.{Finding}
 use Rattle.dg_game.specs.declared.look.LookData.{LookData}
 use Rattle.dg_game.proofs.LegalLaws.{legal_none}
-use Rattle.dg_game.proofs.ListLaws.{slice_get-append, slice_get-seam}
+use Rattle.dg_game.proofs.ListLaws.{slice_get-append}
 use Rattle.dg_table.specs.Answered.{IsAnsweredAfter}
 use Rattle.dg_table.specs.Faults.{RefusesStep, RefusesSettling}
 use Rattle.dg_table.specs.declared.fault.Fault.{Fault}
 use Rattle.dg_table.specs.declared.fault.Fault.TheVariants.{OutOfMemory, Full, Log}
-use Rattle.dg_table.specs.Lock.{AreRising, AreOwn, IsHeld, IsKept, IsSeated}
-use Rattle.dg_log.specs.Numbered.{AreBelow, StandIn}
+use Rattle.dg_table.specs.Lock.{IsHeld, IsKept, IsSeated}
+use Rattle.dg_log.specs.Numbered.{AreBelow}
 use Rattle.dg_table.specs.Looks.{IsLookOf}
 use Rattle.dg_table.specs.Seats.{SeatView, Holds, IsAdmissible, entries_of}
 use Rattle.dg_table.specs.Settled.{IsSettledAfter}
-use Rattle.dg_table.proofs.Entries.{own_more, all_own}
+use Rattle.dg_table.proofs.Entries.{own_more}
 use Rattle.dg_table.proofs.Findings.{stale_both, carried_over}
 use Rattle.dg_table.proofs.Numbered.{stand_more, stand_longer, rising_more, owned_more}
 use Rattle.dg_table.proofs.Counts.{seated_more, counted_more, counted_none}
@@ -45,7 +45,7 @@ holds_more H e x y holds own number mine told = record {
 
 pub kept_more : {o : Opening} {seats s : ℕ} {mine told first second : List (ℕ × Entry)} {look : Option LookData} (n : ℕ)
     (next : Option LookData) (p : ℕ × Entry) → IsSeated o seats s mine told first second look → AreBelow n mine → n ≤ p.0 →
-    p.1.seat ≡ s → IsKept o.graph.size (mine ++ p ∷ []) next →
+    p.1.seat ≡ s → IsKept o (mine ++ p ∷ []) next →
     IsSeated o seats s (mine ++ p ∷ []) told (first ++ p ∷ []) second next
 kept_more {o} {seats} {s} {mine} {told} {first} {second} {look} n next p seated below past own last = record {
   least = seated.least;
@@ -73,7 +73,7 @@ answered {o} {H} {x} e y replies legal holds own number mine told = record {
 }
 
 pub settled : (o : Opening) (H : List Entry) (look : ℕ × Entry) (x : LookData) (f : Finding) (r : ℕ × Entry) (s m t : SeatView) →
-    IsAnsweredAfter o H (asked_for x.number f) r s m → IsLookOf look x → slice_get H look.0 ≡ Some look.1 → KeepsFinding f r.1.reply →
+    IsAnsweredAfter o H (asked_for x.number f) r s m → IsLookOf o look x → slice_get H look.0 ≡ Some look.1 → KeepsFinding f r.1.reply →
     t.number ≡ m.number → t.mine ≡ m.mine → t.told ≡ m.told ++ look ∷ [] → IsSettledAfter o H look x f r s t
 settled o H look x f r s m t answered of stands kept number mine told =
     let hears : t.told ≡ s.told ++ look ∷ [] = told ∙ ap (λ ps. ps ++ look ∷ []) answered.told in

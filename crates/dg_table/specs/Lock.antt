@@ -6,7 +6,8 @@
 --                                 seats 1 to n
 --   IsReady cap H x            == the history H has room for an entry of the seat x, which is admissible, and holds what
 --                                 it knows
---   IsKept n ps look           == the look that is kept is the last of the entries ps, and shows n amounts
+--   IsKept o ps look           == the look that is kept is the last of the entries ps, and shows an amount for each
+--                                 vertex of the opening o
 --   IsSeated o n s ps qs d e look   == what the seat s of n keeps fits together: its own entries ps and those that it was
 --                                      told of, qs; its two digests d and e are of these, and look is its last look
 use Rattle.std.specs.Prelude.{◌≡◌, ℕ, ◌+◌, ◌<◌, ◌≤◌, List, [], ◌∷◌, length, Option, IfSome, ⊤}
@@ -47,9 +48,9 @@ pub record IsReady (cap : ℕ) (H : List Entry) (x : SeatView) : Type 0 where
   pub admissible : IsAdmissible H x
   pub holds : Holds H x
 
-pub record IsKept (n : ℕ) (ps : List (ℕ × Entry)) (look : Option LookData) : Type 0 where
-  pub last : IsLastLook ps look
-  pub size : IfSome look (λ x. x.position.size ≡ n)
+pub record IsKept (o : Opening) (ps : List (ℕ × Entry)) (look : Option LookData) : Type 0 where
+  pub last : IsLastLook o ps look
+  pub size : IfSome look (λ x. x.position.size ≡ o.graph.size)
 
 pub record IsSeated (o : Opening) (n s : ℕ) (ps qs d e : List (ℕ × Entry)) (look : Option LookData) : Type 0 where
   pub least : 1 ≤ s
@@ -58,4 +59,4 @@ pub record IsSeated (o : Opening) (n s : ℕ) (ps qs d e : List (ℕ × Entry)) 
   pub own : AreOwn s ps
   pub own_said : d ≡ ps
   pub told_said : e ≡ qs
-  pub look_kept : IsKept o.graph.size ps look
+  pub look_kept : IsKept o ps look

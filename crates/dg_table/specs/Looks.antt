@@ -2,21 +2,17 @@
 --   asks_look request    == whether the request is for a look
 --   is_look p            == whether the entry p, with its number, asks for a look
 --   last_look ps         == the last of the entries ps that is a look, if there is one
---   IsLookOf p x         == the entry p is a look, and x holds its number, and the gift count and the amounts that it
---                           showed; any drift
---   IsLastLook ps look   == what is kept is that of the last look among the entries ps; nothing where there is none
---   IsRightFor o x f     == the finding f is right for the amounts of the look x, from the vertex q of the opening o, on
---                           the graph on which the look was taken: that of o
+--   IsLookOf o p x       == the entry p is a look, and x holds its number, and the gift count and the amounts that it
+--                           showed; any drift. No entry shows a graph, and none changes it: it is that of the opening o
+--   IsLastLook o ps look == what is kept is that of the last look among the entries ps; nothing where there is none
 --   LastLook             == after a look there is a last look, and it is that look
 use Rattle.std.specs.Prelude.{◌≡◌, ℕ, List, [], ◌∷◌, ◌++◌, Option, Some, None, Bool, true, false, MatchOption}
 use Rattle.std.specs.List.{filter, last_or}
 use Rattle.dg_chips.specs.Opening.{Opening}
-use Rattle.dg_game.specs.Look.{IsFoundFor}
 use Rattle.dg_game.specs.declared.entry.Entry.{Entry}
 use Rattle.dg_game.specs.declared.entry.Request.{Request}
 use Rattle.dg_game.specs.declared.entry.Request.TheVariants.{Look}
 use Rattle.dg_game.specs.declared.entry.Reply.TheVariants.{Looked}
-use Rattle.dg_game.specs.declared.finding.Finding.{Finding}
 use Rattle.dg_game.specs.declared.look.LookData.{LookData}
 
 abbrev pub asks_look : Request → Bool
@@ -29,18 +25,16 @@ is_look p = asks_look p.1.request
 abbrev pub last_look : List (ℕ × Entry) → Option (ℕ × Entry)
 last_look ps = last_or None (filter is_look ps)
 
-pub record IsLookOf (p : ℕ × Entry) (x : LookData) : Type 0 where
+pub record IsLookOf (o : Opening) (p : ℕ × Entry) (x : LookData) : Type 0 where
   pub look : p.1.request ≡ Look
   pub shown : p.1.reply ≡ Looked x.gifts x.position
   pub number : x.number ≡ p.0
+  pub graph : x.graph ≡ o.graph
 
-abbrev pub IsLastLook : List (ℕ × Entry) → Option LookData → Type 0
-IsLastLook ps look = MatchOption look
+abbrev pub IsLastLook : Opening → List (ℕ × Entry) → Option LookData → Type 0
+IsLastLook o ps look = MatchOption look
     (last_look ps ≡ None)
-    (λ x. (p : ℕ × Entry) × (last_look ps ≡ Some p) × IsLookOf p x)
-
-abbrev pub IsRightFor : Opening → LookData → Finding → Type 0
-IsRightFor o x f = IsFoundFor o.graph o.q x f
+    (λ x. (p : ℕ × Entry) × (last_look ps ≡ Some p) × IsLookOf o p x)
 
 abbrev pub LastLook : Type 0
 LastLook = (ps : List (ℕ × Entry)) (p : ℕ × Entry) → p.1.request ≡ Look → last_look (ps ++ p ∷ []) ≡ Some p

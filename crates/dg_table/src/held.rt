@@ -2,6 +2,7 @@
 ghost use Rattle.std.specs.Prelude.{ℕ, List, Some, slice_get, ◌≡◌, ◌<◌, ◌≤◌, ◌↔◌, [], ◌∷◌, ◌++◌, true, false, length, IsTrue, IfOk, IfSome, IfErr, MatchOption, MatchResult, MatchBool};
 ghost use Rattle.dg_game.specs.History.{with_entry};
 ghost use Rattle.dg_game.specs.Legal.{IsSeat, IsLegal};
+ghost use Rattle.dg_game.specs.Look.{IsFoundFor};
 ghost use Rattle.dg_game.specs.Replies.{Replies};
 ghost use Rattle.dg_game.specs.Schedule.{asked};
 ghost use Rattle.dg_game.specs.State.{LeadsTo};
@@ -10,7 +11,7 @@ ghost use Rattle.dg_table.specs.Closing.{HasSeat, IsComplete, AllHeld, AreTotals
 ghost use Rattle.dg_table.specs.Faults.{RefusesStep, RefusesSettling};
 ghost use Rattle.dg_game.specs.declared.entry.Entry.{Entry as EntryData};
 ghost use Rattle.dg_table.specs.Lock.{IsReady, IsKept};
-ghost use Rattle.dg_table.specs.Looks.{IsLookOf, IsRightFor};
+ghost use Rattle.dg_table.specs.Looks.{IsLookOf};
 ghost use Rattle.dg_table.specs.Opened.{MayHaveSeats};
 ghost use Rattle.dg_table.specs.Seats.{SeatView, Holds, IsAdmissible};
 ghost use Rattle.dg_table.specs.Settled.{IsSettledAfter};
@@ -132,7 +133,7 @@ impl<N: Name> Held<N> {
 
     /// Enters a finding on a look as the last of the history, gives the seat its receipt, and tells the seat of the
     /// look. The conditions are that the seat has the space, that the data is that of the look, whatever its drift, and
-    /// that the finding is right for the amounts that it showed; the box is used for the entry.
+    /// that the finding is right for the look's amounts on the look's graph; the box is used for the entry.
     ///
     /// Refused as `call`; with `Log`, before the cell is tried, where the history has no entry of the look's number.
     pub fn settle(
@@ -145,8 +146,8 @@ impl<N: Name> Held<N> {
         finding: &Finding,
     ) -> Result<Receipt<N>, Fault>
         requires space { seat.old.space ≡ true }
-        requires look { IsLookOf look.now shown.now }
-        requires right { IsRightFor N.start shown.now finding.now }
+        requires look { IsLookOf N.start look.now shown.now }
+        requires found { IsFoundFor N.start.q shown.now finding.now }
         ensures settled { IfOk result (λ r.
             IsSettledAfter N.start self.old.entries look.now shown.now finding.now r seat.old seat.new ×
             (self.new ≡ record { entries = self.old.entries ++ r.1 ∷ []; stuck = false }) ×
@@ -187,7 +188,7 @@ impl<N: Name> Held<N> {
     fn last_look(&self, seat: &Seat<N>, request: &Request, reply: &Reply) -> Option<LookData>
         requires { Replies N.start self.now.entries request.now reply.now }
         ensures { (e : EntryData) → e.request ≡ request.now → e.reply ≡ reply.now →
-            IsKept N.start.graph.size (seat.now.mine ++ (length self.now.entries, e) ∷ []) result }
+            IsKept N.start (seat.now.mine ++ (length self.now.entries, e) ∷ []) result }
     {
         match (request, reply) {
             (Request::Look, Reply::Looked(gifts, position)) => Some(LookData {

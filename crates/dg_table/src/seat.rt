@@ -86,9 +86,10 @@ impl<N: Name> Seat<N> {
         self.mine.len() as u64
     }
 
-    /// What the seat keeps of the last look that it took; `None` where it took none. The amounts are as many as the vertices.
+    /// What the seat keeps of the last look that it took; `None` where it took none. The graph is the table's, and the amounts
+    /// are as many as its vertices.
     pub fn look_data(&self) -> Option<LookData>
-        ensures look { IsLastLook self.now.mine result }
+        ensures look { IsLastLook N.start self.now.mine result }
         ensures size { IfSome result (λ x. x.position.size ≡ N.start.graph.size) }
     {
         self.look

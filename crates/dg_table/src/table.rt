@@ -1,10 +1,11 @@
 //! The table that seats call.
 ghost use Rattle.std.specs.Prelude.{◌≡◌, length, IfOk, IfErr, MatchResult};
+ghost use Rattle.dg_game.specs.Look.{IsFoundFor};
 ghost use Rattle.dg_game.specs.Schedule.{asked};
 ghost use Rattle.dg_table.specs.Answered.{IsAnswered};
 ghost use Rattle.dg_table.specs.Closing.{IsClosed, AreTotals, IsRefused};
 ghost use Rattle.dg_table.specs.Faults.{RefusesCall};
-ghost use Rattle.dg_table.specs.Looks.{IsLookOf, IsRightFor};
+ghost use Rattle.dg_table.specs.Looks.{IsLookOf};
 ghost use Rattle.dg_table.specs.Opened.{AreFresh, RefusesTable};
 ghost use Rattle.dg_table.specs.Seats.{Keeps};
 ghost use Rattle.dg_table.specs.Settled.{IsSettled};
@@ -99,7 +100,8 @@ impl<N: Name> Table<N> {
     /// Enters what was reckoned on the look of a receipt: as stale where gifts were accepted since; otherwise a verdict
     /// that is right for the position at its place in the one history, with the reduced divisor and the burning order
     /// that were found, or the answer of the rank test as it was found. The seat is told of the look. The conditions are
-    /// that the data is that of the look, whatever its drift, and that the finding is right for the amounts that it showed.
+    /// that the data is that of the look, whatever its drift, and that the finding is right for the look's amounts on the
+    /// look's graph.
     ///
     /// It waits for the lock. Refused as `call`, and with `Log` where the history has no entry of the look's number.
     pub fn settle(
@@ -111,8 +113,8 @@ impl<N: Name> Table<N> {
         shown: &LookData,
         finding: &Finding,
     ) -> Result<Receipt<N>, Fault>
-        requires look { IsLookOf look.now shown.now }
-        requires right { IsRightFor N.start shown.now finding.now }
+        requires look { IsLookOf N.start look.now shown.now }
+        requires found { IsFoundFor N.start.q shown.now finding.now }
         ensures settled { IfOk result (λ r. IsSettled N.start look.now shown.now finding.now r seat.old seat.new) }
         ensures fault { IfErr result (λ f. Keeps seat.old seat.new ×
             RefusesCall N.start (length N.cells) seat.new f) }

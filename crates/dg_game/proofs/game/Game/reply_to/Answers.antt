@@ -1,24 +1,22 @@
 use Rattle.std.proofs.Common.{◌≡◌, arith, ap}
-use Rattle.dg_game.specs.Look.{IsFoundFor}
 use Rattle.dg_game.specs.State.{State}
-use Rattle.dg_game.proofs.LookLaws.{moved_since, found_now, judged_after, ranked_after, look_size}
+use Rattle.dg_game.proofs.LookLaws.{moved_since, judged_after, ranked_after, look_size}
 use Rattle.dg_game.proofs.game.Game.reply_to.Goals as goal
 
 pub verdict_now-carried-requires-clause-size : goal.verdict_now-carried-requires-clause-size
-verdict_now-carried-requires-clause-size c = let (o, H, leads, look, found) = c.requires.look in look_size o H _ _ leads look
+verdict_now-carried-requires-clause-size c = let (o, H, leads, look) = c.requires.look in look_size o H _ _ leads look
 
 pub verdict_now-carried-requires-clause-led : goal.verdict_now-carried-requires-clause-led
 verdict_now-carried-requires-clause-led c =
-    let (o, H, leads, look, found) = c.requires.look in
+    let (o, H, leads, look) = c.requires.look in
     let (graph, t, led) = moved_since o H _ _ leads look (omega (arith, c.if-self-look.false, ap (λ (s : State). s.gifts) c.self.view_is)) in
     (t, led)
 
 pub verdict_now-carried-requires-clause-right : goal.verdict_now-carried-requires-clause-right
 verdict_now-carried-requires-clause-right c =
-    let (o, H, leads, look, found) = c.requires.look in
-    let now : IsFoundFor c.args.self.now.graph c.args.self.now.q c.args.look.now c.args.finding.now =
-    found_now o H _ _ _ leads look (omega (arith, c.if-self-look.false, ap (λ (s : State). s.gifts) c.self.view_is)) found in
-    rw c.in-Judged.is at now
+    let (o, H, leads, look) = c.requires.look in
+    let (graph, t, led) = moved_since o H _ _ leads look (omega (arith, c.if-self-look.false, ap (λ (s : State). s.gifts) c.self.view_is)) in
+    rw graph (rw c.in-Judged.is at c.requires.found)
 
 pub returns-in-Judged-clause-replies : goal.returns-in-Judged-clause-replies
 returns-in-Judged-clause-replies c = λ o H leads look.
@@ -28,6 +26,4 @@ returns-in-Judged-clause-replies c = λ o H leads look.
 pub returns-in-Ranked-clause-replies : goal.returns-in-Ranked-clause-replies
 returns-in-Ranked-clause-replies c = λ o H leads look.
     let same : c.args.self.now.gifts ≡ c.args.look.now.gifts = omega (arith, c.if-self-look.false, ap (λ (s : State). s.gifts) c.self.view_is) in
-    let (o', H', leads', look', found) = c.requires.look in
-    let now : IsFoundFor c.args.self.now.graph c.args.self.now.q c.args.look.now c.args.finding.now = found_now o' H' _ _ _ leads' look' same found in
-    rw c.in-Ranked.is (ranked_after o H _ _ _ c.in-Ranked.verdict leads look same (rw c.in-Ranked.is at now))
+    rw c.in-Ranked.is (ranked_after o H _ _ _ c.in-Ranked.verdict leads look same (rw c.in-Ranked.is at c.requires.found))

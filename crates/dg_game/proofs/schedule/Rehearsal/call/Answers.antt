@@ -15,7 +15,7 @@ returns c = λ o H steps playing there. rw c.request.ensures (elim c.match-plain
       (c.act.ensures.legal o H c.args.seat leads playing.legal c.requires.seat) (c.act.ensures.leads o H c.args.seat leads)
       (ap length looks ∙ length-set _ _ _ ∙ playing.places)
       (rw (looks, w.from.ensures) (looks_looked o H steps c.args.self.now c.args.seat c.args.plain.now w.look_data.result c.act.result playing there
-      c.requires.seat w.in-Look.is w.look_data.ensures.number w.look_data.ensures.gifts w.look_data.ensures.position))
+      c.requires.seat w.in-Look.is w.look_data.ensures.number w.look_data.ensures.gifts w.look_data.ensures.graph w.look_data.ensures.position))
   | in_default w ↦
       let game : c.args.self.now.game ≡ c.match-plain.self.game = ap (λ (r : Rehearsal). r.game) (sym w.self-is) in
       let looks = ap (λ (r : Rehearsal). r.looks) w.self-is in

@@ -1,23 +1,26 @@
 use Rattle.dg_game.specs.declared.step.Command.TheVariants.{Commit}
-use Rattle.dg_game.proofs.LookLaws.{look_size, found_then}
+use Rattle.dg_game.proofs.LookLaws.{look_fits, look_vertices}
 use Rattle.dg_game.proofs.schedule.Rehearsal.commit.Goals as goal
 
 pub judge_look-finding-requires-clause-size : goal.judge_look-finding-requires-clause-size
 judge_look-finding-requires-clause-size c =
     let (o, H, steps, playing) = c.requires.playing in
     let (kept, look) = c.in_ok-look.ensures o H steps playing in
-    rw c.graph.ensures (look_size o H _ _ playing.leads look)
+    look_fits o H c.in_ok-look.look look
+
+pub judge_look-finding-requires-clause-vertex : goal.judge_look-finding-requires-clause-vertex
+judge_look-finding-requires-clause-vertex c =
+    let (o, H, steps, playing) = c.requires.playing in
+    let (kept, look) = c.in_ok-look.ensures o H steps playing in
+    rw (look_vertices o H _ _ playing.leads look) c.q.ensures.vertex
 
 pub enter-requires-clause-playing : goal.enter-requires-clause-playing
 enter-requires-clause-playing c =
-    let (o, H, steps, playing) = c.requires.playing in (
-      o,
-      H,
-      steps,
-      playing,
-      c.in_ok-look.ensures o H steps playing,
-      found_then o H _ c.in_ok-look.look _ playing.leads (rw (c.graph.ensures, c.q.ensures.q) at c.judge_look-finding.ensures.found),
-    )
+    let (o, H, steps, playing) = c.requires.playing in
+    (o, H, steps, playing, c.in_ok-look.ensures o H steps playing)
+
+pub enter-requires-clause-found : goal.enter-requires-clause-found
+enter-requires-clause-found c = rw c.q.ensures.q at c.judge_look-finding.ensures.found
 
 pub returns : goal.returns
 returns c = λ o H steps playing there.

@@ -4,8 +4,8 @@ use Rattle.dg_game.proofs.schedule.Rehearsal.enter.Goals as goal
 
 pub settle-reply-requires-clause-look : goal.settle-reply-requires-clause-look
 settle-reply-requires-clause-look c =
-    let (o, H, steps, playing, keeps, found) = c.requires.playing in
-    (o, H, playing.leads, keeps.1, found)
+    let (o, H, steps, playing, keeps) = c.requires.playing in
+    (o, H, playing.leads, keeps.1)
 
 pub returns : goal.returns
 returns c = λ o H steps command playing keeps there up trials asks.

@@ -1,7 +1,7 @@
 use Rattle.std.proofs.Common.{◌<◌, length, rules}
 use Rattle.std.proofs.lemmas.Option.{slice_get_within}
 use Rattle.dg_game.specs.Look.{KeepsFinding}
-use Rattle.dg_table.proofs.Findings.{look_stands, found_for}
+use Rattle.dg_table.proofs.Findings.{look_stands}
 use Rattle.dg_table.proofs.Steps.{settling_refused, settled}
 use Rattle.dg_table.proofs.held.Held.settle.Goals as goal
 
@@ -10,7 +10,12 @@ settle-reply-requires-clause-look g c =
     let H = c.args.self.now.entries in
     let held = rw c.self.view_is at c.self.invariant.0 in
     let look = look_stands g.N.Name.start H c.args.look.now c.args.shown.now held.legal c.requires.look c.in_ok-ready_on.ensures.1 in
-    (g.N.Name.start, H, held.game', look, found_for g.N.Name.start H c.args.shown.now c.args.finding.now c.requires.right)
+    (g.N.Name.start, H, held.game', look)
+
+pub settle-reply-requires-clause-found : goal.settle-reply-requires-clause-found
+settle-reply-requires-clause-found g c =
+    let held = rw c.self.view_is at c.self.invariant.0 in
+    rw held.game'.q c.requires.found
 
 pub enter-requires-clause-replies : goal.enter-requires-clause-replies
 enter-requires-clause-replies g c =
