@@ -1,0 +1,8 @@
+//! Observers read a table's history without its lock, and keep a state that is the fold of the entries that they read.
+#![tactic(auto)]
+
+mod observer;
+mod watch;
+
+pub use observer::{Observer, ObserverFault};
+pub use watch::Watch;
