@@ -3,6 +3,10 @@
 
 mod observer;
 mod watch;
+mod watches;
 
 pub use observer::{Observer, ObserverFault};
-pub use watch::Watch;
+pub use watch::{Step, Watch};
+pub use watches::{
+    Gifts, Positions, RefusedMoves, count_gift, count_refusal, keep_position, positions_are_shown,
+};
