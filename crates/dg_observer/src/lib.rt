@@ -2,6 +2,8 @@
 #![tactic(auto)]
 
 mod observer;
+#[cfg(test)]
+mod tests;
 mod watch;
 mod watches;
 

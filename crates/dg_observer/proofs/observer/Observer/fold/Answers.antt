@@ -22,7 +22,7 @@ invariant_of-self-2 g c =
       can,
       keeps,
       folds_more g.W.Watch.begins g.W.Watch.goes_on (map (λ (x : ℕ × Entry). x.1) ps) c.self.inside.state p.1 c.in_ok-next.next folds
-      (keeps _ _ _ (rw c.requires.entry c.in_ok-next.ensures)),
+          (keeps _ _ _ (rw c.requires.entry c.in_ok-next.ensures)),
       numbered_more ps p numbered number,
       (omega (arith, count, room)),
       (omega (arith, count, room, c.requires.few)),
