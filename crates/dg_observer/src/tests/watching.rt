@@ -2,11 +2,11 @@
 ghost use Rattle.std.specs.Prelude.{◌≡◌};
 
 use crate::{
-    Gifts, Observer, ObserverFault, Positions, RefusedMoves, Step, count_gift, count_refusal,
-    keep_position,
+    Gifts, Observer, ObserverFault, Positions, RefusedMoves, Step, Watch, count_gift,
+    count_refusal, keep_position,
 };
 use dg_chips::{Divisor, Move, Start};
-use dg_game::Plain;
+use dg_game::{Entry, Plain};
 use dg_graph::Graph;
 use dg_log::{Log, Name, Row};
 use dg_table::{Fault, Seat, Table};
@@ -16,6 +16,20 @@ use std::process::Abort;
 use std::sync::Wait;
 use std::test::Fail;
 use std::thread::{Threads, join};
+
+// Counts entries, as docs/TABLE.md has it.
+#[derive(Clone, Copy)]
+struct Entries;
+
+impl Watch for Entries {
+    ghost use Rattle.std.specs.Prelude.{◌≡◌, ◌+◌, ◌-◌, ◌^◌, min};
+
+    type State = u64;
+
+    ghost begins = { λ n. n ≡ 0 };
+
+    ghost goes_on = { λ n e m. m ≡ min (n + 1) (2 ^ 64 - 1) };
+}
 
 // The triangle with no dollars, seen from its first vertex.
 fn triangle() -> Result<Start, Fail> {
@@ -55,6 +69,13 @@ fn watched<N: Name, R: Wait + Abort>(
     assert_eq!(rt; gifts.count(), 2);
     assert_eq!(rt; gifts.receipt(1).number(), 1);
     table.call(rt, alloc, &mut second, Plain::Move(Move::Lend(3)))?;
+    let mut entries = Observer::<N, Entries, _>::new(
+        alloc,
+        0,
+        |n: &u64, _: &Entry| Ok(n.saturating_add(1)),
+    );
+    assert_eq!(rt; entries.catch_up(log)?, 3);
+    assert_eq!(rt; *entries.state(), 3);
     let mut refused = Observer::<N, RefusedMoves, _>::new(alloc, [0; 64], count_refusal);
     assert_eq!(rt; refused.catch_up(log)?, 3);
     assert!(rt; refused.state()[0] == 0 && refused.state()[1] == 1);
