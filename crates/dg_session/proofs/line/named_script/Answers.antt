@@ -53,7 +53,7 @@ items-preserved c =
     (one_pair c.args.names.now (map name_part (items c.args.text.now)) (map number_part (items c.args.text.now)) _ _ _ _
     (name_part c.cut.result.0.now) (number_part c.cut.result.0.now) c.items.given c.with_vertex-given.result c.from-v.result
     c.items.entries c.items.are_spelled (ap (map name_part) next) (ap (map number_part) next) c.place.ensures.few
-    c.len-size.ensures.distinct place (sym c.contains.ensures ∙ c.if-contains.false)
+    c.len-size.ensures.names.different place (sym c.contains.ensures ∙ c.if-contains.false)
     c.with_vertex-given.ensures.here c.with_vertex-given.ensures.others c.items.invariant)
 
 pub returns-then-not-are_spelled-clause-refused : goal.returns-then-not-are_spelled-clause-refused

@@ -37,7 +37,7 @@ items-preserved c =
     let place : place_of c.args.names.now c.cut.result.0.now ≡ Some c.from-v.result =
     sym c.in_ok-place.ensures.place ∙ ap Some (sym c.from-v.ensures) in
     one_taken c.args.names.now (items c.args.text.now) _ _ c.cut.result.0.now c.items.set c.with_vertex-set.result c.from-v.result next
-    c.len-size.ensures.distinct place (sym c.contains.ensures ∙ c.if-contains.false)
+    c.len-size.ensures.names.different place (sym c.contains.ensures ∙ c.if-contains.false)
     c.with_vertex-set.ensures.here c.with_vertex-set.ensures.others c.items.invariant
 
 pub returns : goal.returns
