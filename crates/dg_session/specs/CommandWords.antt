@@ -1,6 +1,7 @@
 -- The words of command lines. A line is cut into words at each single space, so that two spaces in a row make an empty
 -- word; the items of a word are cut at commas. The byte 61 is `=`.
 --   command_words                 == the nine command words, each with the number of words that follow it
+--   number_beside rows word       == the number beside the word, in the first of the rows that has it, where one has
 --   words_wanted keyword          == how many words follow the command word, where it is one
 --   IsWellFormed keyword rest     == so many words follow it, and none of them is empty
 --   name_part item                == what stands before the first `=` of the item, or all of it where there is none

@@ -175,6 +175,7 @@ fn single_word(rest: Option<&[u8]>) -> Option<&[u8]>
 fn named_set(text: &[u8], names: &Names) -> Option<u16>
     ensures { result ≡ set_of names.now (items text.now) }
 {
+    // No two names of a table are the same.
     let _size = names.len();
     let mut set = 0;
     let mut rest = Some(text);
@@ -222,6 +223,7 @@ fn named_script(text: &[u8], names: &Names) -> Result<Script, LineFault>
         return Err(LineFault::Number);
     }
     let script = Script::sized(&entries[..size]);
+    // Past its size a script has nothing but 0.
     let _size = script.size();
     Ok(script)
 }

@@ -212,14 +212,19 @@ static REFUSED: [(&str, LineFault); 86] = [
     ("rank 9223372036854775808", LineFault::Number),
 ];
 
+// The step by which the first vertex lends.
+fn loan(seat: u8) -> Step {
+    let command = play(Move::Lend(0));
+    Step { seat, command }
+}
+
 #[test]
 fn lines_are_steps(rt: HostRuntime) -> Result<(), Fail> {
     let names = triangle(rt.alloc())?;
-    let command = play(Move::Lend(0));
     let table = [
-        ("1 lend a", Ok(Step { seat: 1, command })),
-        ("10 lend a", Ok(Step { seat: 10, command })),
-        ("64 lend a", Ok(Step { seat: 64, command })),
+        ("1 lend a", Ok(loan(1))),
+        ("10 lend a", Ok(loan(10))),
+        ("64 lend a", Ok(loan(64))),
         ("1 lend z", Err(LineFault::Name)),
         ("1 rank -1", Err(LineFault::Number)),
         ("1 lend", Err(LineFault::Form)),
