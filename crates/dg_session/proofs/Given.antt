@@ -16,10 +16,10 @@
 -- What a loop over the names does: none taken, one more, all, and where the next name refuses them; and the set that is read
 -- of names.
 use Rattle.std.proofs.Common.{◌≡◌, ◌≢◌, ℕ, zero, suc, ◌+◌, ◌*◌, ◌/◌, ◌<◌, ◌==◌, ◌||◌, ◌&&◌, not, cond, Bool, true, false, List, [], ◌∷◌, ◌++◌, length, Option, Some, None, refl, ap, sym, ◌∙◌, subst, arith, Decides, append_assoc}
-use Rattle.std.specs.Prelude.{bytes_eq, IsTrue, All, position}
+use Rattle.std.specs.Prelude.{bytes_eq, IsTrue, All}
 use Rattle.std.specs.Cmp.{IsEquivalence, both_ways}
 use Rattle.std.specs.Int.{bit_at}
-use Rattle.std.specs.List.{AllByRecursion, IsDistinct, list_any, list_all, position_or_len}
+use Rattle.std.specs.List.{AllByRecursion, IsDistinct, list_all, position_or_len}
 use Rattle.std.proofs.lemmas.Bool.{eqb-true}
 use Rattle.std.proofs.lemmas.Bool.Decides.{nat_tests, Decides-and, Decides-by_and}
 use Rattle.std.proofs.lemmas.List.{append-nil}

@@ -5,13 +5,12 @@
 --   fault_words     the fault of a line is that of its words
 --   lines_have_one_meaning
 use Rattle.std.proofs.Common.{◌≡◌, ◌≢◌, ℕ, ◌<◌, ◌≤◌, ◌^◌, ◌-◌, ◌⊎◌, inl, inr, cond, Bool, true, false, ℤ, pos, negsuc, neg_ℤ, ◌≤ℤ◌, List, [], ◌∷◌, length, map, Option, Some, None, Result, Ok, Err, refl, ap, sym, ◌∙◌, subst, arith, codes, FitsSigned, w64, decimal}
-use Rattle.std.specs.Prelude.{bytes_eq, All, IsSome, is_some}
+use Rattle.std.specs.Prelude.{All, IsSome, is_some}
 use Rattle.std.specs.Fmt.{signed_decimal}
 use Rattle.std.proofs.lemmas.Bool.Decides.{nat_tests}
 use Rattle.std.proofs.lemmas.Int.{ints}
 use Rattle.std.proofs.lemmas.List.Elements.{All-nil, All-cons, All-head, All-tail}
 use Rattle.dg_chips.specs.Vector.{Vector, at}
-use Rattle.dg_chips.specs.declared.moves.Move.{Move}
 use Rattle.dg_chips.specs.declared.moves.Move.TheVariants.{Lend, Borrow, Fire, Script}
 use Rattle.dg_game.specs.declared.step.Command.{Command}
 use Rattle.dg_game.specs.declared.step.Command.TheVariants.{Call, Commit, Rank}
@@ -20,12 +19,12 @@ use Rattle.dg_file.specs.Names.{place_of, name_at}
 use Rattle.dg_session.specs.declared.line.LineFault.{LineFault}
 use Rattle.dg_session.specs.declared.line.LineFault.TheVariants.{Seat, Word, Form, Name, Number}
 use Rattle.dg_session.specs.Cuts.{before, after, words, words_after, items}
-use Rattle.dg_session.specs.CommandWords.{words_wanted, IsWellFormed, name_part, number_part, given_names, given_numbers, IsNumberWithin, IsNumberFor, AreGiven}
-use Rattle.dg_session.specs.Commands.{number_given, IsScriptOf, IsScriptWord, Means, IsCommandLine}
+use Rattle.dg_session.specs.CommandWords.{words_wanted, IsWellFormed, name_part, number_part, given_names, given_numbers, IsNumberFor, AreGiven}
+use Rattle.dg_session.specs.Commands.{number_given, IsScriptWord, Means, IsCommandLine}
 use Rattle.dg_session.specs.LineFaults.{IsLineFault}
 use Rattle.dg_session.specs.LineLaws.{AreAlike, LinesHaveOneMeaning}
 use Rattle.dg_session.specs.Numbers.{integer_of, degree_of}
-use Rattle.dg_session.specs.Read.{only_word, play, with_word, lend_of, borrow_of, set_of, fire_of, value_of, script_with, script_of, bare, gift_of, rank_of, are_given, is_entry, command_of, any_of, IsRefused, IsRead}
+use Rattle.dg_session.specs.Read.{only_word, play, lend_of, borrow_of, set_of, fire_of, value_of, script_with, script_of, bare, gift_of, rank_of, are_given, is_entry, command_of, any_of, IsRefused, IsRead}
 use Rattle.dg_session.proofs.Cutting.{line_cut}
 use Rattle.dg_session.proofs.Degrees.{degree_is}
 use Rattle.dg_session.proofs.Given.{given_decides, named_alone, none_given, set_of-is}

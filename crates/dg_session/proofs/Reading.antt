@@ -5,20 +5,18 @@
 --   script_unformed, script_spelled, script_refused   what is read where one word is wanted, and where it is that of a
 --                  script or is refused
 --   read_line      what is read of a line's words is what the line spells, or its fault
-use Rattle.std.proofs.Common.{◌≡◌, ◌≢◌, ℕ, zero, suc, ◌<◌, ◌≤◌, ◌^◌, ◌-◌, cond, Bool, true, false, ℤ, pos, negsuc, neg_ℤ, ◌≤ℤ◌, List, [], ◌∷◌, length, map, Option, Some, None, Result, Ok, Err, refl, ap, sym, ◌∙◌, subst, arith, codes, FitsSigned, w64, decimal, IfOk, IfErr}
+use Rattle.std.proofs.Common.{◌≡◌, ◌≢◌, ℕ, ◌<◌, ◌^◌, ◌-◌, cond, Bool, true, false, ℤ, pos, negsuc, neg_ℤ, ◌≤ℤ◌, List, [], ◌∷◌, length, map, Option, Some, None, Result, Ok, Err, refl, ap, sym, ◌∙◌, subst, arith, codes, FitsSigned, w64, IfOk, IfErr}
 use Rattle.std.specs.Prelude.{bytes_eq, All, IsSome, is_some}
 use Rattle.std.specs.Fmt.{signed_decimal}
 use Rattle.std.specs.List.{list_all}
-use Rattle.std.proofs.lemmas.Bool.Decides.{nat_tests}
 use Rattle.std.proofs.lemmas.Int.{ints}
 use Rattle.std.proofs.lemmas.List.Elements.{All-nil, All-cons, All-head}
 use Rattle.std.proofs.lemmas.Slice.Eq.{bytes_eq-Decides}
 use Rattle.dg_chips.specs.Vector.{Vector}
-use Rattle.dg_chips.specs.declared.moves.Move.{Move}
-use Rattle.dg_chips.specs.declared.moves.Move.TheVariants.{Lend, Borrow, Fire, Script}
+use Rattle.dg_chips.specs.declared.moves.Move.TheVariants.{Lend, Borrow, Script}
 use Rattle.dg_game.specs.declared.step.Command.{Command}
-use Rattle.dg_game.specs.declared.step.Command.TheVariants.{Call, Commit, Rank}
-use Rattle.dg_game.specs.declared.entry.Plain.TheVariants.{Move as Play, Gift, Look, Claim}
+use Rattle.dg_game.specs.declared.step.Command.TheVariants.{Call, Commit}
+use Rattle.dg_game.specs.declared.entry.Plain.TheVariants.{Look, Claim}
 use Rattle.dg_file.specs.Names.{place_of}
 use Rattle.dg_session.specs.declared.line.LineFault.{LineFault}
 use Rattle.dg_session.specs.declared.line.LineFault.TheVariants.{Seat, Word, Form, Name, Number}

@@ -6,7 +6,6 @@
 --   steps_seated                    steps that lines spell have seats
 use Rattle.std.proofs.Common.{◌≡◌, ℕ, zero, suc, ◌+◌, length, List, [], ◌∷◌, ◌++◌, Some, refl, ap, sym, ◌∙◌, subst, append_assoc, slice_get, arith}
 use Rattle.std.proofs.lemmas.List.{append-nil, length-append}
-use Rattle.std.proofs.lemmas.Option.{slice_get_within}
 use Rattle.dg_game.specs.declared.step.Step.{Step}
 use Rattle.dg_session.specs.declared.line.LineFault.{LineFault}
 use Rattle.dg_session.specs.Steps.{IsStepLine, IsStepFault}

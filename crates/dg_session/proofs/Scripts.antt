@@ -9,7 +9,7 @@
 --                        each text before them is an entry
 -- What a loop over the pairs does: none read, one more, all; and the script that is read of names and texts.
 use Rattle.std.proofs.Common.{◌≡◌, ◌≢◌, ℕ, zero, suc, ◌+◌, ◌<◌, ◌≤◌, ◌==◌, ◌||◌, ◌&&◌, cond, Bool, true, false, ℤ, pos, negsuc, neg_ℤ, ◌≤ℤ◌, unsigned_abs, List, [], ◌∷◌, ◌++◌, length, take, map, Option, Some, None, refl, ap, sym, ◌∙◌, subst, arith, Decides, append_assoc, FitsSigned, w64, Bor}
-use Rattle.std.specs.Prelude.{bytes_eq, IsTrue, All, option_and_then, is_some, unwrap_or, leb, replicate, codes}
+use Rattle.std.specs.Prelude.{bytes_eq, All, option_and_then, is_some, unwrap_or, leb, replicate}
 use Rattle.std.specs.Fmt.{signed_decimal}
 use Rattle.std.specs.List.{IsDistinct, list_all, slice_index_or, slice_set}
 use Rattle.std.proofs.lemmas.Bool.{eqb-true}
@@ -19,7 +19,7 @@ use Rattle.std.proofs.lemmas.List.{append-nil, map-append, length-append, length
 use Rattle.std.proofs.lemmas.List.Elements.{All-nil, All-cons, All-head, All-tail}
 use Rattle.std.proofs.lemmas.List.Folds.{list_all-append}
 use Rattle.dg_graph.specs.Sets.{in_set}
-use Rattle.dg_chips.specs.Vector.{Vector, at, IsScript, HoldsNumbers}
+use Rattle.dg_chips.specs.Vector.{Vector, IsScript, HoldsNumbers}
 use Rattle.dg_chips.specs.declared.limits.TheConstants.{MAX_ENTRY}
 use Rattle.dg_file.specs.Names.{has, place_of, name_at}
 use Rattle.std.specs.Option.{option_copied}

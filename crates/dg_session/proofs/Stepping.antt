@@ -3,14 +3,14 @@
 --   seated_parts   a line of a seat and a text has the seat before its first space and the text after it
 --   no_seat_before, no_space_after   where there is no such seat, or no space, the line is that of no seat
 --   text_fault     the fault of the text is that of the line
-use Rattle.std.proofs.Common.{◌≡◌, ℕ, ◌≤◌, ◌<◌, ◌^◌, List, ◌∷◌, ◌++◌, Option, Some, None, refl, ap, sym, ◌∙◌, arith, codes, decimal, append_assoc}
+use Rattle.std.proofs.Common.{◌≡◌, ℕ, ◌<◌, ◌^◌, List, ◌∷◌, ◌++◌, Some, None, ap, sym, ◌∙◌, arith, codes, decimal, append_assoc}
 use Rattle.std.proofs.lemmas.Fmt.{decimal_is_IsNumeral}
 use Rattle.dg_session.specs.declared.line.LineFault.{LineFault}
 use Rattle.dg_session.specs.declared.line.LineFault.TheVariants.{Seat, Word, Form, Name, Number}
 use Rattle.dg_session.specs.Cuts.{before, after}
 use Rattle.dg_session.specs.LineFaults.{IsLineFault}
 use Rattle.dg_session.specs.Numbers.{seat_of}
-use Rattle.dg_session.specs.Steps.{IsSeated, IsTextFault, IsStepFault}
+use Rattle.dg_session.specs.Steps.{IsSeated, IsStepFault}
 use Rattle.dg_session.proofs.Joining.{cut_joined, before_joined, after_joined, no_space_in_digits}
 use Rattle.dg_session.proofs.Numerals.{seat_is, is_seat}
 

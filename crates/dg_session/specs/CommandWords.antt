@@ -12,7 +12,7 @@
 --   IsNumberFor keyword text      == the text is the decimal of a number that may stand after the command word: a degree, an
 --                                    entry of a script, or else a number that 64 bits hold
 --   AreGiven names given          == each of the names given is among the names, and no two are the same
-use Rattle.std.specs.Prelude.{◌≡◌, ◌≢◌, ℕ, ◌-◌, ◌^◌, ℤ, pos, neg_ℤ, ◌≤ℤ◌, List, [], ◌∷◌, length, map, cond, Option, Some, None, All, IsTrue, bytes_eq, codes, unwrap_or, option_map}
+use Rattle.std.specs.Prelude.{◌≡◌, ◌≢◌, ℕ, ◌-◌, ◌^◌, ℤ, pos, neg_ℤ, ◌≤ℤ◌, List, [], ◌∷◌, length, map, cond, Option, Some, None, All, IsTrue, bytes_eq, codes, unwrap_or}
 use Rattle.std.specs.Fmt.{signed_decimal}
 use Rattle.std.specs.List.{IsDistinct}
 use Rattle.dg_chips.specs.declared.limits.TheConstants.{MAX_ENTRY}

@@ -6,7 +6,7 @@
 --   IsNumberFault names line == all names of the line are good, and a number that it gives is not spelled as numbers are, or
 --                               is out of its range
 --   IsLineFault names fault line == the line is refused with the fault; no command line is refused for a seat
-use Rattle.std.specs.Prelude.{◌≡◌, ℕ, List, ◌∷◌, Option, None, IsSome, All}
+use Rattle.std.specs.Prelude.{◌≡◌, ℕ, List, ◌∷◌, None, IsSome, All}
 use Rattle.dg_session.specs.Cuts.{words}
 use Rattle.dg_session.specs.CommandWords.{words_wanted, IsWellFormed, given_names, given_numbers, IsNumberFor, AreGiven}
 use Rattle.dg_session.specs.declared.line.LineFault.{LineFault}

@@ -9,7 +9,7 @@ use Rattle.dg_game.specs.declared.step.Step.{Step}
 use Rattle.dg_session.specs.Commands.{IsCommandLine}
 use Rattle.dg_session.specs.LineFaults.{IsLineFault}
 use Rattle.dg_session.specs.declared.line.LineFault.{LineFault}
-use Rattle.dg_session.specs.declared.line.LineFault.TheVariants.{Seat, Word, Form, Name, Number}
+use Rattle.dg_session.specs.declared.line.LineFault.TheVariants.{Seat}
 
 pub record IsSeated (seat : ℕ) (text : List ℕ) (line : List ℕ) : Type 0 where
   pub whole : line ≡ decimal seat ++ codes " " ++ text

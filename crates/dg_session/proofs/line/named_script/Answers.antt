@@ -1,8 +1,7 @@
 -- An item whose name is a vertex gives it its number; one that names none, or one that is given, refuses them all.
-use Rattle.std.proofs.Common.{◌≡◌, ◌∷◌, ◌&&◌, Bool, true, false, not, ℕ, ℤ, pos, List, Option, Some, None, Bor, length, map, sym, ap, ◌∙◌, arith, rules, refl, subst, FitsSigned, w64, to_z, of_z, to_z-of_z}
-use Rattle.std.specs.Option.{option_copied, is_some, unwrap_or}
+use Rattle.std.proofs.Common.{◌≡◌, Some, length, map, sym, ap, ◌∙◌, arith, rules, refl, FitsSigned, w64, to_z, of_z, to_z-of_z}
 use Rattle.dg_file.specs.Names.{place_of}
-use Rattle.dg_session.specs.Cuts.{items, before, after, pieces_after}
+use Rattle.dg_session.specs.Cuts.{items}
 use Rattle.dg_session.specs.CommandWords.{name_part, number_part}
 use Rattle.dg_session.specs.Numbers.{entry_of}
 use Rattle.dg_session.specs.Read.{is_entry, value_of}

@@ -1,8 +1,7 @@
 -- An item that names a vertex puts it into the set; one that names none, or one that is there, refuses them all.
-use Rattle.std.proofs.Common.{◌≡◌, ◌∷◌, ℕ, List, Option, Some, None, Bor, length, sym, ap, ◌∙◌, arith}
-use Rattle.std.specs.Option.{option_copied}
+use Rattle.std.proofs.Common.{◌≡◌, Some, length, sym, ap, ◌∙◌, arith}
 use Rattle.dg_file.specs.Names.{place_of}
-use Rattle.dg_session.specs.Cuts.{items, before, after, pieces_after}
+use Rattle.dg_session.specs.Cuts.{items}
 use Rattle.dg_session.proofs.Cutting.{pieces_left, none_left}
 use Rattle.dg_session.proofs.Given.{none_taken, one_taken, all_taken, unnamed_taken, twice_taken, set_of-is, set_of-none}
 use Rattle.dg_session.proofs.line.named_set.Goals as goal

@@ -1,11 +1,10 @@
 -- The seat stands before the first space, and the text of the command after it.
-use Rattle.std.proofs.Common.{◌≡◌, Option, Some, None, Err, IfErr, List, ℕ, ap, sym, ◌∙◌, subst}
+use Rattle.std.proofs.Common.{Err, IfErr, ap, sym, ◌∙◌, subst}
 use Rattle.std.specs.Option.{option_copied}
 use Rattle.std.proofs.lemmas.Result.{err_from_is_err_and}
 use Rattle.dg_session.specs.declared.line.LineFault.TheVariants.{Seat}
-use Rattle.dg_session.specs.Cuts.{before, after}
 use Rattle.dg_session.specs.Numbers.{seat_of}
-use Rattle.dg_session.specs.Steps.{IsSeated, IsStepFault}
+use Rattle.dg_session.specs.Steps.{IsStepFault}
 use Rattle.dg_session.proofs.Exits.{refused_with}
 use Rattle.dg_session.proofs.Stepping.{seated, no_seat_before, no_space_after, text_fault}
 use Rattle.dg_session.proofs.line.parse_step.Goals as goal
