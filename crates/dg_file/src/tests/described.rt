@@ -31,9 +31,13 @@ fn table_files_are_read(rt: HostRuntime) -> Result<(), Fail> {
     assert!(rt; divisor.get(0) == 2 && divisor.get(1) == -1 && divisor.get(2) == 1_000_000);
     assert_eq!(rt; start.q(), 1);
     let twice = read_table(rt.alloc(), TWICE.as_bytes())?;
-    assert_eq!(rt; twice.start().graph().edges(0, 1), 3);
+    let pair = twice.start().graph();
+    assert_eq!(rt; pair.size(), 2);
+    assert_eq!(rt; pair.edges(0, 1), 3);
     let alone = read_table(rt.alloc(), ALONE.as_bytes())?;
-    assert_eq!(rt; alone.start().divisor().get(0), -1);
+    let debt = alone.start().divisor();
+    assert_eq!(rt; debt.size(), 1);
+    assert_eq!(rt; debt.get(0), -1);
     assert_eq!(rt; alone.start().q(), 0);
     Ok(())
 }
