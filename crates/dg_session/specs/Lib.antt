@@ -8,4 +8,5 @@ pub mod Steps
 pub mod Schedules
 pub mod LineLaws
 pub mod Texts
+-- What serves the reading alone.
 pub mod Read

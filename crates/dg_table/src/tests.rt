@@ -1,6 +1,7 @@
 //! Small tables, reckoned by hand, and many threads on one table.
 mod pens;
 mod seats;
+mod settles;
 mod threads;
 
 use dg_chips::{Divisor, Start};
