@@ -88,7 +88,7 @@ fn judged<N: Name, R: Wait + Abort>(
     let taken = look(&table, rt, alloc, &mut first)?;
     assert_eq!(rt; (taken.receipt().number(), taken.gifts()), (0, 0));
     assert!(rt; *taken.position() == *start.divisor());
-    assert_eq!(rt; taken.graph().edges(1, 2), 1);
+    assert_eq!(rt; taken.graph().size(), 3);
     let reckoned = reckon(taken);
     assert!(rt; reckoned.verdict().winnable);
     table.call(rt, alloc, &mut second, between)?;
