@@ -1,2 +1,2 @@
-//! Observers of small tables, and of a table that two play on at once.
+//! Observers of small tables.
 mod watching;

@@ -2,20 +2,18 @@
 ghost use Rattle.std.specs.Prelude.{◌≡◌};
 
 use crate::{
-    Gifts, Observer, ObserverFault, Positions, RefusedMoves, Step, Watch, count_gift,
-    count_refusal, keep_position,
+    Gifts, Observer, Positions, RefusedMoves, Watch, count_gift, count_refusal, keep_position,
 };
 use dg_chips::{Divisor, Move, Start};
 use dg_game::{Entry, Plain};
 use dg_graph::Graph;
-use dg_log::{Log, Name, Row};
-use dg_table::{Fault, Seat, Table};
+use dg_log::{Name, Row};
+use dg_table::Table;
 use std::alloc::Global;
 use std::marker::Brand;
 use std::process::Abort;
 use std::sync::Wait;
 use std::test::Fail;
-use std::thread::{Threads, join};
 
 // Counts entries, as docs/TABLE.md has it.
 #[derive(Clone, Copy)]
@@ -83,74 +81,5 @@ fn watched<N: Name, R: Wait + Abort>(
     assert_eq!(rt; position.catch_up(log)?, 3);
     let kept = position.state();
     assert!(rt; (kept.get(0), kept.get(1), kept.get(2)) == (-2, 2, 1));
-    Ok(())
-}
-
-#[test]
-fn two_players_are_watched(rt: HostRuntime) -> Result<(), Fail> {
-    let alloc = rt.alloc();
-    watched_by_two::<Brand, _>(&rt, alloc, Row::new(alloc, 4_000)?, &triangle()?, 2)
-}
-
-// Two seats of 2,000 calls each, while an observer in a thread of its own reads on a hundred times.
-fn watched_by_two<N: Name + Send + Sync, R: Threads + Wait + Abort + Sync>(
-    rt: &R,
-    alloc: Global,
-    row: Row,
-    start: &Start,
-    count: u8,
-) -> Result<(), Fail>
-    requires row { row ≡ N.cells }
-    requires start { start.now ≡ N.start }
-    requires seats { count ≡ N.seats }
-{
-    let (table, mut seats) = Table::<N>::open(alloc, row, start, count).map_err(|_| "a table")?;
-    let mut second = seats.pop().ok_or("a second seat")?;
-    let mut first = seats.pop().ok_or("a first seat")?;
-    let log = table.log();
-    let mut position = Observer::<N, Positions<N>, _>::new(alloc, *start.divisor(), keep_position);
-    let (watched, played) = join(
-        rt,
-        || read_on(log, &mut position),
-        || {
-            join(
-                rt,
-                || lend_and_borrow(rt, alloc, &table, &mut first, 0),
-                || lend_and_borrow(rt, alloc, &table, &mut second, 1),
-            )
-        },
-    );
-    played.0?;
-    played.1?;
-    watched?;
-    position.catch_up(log)?;
-    assert_eq!(rt; position.count(), 4_000);
-    let kept = position.state();
-    assert!(rt; (kept.get(0), kept.get(1), kept.get(2)) == (0, 0, 0));
-    Ok(())
-}
-
-fn read_on<N: Name, F: Step<Divisor> + Drop>(
-    log: &Log<N>,
-    observer: &mut Observer<N, Positions<N>, F>,
-) -> Result<(), ObserverFault> {
-    for _ in 0..100 {
-        observer.catch_up(log)?;
-    }
-    Ok(())
-}
-
-// Lends and borrows at a vertex, a thousand times in turn.
-fn lend_and_borrow<N: Name>(
-    rt: &impl Wait,
-    alloc: Global,
-    table: &Table<N>,
-    seat: &mut Seat<N>,
-    v: u8,
-) -> Result<(), Fault> {
-    for _ in 0..1_000 {
-        table.call(rt, alloc, seat, Plain::Move(Move::Lend(v)))?;
-        table.call(rt, alloc, seat, Plain::Move(Move::Borrow(v)))?;
-    }
     Ok(())
 }
