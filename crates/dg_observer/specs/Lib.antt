@@ -1,3 +1,0 @@
--- What observers keep.
-pub mod Folds
-pub mod Watched
