@@ -7,7 +7,7 @@ use Rattle.dg_chips.specs.Vector.{at}
 use Rattle.dg_verdict.specs.declared.verdict.Verdict.{Verdict}
 use Rattle.dg_verdict.specs.Right.{IsRight}
 use Rattle.dg_game.specs.declared.entry.Reply.TheVariants.{Verdict as Found}
-use Rattle.dg_session.specs.Texts.{text_of}
+use Rattle.dg_lines.specs.Texts.{text_of}
 
 pub record IsJudgement (o : Opening) (names : List (List ℕ)) (text : List ℕ) : Type 0 where
   pub verdict : Verdict

@@ -20,7 +20,7 @@ use Rattle.dg_rank.specs.Limits.{IsPastLimits}
 use Rattle.dg_rank.specs.Ranks.{IsRankTest, DualNeedsTooMany}
 use Rattle.dg_rank.specs.declared.rank_verdict.RankVerdict.{RankVerdict}
 use Rattle.dg_game.specs.declared.entry.Reply.TheVariants.{Rank}
-use Rattle.dg_session.specs.Texts.{text_of}
+use Rattle.dg_lines.specs.Texts.{text_of}
 use Rattle.dg_server.specs.declared.fault.Fault.{Fault}
 use Rattle.dg_server.specs.declared.fault.Fault.TheVariants.{TooMany, Chip, OutOfMemory}
 

@@ -9,7 +9,7 @@ use Rattle.dg_game.specs.ScheduleFaults.{IsFirstFault}
 use Rattle.dg_game.specs.declared.schedule.RehearseFault.{RehearseFault}
 use Rattle.dg_game.specs.declared.schedule.RehearseFault.TheVariants as schedule
 use Rattle.dg_game.specs.declared.step.Step.{Step}
-use Rattle.dg_session.specs.Schedules.{AreStepsOf, IsFirstRefused}
+use Rattle.dg_lines.specs.Schedules.{AreStepsOf, IsFirstRefused}
 use Rattle.dg_server.specs.declared.fault.Fault.{Fault}
 use Rattle.dg_server.specs.declared.fault.Fault.TheVariants.{CommandLine, Words, Source, File, Line, Full, NoLook, StepTrials, TooMany, Chip, OutOfMemory, Write}
 

@@ -6,8 +6,8 @@ use Rattle.dg_chips.specs.Opening.{Opening}
 use Rattle.dg_game.specs.Schedule.{IsRehearsal}
 use Rattle.dg_game.specs.declared.entry.Entry.{Entry}
 use Rattle.dg_game.specs.declared.step.Step.{Step}
-use Rattle.dg_session.specs.Schedules.{AreStepsOf}
-use Rattle.dg_session.specs.Texts.{history_text}
+use Rattle.dg_lines.specs.Schedules.{AreStepsOf}
+use Rattle.dg_lines.specs.Texts.{history_text}
 
 pub record IsPrinted (o : Opening) (names : List (List ℕ)) (lines : List (List ℕ)) (text : List ℕ) : Type 0 where
   pub steps : List Step

@@ -26,7 +26,7 @@ use Rattle.dg_chips.specs.Opening.{Opening}
 use Rattle.dg_file.specs.TableFiles.{IsTableFile}
 use Rattle.dg_file.specs.FileFaults.{RefusesFile}
 use Rattle.dg_file.specs.declared.fault.FileFault.{FileFault}
-use Rattle.dg_session.specs.Cuts.{lines}
+use Rattle.dg_lines.specs.Cuts.{lines}
 use Rattle.dg_server.specs.Held.{Held, IsHeld, RefusesHeld}
 use Rattle.dg_server.specs.Rehearsals.{IsPrinted}
 use Rattle.dg_server.specs.Judgements.{IsJudgement}

@@ -5,7 +5,7 @@ ghost use Rattle.dg_server.specs.Runs.{file_of, IsOfWords};
 use crate::fault::Fault;
 use clap::error::ErrorKind;
 use clap::{Arg, ArgMatches, Command};
-use dg_session::{degree, natural};
+use dg_lines::{degree, natural};
 use std::alloc::{AllocError, Global};
 use std::rt::Env;
 use std::{env, io};

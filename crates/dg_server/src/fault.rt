@@ -5,7 +5,7 @@ ghost use Rattle.dg_server.specs.Status.{status};
 use crate::sources::SourceFault;
 use dg_chips::ChipFault;
 use dg_file::FileFault;
-use dg_session::LineFault;
+use dg_lines::LineFault;
 use std::alloc::{AllocError, AllocFailed};
 use std::io::Write;
 use thiserror::Error;

@@ -1,15 +1,15 @@
 //! Schedules that are played and printed, and tables that are judged.
 ghost use Rattle.std.specs.Prelude.{IfOk, IfErr, ◌≡◌, ◌++◌, codes};
-ghost use Rattle.dg_session.specs.Cuts.{lines};
+ghost use Rattle.dg_lines.specs.Cuts.{lines};
 ghost use Rattle.dg_server.specs.Judgements.{IsJudgement};
-ghost use Rattle.dg_session.specs.Texts.{HasNames, text_of};
+ghost use Rattle.dg_lines.specs.Texts.{HasNames, text_of};
 ghost use Rattle.dg_server.specs.Rehearsals.{IsPrinted};
 ghost use Rattle.dg_server.specs.Refusals.{RefusesSchedule};
 
 use crate::fault::Fault;
 use dg_file::{Names, TableFile};
 use dg_game::{RehearseFault, Reply, rehearse};
-use dg_session::{StepsFault, history_lines, parse_steps, reply_text};
+use dg_lines::{StepsFault, history_lines, parse_steps, reply_text};
 use dg_verdict::judge;
 use std::alloc::{AllocError, Global};
 

@@ -4,7 +4,7 @@ use crate::{Fault, SourceFault, report, status_of};
 use dg_chips::ChipFault;
 use dg_file::{FileFault, Shape};
 use dg_graph::GraphFault;
-use dg_session::LineFault;
+use dg_lines::LineFault;
 use std::alloc::AllocError;
 use std::test::Fail;
 

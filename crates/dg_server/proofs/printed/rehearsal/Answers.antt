@@ -4,9 +4,9 @@ use Rattle.dg_game.specs.ScheduleFaults.{IsFirstFault}
 use Rattle.dg_game.specs.declared.schedule.RehearseFault.{RehearseFault}
 use Rattle.dg_game.specs.declared.schedule.RehearseFault.TheVariants.{NoLook}
 use Rattle.dg_game.specs.declared.step.Step.{Step}
-use Rattle.dg_session.specs.Cuts.{lines}
-use Rattle.dg_session.specs.Schedules.{AreStepsOf}
-use Rattle.dg_session.proofs.Printing.{legal_named}
+use Rattle.dg_lines.specs.Cuts.{lines}
+use Rattle.dg_lines.specs.Schedules.{AreStepsOf}
+use Rattle.dg_lines.proofs.Printing.{legal_named}
 use Rattle.dg_server.proofs.printed.rehearsal.Goals as goal
 
 pub history_lines-requires : goal.history_lines-requires

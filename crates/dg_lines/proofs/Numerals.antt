@@ -1,0 +1,90 @@
+-- The decimals of numbers: what is no decimal, and the seat that a text spells.
+use Rattle.std.proofs.Common.{◌≡◌, ◌≢◌, ℕ, zero, suc, ◌^◌, ◌<◌, ◌≤◌, ◌⊎◌, List, Some, None, Result, Ok, Err, Bool, true, false, cond, refl, ap, sym, ◌∙◌, subst, arith, decimal}
+use Rattle.std.specs.Prelude.{bytes_eq, IsUtf8}
+use Rattle.std.specs.Str.Parse.{ParsesUnsigned}
+use Rattle.std.proofs.lemmas.Fmt.{IsAscii-decimal, parse-decimal, decimal_injective}
+use Rattle.std.proofs.lemmas.Str.{IsUtf8-from_ascii}
+use Rattle.std.proofs.lemmas.Slice.Eq.{bytes_eq-Decides}
+use Rattle.dg_lines.specs.Numbers.{seat_up_to, seat_of}
+
+pub no_utf8 : (text : List ℕ) → (IsUtf8 text → ⊥) → (n : ℕ) → n < 2 ^ 64 → text ≡ decimal n → ⊥
+no_utf8 text never n small e = never (subst IsUtf8 (sym e) (IsUtf8-from_ascii (decimal n) (IsAscii-decimal n small)))
+
+pub no_number : {E : Type 0} (written text : List ℕ) (fault : E) → written ≡ text → ParsesUnsigned 64 10 written (Err fault)
+    → (n : ℕ) → n < 2 ^ 64 → text ≡ decimal n → ⊥
+no_number {E} written text fault same_text parses n small e =
+    let same : ◌≡◌ {A = Result ℕ E} (Err fault) (Ok n) =
+    parse-decimal 64 n written (Err fault) small small (same_text ∙ e) parses in
+    cc
+
+pub no_decimal : {E : Type 0} (written text shown : List ℕ) (number : ℕ) (read : Result ℕ E)
+    → written ≡ text → ParsesUnsigned 64 10 written read → read ≡ Ok number
+    → shown ≡ decimal number → false ≡ bytes_eq shown text
+    → (n : ℕ) → n < 2 ^ 64 → text ≡ decimal n → ⊥
+no_decimal {E} written text shown number read same_text parses is shows differs n small e =
+    let same : read ≡ Ok n = parse-decimal 64 n written read small small (same_text ∙ e) parses in
+    let number_is : number ≡ n = cc in
+    let equal : bytes_eq shown text ≡ true =
+    (bytes_eq-Decides shown text).1 (shows ∙ ap decimal number_is ∙ sym e) in
+    cc
+
+below_last : (k n : ℕ) (text : List ℕ) → n ≤ suc k → text ≡ decimal n → bytes_eq text (decimal (suc k)) ≡ false → n ≤ k
+below_last k n text last e missed =
+    let other : n ≢ suc k = λ same.
+    let found : bytes_eq text (decimal (suc k)) ≡ true =
+    (bytes_eq-Decides text (decimal (suc k))).1 (e ∙ ap decimal same) in
+    let no : ⊥ = cc in no in
+    omega arith
+
+seat_up_to-at : (k n : ℕ) (text : List ℕ) → k ≤ 64 → 1 ≤ n → n ≤ k → text ≡ decimal n → seat_up_to k text ≡ Some n
+unfolding seat_up_to
+seat_up_to-at zero n text few first last e = absurd (omega arith)
+seat_up_to-at (suc k) n text few first last e =
+    let P : Bool → Type 0 = λ t. bytes_eq text (decimal (suc k)) ≡ t → cond t (Some (suc k)) (seat_up_to k text) ≡ Some n in
+    (elim (bytes_eq text (decimal (suc k))) as P [
+      | true ↦ λ found.
+          ap Some (decimal_injective (suc k) n (omega arith) (omega arith)
+          (sym ((bytes_eq-Decides text (decimal (suc k))).0 found) ∙ e))
+      | false ↦ λ missed. seat_up_to-at k n text (omega arith) first (below_last k n text last e missed) e
+    ]) refl
+
+seat_up_to-none : (k : ℕ) (text : List ℕ) → ((n : ℕ) → 1 ≤ n → n ≤ k → text ≡ decimal n → ⊥) → seat_up_to k text ≡ None
+unfolding seat_up_to
+seat_up_to-none zero text never = refl
+seat_up_to-none (suc k) text never =
+    let P : Bool → Type 0 = λ t. bytes_eq text (decimal (suc k)) ≡ t → cond t (Some (suc k)) (seat_up_to k text) ≡ None in
+    (elim (bytes_eq text (decimal (suc k))) as P [
+      | true ↦ λ found. absurd (never (suc k) (omega arith) (omega arith) ((bytes_eq-Decides text (decimal (suc k))).0 found))
+      | false ↦ λ missed. seat_up_to-none k text (λ n first last. never n first (omega arith))
+    ]) refl
+
+pub seat_is : (text : List ℕ) (n : ℕ) → text ≡ decimal n → 1 ≤ n → n ≤ 64 → seat_of text ≡ Some n
+unfolding seat_of
+seat_is text n e first last = seat_up_to-at 64 n text (omega arith) first last e
+
+pub no_seat : (text : List ℕ) → ((n : ℕ) → n < 2 ^ 64 → text ≡ decimal n → ⊥) → seat_of text ≡ None
+unfolding seat_of
+no_seat text never = seat_up_to-none 64 text (λ n first last. never n (omega arith))
+
+pub other_seat : (text : List ℕ) (n : ℕ) → n < 2 ^ 64 → text ≡ decimal n → (n < 1) ⊎ (64 < n) → seat_of text ≡ None
+unfolding seat_of
+other_seat text n small e past =
+    seat_up_to-none 64 text (λ m first last f.
+    let same : m ≡ n = decimal_injective m n (omega arith) small (sym f ∙ e) in omega arith)
+
+seat_up_to-is : (k n : ℕ) (text : List ℕ) → seat_up_to k text ≡ Some n → (1 ≤ n) × (n ≤ k) × (text ≡ decimal n)
+unfolding seat_up_to
+seat_up_to-is zero n text e = cc
+seat_up_to-is (suc k) n text e =
+    let P : Bool → Type 0 = λ t. bytes_eq text (decimal (suc k)) ≡ t → cond t (Some (suc k)) (seat_up_to k text) ≡ Some n
+    → (1 ≤ n) × (n ≤ suc k) × (text ≡ decimal n) in
+    (elim (bytes_eq text (decimal (suc k))) as P [
+      | true ↦ λ found is.
+          let same : suc k ≡ n = cc in
+          (omega arith, omega arith, (bytes_eq-Decides text (decimal (suc k))).0 found ∙ ap decimal same)
+      | false ↦ λ missed is. let below = seat_up_to-is k n text is in (below.0, omega (arith, below.1), below.2)
+    ]) refl e
+
+pub is_seat : (text : List ℕ) (n : ℕ) → seat_of text ≡ Some n → (1 ≤ n) × (n ≤ 64) × (text ≡ decimal n)
+unfolding seat_of
+is_seat text n e = seat_up_to-is 64 n text e

@@ -1,0 +1,12 @@
+-- The set is that of the names so far; each turn reads a shorter rest.
+use Rattle.std.proofs.Common.{length}
+use Rattle.std.specs.Option.{option_copied}
+use Rattle.dg_lines.specs.Cuts.{items, pieces_after}
+use Rattle.dg_lines.proofs.Given.{HasTaken}
+use Rattle.dg_lines.proofs.line.named_set.Given as goal
+
+abbrev pub invariant-items : goal.invariant-items
+invariant-items l = HasTaken l.names (items l.fn.text) (pieces_after 44 (option_copied l.rest)) l.set
+
+abbrev pub decreases-items : goal.decreases-items
+decreases-items l = length (pieces_after 44 (option_copied l.rest))

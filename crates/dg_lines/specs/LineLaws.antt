@@ -1,0 +1,70 @@
+-- Laws of lines and of the numbers in them.
+--   AreAlike c d                == the commands are the same; scripts are where they have the same numbers
+--   LinesHaveOneMeaning         == each line spells a command or has a fault, and not both; all commands that it spells are
+--                                  alike, and it has no two faults
+--   StepsHaveOneMeaning         == so does each line of a seat and a command line, as a step
+--   IsDigit byte                == an ASCII digit
+--   IsUnsigned text             == a digit from 1 to 9, and any digits after it
+--   IsNumeral text              == `0`, or an optional `-`, a digit from 1 to 9 and any digits after it
+--   IsShort z                   == the whole number z has at most 64 digits
+--   NumeralsAreDecimals         == of texts of at most 64 bytes, the decimals of whole numbers of at most 64 digits are just
+--                                  the numerals, and none is that of two numbers
+use Rattle.std.specs.Prelude.{◌≡◌, ℕ, ◌<◌, ◌≤◌, ◌^◌, ℤ, ◌⊎◌, ◌↔◌, List, ◌∷◌, length, All, codes}
+use Rattle.std.specs.Fmt.{signed_decimal}
+use Rattle.std.specs.Int.RustNames.{unsigned_abs}
+use Rattle.dg_chips.specs.Vector.{at}
+use Rattle.dg_chips.specs.declared.moves.Move.TheVariants.{Script}
+use Rattle.dg_game.specs.declared.step.Command.{Command}
+use Rattle.dg_game.specs.declared.step.Command.TheVariants.{Call}
+use Rattle.dg_game.specs.declared.step.Step.{Step}
+use Rattle.dg_game.specs.declared.entry.Plain.TheVariants.{Move as Play}
+use Rattle.dg_lines.specs.Commands.{IsCommandLine}
+use Rattle.dg_lines.specs.LineFaults.{IsLineFault}
+use Rattle.dg_lines.specs.Steps.{IsStepLine, IsStepFault}
+use Rattle.dg_lines.specs.declared.line.LineFault.{LineFault}
+
+abbrev pub AreAlike : Command → Command → Type 0
+AreAlike (Call (Play (Script s))) (Call (Play (Script t))) = (s.size ≡ t.size) × ((v : ℕ) → at s v ≡ at t v)
+AreAlike c d = c ≡ d
+
+pub record LinesHaveOneMeaning : Type 0 where
+  pub some : (names : List (List ℕ)) (line : List ℕ)
+      → ((c : Command) × IsCommandLine names c line) ⊎ ((fault : LineFault) × IsLineFault names fault line)
+  pub not_both : (names : List (List ℕ)) (line : List ℕ) (c : Command) (fault : LineFault)
+      → IsCommandLine names c line → ¬ IsLineFault names fault line
+  pub command : (names : List (List ℕ)) (line : List ℕ) (c d : Command)
+      → IsCommandLine names c line → IsCommandLine names d line → AreAlike c d
+  pub fault : (names : List (List ℕ)) (line : List ℕ) (one other : LineFault)
+      → IsLineFault names one line → IsLineFault names other line → one ≡ other
+
+pub record StepsHaveOneMeaning : Type 0 where
+  pub some : (names : List (List ℕ)) (line : List ℕ)
+      → ((step : Step) × IsStepLine names step line) ⊎ ((fault : LineFault) × IsStepFault names fault line)
+  pub not_both : (names : List (List ℕ)) (line : List ℕ) (step : Step) (fault : LineFault)
+      → IsStepLine names step line → ¬ IsStepFault names fault line
+  pub step : (names : List (List ℕ)) (line : List ℕ) (c d : Step)
+      → IsStepLine names c line → IsStepLine names d line → (c.seat ≡ d.seat) × AreAlike c.command d.command
+  pub fault : (names : List (List ℕ)) (line : List ℕ) (one other : LineFault)
+      → IsStepFault names one line → IsStepFault names other line → one ≡ other
+
+pub record IsDigit (byte : ℕ) : Type 0 where
+  pub low : 48 ≤ byte
+  pub high : byte ≤ 57
+
+pub record IsUnsigned (text : List ℕ) : Type 0 where
+  pub first : ℕ
+  pub rest : List ℕ
+  pub whole : text ≡ first ∷ rest
+  pub low : 49 ≤ first
+  pub high : first ≤ 57
+  pub digits : All IsDigit rest
+
+abbrev pub IsNumeral : List ℕ → Type 0
+IsNumeral text = (text ≡ codes "0") ⊎ IsUnsigned text ⊎ ((rest : List ℕ) × (text ≡ 45 ∷ rest) × IsUnsigned rest)
+
+abbrev pub IsShort : ℤ → Type 0
+IsShort z = unsigned_abs z < 10 ^ 64
+
+pub record NumeralsAreDecimals : Type 0 where
+  pub just : (text : List ℕ) → length text ≤ 64 → ((z : ℤ) × IsShort z × (text ≡ signed_decimal z)) ↔ IsNumeral text
+  pub one : (y z : ℤ) → IsShort y → IsShort z → signed_decimal y ≡ signed_decimal z → y ≡ z

@@ -1,0 +1,18 @@
+//! Laws over what lines spell, each the contract of a function that does nothing.
+ghost use Rattle.dg_lines.specs.LineLaws.{LinesHaveOneMeaning, StepsHaveOneMeaning, NumeralsAreDecimals};
+
+/// Each line spells a command or has a fault, and not both; it spells no two commands and has no two faults.
+pub fn lines_have_one_meaning()
+    ensures { LinesHaveOneMeaning }
+{}
+
+/// Each line spells a step or has a fault, and not both; it spells no two steps and has no two faults.
+pub fn steps_have_one_meaning()
+    ensures { StepsHaveOneMeaning }
+{}
+
+/// The decimals of whole numbers below 10^64, with either sign, are `0` and those of a digit from 1 to 9 and further digits,
+/// with or without a `-` before them; and none is that of two numbers.
+pub fn numerals_are_decimals()
+    ensures { NumeralsAreDecimals }
+{}

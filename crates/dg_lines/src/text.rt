@@ -1,0 +1,207 @@
+//! The texts of replies.
+ghost use Rattle.std.specs.Prelude.{◌≡◌, ◌<◌, ◌++◌, length, codes, decimal, IfOk, OnOk};
+ghost use Rattle.std.specs.Fmt.{signed_decimal};
+ghost use Rattle.dg_chips.specs.Vector.{at};
+ghost use Rattle.dg_lines.specs.Texts.{HasNames, pair, pairs, refusal_text, verdict_word, verdict_text, rank_text, text_of, entry_text};
+ghost use Rattle.dg_game.specs.declared.entry.Reply.TheVariants.{Rank};
+
+use crate::amounts::Amounts;
+use dg_chips::Divisor;
+use dg_file::Names;
+use dg_game::{Refusal, Reply};
+use dg_rank::RankVerdict;
+use dg_verdict::Verdict;
+use itoa::Buffer;
+use std::alloc::{AllocError, Allocator};
+
+/// The text of a reply, with no number and no newline. Amounts are shown as `name=amount`, in vertex order.
+pub fn reply_text<A: Allocator + Drop>(
+    alloc: A,
+    reply: &Reply,
+    names: &Names,
+) -> Result<Vec<u8, A>, AllocError>
+    requires { HasNames names.now reply.now }
+    ensures { IfOk result (λ text. text.items ≡ text_of names.now reply.now) }
+{
+    let mut text = Vec::new(alloc);
+    push_reply(&mut text, reply, names)?;
+    Ok(text)
+}
+
+/// The line of an entry of the history: its number, a space, the text of its reply and a newline.
+pub fn entry_line<A: Allocator + Drop>(
+    alloc: A,
+    number: usize,
+    reply: &Reply,
+    names: &Names,
+) -> Result<Vec<u8, A>, AllocError>
+    requires { HasNames names.now reply.now }
+    ensures { IfOk result (λ line. line.items ≡ entry_text names.now number reply.now) }
+{
+    let mut line = Vec::new(alloc);
+    push_entry(&mut line, number, reply, names)?;
+    Ok(line)
+}
+
+/// The line of an entry, after the text.
+pub(crate) fn push_entry<A: Allocator>(
+    text: &mut Vec<u8, A>,
+    number: usize,
+    reply: &Reply,
+    names: &Names,
+) -> Result<(), AllocError>
+    requires { HasNames names.now reply.now }
+    ensures { OnOk result (text.new.items ≡ text.old.items ++ entry_text names.now number reply.now) }
+{
+    text.extend_from_slice(Buffer::new().format(number).as_bytes())?;
+    text.extend_from_slice(b" ")?;
+    push_reply(text, reply, names)?;
+    text.extend_from_slice(b"\n")?;
+    Ok(())
+}
+
+fn push_reply<A: Allocator>(
+    text: &mut Vec<u8, A>,
+    reply: &Reply,
+    names: &Names,
+) -> Result<(), AllocError>
+    requires { HasNames names.now reply.now }
+    ensures { OnOk result (text.new.items ≡ text.old.items ++ text_of names.now reply.now) }
+{
+    match reply {
+        Reply::Moved(divisor) => {
+            text.extend_from_slice(b"moved ")?;
+            push_pairs(text, names, divisor)?;
+        }
+        Reply::Given(gifts, divisor) => {
+            text.extend_from_slice(b"given ")?;
+            push_counted(text, *gifts, names, divisor)?;
+        }
+        Reply::Looked(gifts, divisor) => {
+            text.extend_from_slice(b"looked ")?;
+            push_counted(text, *gifts, names, divisor)?;
+        }
+        Reply::Verdict(verdict) => push_verdict(text, names, verdict)?,
+        Reply::Rank(verdict) => push_rank(text, names, verdict)?,
+        Reply::Stale(gifts) => {
+            text.extend_from_slice(b"stale ")?;
+            text.extend_from_slice(Buffer::new().format(*gifts).as_bytes())?;
+        }
+        Reply::Won => text.extend_from_slice(b"won")?,
+        Reply::NotWon => text.extend_from_slice(b"not won")?,
+        Reply::Refused(refusal) => push_refusal(text, *refusal)?,
+    }
+    Ok(())
+}
+
+/// The number of gifts, a space and the pairs.
+fn push_counted<A: Allocator>(
+    text: &mut Vec<u8, A>,
+    gifts: u32,
+    names: &Names,
+    divisor: &Divisor,
+) -> Result<(), AllocError>
+    requires { length names.now ≡ divisor.now.size }
+    ensures { OnOk result (text.new.items ≡ text.old.items ++ (decimal gifts ++ codes " " ++ pairs names.now (at divisor.now))) }
+{
+    text.extend_from_slice(Buffer::new().format(gifts).as_bytes())?;
+    text.extend_from_slice(b" ")?;
+    push_pairs(text, names, divisor)?;
+    Ok(())
+}
+
+/// The word of the verdict, the pairs of its script and those of its reduced divisor.
+fn push_verdict<A: Allocator>(
+    text: &mut Vec<u8, A>,
+    names: &Names,
+    verdict: &Verdict,
+) -> Result<(), AllocError>
+    requires script { length names.now ≡ verdict.now.script.size }
+    requires reduced { length names.now ≡ verdict.now.reduced.size }
+    ensures { OnOk result (text.new.items ≡ text.old.items ++ verdict_text names.now verdict.now) }
+{
+    push_word(text, verdict.winnable)?;
+    push_pairs(text, names, &verdict.script)?;
+    text.extend_from_slice(b" to ")?;
+    push_pairs(text, names, &verdict.reduced)?;
+    Ok(())
+}
+
+/// That the rank is at least a degree, or below it, and then the pairs of the first loss.
+fn push_rank<A: Allocator>(
+    text: &mut Vec<u8, A>,
+    names: &Names,
+    verdict: &RankVerdict,
+) -> Result<(), AllocError>
+    requires { HasNames names.now (Rank verdict.now) }
+    ensures { OnOk result (text.new.items ≡ text.old.items ++ rank_text names.now verdict.now) }
+{
+    match verdict {
+        RankVerdict::AtLeast(k) => {
+            text.extend_from_slice(b"rank at least ")?;
+            text.extend_from_slice(Buffer::new().format(*k).as_bytes())?;
+        }
+        RankVerdict::Below(k, loss) => {
+            text.extend_from_slice(b"rank below ")?;
+            text.extend_from_slice(Buffer::new().format(*k).as_bytes())?;
+            text.extend_from_slice(b" at ")?;
+            push_pairs(text, names, loss)?;
+        }
+    }
+    Ok(())
+}
+
+fn push_word<A: Allocator>(text: &mut Vec<u8, A>, winnable: bool) -> Result<(), AllocError>
+    ensures { OnOk result (text.new.items ≡ text.old.items ++ verdict_word winnable) }
+{
+    if winnable {
+        text.extend_from_slice(b"winnable by ")?;
+    } else {
+        text.extend_from_slice(b"unwinnable by ")?;
+    }
+    Ok(())
+}
+
+fn push_refusal<A: Allocator>(text: &mut Vec<u8, A>, refusal: Refusal) -> Result<(), AllocError>
+    ensures { OnOk result (text.new.items ≡ text.old.items ++ refusal_text refusal) }
+{
+    match refusal {
+        Refusal::NoVertex => text.extend_from_slice(b"refused vertex")?,
+        Refusal::Empty => text.extend_from_slice(b"refused empty")?,
+        Refusal::Script => text.extend_from_slice(b"refused script")?,
+        Refusal::Gift => text.extend_from_slice(b"refused gift")?,
+        Refusal::Range => text.extend_from_slice(b"refused range")?,
+    }
+    Ok(())
+}
+
+/// The pairs of all vertices, with one space between two.
+fn push_pairs<A: Allocator, N: Amounts>(
+    text: &mut Vec<u8, A>,
+    names: &Names,
+    amounts: &N,
+) -> Result<(), AllocError>
+    requires { length names.now ≡ (N.numbers amounts.now).size }
+    ensures { OnOk result (text.new.items ≡ text.old.items ++ pairs names.now (at (N.numbers amounts.now))) }
+{
+    'vertices: for v in 0..amounts.count() {
+        if v > 0 {
+            text.extend_from_slice(b" ")?;
+        }
+        push_pair(text, names.name(v), amounts.amount(v))?;
+    }
+    Ok(())
+}
+
+fn push_pair<A: Allocator>(
+    text: &mut Vec<u8, A>,
+    name: &str,
+    amount: i128,
+) -> Result<(), AllocError>
+    ensures { OnOk result (text.new.items ≡ text.old.items ++ pair name.now amount) }
+{
+    text.extend_from_slice(name.as_bytes())?;
+    text.extend_from_slice(b"=")?;
+    text.extend_from_slice(Buffer::new().format(amount).as_bytes())?;
+    Ok(())
+}
