@@ -11,12 +11,13 @@ mod number;
 mod steps_file;
 mod text;
 
+pub use cuts::cut;
 pub use history::history_lines;
 pub use laws::{lines_have_one_meaning, numerals_are_decimals, steps_have_one_meaning};
 pub use line::{LineFault, parse_line, parse_step};
 pub use number::{degree, natural};
 pub use steps_file::{StepsFault, parse_steps};
-pub use text::{entry_line, reply_text};
+pub use text::{entry_line, push_amounts, push_entry, push_reply, reply_text};
 
 #[cfg(test)]
 mod tests;

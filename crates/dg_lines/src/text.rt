@@ -44,7 +44,7 @@ pub fn entry_line<A: Allocator + Drop>(
 }
 
 /// The line of an entry, after the text.
-pub(crate) fn push_entry<A: Allocator>(
+pub fn push_entry<A: Allocator>(
     text: &mut Vec<u8, A>,
     number: usize,
     reply: &Reply,
@@ -60,7 +60,8 @@ pub(crate) fn push_entry<A: Allocator>(
     Ok(())
 }
 
-fn push_reply<A: Allocator>(
+/// The text of a reply, with no number and no newline, after the text.
+pub fn push_reply<A: Allocator>(
     text: &mut Vec<u8, A>,
     reply: &Reply,
     names: &Names,
@@ -92,6 +93,21 @@ fn push_reply<A: Allocator>(
         Reply::Refused(refusal) => push_refusal(text, *refusal)?,
     }
     Ok(())
+}
+
+/// The amounts of a divisor as `name=amount`, in vertex order, with one space between two, after the text.
+pub fn push_amounts<A: Allocator>(
+    text: &mut Vec<u8, A>,
+    names: &Names,
+    divisor: &Divisor,
+) -> Result<(), AllocError>
+    requires { length names.now ≡ divisor.now.size }
+    ensures { OnOk result (text.new.items ≡ text.old.items ++ pairs names.now (at divisor.now)) }
+{
+    match push_pairs(text, names, divisor) {
+        Ok(()) => Ok(()),
+        Err(error) => Err(error),
+    }
 }
 
 /// The number of gifts, a space and the pairs.

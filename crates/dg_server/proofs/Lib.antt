@@ -1,2 +1,4 @@
 -- The lemmas that the proofs cite, each file over plain variables.
 mod Limited
+pub mod Gathered
+pub mod Serving

@@ -1,8 +1,12 @@
--- What is known of files; what a rehearsal, a judgement and a rank test print, and when they are refused; and how runs end.
+-- What is known of files; what a rehearsal, a judgement and a rank test print, and when they are refused; sessions and parties;
+-- and how runs end.
 pub mod Held
 pub mod Rehearsals
 pub mod Judgements
 pub mod RankTests
 pub mod Refusals
+pub mod Tasks
+pub mod Services
+pub mod Gatherings
 pub mod Status
 pub mod Runs

@@ -11,21 +11,15 @@ use Rattle.dg_game.specs.declared.schedule.RehearseFault.TheVariants as schedule
 use Rattle.dg_game.specs.declared.step.Step.{Step}
 use Rattle.dg_lines.specs.Schedules.{AreStepsOf, IsFirstRefused}
 use Rattle.dg_server.specs.declared.fault.Fault.{Fault}
-use Rattle.dg_server.specs.declared.fault.Fault.TheVariants.{CommandLine, Words, Source, File, Line, Full, NoLook, StepTrials, TooMany, Chip, OutOfMemory, Write}
+use Rattle.dg_server.specs.declared.fault.Fault.TheVariants.{Line, Full, NoLook, StepTrials, OutOfMemory}
 
 abbrev pub IsFaultOf : ℕ → List (List ℕ) → List (List ℕ) → RehearseFault → Type 0
 IsFaultOf n names lines fault = (steps : List Step) × AreStepsOf names steps lines × IsFirstFault n steps fault
 
 abbrev pub RefusesSchedule : ℕ → List (List ℕ) → List (List ℕ) → Fault → Type 0
-RefusesSchedule n names lines (CommandLine text) = ⊥
-RefusesSchedule n names lines Words = ⊥
-RefusesSchedule n names lines (Source fault) = ⊥
-RefusesSchedule n names lines (File fault) = ⊥
 RefusesSchedule n names lines (Line line fault) = IsFirstRefused names lines line fault
 RefusesSchedule n names lines (Full i) = IsFaultOf n names lines (schedule.Full i)
 RefusesSchedule n names lines (NoLook i) = IsFaultOf n names lines (schedule.NoLook i)
 RefusesSchedule n names lines (StepTrials i) = IsFaultOf n names lines (schedule.TooMany i)
-RefusesSchedule n names lines TooMany = ⊥
-RefusesSchedule n names lines (Chip fault) = ⊥
 RefusesSchedule n names lines OutOfMemory = ⊤
-RefusesSchedule n names lines Write = ⊥
+RefusesSchedule n names lines fault = ⊥

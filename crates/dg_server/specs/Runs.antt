@@ -1,114 +1,39 @@
--- Runs of the program: what is printed, when nothing is, and how a run ends. `held` tells what is known of the file of each
--- name, and output stands for its bytes, where those are known.
---   DescribesTable h o names      == bytes that the file h may hold are a table file, of the opening o with these names
---   IsOnTable h P                 == the file h describes a table, and P holds of its opening and names
---   IsOfSteps h P                 == P holds of the lines of bytes that the file h may hold
---   Answers held o names task text == the text is the answer to the task on the opening o with these names
---   file_of task                  == the name of the task's table file
---   IsAnswer held task text       == the text is the answer to the task, for what the files hold that it names
---   RefusesTable h fault          == bytes that the file h may hold are refused as a table file, with that fault
---   RefusesItsTable h fault       == the table file h is not read, or it is refused
---   RefusesOn held o names task fault == the task is refused so on the table o with these names: STEPS is not read, or it is
---                                    refused; or the test is past the limits, or the dual is no divisor
---   RefusesTask held task fault   == the table file is refused so, or it is good, and the task is refused so on its table
---   IsText held asked text        == the text is the answer to the task that is asked for, or the text of a call for help
---   Refuses held asked fault      == what is asked for is refused so; a call for help never is
---   Performs held asked old new   == the output has grown by a text of what is asked for
---   Succeeds held old new         == the output has grown by a text of something that may be asked for
+-- Runs of the program: what is printed, and how a run ends. `held` tells what is known of the file of each name; input stands for
+-- the bytes that the reader gives, and old and new for what the output held and holds, where those are known.
+--   Performs held input asked old new == what is asked for is done: the output has grown by the answer to the task, by the text of a
+--                                    call for help, by what a session said, or by the history and the totals of a party
+--   Refuses held input asked fault old new == what is asked for is refused so, or ended so; a call for help never is
+--   Succeeds held input old new   == something that may be asked for is done
 --   IsOfWords fault               == the words of the command line are refused, or memory
---   IsCause held fault            == the command line is refused, or memory, or the output takes no more, or something that may
---                                    be asked for is refused so
---   Fails held n old new          == n is the status of a fault that has its cause, and the output is as it was, unless that
---                                    fault is its own
+--   IsCause held input fault old new == unless the output takes no more: the words are refused so, and the output is as it was; or
+--                                    something that may be asked for is refused so
+--   Fails held input n old new    == n is the status of a fault that has its cause
 use Rattle.std.specs.Prelude.{◌≡◌, ◌≢◌, ◌⊎◌, ℕ, List, Option, string_bytes, ⊤}
 use Rattle.std.specs.Io.KnownBytes.{Appends, Keeps}
-use Rattle.dg_chips.specs.Opening.{Opening}
-use Rattle.dg_file.specs.TableFiles.{IsTableFile}
-use Rattle.dg_file.specs.FileFaults.{RefusesFile}
-use Rattle.dg_file.specs.declared.fault.FileFault.{FileFault}
-use Rattle.dg_lines.specs.Cuts.{lines}
-use Rattle.dg_server.specs.Held.{Held, IsHeld, RefusesHeld}
-use Rattle.dg_server.specs.Rehearsals.{IsPrinted}
-use Rattle.dg_server.specs.Judgements.{IsJudgement}
-use Rattle.dg_server.specs.RankTests.{IsRankAnswer, IsRiemannRoch, RefusesRank, RefusesRiemannRoch}
-use Rattle.dg_server.specs.Refusals.{RefusesSchedule}
+use Rattle.dg_server.specs.Held.{Held}
+use Rattle.dg_server.specs.Tasks.{IsAnswer, RefusesTask}
+use Rattle.dg_server.specs.Services.{Serves, RefusesService}
+use Rattle.dg_server.specs.Gatherings.{Gathers, RefusesGathering}
 use Rattle.dg_server.specs.Status.{status}
-use Rattle.dg_server.specs.declared.command_line.Asked.{Asked}
-use Rattle.dg_server.specs.declared.command_line.Asked.TheVariants.{Task as Asks, Text}
-use Rattle.dg_server.specs.declared.command_line.Task.{Task}
-use Rattle.dg_server.specs.declared.command_line.Task.TheVariants.{Rehearse, Judge, Rank, RiemannRoch}
+use Rattle.dg_server.specs.declared.asked.Asked.{Asked}
+use Rattle.dg_server.specs.declared.asked.Asked.TheVariants.{Task, Serve, Party, Text}
 use Rattle.dg_server.specs.declared.fault.Fault.{Fault}
-use Rattle.dg_server.specs.declared.fault.Fault.TheVariants.{CommandLine, Words, Source, File, OutOfMemory, Write}
+use Rattle.dg_server.specs.declared.fault.Fault.TheVariants.{CommandLine, Words, OutOfMemory, Write}
 
-pub record DescribesTable (h : Held) (o : Opening) (names : List (List ℕ)) : Type 0 where
-  pub bytes : List ℕ
-  pub held : IsHeld h bytes
-  pub table : IsTableFile bytes o names
+abbrev pub Performs : (List ℕ → Held) → Option (List ℕ) → Asked → Option (List ℕ) → Option (List ℕ) → Type 0
+Performs held input (Task task) old new = (text : List ℕ) × IsAnswer held task text × Appends old new text
+Performs held input (Serve service) old new = Serves held input service old new
+Performs held input (Party gathering) old new = Gathers held gathering old new
+Performs held input (Text help) old new = Appends old new (string_bytes help)
 
-pub record IsOnTable (h : Held) (P : Opening → List (List ℕ) → Type 0) : Type 0 where
-  pub opening : Opening
-  pub names : List (List ℕ)
-  pub table : DescribesTable h opening names
-  pub holds : P opening names
+abbrev pub Refuses : (List ℕ → Held) → Option (List ℕ) → Asked → Fault → Option (List ℕ) → Option (List ℕ) → Type 0
+Refuses held input (Task task) fault old new = RefusesTask held task fault × Keeps old new
+Refuses held input (Serve service) fault old new = RefusesService held input service fault old new
+Refuses held input (Party gathering) fault old new = RefusesGathering held gathering fault old new
+Refuses held input (Text help) fault old new = ⊥
 
-pub record IsOfSteps (h : Held) (P : List (List ℕ) → Type 0) : Type 0 where
-  pub bytes : List ℕ
-  pub held : IsHeld h bytes
-  pub holds : P (lines bytes)
-
-abbrev pub Answers : (List ℕ → Held) → Opening → List (List ℕ) → Task → List ℕ → Type 0
-Answers held o names (Rehearse file steps) text = IsOfSteps (held steps.now) (λ all. IsPrinted o names all text)
-Answers held o names (Judge file) text = IsJudgement o names text
-Answers held o names (Rank file k) text = IsRankAnswer o k names text
-Answers held o names (RiemannRoch file) text = IsRiemannRoch o text
-
-abbrev pub file_of : Task → List ℕ
-file_of (Rehearse file steps) = file.now
-file_of (Judge file) = file.now
-file_of (Rank file k) = file.now
-file_of (RiemannRoch file) = file.now
-
-abbrev pub IsAnswer : (List ℕ → Held) → Task → List ℕ → Type 0
-IsAnswer held task text = IsOnTable (held (file_of task)) (λ o names. Answers held o names task text)
-
-pub record RefusesTable (h : Held) (fault : FileFault) : Type 0 where
-  pub bytes : List ℕ
-  pub held : IsHeld h bytes
-  pub refused : RefusesFile bytes fault
-
-abbrev pub RefusesOn : (List ℕ → Held) → Opening → List (List ℕ) → Task → Fault → Type 0
-RefusesOn held o names (Rehearse file steps) (Source fault) = RefusesHeld (held steps.now) fault
-RefusesOn held o names (Rehearse file steps) fault =
-    IsOfSteps (held steps.now) (λ all. RefusesSchedule o.graph.size names all fault)
-RefusesOn held o names (Judge file) fault = fault ≡ OutOfMemory
-RefusesOn held o names (Rank file k) fault = RefusesRank o.graph.size k fault
-RefusesOn held o names (RiemannRoch file) fault = RefusesRiemannRoch o fault
-
-abbrev pub RefusesItsTable : Held → Fault → Type 0
-RefusesItsTable h (Source fault) = RefusesHeld h fault
-RefusesItsTable h (File fault) = RefusesTable h fault
-RefusesItsTable h fault = ⊥
-
-abbrev pub RefusesTask : (List ℕ → Held) → Task → Fault → Type 0
-RefusesTask held task fault = RefusesItsTable (held (file_of task)) fault
-    ⊎ IsOnTable (held (file_of task)) (λ o names. RefusesOn held o names task fault)
-
-abbrev pub IsText : (List ℕ → Held) → Asked → List ℕ → Type 0
-IsText held (Asks task) text = IsAnswer held task text
-IsText held (Text help) text = text ≡ string_bytes help
-
-abbrev pub Refuses : (List ℕ → Held) → Asked → Fault → Type 0
-Refuses held (Asks task) fault = RefusesTask held task fault
-Refuses held (Text help) fault = ⊥
-
-pub record Performs (held : List ℕ → Held) (asked : Asked) (old new : Option (List ℕ)) : Type 0 where
-  pub text : List ℕ
-  pub is_text : IsText held asked text
-  pub written : Appends old new text
-
-pub record Succeeds (held : List ℕ → Held) (old new : Option (List ℕ)) : Type 0 where
-  pub asked : Asked
-  pub performed : Performs held asked old new
+abbrev pub Succeeds : (List ℕ → Held) → Option (List ℕ) → Option (List ℕ) → Option (List ℕ) → Type 0
+Succeeds held input old new = (asked : Asked) × Performs held input asked old new
 
 abbrev pub IsOfWords : Fault → Type 0
 IsOfWords (CommandLine text) = ⊤
@@ -116,15 +41,11 @@ IsOfWords Words = ⊤
 IsOfWords OutOfMemory = ⊤
 IsOfWords fault = ⊥
 
-abbrev pub IsCause : (List ℕ → Held) → Fault → Type 0
-IsCause held (CommandLine text) = ⊤
-IsCause held Words = ⊤
-IsCause held OutOfMemory = ⊤
-IsCause held Write = ⊤
-IsCause held fault = (asked : Asked) × Refuses held asked fault
+abbrev pub IsCause : (List ℕ → Held) → Option (List ℕ) → Fault → Option (List ℕ) → Option (List ℕ) → Type 0
+IsCause held input fault old new =
+    fault ≢ Write → (IsOfWords fault × Keeps old new) ⊎ ((asked : Asked) × Refuses held input asked fault old new)
 
-pub record Fails (held : List ℕ → Held) (n : ℕ) (old new : Option (List ℕ)) : Type 0 where
+pub record Fails (held : List ℕ → Held) (input : Option (List ℕ)) (n : ℕ) (old new : Option (List ℕ)) : Type 0 where
   pub fault : Fault
   pub tells : status fault ≡ n
-  pub cause : IsCause held fault
-  pub silent : fault ≢ Write → Keeps old new
+  pub cause : IsCause held input fault old new

@@ -1,7 +1,11 @@
 //! The command line: what its words ask for, and what is said of them.
-ghost use Rattle.std.specs.Prelude.{◌≡◌, IfErr};
-ghost use Rattle.dg_server.specs.Runs.{file_of, IsOfWords};
+ghost use Rattle.std.specs.Prelude.{◌≡◌, ◌≤◌, length, IfErr, IfOk, IfSome};
+ghost use Rattle.std.specs.Vec.{vec_len};
+ghost use Rattle.dg_game.specs.declared.game.TheConstants.{MAX_ENTRIES};
+ghost use Rattle.dg_rank.specs.Ranks.{MayHaveWorkers};
+ghost use Rattle.dg_server.specs.Runs.{IsOfWords};
 
+use crate::asked::{Asked, Gathering, Service, Task};
 use crate::fault::Fault;
 use clap::error::ErrorKind;
 use clap::{Arg, ArgMatches, Command};
@@ -9,58 +13,6 @@ use dg_lines::{degree, natural};
 use std::alloc::{AllocError, Global};
 use std::rt::Env;
 use std::{env, io};
-
-/// What the command line asks for.
-#[derive(Drop)]
-pub enum Task<'a> {
-    /// Play the steps of one file on the table of another, and print the history.
-    Rehearse {
-        /// The name of the table file.
-        file: &'a str,
-        /// The name of the file of steps.
-        steps: &'a str,
-    },
-    /// Tell whether the position of a table is winnable, and print the verdict.
-    Judge {
-        /// The name of the table file.
-        file: &'a str,
-    },
-    /// Test whether the rank of a table's position is at least a degree, and print the answer.
-    Rank {
-        /// The name of the table file.
-        file: &'a str,
-        /// The degree.
-        degree: u32,
-    },
-    /// Print the four numbers of Riemann-Roch for the position of a table.
-    RiemannRoch {
-        /// The name of the table file.
-        file: &'a str,
-    },
-}
-
-impl Task<'_> {
-    /// The name of the table file.
-    pub fn file(&self) -> &str
-        ensures { result.now ≡ file_of self.now }
-    {
-        match self {
-            Task::Rehearse { file, steps: _ } => file,
-            Task::Judge { file } => file,
-            Task::Rank { file, degree: _ } => file,
-            Task::RiemannRoch { file } => file,
-        }
-    }
-}
-
-/// What a command line that is not refused comes to.
-#[derive(Drop)]
-pub enum Asked<'a> {
-    /// Something to do.
-    Task(Task<'a>),
-    /// A text to print, as after `--help`.
-    Text(String),
-}
 
 /// The words of the process's own command line, the program's name first.
 ///
@@ -81,8 +33,8 @@ pub fn words_of<R: Env + AllocGlobal>(rt: &R) -> Result<Vec<String>, Fault>
 pub fn asked_by<'a>(alloc: Global, words: &'a [String]) -> Result<Asked<'a>, Fault>
     ensures { IfErr result IsOfWords }
 {
-    match task_of(alloc, words) {
-        Ok(task) => Ok(Asked::Task(task)),
+    match command_of(alloc, words) {
+        Ok(asked) => Ok(asked),
         Err(error) if error.kind() == ErrorKind::OutOfMemory => Err(Fault::OutOfMemory),
         Err(error) => {
             let text = format!(in alloc; "{error}")?;
@@ -95,10 +47,11 @@ pub fn asked_by<'a>(alloc: Global, words: &'a [String]) -> Result<Asked<'a>, Fau
     }
 }
 
-fn task_of<'a>(alloc: Global, words: &'a [String]) -> Result<Task<'a>, clap::Error> {
+fn command_of<'a>(alloc: Global, words: &'a [String]) -> Result<Asked<'a>, clap::Error> {
     let matches = dollar(alloc)?.try_get_matches_from(words)?;
-    match task_in(&matches) {
-        Ok(task) => Ok(task),
+    match command_in(alloc, &matches) {
+        Ok(asked) => Ok(asked),
+        Err(Refusal::Memory) => Err(clap::Error::from(AllocError)),
         Err(refusal) => {
             let (kind, text) = refusal.said();
             Err(dollar(alloc)?.error(kind, text)?)
@@ -111,6 +64,10 @@ fn task_of<'a>(alloc: Global, words: &'a [String]) -> Result<Task<'a>, clap::Err
 enum Refusal {
     /// There is no command of that name with these arguments.
     Command,
+    /// Memory is refused.
+    Memory,
+    /// The number of entries is not 1 to 65,536.
+    Capacity,
     /// The number of workers is not 1 to 16.
     Workers,
     /// The degree of a rank test is not 0 to 4,294,967,295.
@@ -122,6 +79,8 @@ impl Refusal {
     fn said(self) -> (ErrorKind, &'static str) {
         match self {
             Refusal::Command => (ErrorKind::MissingSubcommand, "a command is missing"),
+            Refusal::Memory => (ErrorKind::OutOfMemory, "out of memory"),
+            Refusal::Capacity => (ErrorKind::ValueValidation, CAPACITY_REFUSED),
             Refusal::Workers => (ErrorKind::ValueValidation, WORKERS_REFUSED),
             Refusal::Degree => (ErrorKind::ValueValidation, DEGREE_REFUSED),
         }
@@ -130,10 +89,38 @@ impl Refusal {
 
 /// What a command with its arguments asks for.
 ///
-/// Refused with `Workers` before `Degree`; `Command` stands for what the library refuses before.
-fn task_in<'a>(matches: &ArgMatches<'a>) -> Result<Task<'a>, Refusal> {
+/// Refused with `Capacity`, then `Workers`, then `Degree`; `Command` stands for what the library refuses before.
+fn command_in<'a>(alloc: Global, matches: &ArgMatches<'a>) -> Result<Asked<'a>, Refusal> {
     let (name, inner) = matches.subcommand().ok_or(Refusal::Command)?;
     let file = inner.get_str("file").ok_or(Refusal::Command)?;
+    match name {
+        "serve" => {
+            let capacity = capacity_in(inner)?;
+            let workers = workers_in(inner)?;
+            Ok(Asked::Serve(Service {
+                file,
+                capacity,
+                workers,
+            }))
+        }
+        "party" => {
+            let capacity = capacity_in(inner)?;
+            let scripts = scripts_in(alloc, inner)?;
+            Ok(Asked::Party(Gathering {
+                file,
+                scripts,
+                capacity,
+            }))
+        }
+        _ => match task_in(name, file, inner) {
+            Ok(task) => Ok(Asked::Task(task)),
+            Err(refusal) => Err(refusal),
+        },
+    }
+}
+
+/// The task of a command that prints one answer.
+fn task_in<'a>(name: &str, file: &'a str, inner: &ArgMatches<'a>) -> Result<Task<'a>, Refusal> {
     match name {
         "rehearse" => {
             let steps = inner.get_str("steps").ok_or(Refusal::Command)?;
@@ -142,9 +129,7 @@ fn task_in<'a>(matches: &ArgMatches<'a>) -> Result<Task<'a>, Refusal> {
         "judge" => Ok(Task::Judge { file }),
         "rank" => {
             let word = inner.get_str("degree").ok_or(Refusal::Command)?;
-            if !has_few_workers(inner) {
-                return Err(Refusal::Workers);
-            }
+            let _workers = workers_in(inner)?;
             let degree = degree(word.as_bytes()).ok_or(Refusal::Degree)?;
             Ok(Task::Rank { file, degree })
         }
@@ -153,11 +138,42 @@ fn task_in<'a>(matches: &ArgMatches<'a>) -> Result<Task<'a>, Refusal> {
     }
 }
 
-/// Whether the number of workers, where one is given, is 1 to 16.
-fn has_few_workers(matches: &ArgMatches) -> bool {
+/// The number of entries that the history may have, 65,536 where none is given.
+fn capacity_in(matches: &ArgMatches) -> Result<u32, Refusal>
+    ensures { IfOk result (λ capacity. (1 ≤ capacity) × (capacity ≤ MAX_ENTRIES)) }
+{
+    match matches.get_str("cap") {
+        Some(number) => match natural(number.as_bytes()) {
+            Some(capacity @ 1..=65_536) => Ok(capacity as u32),
+            _ => Err(Refusal::Capacity),
+        },
+        None => Ok(65_536),
+    }
+}
+
+/// The number of workers, 1 where none is given.
+fn workers_in(matches: &ArgMatches) -> Result<u32, Refusal>
+    ensures { IfOk result MayHaveWorkers }
+{
     match matches.get_str("workers") {
-        Some(number) => matches!(natural(number.as_bytes()), Some(1..=16)),
-        None => true,
+        Some(number) => match natural(number.as_bytes()) {
+            Some(workers @ 1..=16) => Ok(workers as u32),
+            _ => Err(Refusal::Workers),
+        },
+        None => Ok(1),
+    }
+}
+
+/// The names of the scripts.
+fn scripts_in<'a>(alloc: Global, matches: &ArgMatches<'a>) -> Result<Vec<&'a str>, Refusal>
+    ensures { IfOk result (λ scripts. 1 ≤ vec_len scripts) }
+{
+    let names = matches.get_strs("script").ok_or(Refusal::Command)?;
+    let mut scripts = Vec::new(alloc);
+    match scripts.extend_from_slice(names) {
+        Ok(()) if scripts.is_empty() => Err(Refusal::Command),
+        Ok(()) => Ok(scripts),
+        Err(_) => Err(Refusal::Memory),
     }
 }
 
@@ -170,7 +186,9 @@ fn dollar<'a>(alloc: Global) -> Result<Command<'a>, AllocError> {
         .subcommand(rehearse(alloc)?)?
         .subcommand(judge(alloc)?)?
         .subcommand(rank(alloc)?)?
-        .subcommand(riemann_roch(alloc)?)
+        .subcommand(riemann_roch(alloc)?)?
+        .subcommand(serve(alloc)?)?
+        .subcommand(party(alloc)?)
 }
 
 fn rehearse<'a>(alloc: Global) -> Result<Command<'a>, AllocError> {
@@ -197,16 +215,12 @@ fn rank<'a>(alloc: Global) -> Result<Command<'a>, AllocError> {
         .value_name("K")
         .required(true)
         .help(DEGREE_HELP);
-    let workers = Arg::new(alloc, "workers")
-        .long("workers")
-        .value_name("N")
-        .help(WORKERS_HELP);
     Command::new(alloc, "rank")
         .about("Tests whether a table stays winnable wherever K dollars are lost")
         .after_help(RANK_MORE)
         .arg(table_file(alloc))?
         .arg(degree)?
-        .arg(workers)
+        .arg(workers(alloc))
 }
 
 fn riemann_roch<'a>(alloc: Global) -> Result<Command<'a>, AllocError> {
@@ -214,6 +228,43 @@ fn riemann_roch<'a>(alloc: Global) -> Result<Command<'a>, AllocError> {
         .about("Prints both sides of Riemann-Roch for a table")
         .after_help(RIEMANN_ROCH_MORE)
         .arg(table_file(alloc))
+}
+
+fn serve<'a>(alloc: Global) -> Result<Command<'a>, AllocError> {
+    Command::new(alloc, "serve")
+        .about("Answers the lines of the standard input on a table with one seat")
+        .after_help(SERVE_MORE)
+        .arg(table_file(alloc))?
+        .arg(capacity(alloc))?
+        .arg(workers(alloc))
+}
+
+fn party<'a>(alloc: Global) -> Result<Command<'a>, AllocError> {
+    let scripts = Arg::new(alloc, "script")
+        .value_name("SCRIPT")
+        .required(true)
+        .num_args(1..)
+        .help(SCRIPT_HELP);
+    Command::new(alloc, "party")
+        .about("Plays scripts side by side on one table, and prints what came of it")
+        .after_help(PARTY_MORE)
+        .arg(table_file(alloc))?
+        .arg(scripts)?
+        .arg(capacity(alloc))
+}
+
+fn workers<'a>(alloc: Global) -> Arg<'a> {
+    Arg::new(alloc, "workers")
+        .long("workers")
+        .value_name("N")
+        .help(WORKERS_HELP)
+}
+
+fn capacity<'a>(alloc: Global) -> Arg<'a> {
+    Arg::new(alloc, "cap")
+        .long("cap")
+        .value_name("N")
+        .help(CAPACITY_HELP)
 }
 
 fn table_file<'a>(alloc: Global) -> Arg<'a> {
@@ -249,6 +300,14 @@ const WORKERS_HELP: &str =
     "How many workers may share the trials, 1 to 16; for now one makes them all";
 
 const WORKERS_REFUSED: &str = "the number of workers is a whole number from 1 to 16";
+
+const CAPACITY_HELP: &str =
+    "How many entries the history may have, 1 to 65536; where it is not given, 65536";
+
+const CAPACITY_REFUSED: &str = "the number of entries is a whole number from 1 to 65536";
+
+const SCRIPT_HELP: &str =
+    "A script: a text file with the lines of a session; up to 64 of them, each with a seat and a thread";
 
 const REHEARSE_MORE: &str = "\
 FILE names the vertices, gives each edge as two names and how often it is there, and each vertex its dollars
@@ -319,4 +378,36 @@ less what it holds on the table:
 
 The rank is the most dollars that can be taken wherever one likes so that the table stays winnable, and -1 where it is
 not winnable as it is. By Riemann-Roch, rank less dual is degree plus 1 less genus.
+";
+
+const SERVE_MORE: &str = "\
+FILE is a table file, as `dollar rehearse --help` shows it, and a line of the input is a command as it is shown there,
+without a seat: there is one, and it answers each line as it comes, before it waits for the next:
+
+    look                0 looked 0 a=2 b=-1 c=-1
+    lend a              1 moved a=0 b=0 c=0
+    commit              2 winnable by a=0 b=0 c=0 to a=0 b=0 c=0
+    commit              bad look
+    lend z              bad name
+
+An entry of the history is answered with its number and what came of it. A line that is no entry is answered with what is
+wrong with it: `bad word`, `bad form`, `bad name`, `bad number`, `bad look` where a commit or a rank test finds no look
+that is not used up, `bad trials` where a rank test is past its limits.
+
+A line has at most 1024 bytes, and a session at most 1000000 lines. Nothing is kept after the run.
+";
+
+const PARTY_MORE: &str = "\
+FILE is a table file, as `dollar rehearse --help` shows it; a script has the lines of a session, as `dollar serve --help`
+shows them. Script I is played by seat I, and all are played at once, in an order that nobody fixes. Then the history is
+printed, each entry with its number, its seat and what came of it, and what was counted in it:
+
+    0 1 moved a=0 b=0 c=0
+    entries 1
+    gifts 0
+    position a=0 b=0 c=0
+    seat 1 calls 1
+
+A session that ends before its script does has a line on standard error, such as `dollar: seat 2: the history is full`, and
+what it entered before stays.
 ";

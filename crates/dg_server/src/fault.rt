@@ -6,8 +6,9 @@ use crate::sources::SourceFault;
 use dg_chips::ChipFault;
 use dg_file::FileFault;
 use dg_lines::LineFault;
+use dg_session::{SessionEnd, WriteFailed};
 use std::alloc::{AllocError, AllocFailed};
-use std::io::Write;
+use std::io::{self, Write};
 use thiserror::Error;
 
 /// What ends a run before its work is done. Its text is what the fault line says.
@@ -51,6 +52,26 @@ pub enum Fault {
     /// There is not enough memory.
     #[error("out of memory")]
     OutOfMemory,
+    /// The session ended before its input did.
+    #[error("{}", end_text(*.0))]
+    Session(SessionEnd),
+    /// Sessions of a party ended before their scripts did, of the seats that are named, in order.
+    #[error("{}", end_text(*.least))]
+    Sessions {
+        /// How that of the least such seat ended.
+        least: SessionEnd,
+        /// Each such seat, and how its session ended.
+        all: Vec<(usize, SessionEnd)>,
+    },
+    /// A party has more than 64 scripts.
+    #[error("too many seats")]
+    Seats,
+    /// A thread could not be started.
+    #[error("no thread")]
+    NoThread,
+    /// The table was not closed.
+    #[error("history cell refused")]
+    History,
     /// The output takes no more bytes.
     #[error("write fault")]
     Write,
@@ -78,6 +99,17 @@ impl<T: Drop> From<AllocFailed<T>> for Fault {
     }
 }
 
+impl From<WriteFailed> for Fault {
+    ghost use Rattle.dg_server.specs.declared.fault.Fault.TheVariants.{Write};
+    ghost use Rattle.std.specs.Prelude.{◌≡◌};
+
+    ghost from_gives = { λ _ fault. fault ≡ Write };
+
+    fn from(_error: WriteFailed) -> Fault {
+        Fault::Write
+    }
+}
+
 /// The exit status of a run that ends with the fault: 2 for a refused command line, 3 for refused input, 4 for want of
 /// memory, 5 for reading and writing.
 pub fn status_of(fault: &Fault) -> u8
@@ -92,20 +124,57 @@ pub fn status_of(fault: &Fault) -> u8
         Fault::File(_) => 3,
         Fault::Line { .. } | Fault::Full(_) | Fault::NoLook(_) | Fault::StepTrials(_) => 3,
         Fault::TooMany | Fault::Chip(_) => 3,
-        Fault::OutOfMemory => 4,
+        Fault::Session(end) | Fault::Sessions { least: end, .. } => status_of_end(*end),
+        Fault::Seats => 3,
+        Fault::OutOfMemory | Fault::NoThread | Fault::History => 4,
         Fault::Write => 5,
     }
 }
 
+/// The exit status where a session ends so.
+fn status_of_end(end: SessionEnd) -> u8
+    ensures { result ≡ Rattle.dg_server.specs.Status.status_of_end end }
+{
+    match end {
+        SessionEnd::LongLine | SessionEnd::Turns => 3,
+        SessionEnd::Table(dg_table::Fault::Full) => 3,
+        SessionEnd::Table(_) | SessionEnd::Memory | SessionEnd::Spawn => 4,
+        SessionEnd::Read | SessionEnd::Write => 5,
+    }
+}
+
+/// What is said of a session that ends so.
+fn end_text(end: SessionEnd) -> &'static str {
+    match end {
+        SessionEnd::Read => "read fault",
+        SessionEnd::Write => "write fault",
+        SessionEnd::LongLine => "long line",
+        SessionEnd::Turns => "too many lines",
+        SessionEnd::Table(dg_table::Fault::Full) => "the history is full",
+        SessionEnd::Table(dg_table::Fault::Log) => "history cell refused",
+        SessionEnd::Table(dg_table::Fault::OutOfMemory) | SessionEnd::Memory => "out of memory",
+        SessionEnd::Spawn => "no thread",
+    }
+}
+
 /// Writes what is said of a fault, and gives the exit status. That is one line, but after a refused command line as many
-/// as it takes. Where they cannot be written the status is the same.
+/// as it takes, and for sessions of a party one for each. Where they cannot be written the status is the same.
 pub fn report<F: Write>(fault: &Fault, faults: &mut F) -> u8
     ensures { result ≡ status fault.now }
 {
     let _ = match fault {
         Fault::CommandLine(text) => faults.write_all(text.as_bytes()),
+        Fault::Sessions { all, .. } => report_seats(all.as_slice(), faults),
         _ => writeln!(faults, "dollar: {fault}"),
     };
     let _ = faults.flush();
     status_of(fault)
+}
+
+/// Writes a line for each session, with its seat and how it ended.
+fn report_seats<F: Write>(all: &[(usize, SessionEnd)], faults: &mut F) -> io::Result<()> {
+    for (seat, end) in all {
+        writeln!(faults, "dollar: seat {seat}: {}", end_text(*end))?;
+    }
+    Ok(())
 }

@@ -1,14 +1,19 @@
 //! The program `dollar` but for its `main`: the command line, the files, the faults, and what the commands print.
 #![tactic(auto)]
 
+mod asked;
 mod command_line;
 mod fault;
+mod gathering;
 mod printed;
 mod program;
 mod ranks;
+mod service;
 mod sources;
+mod table_source;
 
-pub use command_line::{Asked, Task, asked_by, words_of};
+pub use asked::{Asked, Gathering, Service, Task};
+pub use command_line::{asked_by, words_of};
 pub use fault::{Fault, report, status_of};
 pub use printed::{judgement, rehearsal};
 pub use program::{perform, run};

@@ -1,41 +1,50 @@
 //! A run of the program: what the words of a command line come to.
-ghost use Rattle.std.specs.Prelude.{◌≡◌, ◌≢◌, IfOk, IfErr, OnOk};
-ghost use Rattle.std.specs.Io.KnownBytes.{Appends, Keeps};
-ghost use Rattle.dg_server.specs.Runs.{IsAnswer, Answers, RefusesOn, Performs, Succeeds, Refuses, RefusesTask, RefusesItsTable, DescribesTable, Fails};
+ghost use Rattle.std.specs.Prelude.{◌≡◌, ◌≢◌, Err, true, IfOk, IfErr, OnOk};
+ghost use Rattle.dg_server.specs.Tasks.{IsAnswer, Answers, RefusesOn, RefusesTask};
+ghost use Rattle.dg_server.specs.Runs.{Performs, Succeeds, Refuses, Fails};
 ghost use Rattle.dg_server.specs.Status.{IsStatus};
 
-use crate::command_line::{Asked, Task, asked_by};
+use crate::asked::{Asked, Task};
+use crate::command_line::asked_by;
 use crate::fault::{Fault, report};
+use crate::gathering::play_scripts;
 use crate::printed::{judgement, rehearsal};
 use crate::ranks::{rank_answer, riemann_roch};
+use crate::service::serve_input;
 use crate::sources::Sources;
-use dg_file::{TableFile, read_table};
+use crate::table_source::table_in;
+use dg_file::TableFile;
+use dg_session::Output;
 use std::io::{BufRead, Write};
 use std::rt::Files;
+use std::sync::Wait;
+use std::thread::Threads;
 
 /// Does what the words of a command line ask for, the first of which is the program's name, and gives the exit status: 0
-/// where it was done to the end, or that of the fault that ended the run, of which `faults` is told.
+/// where it was done to the end, or that of the fault that ended the run, of which `faults` is told. Only a session reads the
+/// input.
 pub fn run<R, S, I, O, F>(
     rt: &R,
     words: &[String],
     sources: &S,
     input: I,
-    output: &mut O,
+    output: &mut Output<O>,
     faults: &mut F,
 ) -> u8
 where
-    R: Files + AllocGlobal,
+    R: Files + AllocGlobal + Threads + Wait + Sync,
     S: Sources,
     I: BufRead + Drop,
     O: Write,
     F: Write,
     ensures status { IsStatus result }
-    ensures done { result ≡ 0 → Succeeds (S.held sources.now) (O.contents output.old) (O.contents output.new) }
-    ensures failed { result ≢ 0 → Fails (S.held sources.now) result (O.contents output.old) (O.contents output.new) }
+    ensures done { result ≡ 0 →
+        Succeeds (S.held sources.now) (I.remaining input) (O.contents output.old.inner) (O.contents output.new.inner) }
+    ensures failed { result ≢ 0 →
+        Fails (S.held sources.now) (I.remaining input) result (O.contents output.old.inner) (O.contents output.new.inner) }
 {
-    drop(input);
     match asked_by(rt.alloc(), words) {
-        Ok(asked) => match perform(rt, asked, sources, output) {
+        Ok(asked) => match perform(rt, asked, sources, input, output) {
             Ok(()) => 0,
             Err(fault) => report(&fault, faults),
         },
@@ -44,33 +53,40 @@ where
 }
 
 /// Does what is asked for. The whole text of an answer is made before its first byte is written, so that `output` gets
-/// nothing where another fault than `Write` comes.
-pub fn perform<R, S, O>(rt: &R, asked: Asked<'_>, sources: &S, output: &mut O) -> Result<(), Fault>
+/// nothing where another fault than `Write` comes; a session alone answers as its lines come.
+pub fn perform<R, S, I, O>(
+    rt: &R,
+    asked: Asked<'_>,
+    sources: &S,
+    input: I,
+    output: &mut Output<O>,
+) -> Result<(), Fault>
 where
-    R: Files + AllocGlobal,
+    R: Files + AllocGlobal + Threads + Wait + Sync,
     S: Sources,
+    I: BufRead + Drop,
     O: Write,
-    ensures done { OnOk result (Performs (S.held sources.now) asked.entry (O.contents output.old) (O.contents output.new)) }
+    ensures done { OnOk result
+        (Performs (S.held sources.now) (I.remaining input) asked.entry (O.contents output.old.inner) (O.contents output.new.inner)) }
     ensures refused { IfErr result (λ fault. fault ≢ Fault.Write →
-        Refuses (S.held sources.now) asked.entry fault × Keeps (O.contents output.old) (O.contents output.new)) }
+        Refuses (S.held sources.now) (I.remaining input) asked.entry fault (O.contents output.old.inner) (O.contents output.new.inner)) }
+    ensures failed { result ≡ Err Fault.Write → output.new.has_failed ≡ true }
 {
     match asked {
-        Asked::Text(text) => write_whole(output, text.as_bytes()),
-        Asked::Task(task) => {
-            let text = answer(rt, &task, sources)?;
-            write_whole(output, text.as_slice())
-        }
+        Asked::Text(text) => Ok(output.write_whole(text.as_bytes())?),
+        Asked::Task(task) => match answer(rt, &task, sources) {
+            Ok(text) => Ok(output.write_whole(text.as_slice())?),
+            Err(fault) => Err(fault),
+        },
+        Asked::Serve(service) => match serve_input(rt, &service, sources, input, output) {
+            Ok(()) => Ok(()),
+            Err(fault) => Err(fault),
+        },
+        Asked::Party(gathering) => match play_scripts(rt, &gathering, sources, output) {
+            Ok(()) => Ok(()),
+            Err(fault) => Err(fault),
+        },
     }
-}
-
-fn write_whole<O: Write>(output: &mut O, text: &[u8]) -> Result<(), Fault>
-    ensures ok { OnOk result (Appends (O.contents output.old) (O.contents output.new) text.now) }
-    ensures err { IfErr result (λ fault. fault ≡ Fault.Write) }
-{
-    if output.write_all(text).is_err() || output.flush().is_err() {
-        return Err(Fault::Write);
-    }
-    Ok(())
 }
 
 /// The answer to a task, as text.
@@ -88,24 +104,6 @@ where
     match answer_on(rt, &table, task, sources) {
         Ok(text) => Ok(text),
         Err(fault) => Err(fault),
-    }
-}
-
-/// The table of the file with that name.
-fn table_in<R, S>(rt: &R, sources: &S, file: &str) -> Result<TableFile, Fault>
-where
-    R: Files + AllocGlobal,
-    S: Sources,
-    ensures table { IfOk result (λ table. DescribesTable (S.held sources.now file.now) table.start table.names) }
-    ensures refused { IfErr result (RefusesItsTable (S.held sources.now file.now)) }
-{
-    let bytes = match sources.bytes(rt, file) {
-        Ok(bytes) => bytes,
-        Err(fault) => return Err(Fault::Source(fault)),
-    };
-    match read_table(rt.alloc(), bytes.as_slice()) {
-        Ok(table) => Ok(table),
-        Err(fault) => Err(Fault::File(fault)),
     }
 }
 

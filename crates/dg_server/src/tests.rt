@@ -5,4 +5,5 @@ mod judge;
 mod ranks;
 mod rehearse;
 mod runs;
+mod sessions;
 mod streams;

@@ -2,10 +2,11 @@
 #![tactic(auto)]
 
 use dg_server::{Disk, report, run, words_of};
+use dg_session::Output;
 use std::process::ExitCode;
 
 fn main(rt: HostRuntime) -> ExitCode {
-    let mut output = rt.stdout();
+    let mut output = Output::new(rt.stdout());
     let mut faults = rt.stderr();
     let status = match words_of(&rt) {
         Ok(words) => run(

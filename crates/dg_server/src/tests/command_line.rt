@@ -4,17 +4,19 @@ use crate::tests::runs::{Given, TRIANGLE, outcome_of};
 use std::test::Fail;
 
 // Command lines that call for help.
-static HELP: [&str; 6] = [
+static HELP: [&str; 8] = [
     "dollar --help",
     "dollar rehearse --help",
     "dollar help rehearse",
     "dollar judge --help",
     "dollar rank --help",
     "dollar rr --help",
+    "dollar serve --help",
+    "dollar party --help",
 ];
 
 // Command lines that are refused.
-static REFUSED: [&str; 18] = [
+static REFUSED: [&str; 27] = [
     "",
     "dollar",
     "dollar gamble table.json",
@@ -33,6 +35,15 @@ static REFUSED: [&str; 18] = [
     "dollar rr table.json 1",
     "dollar rehearse table.json",
     "dollar rehearse table.json steps.txt more",
+    "dollar serve",
+    "dollar serve table.json steps.txt",
+    "dollar serve table.json --cap 0",
+    "dollar serve table.json --cap 65537",
+    "dollar serve table.json --cap 01",
+    "dollar serve table.json --workers 17",
+    "dollar party table.json",
+    "dollar party table.json steps.txt --cap 0",
+    "dollar party table.json steps.txt --workers 1",
 ];
 
 #[test]

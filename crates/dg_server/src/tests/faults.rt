@@ -5,6 +5,8 @@ use dg_chips::ChipFault;
 use dg_file::{FileFault, Shape};
 use dg_graph::GraphFault;
 use dg_lines::LineFault;
+use dg_session::SessionEnd;
+use dg_table::Fault as TableFault;
 use std::alloc::AllocError;
 use std::test::Fail;
 
@@ -120,10 +122,57 @@ fn other_faults_are_told(rt: HostRuntime) -> Result<(), Fail> {
             3,
         ),
         (Fault::OutOfMemory, "dollar: out of memory\n", 4),
+        (Fault::Seats, "dollar: too many seats\n", 3),
+        (Fault::NoThread, "dollar: no thread\n", 4),
+        (Fault::History, "dollar: history cell refused\n", 4),
         (Fault::Write, "dollar: write fault\n", 5),
     ];
     for (fault, line, status) in &table {
         assert!(rt; tells(&rt, fault, line, *status)?, "{line}");
+    }
+    Ok(())
+}
+
+// How sessions end early, what is said of it, and the status.
+static ENDS: [(SessionEnd, &str, u8); 9] = [
+    (SessionEnd::LongLine, "long line", 3),
+    (SessionEnd::Turns, "too many lines", 3),
+    (
+        SessionEnd::Table(TableFault::Full),
+        "the history is full",
+        3,
+    ),
+    (
+        SessionEnd::Table(TableFault::OutOfMemory),
+        "out of memory",
+        4,
+    ),
+    (
+        SessionEnd::Table(TableFault::Log),
+        "history cell refused",
+        4,
+    ),
+    (SessionEnd::Memory, "out of memory", 4),
+    (SessionEnd::Spawn, "no thread", 4),
+    (SessionEnd::Read, "read fault", 5),
+    (SessionEnd::Write, "write fault", 5),
+];
+
+// A session alone, and the third and the last of a party.
+#[test]
+fn ends_of_sessions_are_told(rt: HostRuntime) -> Result<(), Fail> {
+    let alloc = rt.alloc();
+    for (end, text, status) in &ENDS {
+        let alone = format!(in alloc; "dollar: {text}\n")?;
+        let fault = Fault::Session(*end);
+        assert!(rt; tells(&rt, &fault, alone.as_str(), *status)?, "{text}");
+        let lines = format!(in alloc; "dollar: seat 3: {text}\ndollar: seat 64: read fault\n")?;
+        let mut all = Vec::new(alloc);
+        all.push((3, *end))?;
+        all.push((64, SessionEnd::Read))?;
+        let least = *end;
+        let fault = Fault::Sessions { least, all };
+        assert!(rt; tells(&rt, &fault, lines.as_str(), *status)?, "{text}");
     }
     Ok(())
 }

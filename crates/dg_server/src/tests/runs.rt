@@ -1,6 +1,7 @@
 //! Runs over files in memory, and tables that several of them are played on.
 
 use crate::{Shelf, run};
+use dg_session::Output;
 use std::alloc::{AllocError, Global};
 use std::io::Write;
 
@@ -16,7 +17,7 @@ impl Given<'_> {
         &self,
         rt: &HostRuntime,
         words: &[String],
-        output: &mut impl Write,
+        output: &mut Output<impl Write>,
         faults: &mut impl Write,
     ) -> u8 {
         let files = [
@@ -52,9 +53,10 @@ pub(super) fn outcome_of(
 ) -> Result<Outcome, AllocError> {
     let alloc = rt.alloc();
     let words = words_in(alloc, line)?;
-    let mut output = Vec::new(alloc);
+    let mut output = Output::new(Vec::new(alloc));
     let mut faults = Vec::new(alloc);
     let status = given.run(rt, words.as_slice(), &mut output, &mut faults);
+    let output = output.into_inner();
     Ok(Outcome {
         output,
         faults,

@@ -2,6 +2,7 @@
 
 use crate::tests::runs::{Given, REHEARSE, TRIANGLE, words_in};
 use crate::{SourceFault, read_within};
+use dg_session::Output;
 use std::io;
 use std::io::{Read, Write};
 use std::test::Fail;
@@ -40,7 +41,7 @@ fn an_output_that_is_refused_is_a_fault(rt: HostRuntime) -> Result<(), Fail> {
         (5, 5, "dollar: write fault\n"),
         (20, 0, ""),
     ] {
-        let mut output = Narrow { room };
+        let mut output = Output::new(Narrow { room });
         let mut faults = Vec::new(alloc);
         let got = given.run(&rt, words.as_slice(), &mut output, &mut faults);
         assert!(rt;

@@ -1,0 +1,4 @@
+-- The lemmas that the proofs cite, over plain variables.
+mod Begun
+mod Printing
+mod Whole

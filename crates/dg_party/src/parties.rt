@@ -1,0 +1,86 @@
+//! Parties: a table is opened, played by many seats at once, and closed.
+ghost use Rattle.std.specs.Prelude.{◌≡◌, length, IfOk};
+ghost use Rattle.dg_log.specs.Rows.{IsCapacity};
+ghost use Rattle.dg_table.specs.Opened.{MayHaveSeats};
+ghost use Rattle.dg_party.specs.Sessions.{contents};
+ghost use Rattle.dg_party.specs.Parties.{IsParty};
+
+use crate::ending::{PartyRefusal, Played};
+use crate::printed::closing_text;
+use crate::threads::sessions;
+use dg_chips::Start;
+use dg_file::Names;
+use dg_log::{Name, Row};
+use dg_rank::Gate;
+use dg_table::Table;
+use std::alloc::Global;
+use std::marker::Brand;
+use std::sync::Wait;
+use std::thread::Threads;
+
+/// A party: one table of this many cells, a seat and a thread for each script, and one history of all, which is printed. Each
+/// session makes just its seat's entries in that history. The conditions are 1 to 64 scripts, 1 to 65,536 cells, and one name
+/// per vertex.
+///
+/// Each thread enters the gate with its seat's number before its first line. Refused with `OutOfMemory`, with `Spawn` where a
+/// thread could not be started, and with `Log` where the table is not closed.
+pub fn party<R: Threads + Wait + Sync, G: Gate>(
+    rt: &R,
+    alloc: Global,
+    cap: u32,
+    start: &Start,
+    names: &Names,
+    scripts: &[Vec<u8>],
+    gate: &G,
+) -> Result<Played, PartyRefusal>
+    requires cap { IsCapacity cap }
+    requires scripts { MayHaveSeats (length scripts.now) }
+    requires names { length names.now ≡ start.now.graph.size }
+    ensures { IfOk result (λ p. IsParty start.now cap names.now (contents scripts.now) p.ends.items p.text.items) }
+{
+    let Ok(row) = Row::new(alloc, cap) else {
+        return Err(PartyRefusal::OutOfMemory);
+    };
+    match party_of::<Brand, R, G>(rt, alloc, row, start, names, scripts, gate) {
+        Ok(played) => Ok(played),
+        Err(refusal) => Err(refusal),
+    }
+}
+
+// The same at a table with a name. The conditions are that N names the row, the start and the number of scripts.
+fn party_of<N: Name + Send + Sync, R: Threads + Wait + Sync, G: Gate>(
+    rt: &R,
+    alloc: Global,
+    row: Row,
+    start: &Start,
+    names: &Names,
+    scripts: &[Vec<u8>],
+    gate: &G,
+) -> Result<Played, PartyRefusal>
+    requires row { row ≡ N.cells }
+    requires start { start.now ≡ N.start }
+    requires seats { length scripts.now ≡ N.seats }
+    requires scripts { MayHaveSeats (length scripts.now) }
+    requires names { length names.now ≡ start.now.graph.size }
+    ensures { IfOk result (λ p. IsParty N.start (length N.cells) names.now (contents scripts.now) p.ends.items p.text.items) }
+{
+    let count = scripts.len();
+    let (table, mut seats) = match Table::<N>::open(alloc, row, start, count as u8) {
+        Ok(opened) => opened,
+        Err(_) => return Err(PartyRefusal::OutOfMemory),
+    };
+    let ends = match sessions(rt, alloc, &table, &mut seats, names, scripts, gate) {
+        Ok(ends) => ends,
+        Err(fault) => return Err(PartyRefusal::from(fault)),
+    };
+    let Ok(audit) = table.close(seats) else {
+        return Err(PartyRefusal::Log);
+    };
+    let Ok(history) = audit.history(alloc) else {
+        return Err(PartyRefusal::OutOfMemory);
+    };
+    match closing_text(alloc, names, &history, &audit, count) {
+        Ok(text) => Ok(Played { ends, text }),
+        Err(_) => Err(PartyRefusal::OutOfMemory),
+    }
+}

@@ -1,0 +1,150 @@
+//! Sessions side by side, each with a seat and a thread of its own.
+ghost use Rattle.std.specs.Prelude.{◌≡◌, ℕ, ◌∷◌, length, IfOk, IfErr};
+ghost use Rattle.dg_party.specs.Sessions.{IsSessionOver, AreSessions, HaveBegun, contents};
+
+use crate::beside::{NotStarted, beside};
+use crate::fault::PartyFault;
+use dg_file::Names;
+use dg_log::Name;
+use dg_rank::Gate;
+use dg_session::{Input, Output, SessionEnd, serve};
+use dg_table::{Seat, Table};
+use std::alloc::Global;
+use std::io;
+use std::sync::Wait;
+use std::thread::Threads;
+
+// What all sessions of a table share.
+struct Room<'a, N: Name, R, G> {
+    rt: &'a R,
+    alloc: Global,
+    table: &'a Table<N>,
+    names: &'a Names,
+    gate: &'a G,
+}
+
+impl<'a, N: Name, R, G> Drop for Room<'a, N, R, G> {
+    fn drop(self) {
+        let Self {
+            rt: _,
+            alloc: _,
+            table: _,
+            names: _,
+            gate: _,
+        } = self;
+    }
+}
+
+/// Sessions of the seats of a table, all at once, each over the script at its place: a thread for each seat enters the gate with
+/// the seat's number, and then answers the lines of its script. What they came to is told in the order of the scripts. The
+/// conditions are as many scripts as seats, and one name per vertex.
+///
+/// Refused with `OutOfMemory`, and with `Spawn` where a thread could not be started. Then some first seats had their sessions,
+/// and the others know what they knew.
+pub fn sessions<N: Name + Send + Sync, R: Threads + Wait + Sync, G: Gate>(
+    rt: &R,
+    alloc: Global,
+    table: &Table<N>,
+    seats: &mut [Seat<N>],
+    names: &Names,
+    scripts: &[Vec<u8>],
+    gate: &G,
+) -> Result<Vec<Result<u32, SessionEnd>>, PartyFault>
+    requires scripts { length scripts.now ≡ length seats.old }
+    requires names { length names.now ≡ N.start.graph.size }
+    ensures ok { IfOk result (λ v. AreSessions N.start (length N.cells) names.now (contents scripts.now) seats.old seats.new v.items) }
+    ensures fault { IfErr result (λ _. (k : ℕ) ×
+        HaveBegun N.start (length N.cells) names.now k (contents scripts.now) seats.old seats.new) }
+{
+    let room = Room {
+        rt,
+        alloc,
+        table,
+        names,
+        gate,
+    };
+    match play(&room, scripts, seats) {
+        Ok(ends) => Ok(ends),
+        Err(fault) => Err(fault),
+    }
+}
+
+// The same in a room. The first seat has a thread of its own, and the others are played beside it.
+#[tactic(auto, unfolding(crate::specs::Sessions::AreSessions))]
+fn play<'a, N: Name + Send + Sync, R: Threads + Wait + Sync, G: Gate>(
+    room: &Room<'a, N, R, G>,
+    scripts: &[Vec<u8>],
+    seats: &mut [Seat<N>],
+) -> Result<Vec<Result<u32, SessionEnd>>, PartyFault>
+    requires scripts { length scripts.now ≡ length seats.old }
+    requires names { length room.now.names.now ≡ N.start.graph.size }
+    ensures ok { IfOk result (λ v. AreSessions N.start (length N.cells) room.now.names.now (contents scripts.now) seats.old seats.new v.items) }
+    ensures fault { IfErr result (λ _. (k : ℕ) ×
+        HaveBegun N.start (length N.cells) room.now.names.now k (contents scripts.now) seats.old seats.new) }
+{
+    let Some((seat, rest)) = seats.split_first_mut() else {
+        return Ok(Vec::new(room.alloc));
+    };
+    let Some((script, left)) = scripts.split_first() else {
+        return Ok(Vec::new(room.alloc));
+    };
+    let bytes = script.as_slice();
+    let mut first = || -> Result<u32, SessionEnd>
+        requires { length room.now.names.now ≡ N.start.graph.size }
+        ensures { IsSessionOver N.start (length N.cells) room.entry.now.names.now bytes.entry.now seat.entry.now seat.exit.now result }
+    { hold(room, bytes, seat) };
+    let mut others = || -> Result<Vec<Result<u32, SessionEnd>>, PartyFault>
+        requires { (length left.now ≡ length rest.now) × (length room.now.names.now ≡ N.start.graph.size) }
+        ensures { IfOk result (λ v. AreSessions N.start (length N.cells) room.entry.now.names.now (contents left.entry.now) rest.entry.now rest.exit.now v.items)
+            × IfErr result (λ _. (k : ℕ) ×
+            HaveBegun N.start (length N.cells) room.entry.now.names.now k (contents left.entry.now) rest.entry.now rest.exit.now) }
+    { play(room, left, rest) };
+    match beside(room.rt, &mut first, &mut others) {
+        Ok((end, Ok(ends))) => match with_first(end, ends) {
+            Ok(all) => Ok(all),
+            Err(fault) => Err(fault),
+        },
+        Ok((_, Err(fault))) => Err(fault),
+        Err(NotStarted) => Err(PartyFault::Spawn),
+    }
+}
+
+// A session of the seat over a script, after the gate. What it writes nobody keeps.
+fn hold<'a, N: Name, R: Threads + Wait, G: Gate>(
+    room: &Room<'a, N, R, G>,
+    script: &[u8],
+    seat: &mut Seat<N>,
+) -> Result<u32, SessionEnd>
+    requires { length room.now.names.now ≡ N.start.graph.size }
+    ensures { IsSessionOver N.start (length N.cells) room.now.names.now script.now seat.old seat.new result }
+{
+    room.gate.enter(u32::from(seat.number()));
+    let mut input = Input::new(script);
+    let mut output = Output::new(io::sink());
+    match serve(
+        room.rt,
+        room.alloc,
+        room.table,
+        seat,
+        room.names,
+        &mut input,
+        &mut output,
+        1,
+    ) {
+        Ok(count) => Ok(count),
+        Err(end) => Err(end),
+    }
+}
+
+// The ends, and one before them.
+fn with_first(
+    first: Result<u32, SessionEnd>,
+    mut ends: Vec<Result<u32, SessionEnd>>,
+) -> Result<Vec<Result<u32, SessionEnd>>, PartyFault>
+    ensures { IfOk result (λ all. all.items ≡ first ∷ ends.items) }
+{
+    match ends.insert(0, first) {
+        Ok(()) => Ok(ends),
+        Err(_) => Err(PartyFault::OutOfMemory),
+    }
+}

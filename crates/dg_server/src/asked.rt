@@ -1,0 +1,88 @@
+//! What a command line may ask for.
+ghost use Rattle.std.specs.Prelude.{◌≡◌, ◌≤◌};
+ghost use Rattle.std.specs.Vec.{vec_len};
+ghost use Rattle.dg_game.specs.declared.game.TheConstants.{MAX_ENTRIES};
+ghost use Rattle.dg_rank.specs.Ranks.{MayHaveWorkers};
+ghost use Rattle.dg_server.specs.Tasks.{file_of};
+
+/// What the command line asks for.
+#[derive(Drop)]
+pub enum Task<'a> {
+    /// Play the steps of one file on the table of another, and print the history.
+    Rehearse {
+        /// The name of the table file.
+        file: &'a str,
+        /// The name of the file of steps.
+        steps: &'a str,
+    },
+    /// Tell whether the position of a table is winnable, and print the verdict.
+    Judge {
+        /// The name of the table file.
+        file: &'a str,
+    },
+    /// Test whether the rank of a table's position is at least a degree, and print the answer.
+    Rank {
+        /// The name of the table file.
+        file: &'a str,
+        /// The degree.
+        degree: u32,
+    },
+    /// Print the four numbers of Riemann-Roch for the position of a table.
+    RiemannRoch {
+        /// The name of the table file.
+        file: &'a str,
+    },
+}
+
+impl Task<'_> {
+    /// The name of the table file.
+    pub fn file(&self) -> &str
+        ensures { result.now ≡ file_of self.now }
+    {
+        match self {
+            Task::Rehearse { file, steps: _ } => file,
+            Task::Judge { file } => file,
+            Task::Rank { file, degree: _ } => file,
+            Task::RiemannRoch { file } => file,
+        }
+    }
+}
+
+/// A session over the input, on a table with one seat.
+#[derive(Drop)]
+pub struct Service<'a> {
+    /// The name of the table file.
+    pub file: &'a str,
+    /// How many entries the history may have, 1 to 65,536.
+    pub capacity: u32,
+    /// How many workers a rank test has, 1 to 16.
+    pub workers: u32,
+    ghost room: { (1 ≤ capacity) × (capacity ≤ MAX_ENTRIES) },
+    ghost helped: { MayHaveWorkers workers },
+}
+
+/// A session over each of some scripts, each with a seat and a thread of its own, on one table.
+#[derive(Drop)]
+pub struct Gathering<'a> {
+    /// The name of the table file.
+    pub file: &'a str,
+    /// The names of the scripts, one or more.
+    pub scripts: Vec<&'a str>,
+    /// How many entries the history may have, 1 to 65,536.
+    pub capacity: u32,
+    ghost played: { 1 ≤ vec_len scripts },
+    ghost room: { (1 ≤ capacity) × (capacity ≤ MAX_ENTRIES) },
+}
+
+/// What a command line that is not refused comes to.
+#[derive(Drop)]
+pub enum Asked<'a> {
+    /// An answer to print.
+    Task(Task<'a>),
+    /// The lines of the input to answer.
+    Serve(Service<'a>),
+    /// Scripts to play, and the history that they make to print.
+    Party(Gathering<'a>),
+    /// A text to print, as after `--help`.
+    Text(String),
+}

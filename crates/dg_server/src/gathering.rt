@@ -1,0 +1,157 @@
+//! Parties: scripts that are played side by side, and what is printed of them.
+ghost use Rattle.std.specs.Prelude.{◌≡◌, ◌≢◌, [], map, Err, true, IfOk, IfErr, OnOk};
+ghost use Rattle.std.specs.Io.KnownBytes.{Appends};
+ghost use Rattle.dg_server.specs.Tasks.{DescribesTable};
+ghost use Rattle.dg_server.specs.Gatherings.{AreHeld, early, Gathers, names_in, IsFirstUnread, RefusesFiles, IsPrintedWith, RefusesGathering};
+
+use crate::asked::Gathering;
+use crate::fault::Fault;
+use crate::sources::{SourceFault, Sources};
+use dg_file::{TableFile, read_table};
+use dg_game::MAX_SEATS;
+use dg_party::{PartyRefusal, Played, party};
+use dg_rank::OpenGate;
+use dg_session::{Output, SessionEnd};
+use std::alloc::{AllocError, Global};
+use std::io::Write;
+use std::rt::Files;
+use std::sync::Wait;
+use std::thread::Threads;
+
+/// Plays the scripts that are named on the table of the file that is named, and prints the history and the totals.
+pub(crate) fn play_scripts<R, S, O>(
+    rt: &R,
+    gathering: &Gathering<'_>,
+    sources: &S,
+    output: &mut Output<O>,
+) -> Result<(), Fault>
+where
+    R: Files + AllocGlobal + Threads + Wait + Sync,
+    S: Sources,
+    O: Write,
+    ensures done { OnOk result
+        (Gathers (S.held sources.now) gathering.now (O.contents output.old.inner) (O.contents output.new.inner)) }
+    ensures refused { IfErr result (λ fault. fault ≢ Fault.Write →
+        RefusesGathering (S.held sources.now) gathering.now fault (O.contents output.old.inner) (O.contents output.new.inner)) }
+    ensures failed { result ≡ Err Fault.Write → output.new.has_failed ≡ true }
+{
+    if gathering.scripts.len() > usize::from(MAX_SEATS) {
+        return Err(Fault::Seats);
+    }
+    let (table, scripts) = match read_all(rt, gathering, sources) {
+        Ok(read) => read,
+        Err(fault) => return Err(fault),
+    };
+    let played = match party(
+        rt,
+        rt.alloc(),
+        gathering.capacity,
+        table.start(),
+        table.names(),
+        scripts.as_slice(),
+        &OpenGate,
+    ) {
+        Ok(played) => played,
+        Err(PartyRefusal::OutOfMemory) => return Err(Fault::OutOfMemory),
+        Err(PartyRefusal::Spawn) => return Err(Fault::NoThread),
+        Err(PartyRefusal::Log) => return Err(Fault::History),
+    };
+    match print_played(rt.alloc(), &played, output) {
+        Ok(()) => Ok(()),
+        Err(fault) => Err(fault),
+    }
+}
+
+/// The table of the file that is named, and the bytes of the scripts. All files are read before the table's is judged.
+fn read_all<R, S>(
+    rt: &R,
+    gathering: &Gathering<'_>,
+    sources: &S,
+) -> Result<(TableFile, Vec<Vec<u8>>), Fault>
+where
+    R: Files + AllocGlobal,
+    S: Sources,
+    ensures read { IfOk result (λ r. DescribesTable (S.held sources.now gathering.now.file.now) r.0.start r.0.names ×
+        AreHeld (S.held sources.now) (names_in gathering.now) (map (λ script. script.items) r.1.items)) }
+    ensures refused { IfErr result (RefusesFiles (S.held sources.now) gathering.now.file.now (names_in gathering.now)) }
+{
+    let file = match sources.bytes(rt, gathering.file) {
+        Ok(file) => file,
+        Err(fault) => return Err(Fault::Source(fault)),
+    };
+    let scripts = match read_scripts(rt, gathering.scripts.as_slice(), sources) {
+        Ok(scripts) => scripts,
+        Err(fault) => return Err(Fault::Source(fault)),
+    };
+    match read_table(rt.alloc(), file.as_slice()) {
+        Ok(table) => Ok((table, scripts)),
+        Err(fault) => Err(Fault::File(fault)),
+    }
+}
+
+/// The bytes of the files of these names, in their order.
+fn read_scripts<R, S>(rt: &R, names: &[&str], sources: &S) -> Result<Vec<Vec<u8>>, SourceFault>
+where
+    R: Files + AllocGlobal,
+    S: Sources,
+    ensures read { IfOk result (λ all. AreHeld (S.held sources.now) (map (λ name. name.now) names.now) (map (λ script. script.items) all.items)) }
+    ensures refused { IfErr result (IsFirstUnread (S.held sources.now) (map (λ name. name.now) names.now)) }
+{
+    let mut all = Vec::new(rt.alloc());
+    'names: for name in names {
+        let script = match sources.bytes(rt, name) {
+            Ok(script) => script,
+            Err(fault) => return Err(fault),
+        };
+        match all.push(script) {
+            Ok(()) => {}
+            Err(_) => return Err(SourceFault::OutOfMemory),
+        }
+    }
+    Ok(all)
+}
+
+/// Prints what came of a party, and tells of the sessions that ended early.
+fn print_played<O: Write>(
+    alloc: Global,
+    played: &Played,
+    output: &mut Output<O>,
+) -> Result<(), Fault>
+    ensures whole { OnOk result ((early 1 played.now.ends.items ≡ []) ×
+        Appends (O.contents output.old.inner) (O.contents output.new.inner) played.now.text.items) }
+    ensures refused { IfErr result (λ fault. fault ≢ Fault.Write → IsPrintedWith played.now.ends.items played.now.text.items fault
+        (O.contents output.old.inner) (O.contents output.new.inner)) }
+    ensures failed { result ≡ Err Fault.Write → output.new.has_failed ≡ true }
+{
+    let all = match early_ends(alloc, played.ends.as_slice()) {
+        Ok(all) => all,
+        Err(_) => return Err(Fault::OutOfMemory),
+    };
+    match output.write_whole(played.text.as_slice()) {
+        Ok(()) => {}
+        Err(_) => return Err(Fault::Write),
+    }
+    match all.first() {
+        Some((_, least)) => {
+            let least = *least;
+            Err(Fault::Sessions { least, all })
+        }
+        None => Ok(()),
+    }
+}
+
+/// The sessions that ended early, each with its seat.
+fn early_ends(
+    alloc: Global,
+    ends: &[Result<u32, SessionEnd>],
+) -> Result<Vec<(usize, SessionEnd)>, AllocError>
+    ensures { IfOk result (λ all. all.items ≡ early 1 ends.now) }
+{
+    let mut all = Vec::new(alloc);
+    'ends: for (place, end) in ends.iter().enumerate() {
+        if let Err(end) = end {
+            all.push((place + 1, *end))?;
+        }
+    }
+    Ok(all)
+}

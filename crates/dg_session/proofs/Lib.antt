@@ -1,0 +1,9 @@
+-- The lemmas that the proofs cite, each file over plain variables.
+pub mod Cutting
+pub mod Made
+pub mod Lines
+pub mod Writing
+pub mod Halting
+pub mod Parts
+pub mod Passing
+pub mod Sessions

@@ -1,0 +1,18 @@
+use Rattle.std.proofs.Common.{◌∙◌, sym}
+use Rattle.dg_game.specs.declared.entry.Request.TheVariants.{Judge}
+use Rattle.dg_game.specs.declared.finding.Finding.TheVariants.{Judged}
+use Rattle.dg_session.proofs.Made.{settled_made, named, verdict_none, verdict_unsaid, verdict_said}
+use Rattle.dg_session.proofs.answering.enter_verdict.Goals as goal
+
+pub returns-in-Ok-clause-done : goal.returns-in-Ok-clause-done
+returns-in-Ok-clause-done g c =
+    verdict_none g.N.Name.start c.args.shared.now.names.now c.args.kept.now c.take.new.self c.args.seat.now c.args.said.now.text.items
+    c.say.new.self.text.items (sym c.take.ensures.value ∙ c.in_default.is) c.take.ensures.after c.in-Ok.ensures.said
+
+pub returns-in-Err-say_entry-clause-refused : goal.returns-in-Err-say_entry-clause-refused
+returns-in-Err-say_entry-clause-refused g c =
+    verdict_unsaid g.N.Name.start _ c.args.shared.now.names.now c.args.kept.now c.in-Some.look c.in-Ok-commit.receipt c.args.seat.now c.commit.new.seat
+    c.in-Err-say_entry.end (sym c.take.ensures.value ∙ c.in-Some.is)
+    (settled_made g.N.Name.start c.in-Some.look c.reckon.result.look (Judged c.reckon.result.verdict) c.in-Ok-commit.receipt c.args.seat.now c.commit.new.seat
+    c.reckon.ensures.look c.receipt-receipt.ensures.taken c.in-Ok-commit.ensures.settled)
+    c.in-Err-say_entry.ensures.refused

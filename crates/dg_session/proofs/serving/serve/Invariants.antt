@@ -1,0 +1,16 @@
+-- All that was read is handled but what is pending, and all that there was to say is written.
+use Rattle.std.proofs.Common.{◌≡◌, ◌+◌, ◌-◌, ◌*◌, length, []}
+use Rattle.dg_session.specs.Steps.{kept_number}
+use Rattle.dg_session.specs.declared.ends.TheConstants.{MAX_LINE, MAX_LINES, READ_SIZE}
+use Rattle.dg_session.proofs.Sessions.{IsSoFar, bytes_left}
+use Rattle.dg_session.proofs.serving.serve.Given as goal
+
+abbrev pub invariant-reads : goal.invariant-reads
+invariant-reads g l =
+    IsSoFar g.N.Name.start l.names (g.I.Read.remaining l.fn.reader.inner) (g.I.Read.remaining l.reader.inner)
+    (g.O.Write.contents l.fn.writer.inner) (g.O.Write.contents l.writer.inner) l.fn.seat
+    l.progress.pending.items l.progress.count (kept_number l.progress.kept) l.seat
+    × (l.progress.said.text.items ≡ []) × (length l.buffer.items ≡ READ_SIZE)
+
+abbrev pub decreases-reads : goal.decreases-reads
+decreases-reads g l = bytes_left l.progress.pending.items l.progress.count

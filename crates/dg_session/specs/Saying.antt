@@ -1,0 +1,78 @@
+-- What a session says to lines. `names` are the names of the vertices, and `kept` is the number of the look that the session
+-- keeps, if it keeps one.
+--   fault_text fault            == `bad` and what is wrong with the line, and a newline
+--   IsMade o request p          == the entry p, with its number, is that of the request, and the last of a legal history from
+--                                  the opening o
+--   kept_after kept p           == the look that is kept after the entry p: it, if it is a look; none, if it enters what was
+--                                  reckoned on the look; otherwise the one that was kept
+--   Says kept words made after text == no entry is made, and these words are said
+--   Enters o names kept request made after text == one entry is made, that of the request, and its line is said
+--   AnswersCommand o names kept command made after text == the command, with that look kept, makes these entries, leaves that look
+--                                  kept, and is answered with the text
+--   AnswersLine o names kept line made after text == so is the line: by what is wrong with it, or as its command
+--   Answers o names kept ls made after text == so are the lines ls, one after another
+use Rattle.std.specs.Prelude.{◌≡◌, ℕ, ◌⊎◌, List, [], ◌∷◌, ◌++◌, length, Option, Some, None, codes}
+use Rattle.dg_chips.specs.Opening.{Opening}
+use Rattle.dg_rank.specs.Ranks.{IsWithin}
+use Rattle.dg_game.specs.Legal.{IsLegal}
+use Rattle.dg_game.specs.Schedule.{asked}
+use Rattle.dg_game.specs.declared.entry.Entry.{Entry}
+use Rattle.dg_game.specs.declared.entry.Request.{Request}
+use Rattle.dg_game.specs.declared.entry.Request.TheVariants.{Look, Judge, Rank as RankRequest}
+use Rattle.dg_game.specs.declared.step.Command.{Command}
+use Rattle.dg_game.specs.declared.step.Command.TheVariants.{Call, Commit, Rank}
+use Rattle.dg_lines.specs.Commands.{IsCommandLine}
+use Rattle.dg_lines.specs.LineFaults.{IsLineFault}
+use Rattle.dg_lines.specs.Texts.{entry_text}
+use Rattle.dg_lines.specs.declared.line.LineFault.{LineFault}
+use Rattle.dg_lines.specs.declared.line.LineFault.TheVariants.{Seat, Word, Form, Name, Number}
+
+abbrev pub fault_text : LineFault → List ℕ
+fault_text Seat = codes "bad seat\n"
+fault_text Word = codes "bad word\n"
+fault_text Form = codes "bad form\n"
+fault_text Name = codes "bad name\n"
+fault_text Number = codes "bad number\n"
+
+pub record IsMade (o : Opening) (request : Request) (p : ℕ × Entry) : Type 0 where
+  pub before : List Entry
+  pub place : p.0 ≡ length before
+  pub request' : p.1.request ≡ request
+  pub legal : IsLegal o (before ++ p.1 ∷ [])
+
+abbrev pub look_after : Option ℕ → ℕ → Request → Option ℕ
+look_after kept number Look = Some number
+look_after kept number (Judge i) = None
+look_after kept number (RankRequest i k) = None
+look_after kept number request = kept
+
+abbrev pub kept_after : Option ℕ → ℕ × Entry → Option ℕ
+kept_after kept p = look_after kept p.0 p.1.request
+
+abbrev pub Says : Option ℕ → List ℕ → List (ℕ × Entry) → Option ℕ → List ℕ → Type 0
+Says kept words made after text = (made ≡ []) × (after ≡ kept) × (text ≡ words)
+
+abbrev pub Enters : Opening → List (List ℕ) → Option ℕ → Request → List (ℕ × Entry) → Option ℕ → List ℕ → Type 0
+Enters o names kept request made after text =
+    (p : ℕ × Entry) × IsMade o request p × (made ≡ p ∷ []) × (after ≡ kept_after kept p) × (text ≡ entry_text names p.0 p.1.reply)
+
+abbrev pub AnswersCommand : Opening → List (List ℕ) → Option ℕ → Command → List (ℕ × Entry) → Option ℕ → List ℕ → Type 0
+AnswersCommand o names kept (Call plain) made after text = Enters o names kept (asked plain) made after text
+AnswersCommand o names None Commit made after text = Says None (codes "bad look\n") made after text
+AnswersCommand o names (Some i) Commit made after text = Enters o names (Some i) (Judge i) made after text
+AnswersCommand o names None (Rank k) made after text = Says None (codes "bad look\n") made after text
+AnswersCommand o names (Some i) (Rank k) made after text =
+    ((¬ IsWithin o.graph.size k) × Says (Some i) (codes "bad trials\n") made after text)
+    ⊎ (IsWithin o.graph.size k × Enters o names (Some i) (RankRequest i k) made after text)
+
+abbrev pub AnswersLine : Opening → List (List ℕ) → Option ℕ → List ℕ → List (ℕ × Entry) → Option ℕ → List ℕ → Type 0
+AnswersLine o names kept line made after text =
+    ((fault : LineFault) × IsLineFault names fault line × Says kept (fault_text fault) made after text)
+    ⊎ ((command : Command) × IsCommandLine names command line × AnswersCommand o names kept command made after text)
+
+unfoldable pub Answers : Opening → List (List ℕ) → Option ℕ → List (List ℕ) → List (ℕ × Entry) → Option ℕ → List ℕ → Type 0
+Answers o names kept [] made after text = (made ≡ []) × (after ≡ kept) × (text ≡ [])
+Answers o names kept (line ∷ ls) made after text =
+    (first rest : List (ℕ × Entry)) × (mid : Option ℕ) × (front back : List ℕ)
+    × AnswersLine o names kept line first mid front × Answers o names mid ls rest after back
+    × (made ≡ first ++ rest) × (text ≡ front ++ back)

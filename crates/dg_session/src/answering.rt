@@ -1,0 +1,277 @@
+//! Answering one line.
+ghost use Rattle.std.specs.Prelude.{◌≡◌, ◌≢◌, ◌++◌, length, OnOk, OnErr, IfErr, codes};
+ghost use Rattle.dg_rank.specs.Ranks.{MayHaveWorkers};
+ghost use Rattle.dg_game.specs.declared.step.Command.TheVariants.{Call, Commit, Rank};
+ghost use Rattle.dg_lines.specs.Texts.{HasNames, entry_text};
+ghost use Rattle.dg_session.specs.Saying.{AnswersCommand, AnswersLine, fault_text};
+ghost use Rattle.dg_session.specs.Steps.{kept_number, IsDone, RefusesCommand, RefusesLine};
+
+use crate::ends::SessionEnd;
+use dg_analyst::{Look, commit, commit_rank, look, reckon, try_rank};
+use dg_file::Names;
+use dg_game::{Command, Plain};
+use dg_lines::{LineFault, parse_line, push_entry};
+use dg_log::{Name, Receipt};
+use dg_rank::{OpenGate, RankFault};
+use dg_table::{Seat, Table};
+use std::alloc::Global;
+use std::sync::Wait;
+use std::thread::Threads;
+
+/// What the sessions of a table share.
+#[derive(Clone, Copy)]
+pub(crate) struct Shared<'a, N: Name, R: Threads + Wait> {
+    pub(crate) rt: &'a R,
+    pub(crate) alloc: Global,
+    pub(crate) table: &'a Table<N>,
+    pub(crate) names: &'a Names,
+    pub(crate) workers: u32,
+}
+
+/// What was said and is not written yet: always whole lines.
+#[derive(Drop)]
+pub(crate) struct Said {
+    pub(crate) text: Vec<u8>,
+    /// Where the line of an entry is made.
+    pub(crate) line: Vec<u8>,
+}
+
+impl Said {
+    /// Says the words. Where memory is refused, nothing more is said.
+    fn say(&mut self, words: &[u8]) -> Result<(), SessionEnd>
+        ensures said { OnOk result (self.new.text.items ≡ self.old.text.items ++ words.now) }
+        ensures unsaid { OnErr result (self.new.text.items ≡ self.old.text.items) }
+        ensures refused { IfErr result (λ end. end ≡ SessionEnd.Memory) }
+    {
+        match self.text.extend_from_slice(words) {
+            Ok(()) => Ok(()),
+            Err(_) => Err(SessionEnd::Memory),
+        }
+    }
+
+    /// Says the line of the entry of the receipt. Where memory is refused, nothing more is said.
+    fn say_entry<N: Name>(
+        &mut self,
+        table: &Table<N>,
+        names: &Names,
+        receipt: &Receipt<N>,
+    ) -> Result<(), SessionEnd>
+        requires { HasNames names.now receipt.now.1.reply }
+        ensures said { OnOk result (self.new.text.items ≡ self.old.text.items ++ entry_text names.now receipt.now.0 receipt.now.1.reply) }
+        ensures unsaid { OnErr result (self.new.text.items ≡ self.old.text.items) }
+        ensures refused { IfErr result (λ end. end ≡ SessionEnd.Memory) }
+    {
+        let entry = table.log().entry(receipt);
+        self.line.clear();
+        match push_entry(&mut self.line, receipt.number() as usize, &entry.reply, names) {
+            Ok(()) => match self.text.extend_from_slice(&self.line) {
+                Ok(()) => Ok(()),
+                Err(_) => Err(SessionEnd::Memory),
+            },
+            Err(_) => Err(SessionEnd::Memory),
+        }
+    }
+}
+
+/// What is said of a fault.
+fn fault_words(fault: LineFault) -> &'static [u8]
+    ensures { result.now ≡ fault_text fault }
+{
+    match fault {
+        LineFault::Seat => b"bad seat\n",
+        LineFault::Word => b"bad word\n",
+        LineFault::Form => b"bad form\n",
+        LineFault::Name => b"bad name\n",
+        LineFault::Number => b"bad number\n",
+    }
+}
+
+/// Answers a line: by what is wrong with it, or as its command.
+pub(crate) fn answer_line<N: Name, R: Threads + Wait>(
+    shared: &Shared<N, R>,
+    kept: &mut Option<Look<N>>,
+    said: &mut Said,
+    seat: &mut Seat<N>,
+    line: &[u8],
+) -> Result<(), SessionEnd>
+    requires names { length shared.now.names.now ≡ N.start.graph.size }
+    requires workers { MayHaveWorkers shared.now.workers }
+    ensures done { OnOk result (IsDone (AnswersLine N.start shared.now.names.now (kept_number kept.old) line.now)
+        seat.old seat.new (kept_number kept.new) said.old.text.items said.new.text.items) }
+    ensures unsaid { OnErr result (said.new.text.items ≡ said.old.text.items) }
+    ensures refused { IfErr result (RefusesLine N.start (length N.cells) shared.now.names.now (kept_number kept.old) line.now
+        seat.old seat.new) }
+{
+    match parse_line(line, shared.names) {
+        Ok(command) => match obey(shared, kept, said, seat, command) {
+            Ok(()) => Ok(()),
+            Err(end) => Err(end),
+        },
+        Err(fault) => match said.say(fault_words(fault)) {
+            Ok(()) => Ok(()),
+            Err(end) => Err(end),
+        },
+    }
+}
+
+/// Does what a command says, and says the line of its entry, or why there is none.
+fn obey<N: Name, R: Threads + Wait>(
+    shared: &Shared<N, R>,
+    kept: &mut Option<Look<N>>,
+    said: &mut Said,
+    seat: &mut Seat<N>,
+    command: Command,
+) -> Result<(), SessionEnd>
+    requires names { length shared.now.names.now ≡ N.start.graph.size }
+    requires workers { MayHaveWorkers shared.now.workers }
+    ensures done { OnOk result (IsDone (AnswersCommand N.start shared.now.names.now (kept_number kept.old) command)
+        seat.old seat.new (kept_number kept.new) said.old.text.items said.new.text.items) }
+    ensures unsaid { OnErr result (said.new.text.items ≡ said.old.text.items) }
+    ensures refused { IfErr result (RefusesCommand N.start (length N.cells) shared.now.names.now (kept_number kept.old) command
+        seat.old seat.new) }
+{
+    match command {
+        Command::Call(Plain::Look) => match take_look(shared, kept, said, seat) {
+            Ok(()) => Ok(()),
+            Err(end) => Err(end),
+        },
+        Command::Call(plain) => match call(shared, kept, said, seat, plain) {
+            Ok(()) => Ok(()),
+            Err(end) => Err(end),
+        },
+        Command::Commit => match enter_verdict(shared, kept, said, seat) {
+            Ok(()) => Ok(()),
+            Err(end) => Err(end),
+        },
+        Command::Rank(k) => match enter_rank(shared, kept, said, seat, k) {
+            Ok(()) => Ok(()),
+            Err(end) => Err(end),
+        },
+    }
+}
+
+/// Takes a look, which is kept in place of an older one.
+fn take_look<N: Name, R: Threads + Wait>(
+    shared: &Shared<N, R>,
+    kept: &mut Option<Look<N>>,
+    said: &mut Said,
+    seat: &mut Seat<N>,
+) -> Result<(), SessionEnd>
+    requires names { length shared.now.names.now ≡ N.start.graph.size }
+    ensures done { OnOk result (IsDone (AnswersCommand N.start shared.now.names.now (kept_number kept.old) (Call Plain.Look))
+        seat.old seat.new (kept_number kept.new) said.old.text.items said.new.text.items) }
+    ensures unsaid { OnErr result (said.new.text.items ≡ said.old.text.items) }
+    ensures refused { IfErr result (RefusesCommand N.start (length N.cells) shared.now.names.now (kept_number kept.old)
+        (Call Plain.Look) seat.old seat.new) }
+{
+    match look(shared.table, shared.rt, shared.alloc, seat) {
+        Ok(look) => match said.say_entry(shared.table, shared.names, look.receipt()) {
+            Ok(()) => {
+                *kept = Some(look);
+                Ok(())
+            }
+            Err(end) => Err(end),
+        },
+        Err(fault) => Err(SessionEnd::Table(fault)),
+    }
+}
+
+/// Makes a call that is no look.
+fn call<N: Name, R: Threads + Wait>(
+    shared: &Shared<N, R>,
+    kept: &mut Option<Look<N>>,
+    said: &mut Said,
+    seat: &mut Seat<N>,
+    plain: Plain,
+) -> Result<(), SessionEnd>
+    requires names { length shared.now.names.now ≡ N.start.graph.size }
+    requires no_look { plain ≢ Plain.Look }
+    ensures done { OnOk result (IsDone (AnswersCommand N.start shared.now.names.now (kept_number kept.old) (Call plain))
+        seat.old seat.new (kept_number kept.new) said.old.text.items said.new.text.items) }
+    ensures unsaid { OnErr result (said.new.text.items ≡ said.old.text.items) }
+    ensures refused { IfErr result (RefusesCommand N.start (length N.cells) shared.now.names.now (kept_number kept.old)
+        (Call plain) seat.old seat.new) }
+{
+    match shared.table.call(shared.rt, shared.alloc, seat, plain) {
+        Ok(receipt) => match said.say_entry(shared.table, shared.names, &receipt) {
+            Ok(()) => Ok(()),
+            Err(end) => Err(end),
+        },
+        Err(fault) => Err(SessionEnd::Table(fault)),
+    }
+}
+
+/// Enters the verdict on the look that is kept, and uses it up.
+fn enter_verdict<N: Name, R: Threads + Wait>(
+    shared: &Shared<N, R>,
+    kept: &mut Option<Look<N>>,
+    said: &mut Said,
+    seat: &mut Seat<N>,
+) -> Result<(), SessionEnd>
+    requires names { length shared.now.names.now ≡ N.start.graph.size }
+    ensures done { OnOk result (IsDone (AnswersCommand N.start shared.now.names.now (kept_number kept.old) Commit)
+        seat.old seat.new (kept_number kept.new) said.old.text.items said.new.text.items) }
+    ensures unsaid { OnErr result (said.new.text.items ≡ said.old.text.items) }
+    ensures refused { IfErr result (RefusesCommand N.start (length N.cells) shared.now.names.now (kept_number kept.old) Commit
+        seat.old seat.new) }
+{
+    let Some(look) = kept.take() else {
+        return match said.say(b"bad look\n") {
+            Ok(()) => Ok(()),
+            Err(end) => Err(end),
+        };
+    };
+    let _receipt = look.receipt();
+    match commit(shared.table, shared.rt, shared.alloc, seat, reckon(look)) {
+        Ok(receipt) => match said.say_entry(shared.table, shared.names, &receipt) {
+            Ok(()) => Ok(()),
+            Err(end) => Err(end),
+        },
+        Err((_, fault)) => Err(SessionEnd::Table(fault)),
+    }
+}
+
+/// Tries a rank on the look that is kept, enters the answer, and uses the look up. The look stays where there would be too
+/// many trials.
+fn enter_rank<N: Name, R: Threads + Wait>(
+    shared: &Shared<N, R>,
+    kept: &mut Option<Look<N>>,
+    said: &mut Said,
+    seat: &mut Seat<N>,
+    k: u32,
+) -> Result<(), SessionEnd>
+    requires names { length shared.now.names.now ≡ N.start.graph.size }
+    requires workers { MayHaveWorkers shared.now.workers }
+    ensures done { OnOk result (IsDone (AnswersCommand N.start shared.now.names.now (kept_number kept.old) (Rank k))
+        seat.old seat.new (kept_number kept.new) said.old.text.items said.new.text.items) }
+    ensures unsaid { OnErr result (said.new.text.items ≡ said.old.text.items) }
+    ensures refused { IfErr result (RefusesCommand N.start (length N.cells) shared.now.names.now (kept_number kept.old)
+        (Rank k) seat.old seat.new) }
+{
+    let Some(look) = kept.take() else {
+        return match said.say(b"bad look\n") {
+            Ok(()) => Ok(()),
+            Err(end) => Err(end),
+        };
+    };
+    let _receipt = look.receipt();
+    match try_rank(shared.rt, look, k, shared.workers, &OpenGate) {
+        Ok(tried) => match commit_rank(shared.table, shared.rt, shared.alloc, seat, tried) {
+            Ok(receipt) => match said.say_entry(shared.table, shared.names, &receipt) {
+                Ok(()) => Ok(()),
+                Err(end) => Err(end),
+            },
+            Err((_, fault)) => Err(SessionEnd::Table(fault)),
+        },
+        Err((look, RankFault::TooMany)) => match said.say(b"bad trials\n") {
+            Ok(()) => {
+                *kept = Some(look);
+                Ok(())
+            }
+            Err(end) => Err(end),
+        },
+        Err((_, RankFault::Workers)) => unreachable!(),
+        Err((_, RankFault::OutOfMemory)) => Err(SessionEnd::Memory),
+        Err((_, RankFault::Spawn)) => Err(SessionEnd::Spawn),
+    }
+}

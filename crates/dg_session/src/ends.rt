@@ -1,0 +1,31 @@
+//! The limits of sessions, and how they end.
+
+use dg_table::Fault;
+
+/// The most bytes that a line may have before its newline.
+pub const MAX_LINE: usize = 1024;
+
+/// The most lines that a session answers.
+pub const MAX_LINES: u32 = 1_000_000;
+
+/// The most bytes that are read at once.
+pub const READ_SIZE: usize = 32_768;
+
+/// Why a session ends before its input does.
+#[derive(Clone, Copy, Debug, PartialEq, Eq)]
+pub enum SessionEnd {
+    /// The reader failed.
+    Read,
+    /// The writer failed, or took no byte.
+    Write,
+    /// A line has more than 1,024 bytes.
+    LongLine,
+    /// A byte follows the newline of the millionth line.
+    Turns,
+    /// The table refused a call.
+    Table(Fault),
+    /// Memory was refused.
+    Memory,
+    /// A thread of a rank test could not be started.
+    Spawn,
+}

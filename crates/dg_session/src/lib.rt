@@ -1,0 +1,18 @@
+//! Sessions: lines come in on a stream, each is answered, and many sessions may share one table.
+#![tactic(auto)]
+
+mod answering;
+mod ends;
+mod laws;
+mod serving;
+mod streams;
+mod taking;
+
+pub use dg_lines::{LineFault, parse_line, parse_step, reply_text};
+pub use ends::{MAX_LINE, MAX_LINES, READ_SIZE, SessionEnd};
+pub use laws::streams_are_cut_in_one_way;
+pub use serving::serve;
+pub use streams::{Input, Output, WriteFailed};
+
+#[cfg(test)]
+mod tests;

@@ -1,0 +1,302 @@
+#!/usr/bin/env python3
+"""Has 64 seats play on one table, and checks from outside that what is printed is one right history of theirs.
+
+    examples/party.py [PROGRAM]
+
+Makes 64 scripts of 1,024 lines from a fixed seed, runs `party` on them, and plays the history again with the model of the
+game below, which knows the rules and nothing of the program. How the seats' entries interleave is the program's choice; all
+else is determined. A verdict is checked by its definition, a rank test by making the trials. Then `rehearse` plays the
+steps in the order that came about, and `serve` one of the scripts. The last line is 'N passed, M failed'; the status is 0
+where none failed."""
+import collections, itertools, json, os, random, re, subprocess, sys, tempfile
+
+SEATS, LINES = 64, 1024
+TABLE = {
+    "vertices": ["a", "b", "c", "d"],
+    "edges": [["a", "b", 1], ["b", "c", 2], ["c", "d", 1], ["a", "d", 1], ["a", "c", 1]],
+    "amounts": [-30, 5, 0, -5],
+    "q": "a",
+}
+WORDS = {"lend": 2, "borrow": 2, "fire": 2, "script": 2, "gift": 3, "look": 1, "claim": 1, "commit": 1, "rank": 2}
+
+
+class Bad(Exception):
+    """A line is no command; the text is its answer."""
+
+
+def parse(line, names):
+    """The command of a line as a list: its word and what follows, names as vertices. Raises Bad."""
+    def number(text, least, most):
+        if not re.fullmatch("0|-?[1-9][0-9]*", text) or not least <= int(text) <= most:
+            raise Bad("bad number")
+        return int(text)
+
+    words = line.split(" ")
+    if words[0] not in WORDS:
+        raise Bad("bad word")
+    if len(words) != WORDS[words[0]] or "" in words:
+        raise Bad("bad form")
+    if words[0] in ("look", "claim", "commit"):
+        return words
+    if words[0] == "rank":
+        return ["rank", number(words[1], 0, 4294967295)]
+    items = [words[1]] if words[0] in ("lend", "borrow", "gift") else words[1].split(",")
+    named = [item.split("=")[0] if words[0] == "script" else item for item in items]
+    if len(set(named)) < len(named) or not set(named) <= set(names):
+        raise Bad("bad name")
+    vertices = [names.index(name) for name in named]
+    if words[0] == "script":
+        return ["script", {v: number(item.partition("=")[2], -10**9, 10**9) for v, item in zip(vertices, items)}]
+    if words[0] == "gift":
+        return ["gift", vertices[0], number(words[2], -2**63, 2**63 - 1)]
+    return [words[0], vertices]
+
+
+class Game:
+    """The one-player game on a table: amounts, the count of accepted gifts, and the rules."""
+
+    def __init__(self, table):
+        self.names, self.amounts, self.gifts = table["vertices"], list(table["amounts"]), 0
+        self.q, self.size = self.names.index(table["q"]), len(self.names)
+        self.edges = [[0] * self.size for _ in self.names]
+        for u, v, count in table["edges"]:
+            u, v = self.names.index(u), self.names.index(v)
+            self.edges[u][v] += count
+            self.edges[v][u] += count
+        self.kept = {}
+
+    def pairs(self, amounts):
+        return " ".join("%s=%d" % pair for pair in zip(self.names, amounts))
+
+    def fired(self, amounts, script):
+        """The amounts after each vertex v has lent script[v] times: a dollar along each edge each time."""
+        return [x + sum(e * (script[w] - script[v]) for w, e in enumerate(self.edges[v])) for v, x in enumerate(amounts)]
+
+    def act(self, command):
+        """The text of the reply to a move, a gift, a look or a claim."""
+        word = command[0]
+        if word == "look":
+            return "looked %d %s" % (self.gifts, self.pairs(self.amounts))
+        if word == "claim":
+            return "won" if min(self.amounts) >= 0 else "not won"
+        if word == "gift":
+            if not 1 <= command[2] <= 1000000:
+                return "refused gift"
+            after = list(self.amounts)
+            after[command[1]] += command[2]
+        else:
+            lends = command[1] if word == "script" else {v: -1 if word == "borrow" else 1 for v in command[1]}
+            after = self.fired(self.amounts, [lends.get(v, 0) for v in range(self.size)])
+        if max(map(abs, after)) > 1000000:
+            return "refused range"
+        self.amounts = after
+        if word == "gift":
+            self.gifts += 1
+            return "given %d %s" % (self.gifts, self.pairs(after))
+        return "moved " + self.pairs(after)
+
+    def unburnt(self, amounts):
+        """What is left when all has burnt from q that may: a vertex burns that more edges join to burnt ones than it holds."""
+        left = set(range(self.size)) - {self.q}
+        while True:
+            burns = [v for v in left if sum(e for w, e in enumerate(self.edges[v]) if w not in left) > amounts[v]]
+            if not burns:
+                return left
+            left -= set(burns)
+
+    def reduced(self, amounts):
+        """The amounts without debt off q, and of which all burns, that moves lead to."""
+        script = [0] * self.size
+        while True:
+            now = self.fired(amounts, script)
+            poor = [v for v in range(self.size) if v != self.q and now[v] < 0]
+            left = self.unburnt(now)
+            if poor:
+                v = min(poor, key=lambda v: now[v])
+                script[v] -= -(now[v] // sum(self.edges[v]))
+            elif left:
+                out = {v: sum(e for w, e in enumerate(self.edges[v]) if w not in left) for v in left}
+                times = min(now[v] // out[v] for v in left if out[v])
+                script = [x + times * (v in left) for v, x in enumerate(script)]
+            else:
+                return now
+
+    def is_winnable(self, amounts):
+        return self.reduced(amounts)[self.q] >= 0
+
+    def first_loss(self, amounts, degree):
+        """The first list of amounts without debts, of this degree, that can't be taken away and the rest still won."""
+        amounts = tuple(self.reduced(amounts))
+        if (amounts, degree) not in self.kept:
+            trials = (t for t in itertools.product(range(degree + 1), repeat=self.size) if sum(t) == degree)
+            self.kept[amounts, degree] = next(
+                (t for t in trials if not self.is_winnable([x - y for x, y in zip(amounts, t)])), None)
+        return self.kept[amounts, degree]
+
+    def is_reply(self, command, text, gifts):
+        """Whether a text is the right reply to a command, which is played; `gifts` is the count at the seat's last look."""
+        if command[0] not in ("commit", "rank"):
+            return text == self.act(command)
+        if gifts != self.gifts:
+            return text == "stale %d" % self.gifts
+        return self.is_verdict(text) if command[0] == "commit" else self.is_rank(text, command[1])
+
+    def is_verdict(self, text):
+        """Whether a text is a right verdict on the position: each sentence of the definition is tested."""
+        parts = re.fullmatch("(un)?winnable by (.*) to (.*)", text)
+        if not parts:
+            return False
+        script, end = ([int(pair.partition("=")[2]) for pair in part.split(" ")] for part in parts.groups()[1:])
+        return (text == "%swinnable by %s to %s" % (parts[1] or "", self.pairs(script), self.pairs(end))
+                and script[self.q] == 0 and self.fired(self.amounts, script) == end
+                and all(x >= 0 for v, x in enumerate(end) if v != self.q) and not self.unburnt(end)
+                and (parts[1] is None) == (end[self.q] >= 0))
+
+    def is_rank(self, text, degree):
+        """Whether a text is the right answer to the rank test on the position."""
+        loss = self.first_loss(self.amounts, degree)
+        return text == ("rank at least %d" % degree if loss is None else "rank below %d at %s" % (degree, self.pairs(loss)))
+
+
+def trials(size, degree):
+    """How many trials a rank test makes, or None where that is past the limits."""
+    count = 1
+    for i in range(1, size):
+        count = count * (degree + i) // i
+    return count if degree <= 1000 and count <= 200000 else None
+
+
+def judged(script, names):
+    """For each line of a script its command, or as a text the answer to a line that makes no entry: a bad line, a commit or a
+    rank test of a session that keeps no look, and a rank test past the limits, which leaves the look."""
+    looking = False
+    for line in script:
+        try:
+            command = parse(line, names)
+        except Bad as fault:
+            yield line, str(fault)
+            continue
+        if command[0] in ("commit", "rank") and not looking:
+            yield line, "bad look"
+        elif command[0] == "rank" and trials(len(names), command[1]) is None:
+            yield line, "bad trials"
+        else:
+            if command[0] in ("look", "commit", "rank"):
+                looking = command[0] == "look"
+            yield line, command
+
+
+def some_script(rng, names):
+    """A script with each of the nine commands and with bad lines. One gift, of one dollar, is taken, and others are refused:
+    so the sum of the dollars rises slowly, and verdicts and rank tests stay open for long."""
+    def line():
+        v, w = rng.sample(names, 2)
+        return rng.choices([
+            "lend " + v, "borrow " + v, "fire %s,%s" % (v, w),
+            "script %s=%d,%s=%d" % (v, rng.randint(-3, 3), w, rng.randint(-3, 3)),
+            "look", "commit", "rank %d" % rng.randint(0, 3), "claim",
+            "script %s=%d" % (v, rng.choice([-200000, 200000, 999999999])),
+            "gift %s %s" % (v, rng.choice(["0", "-5", "1000001", "9223372036854775807"])),
+            rng.choice(["rank 105", "rank 1001"]),
+            rng.choice(["", "lend", "look ", "lend  a", "Lend a", "lend z", "claim\r", "fire a,a", "fire a,", "script a",
+                        "script a=b,z=1", "script a=1000000001", "gift a 01", "gift a 9223372036854775808", "rank -1",
+                        "rank 4294967296", "\xff"]),
+        ], [10, 10, 8, 8, 16, 14, 8, 4, 2, 2, 2, 5])[0]
+    lines = [line() for _ in range(LINES)]
+    lines[rng.randrange(LINES)] = "gift %s 1" % rng.choice(names)
+    return lines
+
+
+def main(program):
+    results = []
+
+    def check(fine, what):
+        print("%s: %s" % ("passed" if fine else "FAILED", what))
+        results.append(fine)
+
+    def run(*words, typed=b""):
+        done = subprocess.run([program, *words], input=typed, stdout=subprocess.PIPE, stderr=subprocess.PIPE, timeout=600)
+        check((done.returncode, done.stderr) == (0, b""), "%s ends with status 0 and no fault" % words[0])
+        sys.stderr.write(done.stderr.decode("latin-1"))
+        return done.stdout.decode("latin-1").split("\n")
+
+    rng, game = random.Random(1), Game(TABLE)
+    scripts = [some_script(rng, game.names) for _ in range(SEATS)]
+    scripts[-1][-12:] = ["gift %s 1000000" % name for name in game.names * 3]
+    texts = ["".join(line + "\n" for line in script).encode("latin-1") for script in scripts]
+    waiting = [collections.deque(pair for pair in judged(script, game.names) if isinstance(pair[1], list)) for script in scripts]
+    calls = [len(entered) for entered in waiting]
+
+    with tempfile.TemporaryDirectory() as folder:
+        def put(name, text):
+            place = os.path.join(folder, name)
+            with open(place, "wb") as file:
+                file.write(text)
+            return place
+
+        table = put("table", json.dumps(TABLE).encode())
+        printed = run("party", table, *(put("script_%d" % i, text) for i, text in enumerate(texts)))
+        count = next((i for i, line in enumerate(printed) if not line[:1].isdigit()), len(printed))
+        entries = [re.fullmatch("(0|[1-9][0-9]*) ([1-9][0-9]*) (.+)", line) for line in printed[:count]]
+        check(all(entry and int(entry[2]) <= SEATS for entry in entries),
+              "each of %d entries has a number, a seat and a reply" % count)
+        check([entry and entry[1] for entry in entries] == [str(i) for i in range(count)], "the numbers rise from 0")
+
+        # The history again: each entry is for its seat's next line, and its reply is the one that the rules give.
+        kinds, wrong, replies, steps, looks, apart = collections.Counter(), [], [], [], {}, 0
+        for number, entry in enumerate(entries):
+            seat = int(entry[2]) if entry else 0
+            if not 1 <= seat <= SEATS or not waiting[seat - 1]:
+                wrong.append(printed[number])
+                continue
+            line, command = waiting[seat - 1].popleft()
+            looked, gifts = looks.get(seat, (0, 0))
+            if not game.is_reply(command, entry[3], gifts):
+                wrong.append("%s, which answers %r" % (entry[0], line))
+            if command[0] == "look":
+                looks[seat] = number, game.gifts
+            apart += command[0] in ("commit", "rank") and number > looked + 1
+            kinds[re.match("[a-z]*( won| gift| range| at least| below)?", entry[3])[0]] += 1
+            replies.append("%d %s" % (number, entry[3]))
+            steps.append("%d %s\n" % (seat, line))
+        for text in wrong[:10]:
+            print("not by the rules:", text)
+        check(not wrong, "the model of the game gives each reply")
+        print("    " + ", ".join("%d %s" % (times, kind) for kind, times in sorted(kinds.items())))
+        print("    %d verdicts and rank tests on a look that was not the entry before" % apart)
+        expected = {"moved", "given", "looked", "not won", "winnable", "unwinnable", "rank at least", "rank below", "stale",
+                    "refused gift", "refused range"}
+        check(expected <= set(kinds) and apart > 0, "there are entries of each kind")
+        check(not any(waiting), "no seat's line is missing")
+        totals = ["entries %d" % sum(calls), "gifts %d" % game.gifts, "position " + game.pairs(game.amounts)]
+        check(printed[count:] == totals + ["seat %d calls %d" % (i + 1, n) for i, n in enumerate(calls)] + [""],
+              "the totals are those of the history and of the scripts")
+
+        # The same steps in the same order, by one player.
+        again = run("rehearse", table, put("steps", "".join(steps).encode("latin-1")))
+        check(again == replies + [""], "rehearse gives the same replies")
+
+        # One of the scripts alone, as a session: here bad lines have answers too.
+        game, number, gifts, wrong = Game(TABLE), 0, 0, []
+        answers = run("serve", table, typed=texts[0])
+        for (line, command), answer in zip(judged(scripts[0], game.names), answers):
+            if isinstance(command, list):
+                start = "%d " % number
+                fine = answer.startswith(start) and game.is_reply(command, answer[len(start):], gifts)
+                number += 1
+                gifts = game.gifts if command[0] == "look" else gifts
+            else:
+                fine = answer == command
+            if not fine:
+                wrong.append("%s, which answers %r" % (answer, line))
+        for text in wrong[:10]:
+            print("not by the rules:", text)
+        check(not wrong and len(answers) == LINES + 1, "serve answers each line of a script by the rules")
+
+    print("%d passed, %d failed" % (results.count(True), results.count(False)))
+    return results.count(False) > 0
+
+
+if __name__ == "__main__":
+    here = os.path.dirname(os.path.abspath(__file__))
+    sys.exit(main(os.path.abspath(sys.argv[1] if len(sys.argv) > 1 else os.path.join(here, "..", "dollar"))))
