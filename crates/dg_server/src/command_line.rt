@@ -279,11 +279,13 @@ The vertices of a graph hold dollars or owe them. A vertex that lends gives a do
 that borrows takes a dollar along each. A table is winnable where this can clear all debts.
 
 `dollar rehearse --help` shows a table file and what can be played on it; `dollar judge --help` how a verdict is read;
-`dollar rank --help` and `dollar rr --help` how much a table can lose.
+`dollar rank --help` and `dollar rr --help` how much a table can lose; `dollar serve --help` how a session goes line by
+line; `dollar party --help` how many sessions share a table.
 
-A run that fails prints nothing but a line that says why, on standard error. The status is 0 where the answer was
-printed, whatever it says; 2 where the command line is refused; 3 where a file, a line or a limit is; 4 where memory is
-wanting; 5 where a file can't be read or the output can't be written.
+A run that fails prints nothing but a line that says why, on standard error; `serve` has answered the lines before, and
+`party` prints the history where a session ended early. The status is 0 where all was answered, whatever it says; 2 where
+the command line is refused; 3 where a file, a line or a limit is; 4 where memory or a thread is wanting; 5 where a file
+can't be read or the output can't be written.
 ";
 
 const FILE_HELP: &str =

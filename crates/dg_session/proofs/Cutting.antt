@@ -10,7 +10,7 @@ use Rattle.std.proofs.lemmas.List.Elements.{All-head, All-tail, All-cons, All-ni
 use Rattle.std.proofs.lemmas.Bool.Decides.{nat_tests}
 use Rattle.std.specs.Option.{option_copied}
 use Rattle.dg_lines.specs.Cuts.{before, after, lines, onto_first}
-use Rattle.dg_session.specs.Streams.{HasNoNewline, IsLine, Begins, OneCutting, with_newline, last_line}
+use Rattle.dg_session.specs.Streams.{HasNoNewline, IsLine, OneCutting, with_newline, last_line}
 
 abbrev Other : ℕ → Type 0
 Other byte = byte ≢ 10

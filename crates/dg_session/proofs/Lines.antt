@@ -1,9 +1,8 @@
 -- Lines that are answered or refused.
 --   line_refused   where its command is refused, a line is
 --   line_bad       a line with a fault is answered by it
-use Rattle.std.proofs.Common.{◌≡◌, ℕ, ◌⊎◌, inl, inr, List, [], ◌∷◌, ◌++◌, Option, refl}
+use Rattle.std.proofs.Common.{◌≡◌, ℕ, inl, inr, List, [], ◌++◌, Option, refl}
 use Rattle.dg_chips.specs.Opening.{Opening}
-use Rattle.dg_game.specs.declared.entry.Entry.{Entry}
 use Rattle.dg_game.specs.declared.step.Command.{Command}
 use Rattle.dg_lines.specs.Commands.{IsCommandLine}
 use Rattle.dg_lines.specs.LineFaults.{IsLineFault}

@@ -12,14 +12,13 @@
 --   verdict_none, rank_none   nothing is made where no look is kept
 --   verdict_unsaid, rank_unsaid   what is made stands where it is not said
 --   rank_many       nothing is made where there would be too many trials
-use Rattle.std.proofs.Common.{◌≡◌, ◌≢◌, ℕ, ◌⊎◌, inl, inr, List, [], ◌∷◌, ◌++◌, length, Option, Some, None, refl, sym, ap, subst, ◌∙◌, append-nil, append_assoc, codes, arith, ◌<◌}
+use Rattle.std.proofs.Common.{◌≡◌, ◌≢◌, ℕ, inl, inr, List, [], ◌∷◌, ◌++◌, length, Option, Some, None, refl, sym, ap, subst, ◌∙◌, append-nil, append_assoc, codes, arith}
 use Rattle.dg_chips.specs.Opening.{Opening}
-use Rattle.dg_rank.specs.Ranks.{IsWithin, IsRankTest, IsRankFault, MayHaveWorkers}
+use Rattle.dg_rank.specs.Ranks.{IsWithin}
 use Rattle.dg_rank.specs.Limits.{IsPastLimits}
 use Rattle.dg_rank.proofs.CountedOnce.{counted_once}
 use Rattle.dg_rank.specs.declared.rank_verdict.RankVerdict.{RankVerdict}
 use Rattle.dg_rank.specs.declared.rank_verdict.RankVerdict.TheVariants.{AtLeast, Below}
-use Rattle.dg_graph.specs.declared.limits.TheConstants.{MAX_VERTICES}
 use Rattle.dg_theory.specs.Multigraph.{Multigraph}
 use Rattle.dg_game.specs.Look.{degree_of, asked_for}
 use Rattle.dg_game.specs.Schedule.{asked}
@@ -28,9 +27,8 @@ use Rattle.dg_game.specs.declared.entry.Plain.{Plain}
 use Rattle.dg_game.specs.declared.entry.Plain.TheVariants as plain
 use Rattle.dg_game.specs.declared.entry.Request.{Request}
 use Rattle.dg_game.specs.declared.entry.Request.TheVariants.{Look, Judge, Rank as RankRequest}
-use Rattle.dg_game.specs.declared.finding.Finding.TheVariants.{Judged, Ranked}
+use Rattle.dg_game.specs.declared.finding.Finding.TheVariants.{Ranked}
 use Rattle.dg_game.specs.declared.finding.Finding.{Finding}
-use Rattle.dg_game.specs.declared.step.Command.{Command}
 use Rattle.dg_game.specs.declared.step.Command.TheVariants.{Call, Commit, Rank}
 use Rattle.dg_analyst.specs.Views.{LookView, IsTaken, IsTried}
 use Rattle.dg_lines.specs.Texts.{HasNames, entry_text}
@@ -41,7 +39,7 @@ use Rattle.dg_table.specs.Seats.{SeatView, Keeps}
 use Rattle.dg_table.specs.Answered.{IsEnteredAfter, IsAnswered}
 use Rattle.dg_table.specs.Settled.{IsSettled}
 use Rattle.dg_session.specs.Ends.{Gains}
-use Rattle.dg_session.specs.Saying.{IsMade, Says, Enters, kept_after, look_after, AnswersCommand}
+use Rattle.dg_session.specs.Saying.{IsMade, Enters, kept_after, look_after, AnswersCommand}
 use Rattle.dg_session.specs.declared.ends.SessionEnd.{SessionEnd}
 use Rattle.dg_session.specs.declared.ends.SessionEnd.TheVariants.{Memory}
 use Rattle.dg_session.specs.Steps.{kept_number, IsDone, MadeAtMost, RefusesCommand}
@@ -217,8 +215,11 @@ rank_unsaid o cap names kept k look r x y end p within stands memory =
     (subst (RefusesCommand o cap names (Some look.receipt.0) (Rank k) x y) (sym memory)
     (record {
       more = r ∷ [];
-      next = inr (None, entry_text names r.0 r.1.reply,
-        inr (within, (r, stands.0, refl, sym (ap (look_after (Some look.receipt.0) r.0) stands.0.request'), refl)));
+      next = inr (
+        None,
+        entry_text names r.0 r.1.reply,
+        inr (within, (r, stands.0, refl, sym (ap (look_after (Some look.receipt.0) r.0) stands.0.request'), refl)),
+      );
       gained = stands.1;
     }))
 

@@ -5,22 +5,21 @@
 --   line_taken    one more newline, and the line is answered
 --   part_halts    a part that is not taken
 --   line_halts    a line that is refused
-use Rattle.std.proofs.Common.{◌≡◌, ◌≢◌, ℕ, ◌+◌, ◌<◌, ◌≤◌, ◌⊎◌, inl, inr, List, [], ◌∷◌, ◌++◌, length, take, drop, Option, Some, None, refl, sym, ap, subst, ◌∙◌, arith, append_assoc, append-nil, length-append, take-append-drop, All, flat_map}
-use Rattle.std.proofs.lemmas.List.Elements.{All-append, All-nil, All-cons, All-push, All-take}
+use Rattle.std.proofs.Common.{◌≡◌, ◌≢◌, ℕ, ◌+◌, ◌<◌, ◌≤◌, ◌⊎◌, inl, inr, List, [], ◌∷◌, ◌++◌, length, take, drop, Option, refl, sym, ap, subst, ◌∙◌, arith, append_assoc, append-nil, length-append, take-append-drop, flat_map}
+use Rattle.std.proofs.lemmas.List.Elements.{All-append, All-nil, All-push, All-take}
 use Rattle.std.proofs.lemmas.Grind.{flat_map-append}
 use Rattle.std.proofs.lemmas.List.{length-take-le}
 use Rattle.dg_chips.specs.Opening.{Opening}
-use Rattle.dg_game.specs.declared.entry.Entry.{Entry}
 use Rattle.dg_table.specs.Seats.{SeatView}
 use Rattle.dg_session.specs.Streams.{HasNoNewline, IsLine, Begins, with_newline}
 use Rattle.dg_session.specs.Saying.{AnswersLine, Answers}
-use Rattle.dg_session.specs.Ends.{Gains, IsTooLong}
+use Rattle.dg_session.specs.Ends.{Gains}
 use Rattle.dg_session.specs.Steps.{IsDone, MayPend, BeginsWith, Passes, Halts, RefusesLine, RefusesPart}
 use Rattle.dg_session.specs.declared.ends.TheConstants.{MAX_LINE, MAX_LINES}
 use Rattle.dg_session.specs.declared.ends.SessionEnd.{SessionEnd}
 use Rattle.dg_session.specs.declared.ends.SessionEnd.TheVariants.{Read, Write, LongLine, Turns, Table, Memory, Spawn}
-use Rattle.dg_session.proofs.Made.{gains_none, gains_same, gains_more}
-use Rattle.dg_session.proofs.Halting.{answers_none, answers_one, answers_more, passes_more, halts_after, halts_line}
+use Rattle.dg_session.proofs.Made.{gains_same, gains_more}
+use Rattle.dg_session.proofs.Halting.{answers_none, answers_one, answers_more, halts_after, halts_line}
 
 pub record AreTaken (o : Opening) (names : List (List ℕ)) (bytes rest : List ℕ) (pending0 : List ℕ) (count0 : ℕ) (kept0 : Option ℕ) (x : SeatView)
     (pending : List ℕ) (count : ℕ) (kept : Option ℕ) (y : SeatView) (text : List ℕ) : Type 0 where
@@ -41,9 +40,9 @@ begins_more bytes rest more ls b = record {
 begins_line : (bytes line rest : List ℕ) (ls : List (List ℕ)) → IsLine line → Begins bytes ls (line ++ 10 ∷ rest) → Begins bytes (ls ++ line ∷ []) rest
 begins_line bytes line rest ls is b = record {
   whole = b.whole ∙ ap (λ l. flat_map with_newline ls ++ l) (sym (append_assoc line (10 ∷ []) rest))
-    ∙ sym (append_assoc (flat_map with_newline ls) (line ++ 10 ∷ []) rest)
-    ∙ ap (λ l. l ++ rest) (ap (λ l. flat_map with_newline ls ++ l) (sym (append-nil (line ++ 10 ∷ [])))
-    ∙ sym (flat_map-append with_newline ls (line ∷ [])));
+      ∙ sym (append_assoc (flat_map with_newline ls) (line ++ 10 ∷ []) rest)
+      ∙ ap (λ l. l ++ rest) (ap (λ l. flat_map with_newline ls ++ l) (sym (append-nil (line ++ 10 ∷ [])))
+      ∙ sym (flat_map-append with_newline ls (line ∷ [])));
   each = All-push IsLine ls line b.each is;
 }
 
@@ -90,8 +89,8 @@ module _ (o : Opening) (cap : ℕ) (names : List (List ℕ)) (bytes rest : List 
     passed = record {
       ls = taken.passed.ls;
       came = subst (λ l. Begins l taken.passed.ls pending') (append_assoc pending0 taken.front part)
-        (subst (Begins ((pending0 ++ taken.front) ++ part) taken.passed.ls) (sym grown)
-        (begins_more (pending0 ++ taken.front) pending part taken.passed.ls taken.passed.came));
+          (subst (Begins ((pending0 ++ taken.front) ++ part) taken.passed.ls) (sym grown)
+          (begins_more (pending0 ++ taken.front) pending part taken.passed.ls taken.passed.came));
       counted = taken.passed.counted;
       made = taken.passed.made;
       answers = taken.passed.answers;
@@ -116,14 +115,14 @@ module _ (o : Opening) (cap : ℕ) (names : List (List ℕ)) (bytes rest : List 
     passed = record {
       ls = taken.passed.ls ++ pending ∷ [];
       came = subst (λ l. Begins l (taken.passed.ls ++ pending ∷ []) pending') (append_assoc pending0 taken.front (10 ∷ []))
-        (subst (Begins ((pending0 ++ taken.front) ++ 10 ∷ []) (taken.passed.ls ++ pending ∷ [])) (sym none)
-        (begins_line ((pending0 ++ taken.front) ++ 10 ∷ []) pending [] taken.passed.ls taken.may.line
-        (begins_more (pending0 ++ taken.front) pending (10 ∷ []) taken.passed.ls taken.passed.came)));
+          (subst (Begins ((pending0 ++ taken.front) ++ 10 ∷ []) (taken.passed.ls ++ pending ∷ [])) (sym none)
+          (begins_line ((pending0 ++ taken.front) ++ 10 ∷ []) pending [] taken.passed.ls taken.may.line
+          (begins_more (pending0 ++ taken.front) pending (10 ∷ []) taken.passed.ls taken.passed.came)));
       counted = let e = length-append taken.passed.ls (pending ∷ []) in omega (arith, e, next, taken.passed.counted);
       made = taken.passed.made ++ done.made;
       answers = subst (Answers o names kept0 (taken.passed.ls ++ pending ∷ []) (taken.passed.made ++ done.made) kept') (sym done.said)
-        (answers_more o names kept0 kept kept' taken.passed.ls (pending ∷ []) taken.passed.made done.made text done.text taken.passed.answers
-        (answers_one o names kept kept' pending done.made done.text done.answers));
+          (answers_more o names kept0 kept kept' taken.passed.ls (pending ∷ []) taken.passed.made done.made text done.text taken.passed.answers
+          (answers_one o names kept kept' pending done.made done.text done.answers));
       gained = gains_more x y z taken.passed.made done.made taken.passed.gained done.gained;
     };
     may = record {
@@ -158,10 +157,10 @@ module _ (o : Opening) (cap : ℕ) (names : List (List ℕ)) (bytes rest : List 
       front = take (MAX_LINE + 1) (pending ++ part);
       back = drop (MAX_LINE + 1) (pending ++ part) ++ more;
       whole = ap (λ l. pending ++ l) cut ∙ sym (append_assoc pending part more)
-        ∙ ap (λ l. l ++ more) (sym (take-append-drop (MAX_LINE + 1) (pending ++ part)))
-        ∙ append_assoc (take (MAX_LINE + 1) (pending ++ part)) (drop (MAX_LINE + 1) (pending ++ part)) more;
+          ∙ ap (λ l. l ++ more) (sym (take-append-drop (MAX_LINE + 1) (pending ++ part)))
+          ∙ append_assoc (take (MAX_LINE + 1) (pending ++ part)) (drop (MAX_LINE + 1) (pending ++ part)) more;
       no_newline = All-take (λ byte. byte ≢ 10) (MAX_LINE + 1) (pending ++ part)
-        (All-append (λ byte. byte ≢ 10) pending part taken.may.line.no_newline plain);
+          (All-append (λ byte. byte ≢ 10) pending part taken.may.line.no_newline plain);
       long = let e = length-append pending part in length-take-le (MAX_LINE + 1) (pending ++ part) (omega (arith, e, h.1));
     };
     made = taken.passed.made;
@@ -183,21 +182,33 @@ module _ (o : Opening) (cap : ℕ) (names : List (List ℕ)) (bytes rest : List 
   pub line_halts : (more text' : List ℕ) (z : SeatView) (end : SessionEnd) → rest ≡ 10 ∷ more → text' ≡ text → RefusesLine o cap names kept pending y z end
       → Halts (BeginsWith (pending0 ++ bytes)) (Begins (pending0 ++ bytes)) o cap names count0 kept0 x z text' end
   line_halts more text' z end cut same h =
-      let D0 : List (List ℕ) → List ℕ → Type 0 = λ ls r. (ls ≡ taken.passed.ls) × (r ≡ pending) in
-      let C1 : List (List ℕ) → Type 0 = λ ls. (ls ≡ []) ⊎ (ls ≡ pending ∷ []) in
-      let D1 : List (List ℕ) → List ℕ → Type 0 = λ ls r. ⊥ in
-      let first : Passes D0 o names count0 kept0 x pending count kept y text = record { ls = taken.passed.ls; came = (refl, refl);
-        counted = taken.passed.counted; made = taken.passed.made; answers = taken.passed.answers; gained = taken.passed.gained } in
+      let Df : List (List ℕ) → List ℕ → Type 0 = λ ls r. (ls ≡ taken.passed.ls) × (r ≡ pending) in
+      let Cn : List (List ℕ) → Type 0 = λ ls. (ls ≡ []) ⊎ (ls ≡ pending ∷ []) in
+      let Dn : List (List ℕ) → List ℕ → Type 0 = λ ls r. ⊥ in
+      let first : Passes Df o names count0 kept0 x pending count kept y text = record {
+        ls = taken.passed.ls;
+        came = (refl, refl);
+        counted = taken.passed.counted;
+        made = taken.passed.made;
+        answers = taken.passed.answers;
+        gained = taken.passed.gained;
+      } in
       let begin : Begins (pending0 ++ bytes) taken.passed.ls (pending ++ 10 ∷ more) =
-        subst (λ l. Begins (pending0 ++ bytes) taken.passed.ls (pending ++ l)) cut all_begin in
-      let come : (ls ls1 : List (List ℕ)) → D0 ls pending → C1 ls1 → BeginsWith (pending0 ++ bytes) (ls ++ ls1) = λ ls ls1 d c. elim c [
-        | inl none ↦ (pending ++ 10 ∷ more, subst (λ l. Begins (pending0 ++ bytes) l (pending ++ 10 ∷ more))
-            (sym (ap (λ l. ls ++ l) none ∙ append-nil ls ∙ d.0)) begin)
-        | inr one ↦ (more, subst (λ l. Begins (pending0 ++ bytes) l more)
-            (sym (ap (λ l. ls ++ l) one ∙ ap (λ l. l ++ pending ∷ []) d.0))
-            (begins_line (pending0 ++ bytes) pending more taken.passed.ls taken.may.line begin))
+      subst (λ l. Begins (pending0 ++ bytes) taken.passed.ls (pending ++ l)) cut all_begin in
+      let come : (ls ls1 : List (List ℕ)) → Df ls pending → Cn ls1 → BeginsWith (pending0 ++ bytes) (ls ++ ls1) = λ ls ls1 d c. elim c [
+        | inl none ↦ (
+          pending ++ 10 ∷ more,
+          subst (λ l. Begins (pending0 ++ bytes) l (pending ++ 10 ∷ more))
+              (sym (ap (λ l. ls ++ l) none ∙ append-nil ls ∙ d.0)) begin,
+        )
+        | inr one ↦ (
+          more,
+          subst (λ l. Begins (pending0 ++ bytes) l more)
+              (sym (ap (λ l. ls ++ l) one ∙ ap (λ l. l ++ pending ∷ []) d.0))
+              (begins_line (pending0 ++ bytes) pending more taken.passed.ls taken.may.line begin),
+        )
       ] in
       subst (λ l. Halts (BeginsWith (pending0 ++ bytes)) (Begins (pending0 ++ bytes)) o cap names count0 kept0 x z l end) (append-nil text ∙ sym same)
-      (halts_after o cap names count0 count kept0 kept x y z text [] pending D0 first C1 (BeginsWith (pending0 ++ bytes)) D1 (Begins (pending0 ++ bytes)) end
+      (halts_after o cap names count0 count kept0 kept x y z text [] pending Df first Cn (BeginsWith (pending0 ++ bytes)) Dn (Begins (pending0 ++ bytes)) end
       come (λ ls ls1 r d none. absurd none)
-      (halts_line C1 D1 o cap names count kept pending y z end (inl refl) (inr refl) h))
+      (halts_line Cn Dn o cap names count kept pending y z end (inl refl) (inr refl) h))

@@ -4,23 +4,20 @@
 --   tells_taken     what was said is the front of the answers to lines that came
 --   halts_written   a session that halts, and all that was said is written
 --   halts_no_write  it does not halt for the writer
-use Rattle.std.proofs.Common.{take, ◌≡◌, ◌≢◌, ℕ, ◌+◌, ◌<◌, ◌≤◌, ◌==◌, ◌⊎◌, inl, inr, Bool, true, false, List, [], ◌∷◌, ◌++◌, length, Option, Some, None, Result, Ok, Err, OnOk, IfErr, refl, sym, ap, subst, ◌∙◌, arith, append_assoc, append-nil, length-append, All, flat_map}
+use Rattle.std.proofs.Common.{◌≡◌, ℕ, ◌+◌, ◌≤◌, inl, inr, List, [], ◌∷◌, ◌++◌, length, Option, Result, Ok, Err, OnOk, IfErr, refl, sym, ap, subst, ◌∙◌, arith, append_assoc, append-nil, length-append, All, flat_map}
 use Rattle.std.proofs.lemmas.Grind.{flat_map-append}
 use Rattle.std.proofs.lemmas.List.Elements.{All-take}
 use Rattle.std.proofs.Math.Seq.{take-append_seam}
 use Rattle.std.specs.Io.KnownBytes.{Appends}
 use Rattle.dg_chips.specs.Opening.{Opening}
-use Rattle.dg_game.specs.declared.entry.Entry.{Entry}
 use Rattle.dg_table.specs.Seats.{SeatView}
-use Rattle.dg_session.specs.Streams.{IsLine, Begins, with_newline, last_line}
+use Rattle.dg_session.specs.Streams.{IsLine, with_newline, last_line}
 use Rattle.dg_session.specs.Saying.{AnswersLine, Answers}
-use Rattle.dg_session.specs.Ends.{Gains}
-use Rattle.dg_session.specs.Steps.{IsDone, MayPend, BeginsWith, IsLast, IsEnded, Passes, Halts, HaltsWritten, Tells, RefusesLine}
-use Rattle.dg_session.specs.declared.ends.TheConstants.{MAX_LINES}
+use Rattle.dg_session.specs.Steps.{IsDone, BeginsWith, IsLast, IsEnded, Passes, Halts, HaltsWritten, Tells, RefusesLine}
 use Rattle.dg_session.specs.declared.ends.SessionEnd.{SessionEnd}
 use Rattle.dg_session.specs.declared.ends.SessionEnd.TheVariants.{Read, Write, LongLine, Turns, Table, Memory, Spawn}
-use Rattle.dg_session.proofs.Made.{gains_same, gains_more}
-use Rattle.dg_session.proofs.Halting.{answers_none, answers_one, answers_more, halts_line, tells_halt}
+use Rattle.dg_session.proofs.Made.{gains_same}
+use Rattle.dg_session.proofs.Halting.{answers_none, answers_one, halts_line, tells_halt}
 
 pub no_byte : (bytes : List ℕ) → length bytes ≡ 0 → bytes ≡ []
 no_byte [] e = refl
@@ -50,7 +47,7 @@ end_line o names n n' k k' x y pending pending' old text some none done cleared 
   counted = next;
   made = done.made;
   answers = subst (Answers o names k (pending ∷ []) done.made k') (sym (done.said ∙ ap (λ l. l ++ done.text) none))
-    (answers_one o names k k' pending done.made done.text done.answers);
+      (answers_one o names k k' pending done.made done.text done.answers);
   gained = done.gained;
 }
 
@@ -96,12 +93,14 @@ halts_no_write C D o cap names n k x y text end h e = subst (Halts C D o cap nam
 -- lines that begin bytes, and the pending line
 pub begins_fewer : (bytes : List ℕ) (ls : List (List ℕ)) (line : List ℕ) → BeginsWith bytes (ls ++ line ∷ []) → BeginsWith bytes ls
 begins_fewer bytes ls line begin =
-    let b = begin.1 in
-    (flat_map with_newline (line ∷ []) ++ begin.0, record {
-      whole = b.whole ∙ ap (λ l. l ++ begin.0) (flat_map-append with_newline ls (line ∷ []))
-        ∙ append_assoc (flat_map with_newline ls) (flat_map with_newline (line ∷ [])) begin.0;
-      each = subst (All IsLine) (take-append_seam ls (line ∷ [])) (All-take IsLine (length ls) (ls ++ line ∷ []) b.each);
-    })
+    let b = begin.1 in (
+      flat_map with_newline (line ∷ []) ++ begin.0,
+      record {
+        whole = b.whole ∙ ap (λ l. l ++ begin.0) (flat_map-append with_newline ls (line ∷ []))
+            ∙ append_assoc (flat_map with_newline ls) (flat_map with_newline (line ∷ [])) begin.0;
+        each = subst (All IsLine) (take-append_seam ls (line ∷ [])) (All-take IsLine (length ls) (ls ++ line ∷ []) b.each);
+      },
+    )
 
 pub last_fewer : (pending : List ℕ) (ls : List (List ℕ)) (line : List ℕ) → IsLast pending (ls ++ line ∷ []) → IsLast pending ls
 last_fewer pending [] line last = inl refl

@@ -11,19 +11,18 @@
 --   fewer_left       fewer bytes can still be read
 --   chunk_size, read_chunk, read_nothing   a read filled the front of the buffer
 --   some_of, inner_end   what tests and results say
-use Rattle.std.proofs.Common.{◌≡◌, ◌≢◌, ℕ, ◌+◌, ◌-◌, ◌*◌, ◌<◌, ◌≤◌, ◌⊎◌, inl, inr, List, [], ◌∷◌, ◌++◌, length, take, Option, Some, None, Result, Ok, Err, refl, sym, ap, subst, ◌∙◌, arith, append_assoc, append-nil, length-append, All, flat_map}
+use Rattle.std.proofs.Common.{◌≡◌, ◌≢◌, ℕ, ◌+◌, ◌-◌, ◌*◌, ◌<◌, ◌≤◌, inl, inr, List, [], ◌∷◌, ◌++◌, length, take, Option, Some, None, Result, Ok, Err, refl, sym, ap, subst, ◌∙◌, arith, append_assoc, append-nil, length-append, All, flat_map}
 use Rattle.std.proofs.lemmas.List.Elements.{All-append, All-nil, All-cons, All-head, All-tail}
 use Rattle.std.proofs.lemmas.Grind.{flat_map-append}
 use Rattle.std.proofs.lemmas.List.{take-append-le, length-take-le}
 use Rattle.std.specs.Io.KnownBytes.{Appends, Consumes, Keeps, IsAtEnd}
 use Rattle.dg_chips.specs.Opening.{Opening}
-use Rattle.dg_game.specs.declared.entry.Entry.{Entry}
 use Rattle.dg_game.specs.declared.step.Command.{Command}
 use Rattle.dg_table.specs.Seats.{SeatView}
 use Rattle.dg_lines.specs.Cuts.{lines}
 use Rattle.dg_session.specs.Streams.{IsLine, Begins, AreLines, AppendsFront, with_newline, last_line}
 use Rattle.dg_session.specs.Saying.{Answers}
-use Rattle.dg_session.specs.Ends.{Gains, AreAnswered, CallsTable, TriesRank, StopsAt, IsUnsaid, IsUnheard, IsAtBytes, IsTooLong, IsWhole, Ends, IsSession}
+use Rattle.dg_session.specs.Ends.{AreAnswered, CallsTable, TriesRank, StopsAt, IsUnsaid, IsUnheard, IsAtBytes, IsTooLong, Ends, IsSession}
 use Rattle.dg_session.specs.Steps.{MayPend, BeginsWith, IsLast, IsEnded, Passes, PassesWritten, HaltsAt, HaltsIn, HaltsUnsaid, Halts, HaltsWritten, Tells}
 use Rattle.dg_session.specs.declared.ends.TheConstants.{MAX_LINE, MAX_LINES, READ_SIZE}
 use Rattle.dg_session.specs.declared.ends.SessionEnd.{SessionEnd}
@@ -61,9 +60,9 @@ begins_both : (stream bytes pending rest : List ℕ) (ls ls1 : List (List ℕ)) 
     → Begins (stream ++ bytes) (ls ++ ls1) rest
 begins_both stream bytes pending rest ls ls1 p q = record {
   whole = ap (λ l. l ++ bytes) p.whole ∙ append_assoc (flat_map with_newline ls) pending bytes
-    ∙ ap (λ l. flat_map with_newline ls ++ l) q.whole
-    ∙ sym (append_assoc (flat_map with_newline ls) (flat_map with_newline ls1) rest)
-    ∙ ap (λ l. l ++ rest) (sym (flat_map-append with_newline ls ls1));
+      ∙ ap (λ l. flat_map with_newline ls ++ l) q.whole
+      ∙ sym (append_assoc (flat_map with_newline ls) (flat_map with_newline ls1) rest)
+      ∙ ap (λ l. l ++ rest) (sym (flat_map-append with_newline ls ls1));
   each = All-append IsLine ls ls1 p.each q.each;
 }
 
@@ -72,14 +71,18 @@ pub so_far_none : (o : Opening) (names : List (List ℕ)) (input old : Option (L
 so_far_none o names input old x pending count kept none zero unkept = record {
   stream = [];
   read = consumes_none input;
-  passed = ([], record {
-    ls = [];
-    came = record { whole = sym none; each = All-nil IsLine };
-    counted = zero;
-    made = [];
-    answers = subst (λ k. Answers o names None [] [] k []) (sym unkept) (answers_none o names None);
-    gained = gains_same x;
-  }, appends_none old);
+  passed = (
+    [],
+    record {
+      ls = [];
+      came = record { whole = sym none; each = All-nil IsLine };
+      counted = zero;
+      made = [];
+      answers = subst (λ k. Answers o names None [] [] k []) (sym unkept) (answers_none o names None);
+      gained = gains_same x;
+    },
+    appends_none old,
+  );
   may = record {
     line = subst IsLine (sym none) (record { no_newline = All-nil (λ byte. byte ≢ 10); short = omega arith });
     few = omega (arith, zero);
@@ -99,10 +102,12 @@ module _ (o : Opening) (cap : ℕ) (names : List (List ℕ)) (input rest : Optio
   so_far_more rest' new bytes pending' count' kept' z read passed may = record {
     stream = far.stream ++ bytes;
     read = consumes_more input rest rest' far.stream bytes far.read read;
-    passed = (far.passed.0 ++ passed.0,
+    passed = (
+      far.passed.0 ++ passed.0,
       passes_more o cap names 0 count None kept x y z far.passed.0 passed.0 pending (Begins far.stream) first (Begins (pending ++ bytes)) (Begins (far.stream ++ bytes))
-      pending' count' kept' (λ ls ls1 p q. begins_both far.stream bytes pending pending' ls ls1 p q) passed.1,
-      appends_more old mid new far.passed.0 passed.0 far.passed.2 passed.2);
+          pending' count' kept' (λ ls ls1 p q. begins_both far.stream bytes pending pending' ls ls1 p q) passed.1,
+      appends_more old mid new far.passed.0 passed.0 far.passed.2 passed.2,
+    );
     may = may;
   }
 
@@ -128,7 +133,7 @@ module _ (o : Opening) (cap : ℕ) (names : List (List ℕ)) (input rest : Optio
       let cut : lines far.stream ≡ first.ls ++ last_line pending = one_cutting far.stream pending first.ls first.came far.may.line.no_newline in
       let all : first.ls ++ second.ls ≡ lines far.stream = ap (λ l. first.ls ++ l) second.came.0 ∙ sym cut in
       let both : Answers o names None (first.ls ++ second.ls) (first.made ++ second.made) kept' (far.passed.0 ++ passed.0) =
-        answers_more o names None kept kept' first.ls second.ls first.made second.made far.passed.0 passed.0 first.answers second.answers in
+      answers_more o names None kept kept' first.ls second.ls first.made second.made far.passed.0 passed.0 first.answers second.answers in
       record {
         stream = far.stream;
         read = subst (Consumes input rest') (append-nil far.stream) (consumes_more input rest rest' far.stream [] far.read read);
@@ -180,8 +185,18 @@ module _ (o : Opening) (cap : ℕ) (names : List (List ℕ)) (ended : Type 0) (s
   }
 
   ends_unsaid : HaltsUnsaid (AreLines ended stream) o names None x z text → IsUnsaid o names ended stream x z old new
-  ends_unsaid h = record { ls = h.ls; came = h.came; made = h.made; kept = h.kept'; text = text; answers = h.answers; written = written;
-    more = h.more; next = h.next; gained = h.gained }
+  ends_unsaid h = record {
+    ls = h.ls;
+    came = h.came;
+    made = h.made;
+    kept = h.kept';
+    text = text;
+    answers = h.answers;
+    written = written;
+    more = h.more;
+    next = h.next;
+    gained = h.gained;
+  }
 
   ends_so : (end : SessionEnd) → Halts (AreLines ended stream) (Begins stream) o cap names 0 None x z text end
       → Ends o cap names ended stream x z old new (Err end)
@@ -198,21 +213,31 @@ pub session_unsaid : (o : Opening) (cap : ℕ) (names : List (List ℕ)) (input 
 session_unsaid o cap names input old x = record {
   stream = [];
   read = consumes_none input;
-  ends = record { ls = []; came = inl ([], record { whole = refl; each = All-nil IsLine }); made = []; kept = None; text = [];
-    answers = answers_none o names None; written = appends_none old; more = []; next = inl refl; gained = gains_same x };
+  ends = record {
+    ls = [];
+    came = inl ([], record { whole = refl; each = All-nil IsLine });
+    made = [];
+    kept = None;
+    text = [];
+    answers = answers_none o names None;
+    written = appends_none old;
+    more = [];
+    next = inl refl;
+    gained = gains_same x;
+  };
 }
 
 module _ (o : Opening) (cap : ℕ) (names : List (List ℕ)) (input rest : Option (List ℕ)) (old mid : Option (List ℕ)) (x : SeatView)
     (pending : List ℕ) (count : ℕ) (kept : Option ℕ) (y : SeatView)
     (far : IsSoFar o names input rest old mid x pending count kept y)
-    (ended : Type 0) (stream : List ℕ) (C1 : List (List ℕ) → Type 0) (D1 : List (List ℕ) → List ℕ → Type 0) (z : SeatView) (new : Option (List ℕ))
-    (come : (ls ls1 : List (List ℕ)) → Begins far.stream ls pending → C1 ls1 → AreLines ended stream (ls ++ ls1))
-    (comes : (ls ls1 : List (List ℕ)) (r : List ℕ) → Begins far.stream ls pending → D1 ls1 r → Begins stream (ls ++ ls1) r)
-    (few : (ls1 : List (List ℕ)) → C1 ls1 → length (flat_map with_newline ls1) ≤ READ_SIZE + MAX_LINE + 1) where
+    (ended : Type 0) (stream : List ℕ) (Cn : List (List ℕ) → Type 0) (Dn : List (List ℕ) → List ℕ → Type 0) (z : SeatView) (new : Option (List ℕ))
+    (come : (ls ls1 : List (List ℕ)) → Begins far.stream ls pending → Cn ls1 → AreLines ended stream (ls ++ ls1))
+    (comes : (ls ls1 : List (List ℕ)) (r : List ℕ) → Begins far.stream ls pending → Dn ls1 r → Begins stream (ls ++ ls1) r)
+    (few : (ls1 : List (List ℕ)) → Cn ls1 → length (flat_map with_newline ls1) ≤ READ_SIZE + MAX_LINE + 1) where
   begun : Passes (Begins far.stream) o names 0 None x pending count kept y far.passed.0
   begun = far.passed.1
 
-  unheard : (text1 : List ℕ) → Tells C1 o names kept y z text1 → AppendsFront mid new [] text1 → IsUnheard o names ended stream x z old new
+  unheard : (text1 : List ℕ) → Tells Cn o names kept y z text1 → AppendsFront mid new [] text1 → IsUnheard o names ended stream x z old new
   unheard text1 tells front = record {
     told = begun.ls;
     last = tells.ls;
@@ -227,19 +252,22 @@ module _ (o : Opening) (cap : ℕ) (names : List (List ℕ)) (input rest : Optio
     text = text1 ++ tells.more;
     second = tells.answers;
     gained = gains_more x y z begun.made tells.made begun.gained tells.gained;
-    written = (front.0, (let size = length-append text1 tells.more in omega (arith, size, front.1)),
+    written = (
+      front.0,
+      (let size = length-append text1 tells.more in omega (arith, size, front.1)),
       subst (λ l. Appends old new (far.passed.0 ++ l)) (sym (take_front front.0 text1 tells.more front.1))
-      (appends_more old mid new far.passed.0 (take front.0 text1) far.passed.2 front.2));
+          (appends_more old mid new far.passed.0 (take front.0 text1) far.passed.2 front.2),
+    );
   }
 
-  halting : (text1 : List ℕ) (end : SessionEnd) → Halts C1 D1 o cap names count kept y z text1 end → Appends mid new text1
+  halting : (text1 : List ℕ) (end : SessionEnd) → Halts Cn Dn o cap names count kept y z text1 end → Appends mid new text1
       → Ends o cap names ended stream x z old new (Err end)
   halting text1 end h written =
       ends_so o cap names ended stream x z old new (far.passed.0 ++ text1) (appends_more old mid new far.passed.0 text1 far.passed.2 written) end
-      (halts_after o cap names 0 count None kept x y z far.passed.0 text1 pending (Begins far.stream) begun C1 (AreLines ended stream) D1 (Begins stream) end
+      (halts_after o cap names 0 count None kept x y z far.passed.0 text1 pending (Begins far.stream) begun Cn (AreLines ended stream) Dn (Begins stream) end
       come comes h)
 
-  halting_written : (end : SessionEnd) → HaltsWritten C1 D1 o cap names count kept y z mid new end → Ends o cap names ended stream x z old new (Err end)
+  halting_written : (end : SessionEnd) → HaltsWritten Cn Dn o cap names count kept y z mid new end → Ends o cap names ended stream x z old new (Err end)
   halting_written Read h = absurd h.1
   halting_written Write h = let (text1, tells, front) = h in unheard text1 tells front
   halting_written LongLine h = halting h.0 LongLine h.1 h.2
@@ -260,12 +288,12 @@ session_halts_in o cap names input rest rest' old mid new x y z pending bytes co
       stream = far.stream ++ bytes;
       read = consumes_more input rest rest' far.stream bytes far.read read;
       ends = halting_written o cap names input rest old mid x pending count kept y far (IsAtEnd rest') (far.stream ++ bytes)
-        (BeginsWith (pending ++ bytes)) (Begins (pending ++ bytes)) z new
-        (λ ls ls1 p q. inl (q.0, begins_both far.stream bytes pending q.0 ls ls1 p q.1))
-        (λ ls ls1 r p q. begins_both far.stream bytes pending r ls ls1 p q)
-        (λ ls1 q. let whole = ap length q.1.whole in let left = length-append pending bytes in
+          (BeginsWith (pending ++ bytes)) (Begins (pending ++ bytes)) z new
+          (λ ls ls1 p q. inl (q.0, begins_both far.stream bytes pending q.0 ls ls1 p q.1))
+          (λ ls ls1 r p q. begins_both far.stream bytes pending r ls ls1 p q)
+          (λ ls1 q. let whole = ap length q.1.whole in let left = length-append pending bytes in
           let right = length-append (flat_map with_newline ls1) q.0 in omega (arith, whole, left, right, small, far.may.line.short))
-        end halts;
+          end halts;
     }
 
 -- the session halts at the last line
@@ -278,22 +306,24 @@ session_halts_last o cap names input rest rest' old mid new x y z pending count 
   stream = far.stream;
   read = subst (Consumes input rest') (append-nil far.stream) (consumes_more input rest rest' far.stream [] far.read read);
   ends = halting_written o cap names input rest old mid x pending count kept y far (IsAtEnd rest') far.stream (IsLast pending) (λ ls r. ⊥) z new
-    (λ ls ls1 p q. elim q [
-      | inl none ↦ inl (pending, subst (λ l. Begins far.stream l pending) (sym (ap (λ l. ls ++ l) none ∙ append-nil ls)) p)
-      | inr one ↦ inr (over,
+      (λ ls ls1 p q. elim q [
+        | inl none ↦ inl (pending, subst (λ l. Begins far.stream l pending) (sym (ap (λ l. ls ++ l) none ∙ append-nil ls)) p)
+        | inr one ↦ inr (
+          over,
           ap (λ l. ls ++ l) one.2 ∙ ap (λ l. ls ++ l) (sym (one_line pending one.0))
-            ∙ sym (one_cutting far.stream pending ls p far.may.line.no_newline),
+              ∙ sym (one_cutting far.stream pending ls p far.may.line.no_newline),
           subst (λ l. All IsLine (ls ++ l)) (sym one.2)
-            (All-append IsLine ls (pending ∷ []) p.each (All-cons IsLine pending [] one.1 (All-nil IsLine))))
-    ])
-    (λ ls ls1 r p none. absurd none)
-    (λ ls1 q. elim q [
-      | inl none ↦ (let e = ap (λ l. length (flat_map with_newline l)) none in omega (arith, e))
-      | inr one ↦ (let e = ap (λ l. length (flat_map with_newline l)) one.2 in let size = length-append pending (10 ∷ []) in
-          let all = length-append (pending ++ 10 ∷ []) [] in
-          omega (arith, e, size, all, one.1.short))
-    ])
-    end halts;
+              (All-append IsLine ls (pending ∷ []) p.each (All-cons IsLine pending [] one.1 (All-nil IsLine))),
+        )
+      ])
+      (λ ls ls1 r p none. absurd none)
+      (λ ls1 q. elim q [
+        | inl none ↦ (let e = ap (λ l. length (flat_map with_newline l)) none in omega (arith, e))
+        | inr one ↦ (let e = ap (λ l. length (flat_map with_newline l)) one.2 in let size = length-append pending (10 ∷ []) in
+            let all = length-append (pending ++ 10 ∷ []) [] in
+            omega (arith, e, size, all, one.1.short))
+      ])
+      end halts;
 }
 
 -- the seat is the same

@@ -2,7 +2,7 @@
 --   more_written    a write takes the next bytes
 --   front_written, front_stuck   a front of the text was taken
 --   all_written     all of it was
-use Rattle.std.proofs.Common.{◌≡◌, ℕ, ◌+◌, ◌-◌, ◌≤◌, List, [], ◌∷◌, ◌++◌, Option, Some, None, length, take, drop, refl, sym, ap, subst, ◌∙◌, arith, append_assoc, append-nil}
+use Rattle.std.proofs.Common.{◌≡◌, ℕ, ◌+◌, ◌-◌, ◌≤◌, List, [], ◌++◌, Option, Some, None, length, take, drop, sym, ap, subst, ◌∙◌, arith, append_assoc, append-nil}
 use Rattle.std.specs.Io.KnownBytes.{Appends, Keeps}
 use Rattle.std.proofs.lemmas.List.{take_all, length-drop}
 use Rattle.std.proofs.Math.Seq.{take-add}
@@ -32,18 +32,23 @@ pub more_written : (a b c : Option (List ℕ)) (s : List ℕ) (at n : ℕ) → a
 more_written a b c s at n low bound first next =
     let rest = rest_of s at in
     let size = length-drop at s in
-    let few : n ≤ length (drop at s) = subst (λ (l : List ℕ). n ≤ length l) rest bound in
-    (omega (arith, size, few), subst (Appends a c) (sym (take-add at n s))
-    (appends_more a b c (take at s) (take n (drop at s)) first (subst (λ (l : List ℕ). Appends b c (take n l)) rest next)))
+    let few : n ≤ length (drop at s) = subst (λ (l : List ℕ). n ≤ length l) rest bound in (
+      omega (arith, size, few),
+      subst (Appends a c) (sym (take-add at n s))
+          (appends_more a b c (take at s) (take n (drop at s)) first (subst (λ (l : List ℕ). Appends b c (take n l)) rest next)),
+    )
 
 pub front_written : (a b c : Option (List ℕ)) (s : List ℕ) (at : ℕ) → at ≤ length s → Appends a b (take at s) → Keeps b c → AppendsFront a c [] s
 front_written a b c s at low first keeps = (at, low, appends_kept a b c (take at s) first keeps)
 
 pub front_stuck : (a b c : Option (List ℕ)) (s rest : List ℕ) (at n : ℕ) → at ≤ length s → Appends a b (take at s) → n ≡ 0 → Appends b c (take n rest)
     → AppendsFront a c [] s
-front_stuck a b c s rest at n low first none next =
-    (at, low, subst (Appends a c) (append-nil (take at s))
-    (appends_more a b c (take at s) [] first (subst (λ k. Appends b c (take k rest)) none next)))
+front_stuck a b c s rest at n low first none next = (
+  at,
+  low,
+  subst (Appends a c) (append-nil (take at s))
+      (appends_more a b c (take at s) [] first (subst (λ k. Appends b c (take k rest)) none next)),
+)
 
 pub all_written : (a b c : Option (List ℕ)) (s : List ℕ) (at : ℕ) → at ≤ length s → length s ≤ at → Appends a b (take at s) → Keeps b c → Appends a c s
 all_written a b c s at low high first keeps =

@@ -35,7 +35,7 @@ use Rattle.dg_session.specs.Saying.{AnswersCommand, AnswersLine, Answers}
 use Rattle.dg_session.specs.Ends.{Gains, CallsTable, TriesRank, IsTooLong}
 use Rattle.dg_session.specs.declared.ends.TheConstants.{MAX_LINE, MAX_LINES}
 use Rattle.dg_session.specs.declared.ends.SessionEnd.{SessionEnd}
-use Rattle.dg_session.specs.declared.ends.SessionEnd.TheVariants.{Read, Write, LongLine, Turns, Table, Memory, Spawn}
+use Rattle.dg_session.specs.declared.ends.SessionEnd.TheVariants.{Write, LongLine, Turns, Table, Memory, Spawn}
 
 abbrev pub kept_number : Option LookView → Option ℕ
 kept_number None = None

@@ -8,7 +8,7 @@
 --   AppendsFront old new told text == known bytes have grown by what was told, and by a front of the text
 --   OneCutting               == a stream is cut into lines in one way: where it begins with lines, and the rest has no newline,
 --                               its lines are those lines, and the rest as a last line if it has a byte
-use Rattle.std.specs.Prelude.{◌≡◌, ◌≢◌, ℕ, ◌≤◌, ◌⊎◌, List, [], ◌∷◌, ◌++◌, length, take, Option, All, flat_map, cond}
+use Rattle.std.specs.Prelude.{◌≡◌, ◌≢◌, ℕ, ◌≤◌, ◌⊎◌, List, [], ◌∷◌, ◌++◌, length, take, Option, All, flat_map}
 use Rattle.std.specs.Io.KnownBytes.{Appends}
 use Rattle.dg_lines.specs.Cuts.{lines}
 use Rattle.dg_session.specs.declared.ends.TheConstants.{MAX_LINE}

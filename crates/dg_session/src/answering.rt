@@ -63,7 +63,12 @@ impl Said {
     {
         let entry = table.log().entry(receipt);
         self.line.clear();
-        match push_entry(&mut self.line, receipt.number() as usize, &entry.reply, names) {
+        match push_entry(
+            &mut self.line,
+            receipt.number() as usize,
+            &entry.reply,
+            names,
+        ) {
             Ok(()) => match self.text.extend_from_slice(&self.line) {
                 Ok(()) => Ok(()),
                 Err(_) => Err(SessionEnd::Memory),

@@ -6,7 +6,8 @@ ghost use Rattle.dg_session.specs.Ends.{IsSession};
 
 use crate::answering::Shared;
 use crate::ends::{READ_SIZE, SessionEnd};
-use crate::streams::{Input, Output};
+use crate::input::Input;
+use crate::output::Output;
 use crate::taking::{Progress, pass_bytes, pass_end};
 use dg_file::Names;
 use dg_log::Name;

@@ -9,7 +9,7 @@ ghost use Rattle.std.specs.declared.result.Result.TheVariants.{Err};
 
 use crate::answering::{Said, Shared, answer_line};
 use crate::ends::{MAX_LINE, MAX_LINES, SessionEnd};
-use crate::streams::Output;
+use crate::output::Output;
 use dg_analyst::Look;
 use dg_lines::cut;
 use dg_log::Name;

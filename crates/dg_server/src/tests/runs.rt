@@ -4,6 +4,9 @@ use crate::{Shelf, run};
 use dg_session::Output;
 use std::alloc::{AllocError, Global};
 use std::io::Write;
+use std::rt::Files;
+use std::sync::Wait;
+use std::thread::Threads;
 
 // A table file and a file of steps, each of which may be missing.
 #[derive(Drop)]
@@ -13,13 +16,16 @@ pub(super) struct Given<'a> {
 }
 
 impl Given<'_> {
-    pub(super) fn run(
+    pub(super) fn run<R>(
         &self,
-        rt: &HostRuntime,
+        rt: &R,
         words: &[String],
         output: &mut Output<impl Write>,
         faults: &mut impl Write,
-    ) -> u8 {
+    ) -> u8
+    where
+        R: Files + AllocGlobal + Threads + Wait + Sync,
+    {
         let files = [
             named("table.json", self.file),
             named("steps.txt", self.steps),
@@ -46,11 +52,10 @@ pub(super) struct Outcome {
 }
 
 // The words stand in one line, with a space between two.
-pub(super) fn outcome_of(
-    rt: &HostRuntime,
-    given: &Given<'_>,
-    line: &str,
-) -> Result<Outcome, AllocError> {
+pub(super) fn outcome_of<R>(rt: &R, given: &Given<'_>, line: &str) -> Result<Outcome, AllocError>
+where
+    R: Files + AllocGlobal + Threads + Wait + Sync,
+{
     let alloc = rt.alloc();
     let words = words_in(alloc, line)?;
     let mut output = Output::new(Vec::new(alloc));
@@ -75,12 +80,15 @@ pub(super) fn words_in(alloc: Global, line: &str) -> Result<Vec<String>, AllocEr
 }
 
 // Whether a run ends well, and prints just the text.
-pub(super) fn prints(
-    rt: &HostRuntime,
+pub(super) fn prints<R>(
+    rt: &R,
     given: &Given<'_>,
     line: &str,
     text: &str,
-) -> Result<bool, AllocError> {
+) -> Result<bool, AllocError>
+where
+    R: Files + AllocGlobal + Threads + Wait + Sync,
+{
     let outcome = outcome_of(rt, given, line)?;
     Ok(
         outcome.status == 0
@@ -90,13 +98,16 @@ pub(super) fn prints(
 }
 
 // Whether a run prints nothing, and ends with the status and the line of the fault.
-pub(super) fn ends(
-    rt: &HostRuntime,
+pub(super) fn ends<R>(
+    rt: &R,
     given: &Given<'_>,
     line: &str,
     fault: &str,
     status: u8,
-) -> Result<bool, AllocError> {
+) -> Result<bool, AllocError>
+where
+    R: Files + AllocGlobal + Threads + Wait + Sync,
+{
     let outcome = outcome_of(rt, given, line)?;
     let told = format!(in rt.alloc(); "dollar: {fault}\n")?;
     Ok(

@@ -55,7 +55,16 @@ fn each_line_is_answered(rt: HostRuntime) -> Result<(), Fail> {
         ),
     ];
     for (cells, start, text, answer, end) in rows {
-        says::<Brand, _>(&rt, alloc, Row::new(alloc, cells)?, start, 1, text, answer, end)?;
+        says::<Brand, _>(
+            &rt,
+            alloc,
+            Row::new(alloc, cells)?,
+            start,
+            1,
+            text,
+            answer,
+            end,
+        )?;
     }
     Ok(())
 }
@@ -81,7 +90,16 @@ fn says<N: Name, R: Threads + Wait + Abort>(
     assert_eq!(rt; names.len(), start.graph().size());
     let mut reader = Input::new(text);
     let mut writer = Output::new(Vec::new(alloc));
-    let result = serve(rt, alloc, &table, &mut seat, &names, &mut reader, &mut writer, 2);
+    let result = serve(
+        rt,
+        alloc,
+        &table,
+        &mut seat,
+        &names,
+        &mut reader,
+        &mut writer,
+        2,
+    );
     assert!(rt; result == end);
     assert!(rt; !reader.has_failed() && !writer.has_failed());
     assert!(rt; writer.write_whole(b"!") == Ok(()));

@@ -16,7 +16,9 @@ use std::test::Fail;
 use std::thread::Threads;
 
 const TEXT: &[u8] = b"look\nlend a\ncommit\ncommit\nlend z\ngift a 0\nclaim\n";
-const ANSWER: &[u8] = b"0 looked 0 a=2 b=-1 c=-1\n1 moved a=0 b=0 c=0\n2 winnable by a=0 b=0 c=0 to a=0 b=0 c=0\nbad look\nbad name\n3 refused gift\n4 won\n";
+
+const ANSWER: &[u8] =
+    b"0 looked 0 a=2 b=-1 c=-1\n1 moved a=0 b=0 c=0\n2 winnable by a=0 b=0 c=0 to a=0 b=0 c=0\nbad look\nbad name\n3 refused gift\n4 won\n";
 
 // Gives one byte a read, and fails at a read, counted from 0.
 #[derive(Drop)]
@@ -43,10 +45,11 @@ impl<'a> Read for Drip<'a> {
     }
 }
 
-// Takes one byte a write, and fails at a write, counted from 0; or takes none from there on.
+// Takes so many bytes a write, and fails where it holds so many; or takes none from there on.
 #[derive(Drop)]
 struct Sip {
     held: Vec<u8>,
+    most: usize,
     fails_at: usize,
     refuses: bool,
 }
@@ -59,11 +62,9 @@ impl Write for Sip {
             }
             return Err(io::Error::from(ErrorKind::Other));
         }
-        let Some(byte) = text.first() else {
-            return Ok(0);
-        };
-        match self.held.push(*byte) {
-            Ok(()) => Ok(1),
+        let size = text.len().min(self.most);
+        match self.held.extend_from_slice(&text[..size]) {
+            Ok(()) => Ok(size),
             Err(_) => Err(io::Error::from(ErrorKind::OutOfMemory)),
         }
     }
@@ -105,14 +106,32 @@ fn sessions_end_where_streams_fail(rt: HostRuntime) -> Result<(), Fail> {
         };
         let writer = Sip {
             held: Vec::new(alloc),
+            most: 1,
             fails_at: 1000,
             refuses: false,
         };
         let end = Err(SessionEnd::Read);
         let row = Row::new(alloc, 9)?;
-        ends::<Brand, _, _>(&rt, alloc, row, &owing, 1, reader, writer, front(lines), end)?;
+        ends::<Brand, _, _>(
+            &rt,
+            alloc,
+            row,
+            &owing,
+            1,
+            reader,
+            writer,
+            front(lines),
+            end,
+        )?;
     }
-    for (j, refuses) in [(0, false), (1, true), (24, false), (25, true), (60, false), (122, true)] {
+    for (j, refuses) in [
+        (0, false),
+        (1, true),
+        (24, false),
+        (25, true),
+        (60, false),
+        (122, true),
+    ] {
         let reader = Drip {
             text: TEXT,
             reads: 0,
@@ -120,12 +139,23 @@ fn sessions_end_where_streams_fail(rt: HostRuntime) -> Result<(), Fail> {
         };
         let writer = Sip {
             held: Vec::new(alloc),
+            most: 1,
             fails_at: j,
             refuses,
         };
         let end = Err(SessionEnd::Write);
         let row = Row::new(alloc, 9)?;
-        ends::<Brand, _, _>(&rt, alloc, row, &owing, 1, reader, writer, &ANSWER[..j], end)?;
+        ends::<Brand, _, _>(
+            &rt,
+            alloc,
+            row,
+            &owing,
+            1,
+            reader,
+            writer,
+            &ANSWER[..j],
+            end,
+        )?;
     }
     Ok(())
 }
@@ -155,6 +185,7 @@ fn a_million_lines_are_answered(rt: HostRuntime) -> Result<(), Fail> {
         let reader = Crosses { at: 0, count };
         let writer = Sip {
             held: Vec::new(alloc),
+            most: 100_000,
             fails_at: 10_000_000,
             refuses: false,
         };
@@ -190,7 +221,16 @@ fn ends<N: Name, R: Threads + Wait + Abort, I: Read + Drop>(
     assert_eq!(rt; names.len(), start.graph().size());
     let mut reader = Input::new(reader);
     let mut writer = Output::new(writer);
-    let result = serve(rt, alloc, &table, &mut seat, &names, &mut reader, &mut writer, 1);
+    let result = serve(
+        rt,
+        alloc,
+        &table,
+        &mut seat,
+        &names,
+        &mut reader,
+        &mut writer,
+        1,
+    );
     assert!(rt; result == end);
     assert!(rt; reader.has_failed() == (end == Err(SessionEnd::Read)));
     assert!(rt; writer.has_failed() == (end == Err(SessionEnd::Write)));

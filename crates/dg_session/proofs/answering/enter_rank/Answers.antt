@@ -1,6 +1,6 @@
 use Rattle.std.proofs.Common.{◌∙◌, sym, subst}
 use Rattle.dg_rank.specs.Ranks.{IsRankFault}
-use Rattle.dg_session.proofs.Made.{rank_made, rank_within, rank_past, named, rank_none, rank_unsaid, rank_said, rank_many}
+use Rattle.dg_session.proofs.Made.{rank_made, rank_within, rank_past, rank_none, rank_unsaid, rank_many}
 use Rattle.dg_session.proofs.answering.enter_rank.Goals as goal
 
 pub returns-in-Ok-clause-done : goal.returns-in-Ok-clause-done

@@ -1,7 +1,6 @@
 use Rattle.std.proofs.Common.{◌∙◌, sym}
-use Rattle.dg_game.specs.declared.entry.Request.TheVariants.{Judge}
 use Rattle.dg_game.specs.declared.finding.Finding.TheVariants.{Judged}
-use Rattle.dg_session.proofs.Made.{settled_made, named, verdict_none, verdict_unsaid, verdict_said}
+use Rattle.dg_session.proofs.Made.{settled_made, verdict_none, verdict_unsaid}
 use Rattle.dg_session.proofs.answering.enter_verdict.Goals as goal
 
 pub returns-in-Ok-clause-done : goal.returns-in-Ok-clause-done

@@ -13,5 +13,5 @@ returns-in-Err-call g c = record {
   done = tt;
   unsaid = c.in-Err-call.ensures.unsaid;
   refused = subst (λ command. RefusesCommand g.N.Name.start (length g.N.Name.cells) c.args.shared.now.names.now (kept_number c.args.kept.now) command c.args.seat.now c.call.new.seat c.in-Err-call.end)
-    (sym c.in-Call.is) c.in-Err-call.ensures.refused;
+      (sym c.in-Call.is) c.in-Err-call.ensures.refused;
 }

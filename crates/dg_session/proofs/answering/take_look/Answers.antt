@@ -1,6 +1,6 @@
 use Rattle.dg_game.specs.declared.entry.Request.TheVariants.{Look}
 use Rattle.dg_game.specs.declared.entry.Plain.TheVariants.{Look as PlainLook}
-use Rattle.dg_session.proofs.Made.{call_made, named, call_unsaid, look_said}
+use Rattle.dg_session.proofs.Made.{call_made, call_unsaid}
 use Rattle.dg_session.proofs.answering.take_look.Goals as goal
 
 pub returns-in-Err-say_entry-clause-refused : goal.returns-in-Err-say_entry-clause-refused

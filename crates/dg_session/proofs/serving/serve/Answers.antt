@@ -1,9 +1,9 @@
-use Rattle.std.proofs.Common.{◌≡◌, ◌≤◌, ◌<◌, ◌∙◌, ◌++◌, ℕ, [], length, take, ap, refl, arith, Err}
+use Rattle.std.proofs.Common.{◌≡◌, ◌<◌, ◌∙◌, ◌++◌, length, take, ap, refl, arith, Err}
 use Rattle.dg_session.specs.declared.ends.TheConstants.{READ_SIZE}
 use Rattle.dg_session.specs.declared.ends.SessionEnd.TheVariants.{Write}
-use Rattle.dg_session.specs.Steps.{kept_number, BeginsWith, IsLast, IsEnded}
+use Rattle.dg_session.specs.Steps.{kept_number, BeginsWith, IsLast}
 use Rattle.dg_session.specs.Streams.{Begins}
-use Rattle.dg_session.proofs.Sessions.{so_far_none, so_far_more, session_reads, session_ends, session_unsaid, session_halts_in, session_halts_last, seat_so_far, seat_passed, seat_halted, no_read_end, fewer_left, chunk_size, some_of, read_chunk, read_nothing, inner_end}
+use Rattle.dg_session.proofs.Sessions.{so_far_none, so_far_more, session_reads, session_ends, session_unsaid, session_halts_in, session_halts_last, seat_so_far, seat_halted, no_read_end, fewer_left, chunk_size, some_of, read_chunk, read_nothing, inner_end}
 use Rattle.dg_session.proofs.serving.serve.Goals as goal
 
 pub returns-in_default-clause-session : goal.returns-in_default-clause-session
@@ -14,8 +14,8 @@ returns-in_default-clause-session g c =
 pub reads-init : goal.reads-init
 reads-init g c = (
   so_far_none g.N.Name.start c.args.names.now (g.I.Read.remaining c.args.reader.now.inner) (g.O.Write.contents c.args.writer.now.inner) c.args.seat.now
-    c.new-progress.result.pending.items c.new-progress.result.count (kept_number c.new-progress.result.kept)
-    c.new-progress.ensures.pending c.new-progress.ensures.count c.new-progress.ensures.kept,
+      c.new-progress.result.pending.items c.new-progress.result.count (kept_number c.new-progress.result.kept)
+      c.new-progress.ensures.pending c.new-progress.ensures.count c.new-progress.ensures.kept,
   c.new-progress.ensures.said,
   omega (arith, c.in-Ok.ensures.len, c.in-Ok.buffer.ok.0),
 )
@@ -85,17 +85,18 @@ returns-in-Err-clause-write g c e = c.in-Err.ensures.write (ap Err (inner_end c.
 
 pub reads-preserved : goal.reads-preserved
 reads-preserved g c =
-    let bytes = take c.in-Some.size c.deref.result.now in
-    (so_far_more g.N.Name.start (length g.N.Name.cells) c.args.names.now (g.I.Read.remaining c.args.reader.now.inner) (g.I.Read.remaining c.reads.reader.inner)
-    (g.O.Write.contents c.args.writer.now.inner) (g.O.Write.contents c.reads.writer.inner) c.args.seat.now c.reads.progress.pending.items c.reads.progress.count
-    (kept_number c.reads.progress.kept) c.reads.seat c.reads.invariant.0
-    (g.I.Read.remaining c.read_some.new.reader.inner) (g.O.Write.contents c.pass_bytes.new.writer.inner) bytes c.pass_bytes.new.progress.pending.items
-    c.pass_bytes.new.progress.count (kept_number c.pass_bytes.new.progress.kept) c.pass_bytes.new.seat
-    (read_chunk (g.I.Read.remaining c.reads.reader.inner) (g.I.Read.remaining c.read_some.new.reader.inner) c.in-Some.size c.deref.result.now
-    c.read_some.new.buffer.items c.deref.ensures.value c.in-Some.ensures.bytes)
-    c.in-Ok-pass_bytes.ensures.passed c.in-Ok-pass_bytes.ensures.pending,
-    c.in-Ok-pass_bytes.ensures.said,
-    c.in-Some.ensures.size ∙ c.reads.invariant.2)
+    let bytes = take c.in-Some.size c.deref.result.now in (
+      so_far_more g.N.Name.start (length g.N.Name.cells) c.args.names.now (g.I.Read.remaining c.args.reader.now.inner) (g.I.Read.remaining c.reads.reader.inner)
+          (g.O.Write.contents c.args.writer.now.inner) (g.O.Write.contents c.reads.writer.inner) c.args.seat.now c.reads.progress.pending.items c.reads.progress.count
+          (kept_number c.reads.progress.kept) c.reads.seat c.reads.invariant.0
+          (g.I.Read.remaining c.read_some.new.reader.inner) (g.O.Write.contents c.pass_bytes.new.writer.inner) bytes c.pass_bytes.new.progress.pending.items
+          c.pass_bytes.new.progress.count (kept_number c.pass_bytes.new.progress.kept) c.pass_bytes.new.seat
+          (read_chunk (g.I.Read.remaining c.reads.reader.inner) (g.I.Read.remaining c.read_some.new.reader.inner) c.in-Some.size c.deref.result.now
+          c.read_some.new.buffer.items c.deref.ensures.value c.in-Some.ensures.bytes)
+          c.in-Ok-pass_bytes.ensures.passed c.in-Ok-pass_bytes.ensures.pending,
+      c.in-Ok-pass_bytes.ensures.said,
+      c.in-Some.ensures.size ∙ c.reads.invariant.2,
+    )
 
 pub reads-smaller : goal.reads-smaller
 reads-smaller g c =

@@ -1,7 +1,7 @@
 -- All that was read is handled but what is pending, and all that there was to say is written.
-use Rattle.std.proofs.Common.{◌≡◌, ◌+◌, ◌-◌, ◌*◌, length, []}
+use Rattle.std.proofs.Common.{◌≡◌, length, []}
 use Rattle.dg_session.specs.Steps.{kept_number}
-use Rattle.dg_session.specs.declared.ends.TheConstants.{MAX_LINE, MAX_LINES, READ_SIZE}
+use Rattle.dg_session.specs.declared.ends.TheConstants.{READ_SIZE}
 use Rattle.dg_session.proofs.Sessions.{IsSoFar, bytes_left}
 use Rattle.dg_session.proofs.serving.serve.Given as goal
 

@@ -7,12 +7,13 @@ use Rattle.dg_session.proofs.taking.pass_bytes.Goals as goal
 pub returns-in-Err-clause-halted : goal.returns-in-Err-clause-halted
 returns-in-Err-clause-halted g c =
     let bytes = c.args.progress.now.pending.items ++ c.args.bytes.now in
-    let text = c.take_bytes-taken.new.progress.said.text.items in
-    (text,
-    tells_taken (BeginsWith bytes) (Begins bytes) (Begins bytes) g.N.Name.start (length g.N.Name.cells) c.args.shared.now.names.now
-    c.args.progress.now.count c.take_bytes-taken.new.progress.count (kept_number c.args.progress.now.kept) (kept_number c.take_bytes-taken.new.progress.kept)
-    c.args.seat.now c.take_bytes-taken.new.seat c.take_bytes-taken.new.progress.pending.items text c.take_bytes-taken.result
-    (begins_fewer bytes) (λ ls rest b. (rest, b)) (λ ls rest b. (rest, b))
-    c.take_bytes-taken.ensures.passed c.take_bytes-taken.ensures.halted,
-    subst (AppendsFront (g.O.Write.contents c.args.writer.now.inner) (g.O.Write.contents c.write_whole.new.self.inner) []) c.deref.ensures.value
-    c.in-Err.ensures.front)
+    let text = c.take_bytes-taken.new.progress.said.text.items in (
+      text,
+      tells_taken (BeginsWith bytes) (Begins bytes) (Begins bytes) g.N.Name.start (length g.N.Name.cells) c.args.shared.now.names.now
+          c.args.progress.now.count c.take_bytes-taken.new.progress.count (kept_number c.args.progress.now.kept) (kept_number c.take_bytes-taken.new.progress.kept)
+          c.args.seat.now c.take_bytes-taken.new.seat c.take_bytes-taken.new.progress.pending.items text c.take_bytes-taken.result
+          (begins_fewer bytes) (λ ls rest b. (rest, b)) (λ ls rest b. (rest, b))
+          c.take_bytes-taken.ensures.passed c.take_bytes-taken.ensures.halted,
+      subst (AppendsFront (g.O.Write.contents c.args.writer.now.inner) (g.O.Write.contents c.write_whole.new.self.inner) []) c.deref.ensures.value
+          c.in-Err.ensures.front,
+    )

@@ -7,12 +7,13 @@ use Rattle.dg_session.proofs.taking.pass_end.Goals as goal
 pub returns-in-Err-clause-halted : goal.returns-in-Err-clause-halted
 returns-in-Err-clause-halted g c =
     let pending = c.args.progress.now.pending.items in
-    let text = c.take_end-taken.new.progress.said.text.items in
-    (text,
-    tells_taken (IsLast pending) (λ ls rest. ⊥) (IsEnded pending) g.N.Name.start (length g.N.Name.cells) c.args.shared.now.names.now
-    c.args.progress.now.count c.take_end-taken.new.progress.count (kept_number c.args.progress.now.kept) (kept_number c.take_end-taken.new.progress.kept)
-    c.args.seat.now c.take_end-taken.new.seat c.take_end-taken.new.progress.pending.items text c.take_end-taken.result
-    (last_fewer pending) (λ ls rest none. absurd none) (λ ls rest ended. ended_last pending ls rest c.requires.pending.line ended)
-    c.take_end-taken.ensures.passed c.take_end-taken.ensures.halted,
-    subst (AppendsFront (g.O.Write.contents c.args.writer.now.inner) (g.O.Write.contents c.write_whole.new.self.inner) []) c.deref.ensures.value
-    c.in-Err.ensures.front)
+    let text = c.take_end-taken.new.progress.said.text.items in (
+      text,
+      tells_taken (IsLast pending) (λ ls rest. ⊥) (IsEnded pending) g.N.Name.start (length g.N.Name.cells) c.args.shared.now.names.now
+          c.args.progress.now.count c.take_end-taken.new.progress.count (kept_number c.args.progress.now.kept) (kept_number c.take_end-taken.new.progress.kept)
+          c.args.seat.now c.take_end-taken.new.seat c.take_end-taken.new.progress.pending.items text c.take_end-taken.result
+          (last_fewer pending) (λ ls rest none. absurd none) (λ ls rest ended. ended_last pending ls rest c.requires.pending.line ended)
+          c.take_end-taken.ensures.passed c.take_end-taken.ensures.halted,
+      subst (AppendsFront (g.O.Write.contents c.args.writer.now.inner) (g.O.Write.contents c.write_whole.new.self.inner) []) c.deref.ensures.value
+          c.in-Err.ensures.front,
+    )

@@ -1,9 +1,8 @@
-use Rattle.std.proofs.Common.{◌≡◌, ◌<◌, ◌≤◌, ◌∷◌, [], length, refl, sym, subst, arith, rules, tests, ap}
-use Rattle.dg_session.specs.Steps.{kept_number, BeginsWith, Halts, MayPend, Passes}
-use Rattle.dg_session.specs.Streams.{Begins}
+use Rattle.std.proofs.Common.{◌<◌, ◌≤◌, ◌∷◌, [], length, refl, rules, tests}
+use Rattle.dg_session.specs.Steps.{kept_number}
 use Rattle.dg_session.specs.declared.ends.TheConstants.{MAX_LINES}
 use Rattle.dg_session.proofs.Cutting.{part_plain, part_front, part_whole, part_line, line_shorter}
-use Rattle.dg_session.proofs.Parts.{AreTaken, taken_none, taken_all, part_taken, line_taken, part_halts, line_halts}
+use Rattle.dg_session.proofs.Parts.{taken_none, taken_all, part_taken, line_taken, part_halts, line_halts}
 use Rattle.dg_session.proofs.taking.take_bytes.Goals as goal
 
 pub parts-init : goal.parts-init

@@ -1,4 +1,4 @@
-use Rattle.std.proofs.Common.{◌≡◌, ◌≤◌, ◌∙◌, length, rules, tests}
+use Rattle.std.proofs.Common.{◌≡◌, ◌≤◌, ◌∙◌, ℕ, List, length, rules, tests}
 use Rattle.dg_session.specs.Steps.{kept_number}
 use Rattle.dg_session.proofs.Passing.{no_byte, end_none, end_line, end_halts}
 use Rattle.dg_session.proofs.taking.take_end.Goals as goal
@@ -22,4 +22,4 @@ returns-in-Err-clause-halted g c =
     let some : 1 ≤ length c.args.progress.now.pending.items = search (rules, tests) in
     end_halts g.N.Name.start (length g.N.Name.cells) c.args.shared.now.names.now c.args.progress.now.count (kept_number c.args.progress.now.kept)
     c.args.seat.now c.end_line.new.seat c.args.progress.now.pending.items c.end_line.new.progress.said.text.items c.in-Err.end some
-    c.requires.pending.line (c.in-Err.ensures.unsaid ∙ c.requires.said) c.in-Err.ensures.refused
+    c.requires.pending.line (◌∙◌ {A = List ℕ} c.in-Err.ensures.unsaid c.requires.said) c.in-Err.ensures.refused

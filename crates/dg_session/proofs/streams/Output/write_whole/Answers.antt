@@ -1,6 +1,0 @@
-use Rattle.std.proofs.Common.{◌≤◌, length, ◌+◌, take, arith, refl}
-use Rattle.dg_session.proofs.Writing.{more_written, front_written, all_written}
-use Rattle.dg_session.proofs.streams.Output.write_whole.Goals as goal
-
-pub writes-preserved : goal.writes-preserved
-writes-preserved g c = more_written _ _ _ c.args.text.now c.writes.at c.in-Ok.size c.writes.invariant.0 c.in-Ok.ensures.bound c.writes.invariant.1 c.in-Ok.ensures.bytes

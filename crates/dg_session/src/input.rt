@@ -1,0 +1,52 @@
+//! Readers that remember whether they failed.
+ghost use Rattle.std.specs.Prelude.{◌≡◌, OnOk, OnErr, true, false};
+ghost use Rattle.std.specs.Io.{ReadsAtMost};
+ghost use Rattle.std.specs.Io.KnownBytes.{ReadConsumes};
+
+use std::io;
+use std::io::Read;
+
+/// A reader of a session's lines, which remembers whether a read of it failed.
+#[derive(Drop)]
+pub struct Input<I> {
+    inner: I,
+    has_failed: bool,
+}
+
+impl<I> Input<I> {
+    /// The reader, of which no read has failed.
+    pub fn new(inner: I) -> Self
+        ensures inner { result.inner ≡ inner }
+        ensures has_failed { result.has_failed ≡ false }
+    {
+        Input {
+            inner,
+            has_failed: false,
+        }
+    }
+
+    /// Whether a read failed.
+    pub fn has_failed(&self) -> bool
+        ensures { result ≡ self.now.has_failed }
+    {
+        self.has_failed
+    }
+}
+
+impl<I: Read> Input<I> {
+    /// One read.
+    pub(crate) fn read(&mut self, buffer: &mut [u8]) -> io::Result<usize>
+        ensures bound { ReadsAtMost result buffer.new }
+        ensures bytes { ReadConsumes (I.remaining self.old.inner) (I.remaining self.new.inner) result buffer.new }
+        ensures failed { OnErr result (self.new.has_failed ≡ true) }
+        ensures kept { OnOk result (self.new.has_failed ≡ self.old.has_failed) }
+    {
+        match self.inner.read(buffer) {
+            Ok(size) => Ok(size),
+            Err(error) => {
+                self.has_failed = true;
+                Err(error)
+            }
+        }
+    }
+}
