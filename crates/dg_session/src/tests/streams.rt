@@ -124,14 +124,8 @@ fn sessions_end_where_streams_fail(rt: HostRuntime) -> Result<(), Fail> {
             end,
         )?;
     }
-    for (j, refuses) in [
-        (0, false),
-        (1, true),
-        (24, false),
-        (25, true),
-        (60, false),
-        (122, true),
-    ] {
+    for j in 0..ANSWER.len() {
+        let refuses = j % 2 == 1;
         let reader = Drip {
             text: TEXT,
             reads: 0,
