@@ -1,0 +1,9 @@
+use Rattle.std.proofs.Common.{◌≡◌, ◌++◌, ◌-◌, List, length}
+use Rattle.dg_game.specs.declared.entry.Entry.{Entry as EntryData}
+use Rattle.dg_observer.proofs.observer.Observer.catch_up.Given as goal
+
+abbrev pub invariant-entries : goal.invariant-entries
+invariant-entries g l = (es : List EntryData) × (l.self.entries ≡ l.initial.self.entries ++ es)
+
+abbrev pub decreases-entries : goal.decreases-entries
+decreases-entries g l = length g.N.Name.cells - length l.self.entries

@@ -1,0 +1,3 @@
+-- What observers keep.
+pub mod Folds
+pub mod Watched

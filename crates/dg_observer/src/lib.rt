@@ -1,0 +1,12 @@
+//! Observers read a table's history without its lock, and keep a state that is the fold of the entries that they read.
+#![tactic(auto)]
+
+mod observer;
+#[cfg(test)]
+mod tests;
+mod watch;
+mod watches;
+
+pub use observer::{Observer, ObserverFault};
+pub use watch::Watch;
+pub use watches::{Gifts, Positions, RefusedMoves, positions_are_shown};

@@ -1,0 +1,113 @@
+//! Observers: what they have read, and what they keep of it.
+ghost use Rattle.std.specs.Prelude.{◌≡◌, ◌<◌, ◌≤◌, ◌++◌, ℕ, List, [], ◌∷◌, length, slice_get, Some, IfOk, OnOk, OnErr};
+ghost use Rattle.dg_game.specs.declared.entry.Entry.{Entry as EntryData};
+ghost use Rattle.dg_observer.specs.Folds.{Folds, Observed};
+
+use crate::watch::Watch;
+use dg_game::{Entry, MAX_ENTRIES};
+use dg_log::{Log, Name, Receipt};
+use std::alloc::{AllocError, Global};
+use std::marker::Model;
+
+/// Why an observer reads no further.
+#[derive(Clone, Copy, Debug, PartialEq, Eq)]
+pub enum ObserverFault {
+    /// Memory was refused.
+    OutOfMemory,
+}
+
+/// Reads the history of the table N from its first entry on, each entry once, in order, and keeps what W says. A contract
+/// sees the state and the entries that were read.
+#[derive(Drop)]
+pub struct Observer<N: Name, W: Watch + Drop> {
+    watch: W,
+    state: W::State,
+    receipts: Vec<Receipt<N>>,
+}
+
+impl<N: Name, W: Watch + Drop> Model for Observer<N, W> {
+    ghost use Rattle.std.specs.Prelude.{◌≤◌, map, length};
+    ghost use Rattle.dg_game.specs.declared.game.TheConstants.{MAX_ENTRIES};
+    ghost use Rattle.dg_observer.specs.Folds.{Observed, Folds, AreNumbered};
+
+    ghost Value = { Observed W.State };
+
+    ghost view = { λ o. record { state = o.state; entries = map (λ r. r.1) o.receipts.items } };
+
+    ghost invariant = { λ o. Folds W.begins W.goes_on (map (λ r. r.1) o.receipts.items) o.state
+        × AreNumbered o.receipts.items
+        × (length o.receipts.items ≤ length N.cells) × (length o.receipts.items ≤ MAX_ENTRIES) };
+}
+
+impl<N: Name, W: Watch + Drop> Observer<N, W> {
+    /// An observer that has read nothing, and keeps what the watch says. The condition is that it may begin with `first`.
+    pub fn new(alloc: Global, watch: W, first: W::State) -> Observer<N, W>
+        requires { W.begins first }
+        ensures { result ≡ record { state = first; entries = [] } }
+    {
+        Observer {
+            watch,
+            state: first,
+            receipts: Vec::new(alloc),
+        }
+    }
+
+    /// What is kept: from a first state on, one step of W for each entry that was read, in order.
+    pub fn state(&self) -> &W::State
+        ensures state { result.now ≡ self.now.state }
+        ensures folds { Folds W.begins W.goes_on self.now.entries self.now.state }
+    {
+        &self.state
+    }
+
+    /// How many entries were read.
+    pub fn count(&self) -> u32
+        ensures count { result ≡ length self.now.entries }
+        ensures cells { result ≤ length N.cells }
+    {
+        self.receipts.len() as u32
+    }
+
+    /// The receipt of the entry with this number, which was read. The condition is that so many were read.
+    pub fn receipt(&self, number: u32) -> &Receipt<N>
+        requires { number < length self.now.entries }
+        ensures number { result.now.0 ≡ number }
+        ensures entry { slice_get self.now.entries number ≡ Some result.now.1 }
+    {
+        &self.receipts[number as usize]
+    }
+
+    /// Reads on until an entry is not found, and gives how many were read. It takes no lock.
+    ///
+    /// Refused with `OutOfMemory` where memory for a receipt is, or where the step answers so; what was read before
+    /// stands.
+    pub fn catch_up(&mut self, log: &Log<N>) -> Result<u32, ObserverFault>
+        ensures more { (es : List EntryData) × (self.new.entries ≡ self.old.entries ++ es)
+            × IfOk result (λ n. n ≡ length es) }
+    {
+        let before = self.count();
+        let _cells = log.len();
+        'entries: while let Some((receipt, entry)) = log.read(self.count()) {
+            match self.fold(receipt, entry) {
+                Ok(()) => {}
+                Err(_) => return Err(ObserverFault::OutOfMemory),
+            }
+        }
+        Ok(self.count() - before)
+    }
+
+    /// Goes on with one entry; where memory is refused, everything stays.
+    fn fold(&mut self, receipt: Receipt<N>, entry: &Entry) -> Result<(), AllocError>
+        requires number { receipt.0 ≡ length self.old.entries }
+        requires entry { receipt.1 ≡ entry.now }
+        requires cell { length self.old.entries < length N.cells }
+        requires few { length N.cells ≤ MAX_ENTRIES }
+        ensures ok { OnOk result (self.new.entries ≡ self.old.entries ++ entry.now ∷ []) }
+        ensures err { OnErr result (self.new ≡ self.old) }
+    {
+        let next = self.watch.step(&self.state, entry)?;
+        self.receipts.push(receipt)?;
+        self.state = next;
+        Ok(())
+    }
+}

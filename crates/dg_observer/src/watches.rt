@@ -1,0 +1,103 @@
+//! Three watches: the accepted gifts, the position, and the refused moves of each seat.
+ghost use Rattle.std.specs.Prelude.{◌≡◌};
+ghost use Rattle.dg_observer.specs.Watched.{PositionsAreShown};
+
+use crate::watch::Watch;
+use dg_chips::Divisor;
+use dg_game::{Entry, MAX_SEATS, Reply, Request};
+use dg_log::Name;
+use std::alloc::AllocError;
+use std::marker::PhantomData;
+
+/// Counts the accepted gifts, as far as 64 bits go.
+#[derive(Clone, Copy)]
+pub struct Gifts;
+
+impl Watch for Gifts {
+    ghost use Rattle.std.specs.Prelude.{◌≡◌};
+    ghost use Rattle.dg_observer.specs.Watched.{gift_counted};
+
+    type State = u64;
+
+    ghost begins = { λ n. n ≡ 0 };
+
+    ghost goes_on = { λ n e m. m ≡ gift_counted n e };
+
+    fn step(&self, count: &u64, entry: &Entry) -> Result<u64, AllocError> {
+        match entry.reply {
+            Reply::Given(..) => Ok(count.saturating_add(1)),
+            _ => Ok(*count),
+        }
+    }
+}
+
+/// Keeps the amounts of the table N after the entries that were read. That they are those of the position is the law
+/// `positions_are_shown`.
+#[derive(Clone, Copy)]
+pub struct Positions<N> {
+    of: PhantomData<N>,
+}
+
+impl<N: Name> Watch for Positions<N> {
+    ghost use Rattle.std.specs.Prelude.{◌≡◌};
+    ghost use Rattle.dg_observer.specs.Watched.{shown_by};
+
+    type State = Divisor;
+
+    ghost begins = { λ d. d ≡ N.start.divisor };
+
+    ghost goes_on = { λ old e next. next ≡ shown_by e.reply old };
+
+    // A move or a gift that was accepted shows the amounts after it.
+    fn step(&self, position: &Divisor, entry: &Entry) -> Result<Divisor, AllocError> {
+        match entry.reply {
+            Reply::Moved(divisor) | Reply::Given(_, divisor) => Ok(divisor),
+            _ => Ok(*position),
+        }
+    }
+}
+
+impl<N> Positions<N> {
+    /// The watch of the table N.
+    pub fn new() -> Positions<N> {
+        Positions { of: PhantomData }
+    }
+}
+
+/// Counts the refused moves of each seat: that of seat s stands at place s - 1.
+#[derive(Clone, Copy)]
+pub struct RefusedMoves;
+
+impl Watch for RefusedMoves {
+    ghost use Rattle.std.specs.Prelude.{◌≡◌, replicate};
+    ghost use Rattle.dg_observer.specs.Watched.{refusal_counted};
+
+    type State = [u32; 64];
+
+    ghost begins = { λ counts. counts ≡ replicate 64 0 };
+
+    ghost goes_on = { λ counts e next. next ≡ refusal_counted counts e };
+
+    fn step(&self, counts: &[u32; 64], entry: &Entry) -> Result<[u32; 64], AllocError> {
+        let mut next = *counts;
+        if is_refused_move(entry) && entry.seat >= 1 && entry.seat <= MAX_SEATS {
+            let place = usize::from(entry.seat) - 1;
+            next[place] = next[place].saturating_add(1);
+        }
+        Ok(next)
+    }
+}
+
+fn is_refused_move(entry: &Entry) -> bool
+    ensures { result ≡ Rattle.dg_observer.specs.Watched.is_refused_move entry.now }
+{
+    match (&entry.request, &entry.reply) {
+        (Request::Move(_), Reply::Refused(_)) => true,
+        _ => false,
+    }
+}
+
+/// Amounts that are kept as `Positions` keeps them, over all entries of a legal history, are the position after it.
+pub fn positions_are_shown()
+    ensures { PositionsAreShown }
+{}
