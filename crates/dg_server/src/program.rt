@@ -14,7 +14,7 @@ use crate::service::serve_input;
 use crate::sources::Sources;
 use crate::table_source::table_in;
 use dg_file::TableFile;
-use dg_session::Output;
+use dg_session::{Output, SessionEnd};
 use std::io::{BufRead, Write};
 use std::rt::Files;
 use std::sync::Wait;
@@ -53,7 +53,8 @@ where
 }
 
 /// Does what is asked for. The whole text of an answer is made before its first byte is written, so that `output` gets
-/// nothing where another fault than `Write` comes; a session alone answers as its lines come.
+/// nothing where another fault than `Write` comes; but a session answers as its lines come, and the history of a party
+/// is printed also where sessions of it ended early.
 pub fn perform<R, S, I, O>(
     rt: &R,
     asked: Asked<'_>,
@@ -71,6 +72,7 @@ where
     ensures refused { IfErr result (λ fault. fault ≢ Fault.Write →
         Refuses (S.held sources.now) (I.remaining input) asked.entry fault (O.contents output.old.inner) (O.contents output.new.inner)) }
     ensures failed { result ≡ Err Fault.Write → output.new.has_failed ≡ true }
+    ensures unheard { result ≡ Err (Fault.Session SessionEnd.Write) → output.new.has_failed ≡ true }
 {
     match asked {
         Asked::Text(text) => Ok(output.write_whole(text.as_bytes())?),

@@ -1,5 +1,5 @@
 //! Sessions over the input of the program.
-ghost use Rattle.std.specs.Prelude.{◌≡◌, ◌≢◌, ℕ, length, Ok, IfErr, OnOk};
+ghost use Rattle.std.specs.Prelude.{◌≡◌, ◌≢◌, ℕ, length, Ok, Err, true, IfErr, OnOk};
 ghost use Rattle.dg_rank.specs.Ranks.{MayHaveWorkers};
 ghost use Rattle.dg_server.specs.Services.{Serves, EndsEarly, IsServed, RefusesService};
 
@@ -9,7 +9,7 @@ use crate::sources::Sources;
 use crate::table_source::table_in;
 use dg_file::TableFile;
 use dg_log::{Name, Row};
-use dg_session::{Input, Output, serve};
+use dg_session::{Input, Output, SessionEnd, serve};
 use dg_table::Table;
 use std::io::{Read, Write};
 use std::marker::Brand;
@@ -33,6 +33,7 @@ where
     ensures done { OnOk result
         (Serves (S.held sources.now) (I.remaining input) service.now (O.contents output.old.inner) (O.contents output.new.inner)) }
     ensures no_write { IfErr result (λ fault. fault ≢ Fault.Write) }
+    ensures failed { result ≡ Err (Fault.Session SessionEnd.Write) → output.new.has_failed ≡ true }
     ensures refused { IfErr result (λ fault. RefusesService (S.held sources.now) (I.remaining input) service.now fault
         (O.contents output.old.inner) (O.contents output.new.inner)) }
 {
@@ -73,6 +74,7 @@ where
     ensures done { OnOk result ((count : ℕ) × IsServed table.now.start (length row) table.now.names (I.remaining input)
         (O.contents output.old.inner) (O.contents output.new.inner) (Ok count)) }
     ensures no_write { IfErr result (λ fault. fault ≢ Fault.Write) }
+    ensures failed { result ≡ Err (Fault.Session SessionEnd.Write) → output.new.has_failed ≡ true }
     ensures early { IfErr result (λ fault. EndsEarly table.now.start (length row) table.now.names (I.remaining input) fault
         (O.contents output.old.inner) (O.contents output.new.inner)) }
 {

@@ -13,8 +13,8 @@
 --   Ends ..              == how the session ended: the lines that were read are counted, and all are answered; or, where reading
 --                           failed, where a line is too long or one too many, all whole lines before are; or it ended at a line
 --                           for what the table, the memory or a thread refused; or the writer took no more
---   IsSession o cap names input rest old new x y result == what was read is a stream of which the session ended so; it is
---                           what the reader gives no more, where that is known
+--   IsSession o cap names input rest old new x y result == some bytes were read, on which the session ended so: those by which
+--                           the reader's bytes, where they are known, have become the rest
 use Rattle.std.specs.Prelude.{◌≡◌, ℕ, ◌+◌, ◌≤◌, ◌⊎◌, List, [], ◌++◌, length, Option, None, Some, All, flat_map, ⊤, Result, Ok, Err}
 use Rattle.std.specs.Io.KnownBytes.{Appends, Consumes, IsAtEnd}
 use Rattle.dg_chips.specs.Opening.{Opening}
