@@ -7,5 +7,6 @@ pub mod Looks
 pub mod Settled
 pub mod Faults
 pub mod Closing
+pub mod Turns
 -- Words of private fields.
 pub mod Lock

@@ -9,18 +9,21 @@ ghost use Rattle.dg_game.specs.State.{LeadsTo};
 ghost use Rattle.dg_table.specs.Answered.{IsAnsweredAfter};
 ghost use Rattle.dg_table.specs.Closing.{HasSeat, IsComplete, AllHeld, AreTotals, IsMissing, SomeKeepsMore, RefusesClose, IsHistoryOf};
 ghost use Rattle.dg_table.specs.Faults.{RefusesStep, RefusesSettling};
+ghost use Rattle.dg_table.specs.declared.fault.Fault.TheVariants.{Log as LogFault};
 ghost use Rattle.dg_game.specs.declared.entry.Entry.{Entry as EntryData};
 ghost use Rattle.dg_table.specs.Lock.{IsReady, IsKept};
 ghost use Rattle.dg_table.specs.Looks.{IsLookOf};
 ghost use Rattle.dg_table.specs.Opened.{MayHaveSeats};
 ghost use Rattle.dg_table.specs.Seats.{SeatView, Holds, IsAdmissible};
 ghost use Rattle.dg_table.specs.Settled.{IsSettledAfter};
+ghost use Rattle.dg_table.specs.Turns.{MayBeAsked, request_for, IsTurnAfter, RefusesTurnAfter};
 
 use crate::audit::Audit;
 use crate::fault::Fault;
 use crate::seat::Seat;
-use dg_chips::Start;
+use dg_chips::{Divisor, Move, Start};
 use dg_game::{Entry, Finding, Game, LookData, Plain, Reply, Request};
+use dg_graph::Graph;
 use dg_log::{Log, Name, Pen, Receipt};
 use std::marker::Model;
 
@@ -85,9 +88,10 @@ impl<N: Name> Held<N> {
 
     /// Whether the history has room for an entry of the seat, and holds what the seat knows; or why not.
     fn ready(&self, log: &Log<N>, seat: &Seat<N>) -> Result<(), Fault>
-        ensures { MatchResult result
+        ensures stands { MatchResult result
             (λ _. IsReady (length N.cells) self.now.entries seat.now)
             (RefusesStep N.start (length N.cells) self.now.entries seat.now self.now.stuck self.now.stuck) }
+        ensures barred { IfErr result (λ f. f ≡ LogFault → ¬ IsAdmissible self.now.entries seat.now) }
     {
         let len = self.pen.len();
         if len == log.len() {
@@ -129,6 +133,35 @@ impl<N: Name> Held<N> {
         let mut game = self.game;
         let reply = game.act(plain);
         self.enter(log, seat, slot, plain.request(), reply, game)
+    }
+
+    /// Asks for a call at the position found, once: a move, or none, which claims. Answers it, enters it as the last of the
+    /// history, and gives the seat its receipt. The conditions are that the seat has the space, and that the choice may be
+    /// asked at every position; the box is used for the entry.
+    ///
+    /// Refused as `call`; only where the cell refuses the entry was the choice asked.
+    pub fn turn<F: FnMut(&Graph, &Divisor) -> Option<Move>>(
+        &mut self,
+        log: &Log<N>,
+        seat: &mut Seat<N>,
+        slot: Box<Entry>,
+        choose: &mut F,
+    ) -> Result<Receipt<N>, Fault>
+        requires space { seat.old.space ≡ true }
+        requires asked { MayBeAsked F.FnMut choose.old }
+        ensures entered { IfOk result (λ r.
+            IsTurnAfter F.FnMut N.start self.old.entries choose.old choose.new r seat.old seat.new ×
+            (self.new ≡ record { entries = self.old.entries ++ r.1 ∷ []; stuck = false }) ×
+            (length self.old.entries < length N.cells) × IsAdmissible self.old.entries seat.old) }
+        ensures refused { IfErr result (λ f. (self.new.entries ≡ self.old.entries) × (seat.new ≡ seat.old) ×
+            RefusesTurnAfter F.FnMut N.start (length N.cells) self.old.entries seat.old
+            self.old.stuck self.new.stuck choose.old choose.new f) }
+    {
+        self.ready(log, seat)?;
+        let mut game = self.game;
+        let chosen = call_for(choose(game.graph(), game.position()));
+        let reply = game.act(chosen);
+        self.enter(log, seat, slot, chosen.request(), reply, game)
     }
 
     /// Enters a finding on a look as the last of the history, gives the seat its receipt, and tells the seat of the
@@ -295,6 +328,16 @@ impl<N: Name> Held<N> {
             log,
             pen,
         }
+    }
+}
+
+/// The call that is chosen by an answer: the move, or a claim where there is none.
+fn call_for(answer: Option<Move>) -> Plain
+    ensures { asked result ≡ request_for answer }
+{
+    match answer {
+        Some(play) => Plain::Move(play),
+        None => Plain::Claim,
     }
 }
 

@@ -9,13 +9,15 @@ ghost use Rattle.dg_table.specs.Looks.{IsLookOf};
 ghost use Rattle.dg_table.specs.Opened.{AreFresh, RefusesTable};
 ghost use Rattle.dg_table.specs.Seats.{Keeps};
 ghost use Rattle.dg_table.specs.Settled.{IsSettled};
+ghost use Rattle.dg_table.specs.Turns.{MayBeAsked, IsTurn, RefusesTurn};
 
 use crate::audit::Audit;
 use crate::fault::{Fault, TableFault};
 use crate::held::Held;
 use crate::seat::Seat;
-use dg_chips::Start;
+use dg_chips::{Divisor, Move, Start};
 use dg_game::{Finding, LookData, MAX_SEATS, Plain};
+use dg_graph::Graph;
 use dg_log::{Log, Name, Receipt, Row};
 use std::alloc::Global;
 use std::sync::{Mutex, Wait};
@@ -95,6 +97,29 @@ impl<N: Name> Table<N> {
             return Err(Fault::OutOfMemory);
         };
         self.held.lock(rt).call(&self.log, seat, slot, plain)
+    }
+
+    /// A call of the seat that is chosen at the position which it finds: `choose` is asked once, under the lock, for a move, or
+    /// for none, which claims. It is answered as `call` answers it. The condition is that `choose` may be asked at every
+    /// position.
+    ///
+    /// It waits for the lock. Refused as `call`; only where the cell refuses the entry was `choose` asked.
+    pub fn turn<F: FnMut(&Graph, &Divisor) -> Option<Move>>(
+        &self,
+        rt: &impl Wait,
+        alloc: Global,
+        seat: &mut Seat<N>,
+        choose: &mut F,
+    ) -> Result<Receipt<N>, Fault>
+        requires { MayBeAsked F.FnMut choose.old }
+        ensures turned { IfOk result (λ r. IsTurn F.FnMut N.start choose.old choose.new r seat.old seat.new) }
+        ensures fault { IfErr result (λ f. Keeps seat.old seat.new ×
+            RefusesTurn F.FnMut N.start (length N.cells) seat.new choose.old choose.new f) }
+    {
+        let Ok(slot) = seat.room(alloc) else {
+            return Err(Fault::OutOfMemory);
+        };
+        self.held.lock(rt).turn(&self.log, seat, slot, choose)
     }
 
     /// Enters what was reckoned on the look of a receipt: as stale where gifts were accepted since; otherwise a verdict

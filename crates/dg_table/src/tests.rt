@@ -3,6 +3,7 @@ mod pens;
 mod seats;
 mod settles;
 mod threads;
+mod turns;
 
 use dg_chips::{Divisor, Start};
 use dg_graph::Graph;

@@ -4,7 +4,7 @@ pub enter-requires-clause-legal : goal.enter-requires-clause-legal
 enter-requires-clause-legal g c =
     let held = rw c.self.view_is at c.self.invariant.0 in
     rw c.request.ensures (c.act-reply.ensures.legal g.N.Name.start c.args.self.now.entries c.args.seat.now.number
-    held.game' held.legal c.in_ok-ready.ensures.seat)
+    held.game' held.legal c.in_ok-ready.ensures.stands.seat)
 
 pub enter-requires-clause-leads : goal.enter-requires-clause-leads
 enter-requires-clause-leads g c =

@@ -4,8 +4,8 @@ use Rattle.dg_log.specs.Numbered.{StandIn}
 use Rattle.dg_table.proofs.held.Held.ready.Goals as goal
 use Rattle.dg_table.proofs.held.Held.ready.Goals.{then-below, else-below}
 
-pub returns-then-below-2 : goal.returns-then-below-2
-returns-then-below-2 g c =
+pub returns-then-below-2-clause-stands : goal.returns-then-below-2-clause-stands
+returns-then-below-2-clause-stands g c =
     let seated = c.seat.invariant in
     let full : length g.N.Name.cells ≤ c.len-len.result = omega (arith, c.len.ensures.length) in
     let mine : StandIn c.self.inside.pen.entries c.seat.inside.mine_digest = elim c.if-below.branch [
