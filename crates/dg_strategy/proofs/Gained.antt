@@ -1,0 +1,149 @@
+-- What a seat gains by turns in a row.
+--   left_by          what turns in a row leave of a seat
+--   gained_by        what is gained by turns in a row, whatever the seat's space after them
+--   a_move           a turn that is no claim is a move
+--   one_more         one more turn that is a move
+--   claimed_by       a turn that is a claim
+--   stopped_by       a turn that is refused
+--   played_out       turns that were all moves
+--   gained_as, played_as, stopped_as   turns that are each of another kind too
+use Rattle.std.proofs.Common.{◌≡◌, ℕ, ◌+◌, ◌<◌, List, [], ◌∷◌, ◌++◌, length, length-append, Option, Some, None, append_assoc, append-nil, arith, refl, sym, ap, subst, ◌∙◌}
+use Rattle.std.proofs.lemmas.Fn.{FoldsTo-push}
+use Rattle.std.specs.List.{FoldsTo}
+use Rattle.dg_chips.specs.Opening.{Opening}
+use Rattle.dg_chips.specs.declared.moves.Move.{Move}
+use Rattle.dg_game.specs.declared.entry.Entry.{Entry}
+use Rattle.dg_game.specs.declared.entry.Request.TheVariants.{Claim}
+use Rattle.dg_table.specs.Faults.{RefusesCall}
+use Rattle.dg_table.specs.Turns.{request_for}
+use Rattle.dg_table.specs.Seats.{SeatView, Keeps}
+use Rattle.dg_table.specs.declared.fault.Fault.{Fault}
+use Rattle.dg_strategy.specs.Choices.{Answers}
+use Rattle.dg_strategy.specs.Plays.{IsTurnBy, IsMove, AreMoves, Gains, IsPlayedOut, IsClaimed, IsPlayed, IsStopped}
+use Rattle.dg_strategy.specs.declared.playing.Ended.{Ended}
+use Rattle.dg_strategy.specs.declared.playing.Ended.TheVariants.{Settled, Turns}
+
+-- the seat y is the seat x with the entries es
+pub record Left (x : SeatView) (es : List (ℕ × Entry)) (y : SeatView) : Type 0 where
+  pub number : y.number ≡ x.number
+  pub mine : y.mine ≡ x.mine ++ es
+  pub told : y.told ≡ x.told
+
+pub left_by : (A : Answers) (o : Opening) (x : SeatView) (es : List (ℕ × Entry)) (y : SeatView) →
+    FoldsTo (IsTurnBy A o) x es y → Left x es y
+left_by A o x [] y same =
+    subst (Left x []) same (record { number = refl; mine = sym (append-nil x.mine); told = refl })
+left_by A o x (r ∷ es) y (z, turn, rest) =
+    let left = left_by A o z es y rest in
+    record {
+      number = left.number ∙ turn.answered.number;
+      mine = left.mine ∙ ap (λ ps. ps ++ es) turn.answered.mine ∙ append_assoc x.mine (r ∷ []) es;
+      told = left.told ∙ turn.answered.told;
+    }
+
+pub gained_by : (A : Answers) (o : Opening) (x : SeatView) (es : List (ℕ × Entry)) (y z : SeatView) →
+    FoldsTo (IsTurnBy A o) x es y → Keeps y z → Gains (IsTurnBy A o) x es z
+gained_by A o x es y z steps kept =
+    let left = left_by A o x es y steps in
+    record {
+      last = y;
+      steps = steps;
+      kept = kept;
+      number = kept.number ∙ left.number;
+      mine = kept.mine ∙ left.mine;
+      told = kept.told ∙ left.told;
+    }
+
+moves_more : (es : List (ℕ × Entry)) (r : ℕ × Entry) → AreMoves es → IsMove r.1.request → AreMoves (es ++ r ∷ [])
+moves_more [] r moves move = (move, tt)
+moves_more (p ∷ es) r moves move = (moves.0, moves_more es r moves.1 move)
+
+keeps_itself : (x : SeatView) → Keeps x x
+keeps_itself x = record { number = refl; mine = refl; told = refl }
+
+module _ (A : Answers) (o : Opening) where
+  pub a_move : (x : SeatView) (r : ℕ × Entry) (y : SeatView) → IsTurnBy A o x r y → ¬ (r.1.request ≡ Claim) → IsMove r.1.request
+  a_move x r y turn other = asks turn.answer turn.answered.request'
+    where
+      asks : (m : Option Move) → r.1.request ≡ request_for m → IsMove r.1.request
+      asks (Some m) is = subst IsMove (sym is) tt
+      asks None is = absurd (other is)
+
+  -- what turns that are moves leave of a seat, and how many they are
+  abbrev pub Moved : SeatView → SeatView → ℕ → Type 0
+  Moved x y n = (es : List (ℕ × Entry)) × FoldsTo (IsTurnBy A o) x es y × AreMoves es × (length es ≡ n)
+
+  pub one_more : (x y z : SeatView) (r : ℕ × Entry) (n : ℕ) → Moved x y n → IsTurnBy A o y r z → ¬ (r.1.request ≡ Claim) → Moved x z (n + 1)
+  one_more x y z r n (es, steps, moves, count) turn other = (
+    es ++ r ∷ [],
+    FoldsTo-push (IsTurnBy A o) x es y r z steps turn,
+    moves_more es r moves (a_move y r z turn other),
+    omega (arith, count, length-append es (r ∷ [])),
+  )
+
+  pub claimed_by : (x y z : SeatView) (r : ℕ × Entry) (i n : ℕ) → Moved x y i → i < n → IsTurnBy A o y r z → r.1.request ≡ Claim →
+      IsClaimed (IsTurnBy A o) n x z r
+  claimed_by x y z r i n (es, steps, moves, count) few turn claim = record {
+    entries = es;
+    gained = gained_by A o x (es ++ r ∷ []) z z (FoldsTo-push (IsTurnBy A o) x es y r z steps turn) (keeps_itself z);
+    moves = moves;
+    few = omega (arith, count, few);
+    claim = claim;
+  }
+
+  pub stopped_by : (cap i n : ℕ) (x y z : SeatView) (fault : Fault) → Moved x y i → i < n → Keeps y z → RefusesCall o cap z fault →
+      IsStopped (IsTurnBy A o) o cap n x z fault
+  stopped_by cap i n x y z fault (es, steps, moves, count) few kept refused = record {
+    entries = es;
+    gained = gained_by A o x es y z steps kept;
+    moves = moves;
+    few = omega (arith, count, few);
+    refused = refused;
+  }
+
+  pub played_out : (n : ℕ) (x y : SeatView) → Moved x y n → IsPlayedOut (IsTurnBy A o) n x y
+  played_out n x y (es, steps, moves, count) = record {
+    entries = es;
+    gained = gained_by A o x es y y steps (keeps_itself y);
+    moves = moves;
+    count = count;
+  }
+
+module _ (T S : SeatView → ℕ × Entry → SeatView → Type 0) (also : (x : SeatView) (r : ℕ × Entry) (y : SeatView) → T x r y → S x r y) where
+  steps_as : (x : SeatView) (es : List (ℕ × Entry)) (y : SeatView) → FoldsTo T x es y → FoldsTo S x es y
+  steps_as x [] y same = same
+  steps_as x (r ∷ es) y (z, step, rest) = (z, also x r z step, steps_as z es y rest)
+
+  pub gained_as : (x : SeatView) (es : List (ℕ × Entry)) (y : SeatView) → Gains T x es y → Gains S x es y
+  gained_as x es y gained = record {
+    last = gained.last;
+    steps = steps_as x es gained.last gained.steps;
+    kept = gained.kept;
+    number = gained.number;
+    mine = gained.mine;
+    told = gained.told;
+  }
+
+  pub played_as : {N : Type 0} (n : ℕ) (x y : SeatView) (ended : Ended N) → IsPlayed T n x y ended → IsPlayed S n x y ended
+  played_as n x y (Settled r) played = record {
+    entries = played.entries;
+    gained = gained_as x (played.entries ++ r ∷ []) y played.gained;
+    moves = played.moves;
+    few = played.few;
+    claim = played.claim;
+  }
+  played_as n x y Turns played = record {
+    entries = played.entries;
+    gained = gained_as x played.entries y played.gained;
+    moves = played.moves;
+    count = played.count;
+  }
+
+  pub stopped_as : (o : Opening) (cap n : ℕ) (x y : SeatView) (fault : Fault) → IsStopped T o cap n x y fault → IsStopped S o cap n x y fault
+  stopped_as o cap n x y fault stopped = record {
+    entries = stopped.entries;
+    gained = gained_as x stopped.entries y stopped.gained;
+    moves = stopped.moves;
+    few = stopped.few;
+    refused = stopped.refused;
+  }

@@ -1,0 +1,3 @@
+-- Lemmas about turns in a row, and what a move or a claim of a strategy comes to.
+pub mod Gained
+pub mod Turned

@@ -1,0 +1,112 @@
+-- What a move or a claim of a strategy comes to.
+--   settler_moves    a settler's moves can be made
+--   strategy_turn    a turn by a choice whose moves can be made
+--   settler_turn     a turn by a choice that settles debts
+use Rattle.std.proofs.Common.{◌≡◌, ℕ, ◌+◌, ◌<◌, ◌≤◌, List, [], ◌∷◌, ◌++◌, Option, Some, None, arith, refl, sym, ap, subst, ◌∙◌}
+use Rattle.dg_theory.specs.Firing.{IsEffective}
+use Rattle.dg_graph.specs.Graph.{IsGraph}
+use Rattle.dg_chips.specs.Opening.{Opening}
+use Rattle.dg_chips.specs.Vector.{Vector, at}
+use Rattle.dg_chips.specs.Moves.{IsPlayable}
+use Rattle.dg_chips.specs.declared.moves.Move.{Move}
+use Rattle.dg_chips.specs.declared.moves.Move.TheVariants.{Lend, Borrow, Fire, Script}
+use Rattle.dg_game.specs.History.{position_after, gifts_in, gift_counted}
+use Rattle.dg_game.specs.Position.{Position, Shows}
+use Rattle.dg_game.specs.MoveReplies.{RepliesToMove}
+use Rattle.dg_game.specs.Replies.{Replies, RepliesToClaim}
+use Rattle.dg_game.specs.declared.entry.Entry.{Entry}
+use Rattle.dg_game.specs.declared.entry.Refusal.{Refusal}
+use Rattle.dg_game.specs.declared.entry.Refusal.TheVariants.{NoVertex, Empty, Script as OtherScript, Gift, Range}
+use Rattle.dg_game.specs.declared.entry.Reply.{Reply}
+use Rattle.dg_game.specs.declared.entry.Reply.TheVariants.{Moved, Refused, Won, NotWon}
+use Rattle.dg_game.specs.declared.entry.Request.TheVariants as request
+use Rattle.dg_game.proofs.HistoryLaws.{gifts_in-more}
+use Rattle.dg_table.specs.Seats.{SeatView}
+use Rattle.dg_table.specs.Turns.{request_for}
+use Rattle.dg_strategy.specs.Choices.{Answers, GivesMoves, SettlesDebts, BorrowsInDebt}
+use Rattle.dg_strategy.specs.Plays.{IsTurnBy, IsMove, IsMoved, IsStrategyTurn, IsSettlerTurn}
+
+-- a move that can be made is refused for the range alone
+move_answered : (p : Position) (m : Move) (reply : Reply) → IsPlayable p.graph.size m → RepliesToMove p m reply →
+    IsMoved reply × (gift_counted reply ≡ 0)
+move_answered p m (Moved d) playable replies = (tt, refl)
+move_answered p (Lend v) (Refused NoVertex) playable replies = absurd (omega (arith, playable, replies))
+move_answered p (Borrow v) (Refused NoVertex) playable replies = absurd (omega (arith, playable, replies))
+move_answered p (Fire m) (Refused NoVertex) playable (v, past, inside) = absurd (omega (arith, past, playable.1 v inside))
+move_answered p (Script s) (Refused NoVertex) playable replies = absurd replies
+move_answered p (Lend v) (Refused Empty) playable replies = absurd replies
+move_answered p (Borrow v) (Refused Empty) playable replies = absurd replies
+move_answered p (Fire m) (Refused Empty) playable replies = absurd (playable.0 replies)
+move_answered p (Script s) (Refused Empty) playable replies = absurd replies
+move_answered p (Lend v) (Refused OtherScript) playable replies = absurd replies
+move_answered p (Borrow v) (Refused OtherScript) playable replies = absurd replies
+move_answered p (Fire m) (Refused OtherScript) playable replies = absurd replies
+move_answered p (Script s) (Refused OtherScript) playable replies = absurd (replies playable)
+move_answered p m (Refused Gift) playable replies = absurd replies
+move_answered p m (Refused Range) playable replies = (tt, refl)
+move_answered p m reply playable replies = absurd replies
+
+-- a claim gives nothing
+claim_answered : (p : Position) (reply : Reply) → RepliesToClaim p reply → gift_counted reply ≡ 0
+claim_answered p Won replies = refl
+claim_answered p NotWon replies = refl
+claim_answered p reply replies = absurd replies
+
+-- a claim where nobody is in debt is won
+claim_won : (p : Position) (reply : Reply) → IsEffective p.graph.size p.amounts → RepliesToClaim p reply → reply ≡ Won
+claim_won p Won effective replies = refl
+claim_won p NotWon effective replies = absurd (replies effective)
+claim_won p reply effective replies = absurd replies
+
+pub settler_moves : (A : Answers) → SettlesDebts A → GivesMoves A
+settler_moves A settles g d m graph size may = borrows m (settles.moves g d m graph size may)
+  where
+    borrows : (m : Move) → BorrowsInDebt d m → IsPlayable g.size m
+    borrows (Borrow v) debt = subst (λ n. v < n) size debt.0
+    borrows m debt = absurd debt
+
+module _ (A : Answers) (o : Opening) (graph : IsGraph o.graph) (x : SeatView) (r : ℕ × Entry) (y : SeatView) where
+  -- the reply to what was answered, and what is known of it where the answer is a move that can be made
+  answered : (gives : GivesMoves A) (turn : IsTurnBy A o x r y) (m : Option Move) → turn.answer ≡ m →
+      (IsMove r.1.request → IsMoved r.1.reply) × (gift_counted r.1.reply ≡ 0)
+  unfolding position_after
+  answered gives turn (Some m) is =
+      let chosen = rw is at turn.chosen in
+      let asked : r.1.request ≡ request.Move m = turn.answered.request' ∙ ap request_for is in
+      let replies : Replies o turn.history (request.Move m) r.1.reply =
+      subst (λ q. Replies o turn.history q r.1.reply) (ap request_for is) turn.answered.reply in
+      let playable = gives (position_after o turn.history).graph turn.amounts m graph turn.shown.size chosen in
+      let found = move_answered (position_after o turn.history) m r.1.reply playable replies in
+      ((λ move. found.0), found.1)
+  answered gives turn None is =
+      let asked : r.1.request ≡ request.Claim = turn.answered.request' ∙ ap request_for is in
+      let replies : Replies o turn.history request.Claim r.1.reply =
+      subst (λ q. Replies o turn.history q r.1.reply) (ap request_for is) turn.answered.reply in
+      ((λ move. absurd (subst IsMove asked move)), claim_answered (position_after o turn.history) r.1.reply replies)
+
+  pub strategy_turn : GivesMoves A → IsTurnBy A o x r y → IsStrategyTurn A o x r y
+  strategy_turn gives turn =
+      let found = answered gives turn turn.answer refl in
+      record {
+        turn = turn;
+        gifts = omega (arith, gifts_in-more turn.history r.1, found.1);
+        moved = found.0;
+      }
+
+  pub settler_turn : SettlesDebts A → IsTurnBy A o x r y → IsSettlerTurn A o x r y
+  unfolding position_after strategy_turn
+  settler_turn settles turn =
+      let kept = strategy_turn (settler_moves A settles) turn in
+      let p = position_after o turn.history in
+      let won : turn.answer ≡ None → r.1.reply ≡ Won = λ is.
+      let chosen = rw is at turn.chosen in
+      let effective : IsEffective p.graph.size (at turn.amounts) = settles.claims p.graph turn.amounts graph turn.shown.size chosen in
+      let replies : RepliesToClaim p r.1.reply = subst (λ q. Replies o turn.history q r.1.reply) (ap request_for is) turn.answered.reply in
+      claim_won p r.1.reply (λ v below. rw (← turn.shown.amounts v below) (effective v below)) replies in
+      record {
+        turn = turn;
+        gifts = kept.gifts;
+        moved = kept.moved;
+        borrows = λ m is. settles.moves p.graph turn.amounts m graph turn.shown.size (rw is at turn.chosen);
+        won = won;
+      }

@@ -1,0 +1,3 @@
+-- Strategies: what may be chosen, and what comes of playing so.
+pub mod Choices
+pub mod Plays

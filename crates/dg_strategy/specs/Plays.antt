@@ -1,0 +1,100 @@
+-- Playing as a choice says. A has what the choice may answer; x and y are a seat before and after; o is the opening of the table,
+-- and cap the number of entries that its history may have.
+--   IsMove request          == the request is a move
+--   AreMoves es             == each of the entries es is a move
+--   IsTurnBy A o x r y      == after some history the seat x is answered with the receipt r, and is then y: what it asked for is
+--                              what A has there
+--   IsMoved reply           == the move was made, or refused only since an amount would have left the range
+--   IsStrategyTurn A o x r y == so it is; the gift count stays, and a move is answered so
+--   IsSettlerTurn A o x r y == so it is; a move is a borrowing by a vertex in debt, and a claim is won
+--   Gains T x es y          == the seat gained the entries es, in order, each by a step of T, and was told of nothing
+--   IsPlayed T n x y ended  == in n turns, all moves, the seat gained n entries; or in fewer, by moves and then by the claim of
+--                              the receipt, those entries
+--   IsStopped T o cap n x y fault == after fewer than n turns, all moves, the next one was refused with the fault
+use Rattle.std.specs.Prelude.{◌≡◌, ℕ, ◌<◌, List, [], ◌∷◌, ◌++◌, length, slice_get, Option, Some, None, ⊤}
+use Rattle.std.specs.List.{FoldsTo}
+use Rattle.dg_chips.specs.Opening.{Opening}
+use Rattle.dg_chips.specs.Vector.{Vector}
+use Rattle.dg_chips.specs.declared.moves.Move.{Move}
+use Rattle.dg_game.specs.Position.{Shows}
+use Rattle.dg_game.specs.History.{position_after, gifts_in}
+use Rattle.dg_game.specs.declared.entry.Entry.{Entry}
+use Rattle.dg_game.specs.declared.entry.Refusal.TheVariants.{Range}
+use Rattle.dg_game.specs.declared.entry.Request.{Request}
+use Rattle.dg_game.specs.declared.entry.Request.TheVariants as request
+use Rattle.dg_game.specs.declared.entry.Reply.{Reply}
+use Rattle.dg_game.specs.declared.entry.Reply.TheVariants.{Moved, Refused, Won}
+use Rattle.dg_table.specs.Answered.{IsAnsweredAfter}
+use Rattle.dg_table.specs.Faults.{RefusesCall}
+use Rattle.dg_table.specs.Seats.{SeatView, Keeps}
+use Rattle.dg_table.specs.Turns.{request_for}
+use Rattle.dg_table.specs.declared.fault.Fault.{Fault}
+use Rattle.dg_strategy.specs.Choices.{Answers, BorrowsInDebt}
+use Rattle.dg_strategy.specs.declared.playing.Ended.{Ended}
+use Rattle.dg_strategy.specs.declared.playing.Ended.TheVariants.{Settled, Turns}
+
+abbrev pub IsMove : Request → Type 0
+IsMove (request.Move m) = ⊤
+IsMove request = ⊥
+
+abbrev pub AreMoves : List (ℕ × Entry) → Type 0
+AreMoves [] = ⊤
+AreMoves (p ∷ es) = IsMove p.1.request × AreMoves es
+
+pub record IsTurnBy (A : Answers) (o : Opening) (x : SeatView) (r : ℕ × Entry) (y : SeatView) : Type 0 where
+  pub history : List Entry
+  pub amounts : Vector
+  pub answer : Option Move
+  pub shown : Shows (position_after o history) amounts
+  pub chosen : A (position_after o history).graph amounts answer
+  pub answered : IsAnsweredAfter o history (request_for answer) r x y
+
+abbrev pub IsMoved : Reply → Type 0
+IsMoved (Moved d) = ⊤
+IsMoved (Refused Range) = ⊤
+IsMoved reply = ⊥
+
+pub record IsStrategyTurn (A : Answers) (o : Opening) (x : SeatView) (r : ℕ × Entry) (y : SeatView) : Type 0 where
+  pub turn : IsTurnBy A o x r y
+  pub gifts : gifts_in (turn.history ++ r.1 ∷ []) ≡ gifts_in turn.history
+  pub moved : IsMove r.1.request → IsMoved r.1.reply
+
+pub record IsSettlerTurn (A : Answers) (o : Opening) (x : SeatView) (r : ℕ × Entry) (y : SeatView) : Type 0 where
+  pub turn : IsTurnBy A o x r y
+  pub gifts : gifts_in (turn.history ++ r.1 ∷ []) ≡ gifts_in turn.history
+  pub moved : IsMove r.1.request → IsMoved r.1.reply
+  pub borrows : (m : Move) → turn.answer ≡ Some m → BorrowsInDebt turn.amounts m
+  pub won : turn.answer ≡ None → r.1.reply ≡ Won
+
+module _ (T : SeatView → ℕ × Entry → SeatView → Type 0) where
+  pub record Gains (x : SeatView) (es : List (ℕ × Entry)) (y : SeatView) : Type 0 where
+    pub last : SeatView
+    pub steps : FoldsTo T x es last
+    pub kept : Keeps last y
+    pub number : y.number ≡ x.number
+    pub mine : y.mine ≡ x.mine ++ es
+    pub told : y.told ≡ x.told
+
+  pub record IsPlayedOut (n : ℕ) (x y : SeatView) : Type 0 where
+    pub entries : List (ℕ × Entry)
+    pub gained : Gains x entries y
+    pub moves : AreMoves entries
+    pub count : length entries ≡ n
+
+  pub record IsClaimed (n : ℕ) (x y : SeatView) (r : ℕ × Entry) : Type 0 where
+    pub entries : List (ℕ × Entry)
+    pub gained : Gains x (entries ++ r ∷ []) y
+    pub moves : AreMoves entries
+    pub few : length entries < n
+    pub claim : r.1.request ≡ request.Claim
+
+  abbrev pub IsPlayed : {N : Type 0} → ℕ → SeatView → SeatView → Ended N → Type 0
+  IsPlayed n x y (Settled r) = IsClaimed n x y r
+  IsPlayed n x y Turns = IsPlayedOut n x y
+
+  pub record IsStopped (o : Opening) (cap n : ℕ) (x y : SeatView) (fault : Fault) : Type 0 where
+    pub entries : List (ℕ × Entry)
+    pub gained : Gains x entries y
+    pub moves : AreMoves entries
+    pub few : length entries < n
+    pub refused : RefusesCall o cap y fault

@@ -1,0 +1,16 @@
+//! Strategies: what chooses a seat's calls, kept with what is known of it.
+#![tactic(auto)]
+
+mod choice;
+mod least_debtor;
+mod playing;
+mod settler;
+mod strategy;
+#[cfg(test)]
+mod tests;
+
+pub use choice::Choose;
+pub use least_debtor::{LeastDebtor, greedy_settler};
+pub use playing::{Ended, play, settle_out};
+pub use settler::Settler;
+pub use strategy::Strategy;

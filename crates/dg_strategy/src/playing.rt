@@ -1,0 +1,118 @@
+//! Turns in a row.
+ghost use Rattle.std.specs.Prelude.{◌≡◌, length, IfOk, IfErr, MatchResult, true, IsTrue, ◌↔◌};
+ghost use Rattle.dg_table.specs.Faults.{RefusesCall};
+ghost use Rattle.dg_table.specs.Seats.{Keeps};
+ghost use Rattle.dg_game.specs.declared.entry.Request.TheVariants.{Claim as ClaimRequest};
+ghost use Rattle.dg_strategy.specs.Plays.{IsTurnBy, IsStrategyTurn, IsSettlerTurn, IsPlayed, IsStopped};
+
+use crate::choice::Choose;
+use crate::settler::Settler;
+use crate::strategy::Strategy;
+use dg_chips::Divisor;
+use dg_game::{Entry, Request};
+use dg_graph::Graph;
+use dg_log::{Name, Receipt};
+use dg_table::{Fault, Seat, Table};
+use std::alloc::Global;
+use std::sync::Wait;
+
+/// How a play ended.
+#[derive(Drop)]
+pub enum Ended<N: Name> {
+    /// With the claim of this receipt.
+    Settled(Receipt<N>),
+    /// With the last of its turns, which was a move as all were.
+    Turns,
+}
+
+/// Plays so many turns as the strategy says, or until it claims. Each turn asks once, at the position found, and is an entry of
+/// the seat; its moves are made, or refused where an amount would leave the range, and never change the gift count.
+///
+/// It waits for the lock. Refused as a turn is; the entries made before stay.
+pub fn play<N: Name, C: Choose + Drop>(
+    rt: &impl Wait,
+    alloc: Global,
+    table: &Table<N>,
+    seat: &mut Seat<N>,
+    strategy: &Strategy<C>,
+    turns: u32,
+) -> Result<Ended<N>, Fault>
+    ensures { MatchResult result
+        (IsPlayed (IsStrategyTurn (C.may_answer strategy.now) N.start) turns seat.old seat.new)
+        (IsStopped (IsStrategyTurn (C.may_answer strategy.now) N.start) N.start (length N.cells) turns seat.old seat.new) }
+{
+    let _graph = table.start().graph();
+    match turns_by(rt, alloc, table, seat, &strategy.choice, turns) {
+        Ok(ended) => Ok(ended),
+        Err(fault) => Err(fault),
+    }
+}
+
+/// Plays so many turns as the settler says, or until it claims: each move is a borrowing by a vertex in debt, and the claim is
+/// won.
+///
+/// It waits for the lock. Refused as a turn is; the entries made before stay.
+pub fn settle_out<N: Name, C: Choose + Drop>(
+    rt: &impl Wait,
+    alloc: Global,
+    table: &Table<N>,
+    seat: &mut Seat<N>,
+    settler: &Settler<C>,
+    turns: u32,
+) -> Result<Ended<N>, Fault>
+    ensures { MatchResult result
+        (IsPlayed (IsSettlerTurn (C.may_answer settler.now) N.start) turns seat.old seat.new)
+        (IsStopped (IsSettlerTurn (C.may_answer settler.now) N.start) N.start (length N.cells) turns seat.old seat.new) }
+{
+    let _graph = table.start().graph();
+    match turns_by(rt, alloc, table, seat, &settler.choice, turns) {
+        Ok(ended) => Ok(ended),
+        Err(fault) => Err(fault),
+    }
+}
+
+// So many turns as the choice says, or until it claims.
+fn turns_by<N: Name, C: Choose>(
+    rt: &impl Wait,
+    alloc: Global,
+    table: &Table<N>,
+    seat: &mut Seat<N>,
+    choice: &C,
+    turns: u32,
+) -> Result<Ended<N>, Fault>
+    ensures { MatchResult result
+        (IsPlayed (IsTurnBy (C.may_answer choice.now) N.start) turns seat.old seat.new)
+        (IsStopped (IsTurnBy (C.may_answer choice.now) N.start) N.start (length N.cells) turns seat.old seat.new) }
+{
+    for _ in 0..turns {
+        let receipt = turn_by(rt, alloc, table, seat, choice)?;
+        if is_claim(table.log().entry(&receipt)) {
+            return Ok(Ended::Settled(receipt));
+        }
+    }
+    Ok(Ended::Turns)
+}
+
+// One turn, as the choice says.
+fn turn_by<N: Name, C: Choose>(
+    rt: &impl Wait,
+    alloc: Global,
+    table: &Table<N>,
+    seat: &mut Seat<N>,
+    choice: &C,
+) -> Result<Receipt<N>, Fault>
+    ensures turn { IfOk result (λ r. IsTurnBy (C.may_answer choice.now) N.start seat.old r seat.new) }
+    ensures fault { IfErr result (λ f. Keeps seat.old seat.new × RefusesCall N.start (length N.cells) seat.new f) }
+{
+    let mut choose = |graph: &Graph, position: &Divisor| choice.choose(graph, position);
+    table.turn(rt, alloc, seat, &mut choose)
+}
+
+fn is_claim(entry: &Entry) -> bool
+    ensures { IsTrue result ↔ (entry.now.request ≡ ClaimRequest) }
+{
+    match entry.request {
+        Request::Claim => true,
+        _ => false,
+    }
+}
