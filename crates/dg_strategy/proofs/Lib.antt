@@ -1,3 +1,4 @@
 -- Lemmas about turns in a row, and what a move or a claim of a strategy comes to.
 pub mod Gained
 pub mod Turned
+pub mod Greedily

@@ -1,3 +1,4 @@
 -- Strategies: what may be chosen, and what comes of playing so.
 pub mod Choices
 pub mod Plays
+pub mod Greedy

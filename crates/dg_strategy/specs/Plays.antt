@@ -7,11 +7,12 @@
 --   IsMoved reply           == the move was made, or refused only since an amount would have left the range
 --   IsStrategyTurn A o x r y == so it is; the gift count stays, and a move is answered so
 --   IsSettlerTurn A o x r y == so it is; a move is a borrowing by a vertex in debt, and a claim is won
+--   is_settled ended        == whether it ended with a claim
 --   Gains T x es y          == the seat gained the entries es, in order, each by a step of T, and was told of nothing
 --   IsPlayed T n x y ended  == in n turns, all moves, the seat gained n entries; or in fewer, by moves and then by the claim of
 --                              the receipt, those entries
 --   IsStopped T o cap n x y fault == after fewer than n turns, all moves, the next one was refused with the fault
-use Rattle.std.specs.Prelude.{◌≡◌, ℕ, ◌<◌, List, [], ◌∷◌, ◌++◌, length, slice_get, Option, Some, None, ⊤}
+use Rattle.std.specs.Prelude.{◌≡◌, ℕ, ◌<◌, Bool, true, false, List, [], ◌∷◌, ◌++◌, length, slice_get, Option, Some, None, ⊤}
 use Rattle.std.specs.List.{FoldsTo}
 use Rattle.dg_chips.specs.Opening.{Opening}
 use Rattle.dg_chips.specs.Vector.{Vector}
@@ -65,6 +66,10 @@ pub record IsSettlerTurn (A : Answers) (o : Opening) (x : SeatView) (r : ℕ × 
   pub moved : IsMove r.1.request → IsMoved r.1.reply
   pub borrows : (m : Move) → turn.answer ≡ Some m → BorrowsInDebt turn.amounts m
   pub won : turn.answer ≡ None → r.1.reply ≡ Won
+
+abbrev pub is_settled : {N : Type 0} → Ended N → Bool
+is_settled (Settled r) = true
+is_settled Turns = false
 
 module _ (T : SeatView → ℕ × Entry → SeatView → Type 0) where
   pub record Gains (x : SeatView) (es : List (ℕ × Entry)) (y : SeatView) : Type 0 where

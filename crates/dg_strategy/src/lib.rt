@@ -2,6 +2,7 @@
 #![tactic(auto)]
 
 mod choice;
+mod games;
 mod least_debtor;
 mod playing;
 mod settler;
@@ -10,6 +11,7 @@ mod strategy;
 mod tests;
 
 pub use choice::Choose;
+pub use games::{GreedyGame, greedy};
 pub use least_debtor::{LeastDebtor, greedy_settler};
 pub use playing::{Ended, play, settle_out};
 pub use settler::Settler;

@@ -25,6 +25,18 @@ pub enum Ended<N: Name> {
     Turns,
 }
 
+impl<N: Name> Ended<N> {
+    /// Whether it ended with a claim.
+    pub fn is_settled(&self) -> bool
+        ensures { result ≡ Rattle.dg_strategy.specs.Plays.is_settled self.now }
+    {
+        match self {
+            Ended::Settled(_) => true,
+            Ended::Turns => false,
+        }
+    }
+}
+
 /// Plays so many turns as the strategy says, or until it claims. Each turn asks once, at the position found, and is an entry of
 /// the seat; its moves are made, or refused where an amount would leave the range, and never change the gift count.
 ///

@@ -1,0 +1,48 @@
+-- The greedy strategy (Corry and Perkinson, chapter 3: a vertex in debt borrows, until nobody is in debt), where it is always
+-- the least vertex in debt that borrows.
+--   IsGreedyCall p request     == the request is for the borrowing by the least vertex in debt at the position p; it is a claim
+--                                 where nobody is in debt there
+--   AreGreedy o K H            == each of the entries H is of seat 1, and is so asked for, after the history K and those before it
+--   AllMoves H                 == each of the entries H is a move
+--   EndsSo n H settled         == there are n entries, all moves; or, where it is settled, fewer moves than n, and then a claim that
+--                                 is won
+--   IsGreedyGame o n H settled == the history H from the opening o is legal and greedy, and ends so
+use Rattle.std.specs.Prelude.{◌≡◌, ℕ, ◌<◌, Bool, true, false, List, [], ◌∷◌, ◌++◌, length, Option, ⊤}
+use Rattle.dg_chips.specs.Opening.{Opening}
+use Rattle.dg_chips.specs.Vector.{Vector}
+use Rattle.dg_chips.specs.declared.moves.Move.{Move}
+use Rattle.dg_game.specs.Position.{Position, Shows}
+use Rattle.dg_game.specs.History.{position_after}
+use Rattle.dg_game.specs.Legal.{IsLegal}
+use Rattle.dg_game.specs.declared.entry.Entry.{Entry}
+use Rattle.dg_game.specs.declared.entry.Request.{Request}
+use Rattle.dg_game.specs.declared.entry.Request.TheVariants.{Claim}
+use Rattle.dg_game.specs.declared.entry.Reply.TheVariants.{Won}
+use Rattle.dg_table.specs.Turns.{request_for}
+use Rattle.dg_strategy.specs.Choices.{BorrowsAtLeast}
+use Rattle.dg_strategy.specs.Plays.{IsMove}
+
+pub record IsGreedyCall (p : Position) (request : Request) : Type 0 where
+  pub amounts : Vector
+  pub shown : Shows p amounts
+  pub answer : Option Move
+  pub least : BorrowsAtLeast amounts answer
+  pub asked : request ≡ request_for answer
+
+abbrev pub AreGreedy : Opening → List Entry → List Entry → Type 0
+AreGreedy o K [] = ⊤
+AreGreedy o K (e ∷ H) = (e.seat ≡ 1) × IsGreedyCall (position_after o K) e.request × AreGreedy o (K ++ e ∷ []) H
+
+abbrev pub AllMoves : List Entry → Type 0
+AllMoves [] = ⊤
+AllMoves (e ∷ H) = IsMove e.request × AllMoves H
+
+abbrev pub EndsSo : ℕ → List Entry → Bool → Type 0
+EndsSo n H false = AllMoves H × (length H ≡ n)
+EndsSo n H true = (moves : List Entry) × (claim : Entry) × (H ≡ moves ++ claim ∷ []) × AllMoves moves × (length moves < n)
+    × (claim.request ≡ Claim) × (claim.reply ≡ Won)
+
+pub record IsGreedyGame (o : Opening) (n : ℕ) (H : List Entry) (settled : Bool) : Type 0 where
+  pub legal : IsLegal o H
+  pub greedy : AreGreedy o [] H
+  pub ends : EndsSo n H settled

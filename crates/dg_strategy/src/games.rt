@@ -1,0 +1,79 @@
+//! A game of the greedy settler, played to its end on a table of its own.
+ghost use Rattle.std.specs.Prelude.{◌≡◌, ◌≤◌, IfOk};
+ghost use Rattle.dg_game.specs.declared.game.TheConstants.{MAX_ENTRIES};
+ghost use Rattle.dg_strategy.specs.Greedy.{IsGreedyGame};
+
+use crate::least_debtor::greedy_settler;
+use crate::playing::settle_out;
+use dg_chips::Start;
+use dg_game::Entry;
+use dg_log::{Name, Row};
+use dg_table::{Fault, Table};
+use std::alloc::Global;
+use std::marker::Brand;
+use std::sync::Wait;
+
+/// A game of the greedy settler.
+#[derive(Drop)]
+pub struct GreedyGame {
+    /// Its history.
+    pub history: Vec<Entry>,
+    /// Whether it ended with a claim; otherwise its turns were used up.
+    pub settled: bool,
+}
+
+/// The game of one seat that lets the least vertex in debt borrow, until it claims that nobody is in debt, or for so many
+/// turns. The condition is at most 65,536 turns.
+///
+/// Refused with `OutOfMemory`, and as a turn is; with `Log` also where the table is not closed.
+pub fn greedy(rt: &impl Wait, alloc: Global, start: &Start, turns: u32) -> Result<GreedyGame, Fault>
+    requires { turns ≤ MAX_ENTRIES }
+    ensures { IfOk result (λ game. IsGreedyGame start.now turns game.history.items game.settled) }
+{
+    let Ok(row) = Row::new(alloc, 65_536) else {
+        return Err(Fault::OutOfMemory);
+    };
+    match greedy_on::<Brand>(rt, alloc, row, start, 1, turns) {
+        Ok(game) => Ok(game),
+        Err(fault) => Err(fault),
+    }
+}
+
+// The same at a table with a name. The conditions are that N names the row, the start and the number of seats, which is one.
+fn greedy_on<N: Name>(
+    rt: &impl Wait,
+    alloc: Global,
+    row: Row,
+    start: &Start,
+    count: u8,
+    turns: u32,
+) -> Result<GreedyGame, Fault>
+    requires row { row ≡ N.cells }
+    requires start { start.now ≡ N.start }
+    requires seats { count ≡ N.seats }
+    requires one { count ≡ 1 }
+    ensures { IfOk result (λ game. IsGreedyGame N.start turns game.history.items game.settled) }
+{
+    let (table, mut seats) = match Table::<N>::open(alloc, row, start, count) {
+        Ok(opened) => opened,
+        Err(_) => return Err(Fault::OutOfMemory),
+    };
+    let Some(mut seat) = seats.pop() else {
+        return Err(Fault::Log);
+    };
+    let ended = match settle_out(rt, alloc, &table, &mut seat, &greedy_settler(), turns) {
+        Ok(ended) => ended,
+        Err(fault) => return Err(fault),
+    };
+    let settled = ended.is_settled();
+    if seats.push(seat).is_err() {
+        return Err(Fault::OutOfMemory);
+    }
+    let Ok(audit) = table.close(seats) else {
+        return Err(Fault::Log);
+    };
+    match audit.history(alloc) {
+        Ok(history) => Ok(GreedyGame { history, settled }),
+        Err(_) => Err(Fault::OutOfMemory),
+    }
+}
