@@ -1,9 +1,10 @@
--- What is known of files; what a rehearsal, a judgement and a rank test print, and when they are refused; sessions and parties;
+-- What is known of files; what a rehearsal, a judgement, a rank test and a greedy game print, and when they are refused; sessions and parties;
 -- and how runs end.
 pub mod Held
 pub mod Rehearsals
 pub mod Judgements
 pub mod RankTests
+pub mod Games
 pub mod Refusals
 pub mod Tasks
 pub mod Services

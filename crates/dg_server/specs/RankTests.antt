@@ -2,7 +2,8 @@
 -- chapter 5).
 --   IsRankAnswer o k names text == the text is that of a reply with a rank verdict of degree k which is right for the
 --                                  amounts of the opening o, and a newline
---   RefusesRank n k fault       == a rank test of degree k on n vertices is past the limits, or memory was refused
+--   RefusesRank n k fault       == a rank test of degree k on n vertices is past the limits, or memory was refused, or a
+--                                  thread
 --   number_line label z         == the label, the number and a newline
 --   riemann_roch_text o r s     == the lines of the opening divisor's degree, of the genus, and of the ranks r and s
 --   IsRiemannRoch o text        == the text is those lines, with the rank of the divisor and that of its dual
@@ -22,7 +23,7 @@ use Rattle.dg_rank.specs.declared.rank_verdict.RankVerdict.{RankVerdict}
 use Rattle.dg_game.specs.declared.entry.Reply.TheVariants.{Rank}
 use Rattle.dg_lines.specs.Texts.{text_of}
 use Rattle.dg_server.specs.declared.fault.Fault.{Fault}
-use Rattle.dg_server.specs.declared.fault.Fault.TheVariants.{TooMany, Chip, OutOfMemory}
+use Rattle.dg_server.specs.declared.fault.Fault.TheVariants.{TooMany, Chip, OutOfMemory, NoThread}
 
 pub record IsRankAnswer (o : Opening) (k : ℕ) (names : List (List ℕ)) (text : List ℕ) : Type 0 where
   pub verdict : RankVerdict
@@ -32,6 +33,7 @@ pub record IsRankAnswer (o : Opening) (k : ℕ) (names : List (List ℕ)) (text 
 abbrev pub RefusesRank : ℕ → ℕ → Fault → Type 0
 RefusesRank n k TooMany = IsPastLimits n k
 RefusesRank n k OutOfMemory = ⊤
+RefusesRank n k NoThread = ⊤
 RefusesRank n k fault = ⊥
 
 abbrev pub number_line : List ℕ → ℤ → List ℕ

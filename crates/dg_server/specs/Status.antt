@@ -2,13 +2,15 @@
 --   IsStatus n             == 0, or the status of a run that ends with a fault
 --   status_of_source fault == the status where a file is not read
 --   status_of_file fault   == the status where a table file is refused
+--   status_of_table fault  == the status where a call of a table is refused so
 --   status_of_end end      == the status where a session ends so
 --   status fault           == 2 for a refused command line, 3 for refused input, 4 for want of memory, 5 for reading and writing
 use Rattle.std.specs.Prelude.{◌≡◌, ℕ, ◌≤◌, ◌⊎◌}
 use Rattle.dg_server.specs.declared.fault.Fault.{Fault}
-use Rattle.dg_server.specs.declared.fault.Fault.TheVariants.{CommandLine, Words, Source, File, Line, Full, NoLook, StepTrials, TooMany, Chip, OutOfMemory, Session, Sessions, Seats, NoThread, History, Write}
+use Rattle.dg_server.specs.declared.fault.Fault.TheVariants.{CommandLine, Words, Source, File, Line, Full, NoLook, StepTrials, TooMany, Chip, Turn, OutOfMemory, Session, Sessions, Seats, NoThread, History, Write}
 use Rattle.dg_session.specs.declared.ends.SessionEnd.{SessionEnd}
 use Rattle.dg_session.specs.declared.ends.SessionEnd.TheVariants as end
+use Rattle.dg_table.specs.declared.fault.Fault.{Fault as TableFault}
 use Rattle.dg_table.specs.declared.fault.Fault.TheVariants.{OutOfMemory as NoMemoryForCall, Full as FullHistory, Log}
 use Rattle.dg_server.specs.declared.sources.SourceFault.{SourceFault}
 use Rattle.dg_server.specs.declared.sources.SourceFault.TheVariants.{Unreadable, TooLong, OutOfMemory as NoMemoryToRead}
@@ -24,14 +26,17 @@ abbrev pub status_of_file : FileFault → ℕ
 status_of_file NoMemoryForTable = 4
 status_of_file _ = 3
 
+abbrev pub status_of_table : TableFault → ℕ
+status_of_table FullHistory = 3
+status_of_table NoMemoryForCall = 4
+status_of_table Log = 4
+
 abbrev pub status_of_end : SessionEnd → ℕ
 status_of_end end.Read = 5
 status_of_end end.Write = 5
 status_of_end end.LongLine = 3
 status_of_end end.Turns = 3
-status_of_end (end.Table FullHistory) = 3
-status_of_end (end.Table NoMemoryForCall) = 4
-status_of_end (end.Table Log) = 4
+status_of_end (end.Table fault) = status_of_table fault
 status_of_end end.Memory = 4
 status_of_end end.Spawn = 4
 
@@ -46,6 +51,7 @@ status (NoLook _) = 3
 status (StepTrials _) = 3
 status TooMany = 3
 status (Chip _) = 3
+status (Turn fault) = status_of_table fault
 status OutOfMemory = 4
 status (Session end) = status_of_end end
 status (Sessions least all) = status_of_end least

@@ -8,7 +8,7 @@
 --   RefusesTable h fault          == bytes that the file h may hold are refused as a table file, with that fault
 --   RefusesItsTable h fault       == the table file h is not read, or it is refused
 --   RefusesOn held o names task fault == the task is refused so on the table o with these names: STEPS is not read, or it is
---                                    refused; or the test is past the limits, or the dual is no divisor
+--                                    refused; or the test is past the limits, or the dual is no divisor; or a turn is refused
 --   RefusesTask held task fault   == the table file is refused so, or it is good, and the task is refused so on its table
 use Rattle.std.specs.Prelude.{◌≡◌, ◌⊎◌, ℕ, List}
 use Rattle.dg_chips.specs.Opening.{Opening}
@@ -21,8 +21,9 @@ use Rattle.dg_server.specs.Rehearsals.{IsPrinted}
 use Rattle.dg_server.specs.Judgements.{IsJudgement}
 use Rattle.dg_server.specs.RankTests.{IsRankAnswer, IsRiemannRoch, RefusesRank, RefusesRiemannRoch}
 use Rattle.dg_server.specs.Refusals.{RefusesSchedule}
+use Rattle.dg_server.specs.Games.{IsGreedyAnswer, RefusesTurns}
 use Rattle.dg_server.specs.declared.asked.Task.{Task}
-use Rattle.dg_server.specs.declared.asked.Task.TheVariants.{Rehearse, Judge, Rank, RiemannRoch}
+use Rattle.dg_server.specs.declared.asked.Task.TheVariants.{Rehearse, Judge, Rank, RiemannRoch, Greedy}
 use Rattle.dg_server.specs.declared.fault.Fault.{Fault}
 use Rattle.dg_server.specs.declared.fault.Fault.TheVariants.{Source, File, OutOfMemory}
 
@@ -45,14 +46,16 @@ pub record IsOfSteps (h : Held) (P : List (List ℕ) → Type 0) : Type 0 where
 abbrev pub Answers : (List ℕ → Held) → Opening → List (List ℕ) → Task → List ℕ → Type 0
 Answers held o names (Rehearse file steps) text = IsOfSteps (held steps.now) (λ all. IsPrinted o names all text)
 Answers held o names (Judge file) text = IsJudgement o names text
-Answers held o names (Rank file k) text = IsRankAnswer o k names text
+Answers held o names (Rank test) text = IsRankAnswer o test.degree names text
 Answers held o names (RiemannRoch file) text = IsRiemannRoch o text
+Answers held o names (Greedy play) text = IsGreedyAnswer o play.turns names text
 
 abbrev pub file_of : Task → List ℕ
 file_of (Rehearse file steps) = file.now
 file_of (Judge file) = file.now
-file_of (Rank file k) = file.now
+file_of (Rank test) = test.file.now
 file_of (RiemannRoch file) = file.now
+file_of (Greedy play) = play.file.now
 
 abbrev pub IsAnswer : (List ℕ → Held) → Task → List ℕ → Type 0
 IsAnswer held task text = IsOnTable (held (file_of task)) (λ o names. Answers held o names task text)
@@ -67,8 +70,9 @@ RefusesOn held o names (Rehearse file steps) (Source fault) = RefusesHeld (held 
 RefusesOn held o names (Rehearse file steps) fault =
     IsOfSteps (held steps.now) (λ all. RefusesSchedule o.graph.size names all fault)
 RefusesOn held o names (Judge file) fault = fault ≡ OutOfMemory
-RefusesOn held o names (Rank file k) fault = RefusesRank o.graph.size k fault
+RefusesOn held o names (Rank test) fault = RefusesRank o.graph.size test.degree fault
 RefusesOn held o names (RiemannRoch file) fault = RefusesRiemannRoch o fault
+RefusesOn held o names (Greedy play) fault = RefusesTurns fault
 
 abbrev pub RefusesItsTable : Held → Fault → Type 0
 RefusesItsTable h (Source fault) = RefusesHeld h fault

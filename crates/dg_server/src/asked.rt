@@ -5,6 +5,8 @@ ghost use Rattle.dg_game.specs.declared.game.TheConstants.{MAX_ENTRIES};
 ghost use Rattle.dg_rank.specs.Ranks.{MayHaveWorkers};
 ghost use Rattle.dg_server.specs.Tasks.{file_of};
 
+use crate::numbered::{GreedyTask, RankTask};
+
 /// What the command line asks for.
 #[derive(Drop)]
 pub enum Task<'a> {
@@ -21,17 +23,14 @@ pub enum Task<'a> {
         file: &'a str,
     },
     /// Test whether the rank of a table's position is at least a degree, and print the answer.
-    Rank {
-        /// The name of the table file.
-        file: &'a str,
-        /// The degree.
-        degree: u32,
-    },
+    Rank(RankTask<'a>),
     /// Print the four numbers of Riemann-Roch for the position of a table.
     RiemannRoch {
         /// The name of the table file.
         file: &'a str,
     },
+    /// Play the greedy strategy on a table, and print the history.
+    Greedy(GreedyTask<'a>),
 }
 
 impl Task<'_> {
@@ -42,8 +41,9 @@ impl Task<'_> {
         match self {
             Task::Rehearse { file, steps: _ } => file,
             Task::Judge { file } => file,
-            Task::Rank { file, degree: _ } => file,
+            Task::Rank(test) => test.file,
             Task::RiemannRoch { file } => file,
+            Task::Greedy(play) => play.file,
         }
     }
 }

@@ -7,6 +7,7 @@ ghost use Rattle.dg_server.specs.Runs.{IsOfWords};
 
 use crate::asked::{Asked, Gathering, Service, Task};
 use crate::fault::Fault;
+use crate::numbered::{GreedyTask, RankTask};
 use clap::error::ErrorKind;
 use clap::{Arg, ArgMatches, Command};
 use dg_lines::{degree, natural};
@@ -72,6 +73,8 @@ enum Refusal {
     Workers,
     /// The degree of a rank test is not 0 to 4,294,967,295.
     Degree,
+    /// The number of turns is not 0 to 65,536.
+    Turns,
 }
 
 impl Refusal {
@@ -83,13 +86,14 @@ impl Refusal {
             Refusal::Capacity => (ErrorKind::ValueValidation, CAPACITY_REFUSED),
             Refusal::Workers => (ErrorKind::ValueValidation, WORKERS_REFUSED),
             Refusal::Degree => (ErrorKind::ValueValidation, DEGREE_REFUSED),
+            Refusal::Turns => (ErrorKind::ValueValidation, TURNS_REFUSED),
         }
     }
 }
 
 /// What a command with its arguments asks for.
 ///
-/// Refused with `Capacity`, then `Workers`, then `Degree`; `Command` stands for what the library refuses before.
+/// Refused with `Capacity`, then `Workers`, then `Degree` or `Turns`; `Command` stands for what the library refuses before.
 fn command_in<'a>(alloc: Global, matches: &ArgMatches<'a>) -> Result<Asked<'a>, Refusal> {
     let (name, inner) = matches.subcommand().ok_or(Refusal::Command)?;
     let file = inner.get_str("file").ok_or(Refusal::Command)?;
@@ -129,9 +133,18 @@ fn task_in<'a>(name: &str, file: &'a str, inner: &ArgMatches<'a>) -> Result<Task
         "judge" => Ok(Task::Judge { file }),
         "rank" => {
             let word = inner.get_str("degree").ok_or(Refusal::Command)?;
-            let _workers = workers_in(inner)?;
+            let workers = workers_in(inner)?;
             let degree = degree(word.as_bytes()).ok_or(Refusal::Degree)?;
-            Ok(Task::Rank { file, degree })
+            Ok(Task::Rank(RankTask {
+                file,
+                degree,
+                workers,
+            }))
+        }
+        "greedy" => {
+            let word = inner.get_str("turns").ok_or(Refusal::Command)?;
+            let turns = turns_in(word)?;
+            Ok(Task::Greedy(GreedyTask { file, turns }))
         }
         "rr" => Ok(Task::RiemannRoch { file }),
         _ => Err(Refusal::Command),
@@ -164,6 +177,16 @@ fn workers_in(matches: &ArgMatches) -> Result<u32, Refusal>
     }
 }
 
+/// The number of turns.
+fn turns_in(word: &str) -> Result<u32, Refusal>
+    ensures { IfOk result (λ turns. turns ≤ MAX_ENTRIES) }
+{
+    match natural(word.as_bytes()) {
+        Some(turns @ 0..=65_536) => Ok(turns as u32),
+        _ => Err(Refusal::Turns),
+    }
+}
+
 /// The names of the scripts.
 fn scripts_in<'a>(alloc: Global, matches: &ArgMatches<'a>) -> Result<Vec<&'a str>, Refusal>
     ensures { IfOk result (λ scripts. 1 ≤ vec_len scripts) }
@@ -187,6 +210,7 @@ fn dollar<'a>(alloc: Global) -> Result<Command<'a>, AllocError> {
         .subcommand(judge(alloc)?)?
         .subcommand(rank(alloc)?)?
         .subcommand(riemann_roch(alloc)?)?
+        .subcommand(greedy(alloc)?)?
         .subcommand(serve(alloc)?)?
         .subcommand(party(alloc)?)
 }
@@ -228,6 +252,20 @@ fn riemann_roch<'a>(alloc: Global) -> Result<Command<'a>, AllocError> {
         .about("Prints both sides of Riemann-Roch for a table")
         .after_help(RIEMANN_ROCH_MORE)
         .arg(table_file(alloc))
+}
+
+fn greedy<'a>(alloc: Global) -> Result<Command<'a>, AllocError> {
+    let turns = Arg::new(alloc, "turns")
+        .value_name("TURNS")
+        .required(true)
+        .help(TURNS_HELP);
+    Command::new(alloc, "greedy")
+        .about(
+            "Lets the first vertex in debt borrow, until nobody is in debt, and prints the history",
+        )
+        .after_help(GREEDY_MORE)
+        .arg(table_file(alloc))?
+        .arg(turns)
 }
 
 fn serve<'a>(alloc: Global) -> Result<Command<'a>, AllocError> {
@@ -279,8 +317,8 @@ The vertices of a graph hold dollars or owe them. A vertex that lends gives a do
 that borrows takes a dollar along each. A table is winnable where this can clear all debts.
 
 `dollar rehearse --help` shows a table file and what can be played on it; `dollar judge --help` how a verdict is read;
-`dollar rank --help` and `dollar rr --help` how much a table can lose; `dollar serve --help` how a session goes line by
-line; `dollar party --help` how many sessions share a table.
+`dollar rank --help` and `dollar rr --help` how much a table can lose; `dollar greedy --help` how a table is played by a simple
+rule; `dollar serve --help` how a session goes line by line; `dollar party --help` how many sessions share a table.
 
 A run that fails prints nothing but a line that says why, on standard error; `serve` has answered the lines before, and
 `party` prints the history where a session ended early. The status is 0 where all was answered, whatever it says; 2 where
@@ -299,9 +337,13 @@ const DEGREE_HELP: &str = "How many dollars are lost: a whole number from 0 to 4
 const DEGREE_REFUSED: &str = "K is a whole number from 0 to 4294967295";
 
 const WORKERS_HELP: &str =
-    "How many workers may share the trials, 1 to 16; for now one makes them all";
+    "How many workers share the trials, each in a thread of its own: 1 to 16, and 1 where it is not given";
 
 const WORKERS_REFUSED: &str = "the number of workers is a whole number from 1 to 16";
+
+const TURNS_HELP: &str = "How many turns it has: a whole number from 0 to 65536";
+
+const TURNS_REFUSED: &str = "TURNS is a whole number from 0 to 65536";
 
 const CAPACITY_HELP: &str =
     "How many entries the history may have, 1 to 65536; where it is not given, 65536";
@@ -380,6 +422,20 @@ less what it holds on the table:
 
 The rank is the most dollars that can be taken wherever one likes so that the table stays winnable, and -1 where it is
 not winnable as it is. By Riemann-Roch, rank less dual is degree plus 1 less genus.
+";
+
+const GREEDY_MORE: &str = "\
+FILE is a table file, as `dollar rehearse --help` shows it. At each turn the first vertex in debt, in the order of the file,
+borrows; where none is in debt, the turn is a claim, which is won and ends the game. Each turn gives a line with its number and
+what came of it, and a game whose turns are used up before that ends with `turns`. On a triangle with 0, -1 and 1 dollars:
+
+    0 moved a=-1 b=1 c=0
+    1 moved a=1 b=0 c=-1
+    2 moved a=0 b=-1 c=1
+    turns
+
+A table that is winnable is won so, if there are turns enough and no amount leaves its range on the way; `dollar judge` tells
+whether it is.
 ";
 
 const SERVE_MORE: &str = "\

@@ -49,6 +49,9 @@ pub enum Fault {
     /// The canonical divisor less that of the table is none.
     #[error(transparent)]
     Chip(#[from] ChipFault),
+    /// A turn is refused by the table, or the table is not closed.
+    #[error("{}", table_text(*.0))]
+    Turn(dg_table::Fault),
     /// There is not enough memory.
     #[error("out of memory")]
     OutOfMemory,
@@ -124,6 +127,7 @@ pub fn status_of(fault: &Fault) -> u8
         Fault::File(_) => 3,
         Fault::Line { .. } | Fault::Full(_) | Fault::NoLook(_) | Fault::StepTrials(_) => 3,
         Fault::TooMany | Fault::Chip(_) => 3,
+        Fault::Turn(fault) => status_of_table(*fault),
         Fault::Session(end) | Fault::Sessions { least: end, .. } => status_of_end(*end),
         Fault::Seats => 3,
         Fault::OutOfMemory | Fault::NoThread | Fault::History => 4,
@@ -137,9 +141,19 @@ fn status_of_end(end: SessionEnd) -> u8
 {
     match end {
         SessionEnd::LongLine | SessionEnd::Turns => 3,
-        SessionEnd::Table(dg_table::Fault::Full) => 3,
-        SessionEnd::Table(_) | SessionEnd::Memory | SessionEnd::Spawn => 4,
+        SessionEnd::Table(fault) => status_of_table(fault),
+        SessionEnd::Memory | SessionEnd::Spawn => 4,
         SessionEnd::Read | SessionEnd::Write => 5,
+    }
+}
+
+/// The exit status where a call of a table is refused so.
+fn status_of_table(fault: dg_table::Fault) -> u8
+    ensures { result ≡ Rattle.dg_server.specs.Status.status_of_table fault }
+{
+    match fault {
+        dg_table::Fault::Full => 3,
+        dg_table::Fault::OutOfMemory | dg_table::Fault::Log => 4,
     }
 }
 
@@ -150,10 +164,18 @@ fn end_text(end: SessionEnd) -> &'static str {
         SessionEnd::Write => "write fault",
         SessionEnd::LongLine => "long line",
         SessionEnd::Turns => "too many lines",
-        SessionEnd::Table(dg_table::Fault::Full) => "the history is full",
-        SessionEnd::Table(dg_table::Fault::Log) => "history cell refused",
-        SessionEnd::Table(dg_table::Fault::OutOfMemory) | SessionEnd::Memory => "out of memory",
+        SessionEnd::Table(fault) => table_text(fault),
+        SessionEnd::Memory => "out of memory",
         SessionEnd::Spawn => "no thread",
+    }
+}
+
+/// What is said where a call of a table is refused so.
+fn table_text(fault: dg_table::Fault) -> &'static str {
+    match fault {
+        dg_table::Fault::Full => "the history is full",
+        dg_table::Fault::Log => "history cell refused",
+        dg_table::Fault::OutOfMemory => "out of memory",
     }
 }
 

@@ -4,7 +4,9 @@
 mod asked;
 mod command_line;
 mod fault;
+mod games;
 mod gathering;
+mod numbered;
 mod printed;
 mod program;
 mod ranks;
@@ -15,6 +17,7 @@ mod table_source;
 pub use asked::{Asked, Gathering, Service, Task};
 pub use command_line::{asked_by, words_of};
 pub use fault::{Fault, report, status_of};
+pub use numbered::{GreedyTask, RankTask};
 pub use printed::{judgement, rehearsal};
 pub use program::{perform, run};
 pub use ranks::{rank_answer, riemann_roch};

@@ -7,6 +7,7 @@ ghost use Rattle.dg_server.specs.Status.{IsStatus};
 use crate::asked::{Asked, Task};
 use crate::command_line::asked_by;
 use crate::fault::{Fault, report};
+use crate::games::greedy_history;
 use crate::gathering::play_scripts;
 use crate::printed::{judgement, rehearsal};
 use crate::ranks::{rank_answer, riemann_roch};
@@ -94,7 +95,7 @@ where
 /// The answer to a task, as text.
 fn answer<R, S>(rt: &R, task: &Task<'_>, sources: &S) -> Result<Vec<u8>, Fault>
 where
-    R: Files + AllocGlobal,
+    R: Files + AllocGlobal + Threads + Wait,
     S: Sources,
     ensures done { IfOk result (λ text. IsAnswer (S.held sources.now) task.now text.items) }
     ensures refused { IfErr result (RefusesTask (S.held sources.now) task.now) }
@@ -117,7 +118,7 @@ fn answer_on<R, S>(
     sources: &S,
 ) -> Result<Vec<u8>, Fault>
 where
-    R: Files + AllocGlobal,
+    R: Files + AllocGlobal + Threads + Wait,
     S: Sources,
     ensures done { IfOk result (λ text.
         Answers (S.held sources.now) table.now.start table.now.names task.now text.items) }
@@ -132,7 +133,8 @@ where
             rehearsal(rt.alloc(), table, steps.as_slice())
         }
         Task::Judge { file: _ } => judgement(rt.alloc(), table),
-        Task::Rank { file: _, degree } => rank_answer(rt.alloc(), table, *degree),
+        Task::Rank(test) => rank_answer(rt, rt.alloc(), table, test.degree, test.workers),
         Task::RiemannRoch { file: _ } => riemann_roch(rt.alloc(), table),
+        Task::Greedy(play) => greedy_history(rt, rt.alloc(), table, play.turns),
     }
 }

@@ -1,5 +1,6 @@
 //! Rank tests that are printed, and both sides of Riemann-Roch.
 ghost use Rattle.std.specs.Prelude.{◌≡◌, ℤ, ◌++◌, IfOk, IfErr, OnOk};
+ghost use Rattle.dg_rank.specs.Ranks.{MayHaveWorkers};
 ghost use Rattle.dg_server.specs.RankTests.{IsRankAnswer, RefusesRank, number_line, riemann_roch_text, IsRiemannRoch, RefusesRiemannRoch};
 
 use crate::fault::Fault;
@@ -7,22 +8,36 @@ use crate::printed::reply_line;
 use dg_chips::{Start, dual};
 use dg_file::TableFile;
 use dg_game::Reply;
-use dg_rank::{rank, rank_at_least};
+use dg_rank::{OpenGate, RankFault, rank, rank_with};
 use itoa::Buffer;
 use std::alloc::{AllocError, Allocator, Global};
+use std::sync::Wait;
+use std::thread::Threads;
 
 /// Whether the rank of a table's amounts is at least k, as text: the text of a reply, and a newline.
 ///
-/// Refused with `TooMany` where the test is past the limits, and with `OutOfMemory` at the growth that was refused.
-pub fn rank_answer(alloc: Global, table: &TableFile, k: u32) -> Result<Vec<u8>, Fault>
+/// The trials are shared among so many workers; the condition is 1 to 16. Refused with `TooMany` where the test is past the
+/// limits, with `NoThread` where a thread could not be started, and with `OutOfMemory` at the growth that was refused.
+pub fn rank_answer<R: Threads + Wait>(
+    rt: &R,
+    alloc: Global,
+    table: &TableFile,
+    k: u32,
+    workers: u32,
+) -> Result<Vec<u8>, Fault>
+    requires { MayHaveWorkers workers }
     ensures ranked { IfOk result (λ text. IsRankAnswer table.now.start k table.now.names text.items) }
     ensures refused { IfErr result (RefusesRank table.now.start.graph.size k) }
 {
     let start = table.start();
     let q = usize::from(start.q());
-    let verdict = match rank_at_least(start.graph(), q, start.divisor(), k) {
+    let (graph, divisor) = (start.graph(), start.divisor());
+    let verdict = match rank_with(rt, graph, q, divisor, k, workers, &OpenGate) {
         Ok(verdict) => verdict,
-        Err(_) => return Err(Fault::TooMany),
+        Err(RankFault::TooMany) => return Err(Fault::TooMany),
+        Err(RankFault::Workers) => unreachable!(),
+        Err(RankFault::OutOfMemory) => return Err(Fault::OutOfMemory),
+        Err(RankFault::Spawn) => return Err(Fault::NoThread),
     };
     match reply_line(alloc, &Reply::Rank(verdict), table.names()) {
         Ok(text) => Ok(text),
