@@ -126,7 +126,7 @@ module _ (o : Opening) (n : ℕ) (x y : SeatView) (H : List Entry) (one : x.numb
   greedy_whole es gained =
       subst (λ L. AreGreedy o L H) (ap entries fresh)
       (greedy_along o 0 x H gained.last one (ap length fresh)
-          (subst (λ ps. FoldsTo (IsSettlerTurn greedily o) x ps gained.last) (numbered es gained) gained.steps))
+      (subst (λ ps. FoldsTo (IsSettlerTurn greedily o) x ps gained.last) (numbered es gained) gained.steps))
 
   pub greedy_game : {N : Type 0} (ended : Ended N) → IsPlayed (IsSettlerTurn greedily o) n x y ended → IsGreedyGame o n H (is_settled ended)
   greedy_game Turns played =

@@ -4,19 +4,20 @@ use crate::tests::runs::{Given, TRIANGLE, outcome_of};
 use std::test::Fail;
 
 // Command lines that call for help.
-static HELP: [&str; 8] = [
+static HELP: [&str; 9] = [
     "dollar --help",
     "dollar rehearse --help",
     "dollar help rehearse",
     "dollar judge --help",
     "dollar rank --help",
     "dollar rr --help",
+    "dollar greedy --help",
     "dollar serve --help",
     "dollar party --help",
 ];
 
 // Command lines that are refused.
-static REFUSED: [&str; 27] = [
+static REFUSED: [&str; 31] = [
     "",
     "dollar",
     "dollar gamble table.json",
@@ -33,6 +34,10 @@ static REFUSED: [&str; 27] = [
     "dollar rank table.json 1 --workers",
     "dollar rr",
     "dollar rr table.json 1",
+    "dollar greedy table.json",
+    "dollar greedy table.json 01",
+    "dollar greedy table.json -1",
+    "dollar greedy table.json 65537",
     "dollar rehearse table.json",
     "dollar rehearse table.json steps.txt more",
     "dollar serve",

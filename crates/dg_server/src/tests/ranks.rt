@@ -1,4 +1,4 @@
-//! Runs of `rank` and `rr`.
+//! Runs of `rank`, `rr` and `greedy`.
 
 use crate::tests::runs::{Given, REHEARSE, outcome_of};
 use std::test::Fail;
@@ -24,8 +24,34 @@ const A_MILLION: &str =
 const MUCH_DEBT: &str =
     r#"{"vertices":["a","b"],"edges":[["a","b",4]],"amounts":[0,-999999],"q":"a"}"#;
 
+const LEAST: &str =
+    r#"{"vertices":["a","b"],"edges":[["a","b",1]],"amounts":[-1000000,-1000000],"q":"a"}"#;
+
 // A table file, what a command asks of it, and what is printed.
-static TOLD: [(&str, &str, &str); 16] = [
+static TOLD: [(&str, &str, &str); 22] = [
+    (ONE_ON_THREE, "greedy table.json 5", "0 won\n"),
+    (ONE_ON_THREE, "greedy table.json 0", "turns\n"),
+    (
+        ONE_OWES,
+        "greedy table.json 3",
+        "0 moved a=1 b=0 c=-1\n1 moved a=0 b=-1 c=1\n2 moved a=-1 b=1 c=0\nturns\n",
+    ),
+    (
+        TWO_OWE,
+        "greedy table.json 65536",
+        "0 moved a=1 b=1 c=-2\n1 moved a=0 b=0 c=0\n2 won\n",
+    ),
+    (
+        TWO_OWE,
+        "greedy table.json 2",
+        "0 moved a=1 b=1 c=-2\n1 moved a=0 b=0 c=0\nturns\n",
+    ),
+    (
+        LEAST,
+        "greedy table.json 2",
+        "0 refused range\n1 refused range\nturns\n",
+    ),
+
     (THREE_EDGES, "rank table.json 1", "rank at least 1\n"),
     (
         THREE_EDGES,

@@ -3,7 +3,7 @@ ghost use Rattle.std.specs.Prelude.{◌≡◌};
 
 use crate::tests::choices::{LendFirst, LendRichest};
 use crate::tests::triangle;
-use crate::{Ended, Strategy, greedy_settler, play, settle_out};
+use crate::{Ended, Strategy, greedy, greedy_settler, play, settle_out};
 use dg_chips::{Divisor, Move, Start};
 use dg_game::{Reply, Request};
 use dg_graph::Graph;
@@ -56,6 +56,17 @@ fn settled<N: Name, R: Wait + Abort>(
         }
         _ => return Err(Fail::from("another end")),
     }
+    Ok(())
+}
+
+#[test]
+fn a_greedy_game_has_its_table(rt: HostRuntime) -> Result<(), Fail> {
+    let alloc = rt.alloc();
+    let start = triangle(&[2, -1, -1])?;
+    let won = greedy(&rt, alloc, &start, 65_536)?;
+    assert!(&rt; won.settled && won.history.len() == 3);
+    let none = greedy(&rt, alloc, &start, 0)?;
+    assert!(&rt; !none.settled && none.history.is_empty());
     Ok(())
 }
 
