@@ -4,7 +4,8 @@ ghost use Rattle.std.specs.Int.RustNames.{unsigned_abs};
 ghost use Rattle.dg_chips.specs.Vector.{at};
 ghost use Rattle.dg_rank.specs.Limits.{IsWithinLimits};
 ghost use Rattle.dg_rank.specs.Losses.{IsFound};
-ghost use Rattle.dg_rank.specs.Pieces.{piece_start, CanSearch, IsFoundFrom, IsFoundIn};
+ghost use Rattle.dg_rank.specs.Pieces.{piece_start, CanSearch, IsOutcome, IsOutcomeOf, IsOutcomeFrom};
+ghost use Rattle.dg_rank.specs.declared.pieces.Search.{Search};
 ghost use Rattle.dg_rank.specs.Ranks.{MayHaveWorkers};
 ghost use Rattle.dg_rank.specs.declared.rank_verdict.RankFault.TheVariants.{Spawn};
 
@@ -15,8 +16,12 @@ use crate::workers::Gate;
 use dg_chips::Wide;
 use dg_graph::Graph;
 use std::sync::Wait;
+use std::sync::atomic::{AtomicU32, Ordering};
 use std::thread;
 use std::thread::{Promise, Scope, Threads};
+
+// How many trials a piece makes before it looks whether an earlier piece has lost.
+const LOOK_EVERY: u32 = 256;
 
 /// What is searched for a first loss: the trials below a number, in so many pieces. Piece j of w holds those from the
 /// j-th of w parts of their number, rounded down, up to and without the next one's first.
@@ -44,80 +49,127 @@ pub(crate) fn first_loss_among<R: Threads + Wait, G: Gate>(
         (IsFound search.now.graph (at search.now.chips) search.now.k 0 search.now.count)
         (λ e. e ≡ Spawn) }
 {
-    thread::scope(
-        thread::scope_env(),
-        rt,
-        |scope| -> Result<Option<Trial>, RankFault>
-            requires { CanSearch search.now × MayHaveWorkers search.now.workers }
-            ensures { MatchResult result
-                (IsFound search.entry.now.graph (at search.entry.now.chips) search.entry.now.k 0 search.entry.now.count)
-                (λ e. e ≡ Spawn) }
-        { losses_from(rt, scope, search, gate, 0) },
-    )
-}
-
-// The first loss of the pieces from one on. The thread of this piece is started first, and joined last.
-fn losses_from<'s, E, R: Threads, G: Gate>(
-    rt: &R,
-    scope: &Scope<'s, E>,
-    search: &'s Search,
-    gate: &'s G,
-    piece: u32,
-) -> Result<Option<Trial>, RankFault>
-    requires search { CanSearch search.now }
-    requires workers { MayHaveWorkers search.now.workers }
-    requires piece { piece ≤ search.now.workers }
-    ensures { MatchResult result (IsFoundFrom search.now piece) (λ e. e ≡ Spawn) }
-{
-    if piece == search.workers {
-        return Ok(None);
-    }
-    let work = move || -> PieceLoss
-        requires { CanSearch search.now × MayHaveWorkers search.now.workers × (piece < search.now.workers) }
-        ensures { (result.piece ≡ piece) × IsFoundIn search.entry.now piece result.loss }
-    { loss_of_piece(search, gate, piece) };
-    let Ok(thread) = scope.spawn_with(LossOf { search, piece }, work) else {
-        return Err(RankFault::Spawn);
-    };
-    let rest = losses_from(rt, scope, search, gate, piece + 1);
-    let PieceLoss { piece: _, loss } = thread.join(rt);
-    match rest {
-        Ok(rest) => Ok(loss.or(rest)),
+    match search_pieces(rt, search, gate) {
+        Ok(Outcome::Lost(trial)) => Ok(Some(trial)),
+        Ok(Outcome::Won) => Ok(None),
+        // This never comes: a piece gives up only where an earlier one has lost.
+        Ok(Outcome::GaveUp) => Ok(first_loss(
+            &search.graph,
+            &search.chips,
+            search.k,
+            0,
+            search.count,
+        )),
         Err(fault) => Err(fault),
     }
 }
 
-// What a piece found.
-#[derive(Drop)]
-struct PieceLoss {
+// What all pieces come to, in threads of their own.
+fn search_pieces<R: Threads + Wait, G: Gate>(
+    rt: &R,
+    search: &Search,
+    gate: &G,
+) -> Result<Outcome, RankFault>
+    requires search { CanSearch search.now }
+    requires workers { MayHaveWorkers search.now.workers }
+    ensures { MatchResult result (IsOutcomeFrom search.now 0) (λ e. e ≡ Spawn) }
+{
+    let first = AtomicU32::new(search.workers);
+    let lost = &first;
+    thread::scope(
+        thread::scope_env(),
+        rt,
+        |scope| -> Result<Outcome, RankFault>
+            requires { CanSearch search.now × MayHaveWorkers search.now.workers }
+            ensures { MatchResult result (IsOutcomeFrom search.entry.now 0) (λ e. e ≡ Spawn) }
+        { search_from(rt, scope, search, lost, gate, 0) },
+    )
+}
+
+// What the pieces from one on come to. The thread of this piece is started first, and joined last.
+fn search_from<'s, E, R: Threads, G: Gate>(
+    rt: &R,
+    scope: &Scope<'s, E>,
+    search: &'s Search,
+    lost: &'s AtomicU32,
+    gate: &'s G,
     piece: u32,
-    loss: Option<Trial>,
+) -> Result<Outcome, RankFault>
+    requires search { CanSearch search.now }
+    requires workers { MayHaveWorkers search.now.workers }
+    requires piece { piece ≤ search.now.workers }
+    ensures { MatchResult result (IsOutcomeFrom search.now piece) (λ e. e ≡ Spawn) }
+{
+    if piece == search.workers {
+        return Ok(Outcome::Won);
+    }
+    let work = move || -> PieceEnd
+        requires { CanSearch search.now × MayHaveWorkers search.now.workers × (piece < search.now.workers) }
+        ensures { (result.piece ≡ piece) × IsOutcomeOf search.entry.now piece result.outcome }
+    { search_piece(search, lost, gate, piece) };
+    let Ok(thread) = scope.spawn_with(EndOf { search, piece }, work) else {
+        return Err(RankFault::Spawn);
+    };
+    let rest = search_from(rt, scope, search, lost, gate, piece + 1);
+    let PieceEnd { piece: _, outcome } = thread.join(rt);
+    match rest {
+        Ok(rest) => Ok(first_of(outcome, rest)),
+        Err(fault) => Err(fault),
+    }
+}
+
+// What trials come to.
+#[derive(Drop)]
+enum Outcome {
+    // The first of them to lose.
+    Lost(Trial),
+    // All of them win.
+    Won,
+    // An earlier piece has lost, so nobody asks for the rest.
+    GaveUp,
+}
+
+// What a piece comes to.
+#[derive(Drop)]
+struct PieceEnd {
+    piece: u32,
+    outcome: Outcome,
 }
 
 // What is promised of it.
 #[derive(Drop)]
-struct LossOf<'a> {
+struct EndOf<'a> {
     search: &'a Search,
     piece: u32,
 }
 
-impl<'a> Promise<PieceLoss> for LossOf<'a> {
-    ghost kept_by = { λ p r. (r.piece ≡ p.piece) × IsFoundIn p.search.now p.piece r.loss };
+impl<'a> Promise<PieceEnd> for EndOf<'a> {
+    ghost kept_by = { λ p r. (r.piece ≡ p.piece) × IsOutcomeOf p.search.now p.piece r.outcome };
 }
 
-// The first loss of a piece, after the gate.
-fn loss_of_piece<G: Gate>(search: &Search, gate: &G, piece: u32) -> PieceLoss
+// What trials come to, and others after them.
+fn first_of(here: Outcome, rest: Outcome) -> Outcome
+    ensures { (s : Search) (i m j : ℕ) → i ≤ m → m ≤ j → IsOutcome s i m here → IsOutcome s m j rest →
+        IsOutcome s i j result }
+{
+    match here {
+        Outcome::Lost(trial) => Outcome::Lost(trial),
+        Outcome::Won => rest,
+        Outcome::GaveUp => Outcome::GaveUp,
+    }
+}
+
+// What a piece comes to, after the gate.
+fn search_piece<G: Gate>(search: &Search, lost: &AtomicU32, gate: &G, piece: u32) -> PieceEnd
     requires search { CanSearch search.now }
     requires workers { MayHaveWorkers search.now.workers }
     requires piece { piece < search.now.workers }
     ensures piece { result.piece ≡ piece }
-    ensures loss { IsFoundIn search.now piece result.loss }
+    ensures outcome { IsOutcomeOf search.now piece result.outcome }
 {
     let piece = enter(gate, piece);
-    let from = start_of(search, piece);
-    let to = start_of(search, piece + 1);
-    let loss = first_loss(&search.graph, &search.chips, search.k, from, to);
-    PieceLoss { piece, loss }
+    let outcome = outcome_of(search, lost, piece);
+    PieceEnd { piece, outcome }
 }
 
 // Lets a piece through the gate, and says which one went through.
@@ -126,6 +178,29 @@ fn enter<G: Gate>(gate: &G, piece: u32) -> u32
 {
     gate.enter(piece);
     piece
+}
+
+// What a piece comes to, where `lost` is the number of the first piece that has lost so far.
+fn outcome_of(search: &Search, lost: &AtomicU32, piece: u32) -> Outcome
+    requires search { CanSearch search.now }
+    requires workers { MayHaveWorkers search.now.workers }
+    requires piece { piece < search.now.workers }
+    ensures { IsOutcomeOf search.now piece result }
+{
+    let end = start_of(search, piece + 1);
+    let mut from = start_of(search, piece);
+    while from < end {
+        if lost.load(Ordering::SeqCst) < piece {
+            return Outcome::GaveUp;
+        }
+        let to = end.min(from + LOOK_EVERY);
+        if let Some(trial) = first_loss(&search.graph, &search.chips, search.k, from, to) {
+            lost.fetch_min(piece, Ordering::SeqCst);
+            return Outcome::Lost(trial);
+        }
+        from = to;
+    }
+    Outcome::Won
 }
 
 // The number of the first trial of a piece, and of the one past all trials for the number past all pieces.
