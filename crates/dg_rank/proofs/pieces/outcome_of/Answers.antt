@@ -1,6 +1,6 @@
-use Rattle.std.proofs.Common.{◌≡◌, ◌+◌, ◌≤◌, arith}
+use Rattle.std.proofs.Common.{◌+◌, ◌≤◌, arith}
 use Rattle.dg_chips.specs.Vector.{at}
-use Rattle.dg_rank.specs.Losses.{AllWin, IsLossIn}
+use Rattle.dg_rank.specs.Losses.{IsLossIn}
 use Rattle.dg_rank.specs.Pieces.{piece_start}
 use Rattle.dg_rank.proofs.PieceLosses.{piece_within, wins_both, loss_before, loss_after}
 use Rattle.dg_rank.proofs.pieces.outcome_of.Goals as goal
