@@ -1,8 +1,6 @@
 //! Pieces of the trials of a rank test, each with a thread of its own.
-ghost use Rattle.std.specs.Prelude.{◌≡◌, ℕ, ◌+◌, ◌<◌, ◌≤◌, IfSome, MatchResult};
-ghost use Rattle.std.specs.Int.RustNames.{unsigned_abs};
+ghost use Rattle.std.specs.Prelude.{◌≡◌, ℕ, ◌<◌, ◌≤◌, MatchResult};
 ghost use Rattle.dg_chips.specs.Vector.{at};
-ghost use Rattle.dg_rank.specs.Limits.{IsWithinLimits};
 ghost use Rattle.dg_rank.specs.Losses.{IsFound};
 ghost use Rattle.dg_rank.specs.Pieces.{piece_start, CanSearch, IsOutcome, IsOutcomeOf, IsOutcomeFrom};
 ghost use Rattle.dg_rank.specs.declared.pieces.Search.{Search};
