@@ -6,13 +6,14 @@
 --   found_rank        where all trials win, the rank is at least their degree
 --   nth-trial         each number below that of all trials has a trial
 --   loss-trial        the first of all trials to lose is a trial
+--   found_trial       what was found among all trials, if it is one, is a trial
 --   wins_before       a divisor can lose each effective divisor before its first loss
 --   found_loss        the first of all trials to lose is the first loss
 --   some_number       there is a trial with the number 0
 --   poor_loses        where the degree is too low, each trial loses
 --   poor_loss         so trial number 0 is the first loss
 use Rattle.std.proofs.Common.{◌≡◌, ℕ, ◌<◌, List, length, arith, refl, sym, subst, ◌∙◌}
-use Rattle.std.specs.Prelude.{◌≤ℤ◌, ◌<ℤ◌}
+use Rattle.std.specs.Prelude.{◌≤ℤ◌, ◌<ℤ◌, Option, Some, None, MatchOption, ⊤}
 use Rattle.std.proofs.lemmas.Int.{ints}
 use Rattle.std.proofs.Math.IntN.{pos}
 use Rattle.dg_theory.specs.Multigraph.{Multigraph, IsMultigraph}
@@ -26,7 +27,7 @@ use Rattle.dg_rank.specs.Trials.{IsTrial, ComesBefore, IsNumbering, AnyTrial}
 use Rattle.dg_rank.specs.Limits.{IsWithinLimits}
 use Rattle.dg_rank.specs.Numbering.{trial_count, nth_trial}
 use Rattle.dg_rank.specs.Divisors.{amounts_of, HoldsTrial}
-use Rattle.dg_rank.specs.Losses.{WinsWithout, AllWin, IsLossIn}
+use Rattle.dg_rank.specs.Losses.{WinsWithout, AllWin, IsLossIn, IsFound}
 use Rattle.dg_rank.proofs.Numbering.{numbered}
 use Rattle.dg_rank.proofs.Counts.{limits_count, some_trial}
 use Rattle.dg_rank.proofs.CountedOnce.{lower_number}
@@ -69,6 +70,12 @@ pub loss-trial : (g : Multigraph) (D : Amounts) (k c : ℕ) (E : List ℕ) → I
     IsTrial g.size k E
 loss-trial g D k c E within loss =
     subst (λ (L : List ℕ). IsTrial g.size k L) (sym loss.trial) (nth-trial g.size k c loss.number within loss.to)
+
+pub found_trial : (g : Multigraph) (D : Amounts) (k c : ℕ) (found : Option (List ℕ)) → IsWithinLimits g.size k c →
+    IsFound g D k 0 c found →
+    MatchOption found ⊤ (λ (E : List ℕ). (n : ℕ) × (m : ℕ) × IsWithinLimits n k m × IsTrial n k E)
+found_trial g D k c (Some E) within loss = (g.size, c, within, loss-trial g D k c E within loss)
+found_trial g D k c None within wins = tt
 
 wins_before : (g : Multigraph) (D : Amounts) (k c : ℕ) (E : List ℕ) (d : Vector) (F : Amounts) → IsWithinLimits g.size k c →
     IsLossIn g D k 0 c E → HoldsTrial g.size E d → IsEffective g.size F → degree g.size F ≡ pos k →

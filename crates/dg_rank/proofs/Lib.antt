@@ -12,6 +12,7 @@ pub mod TrialLists
 -- What the search over all trials finds.
 pub mod FirstLosses
 pub mod Search
+pub mod PieceLosses
 pub mod Bearers
 -- The reduced divisor in place of the one given.
 pub mod SmallAmounts

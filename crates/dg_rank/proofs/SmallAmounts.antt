@@ -4,6 +4,7 @@
 --   reduced_at_q     at q a reduced divisor holds at most its degree, and at least that less 62 dollars for each vertex
 --   degree_small     n amounts within 1,000,000 add up to at most n times as much
 --   reduced_small    where the degree is at least 0 and less than the genus and a thousand, all amounts are small
+--   unsettled_small  so are they where the degree does not settle the test of an equivalent divisor
 use Rattle.std.proofs.Common.{◌≡◌, ℕ, zero, suc, ◌+◌, ◌*◌, ◌<◌, ◌≤◌, arith, refl, ⊎_elim, suc-mul}
 use Rattle.std.specs.Prelude.{◌≤ℤ◌, ◌<ℤ◌}
 use Rattle.std.specs.Int.RustNames.{unsigned_abs}
@@ -12,14 +13,16 @@ use Rattle.std.proofs.lemmas.Int.{ints}
 use Rattle.std.proofs.Math.IntN.{pos, ◌+ℤ◌, ◌-ℤ◌}
 use Rattle.dg_theory.specs.Sums.{sum_below, total_below}
 use Rattle.dg_theory.specs.Multigraph.{Multigraph, edges_between, valence, edge_count, genus}
-use Rattle.dg_theory.specs.Firing.{Amounts, degree}
+use Rattle.dg_theory.specs.Firing.{Amounts, degree, AreEquivalent}
 use Rattle.dg_theory.specs.Reduced.{IsReduced}
 use Rattle.dg_theory.proofs.SumLaws.{sum_below-zero}
 use Rattle.dg_theory.proofs.SumBounds.{sum_below-at_least}
 use Rattle.dg_theory.proofs.SumSwap.{sum_below-sub}
 use Rattle.dg_theory.proofs.Range.{sum_below-one}
+use Rattle.dg_theory.proofs.Equivalence.{equivalent-degree}
 use Rattle.dg_graph.specs.Graph.{IsGraph}
 use Rattle.dg_reduce.proofs.Outcome.{reduced_few}
+use Rattle.dg_rank.specs.Ranks.{IsUnsettled}
 
 -- the edges to lower vertices are some of the edges
 total_below-part : (n m : ℕ) (f : ℕ → ℕ) → n ≤ m → total_below n f ≤ total_below m f
@@ -86,3 +89,11 @@ reduced_small g q R graph vertex reduced k few least below v inside =
     (λ (other : v ≡ q → ⊥).
     omega (arith, ints, reduced_few g q R v graph reduced inside other, reduced.no_debt v inside other))
     (cases_eq v q)
+
+pub unsettled_small : (g : Multigraph) (q : ℕ) (D R : Amounts) (k : ℕ) → IsGraph g → q < g.size → k ≤ 1000 → IsUnsettled g D k →
+    AreEquivalent g D R → IsReduced g q R → (v : ℕ) → v < g.size → unsigned_abs (R v) ≤ 1999000
+unsettled_small g q D R k graph vertex few unsettled led reduced =
+    let same : degree g.size D ≡ degree g.size R = equivalent-degree g D R graph.multigraph led in
+    let low : pos k ≤ℤ degree g.size D = unsettled.least in
+    let least : pos 0 ≤ℤ degree g.size D = omega (arith, ints) in
+    reduced_small g q R graph vertex reduced k few (rw (← same) least) (rw (← same) unsettled.most)

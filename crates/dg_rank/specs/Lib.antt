@@ -6,3 +6,4 @@ pub mod Ranks
 -- Words of private functions: how trials are numbered, and what the search for a loss finds.
 pub mod Numbering
 pub mod Losses
+pub mod Pieces

@@ -4,6 +4,7 @@
 mod counting;
 mod enumeration;
 mod first_loss;
+mod pieces;
 mod rank_verdict;
 mod ranks;
 #[cfg(test)]

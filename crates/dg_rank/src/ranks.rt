@@ -1,10 +1,13 @@
 //! Rank tests, and the rank that they tell.
-ghost use Rattle.std.specs.Prelude.{◌≡◌, ◌<◌, ◌≤◌, pos, ◌-ℤ◌, MatchOption, MatchResult};
-ghost use Rattle.dg_theory.specs.Firing.{degree};
+ghost use Rattle.std.specs.Prelude.{◌≡◌, ℕ, ◌<◌, ◌≤◌, ⊤, pos, ◌-ℤ◌, MatchOption, MatchResult};
+ghost use Rattle.dg_theory.specs.Multigraph.{Multigraph};
+ghost use Rattle.dg_theory.specs.Firing.{Amounts, degree, AreEquivalent};
 ghost use Rattle.dg_theory.specs.Rank.{IsRank};
 ghost use Rattle.dg_chips.specs.Vector.{at};
-ghost use Rattle.dg_rank.specs.Limits.{IsPastLimits};
-ghost use Rattle.dg_rank.specs.Ranks.{IsWithin, IsRankTest, NeedsTooMany};
+ghost use Rattle.dg_rank.specs.Limits.{IsPastLimits, IsWithinLimits};
+ghost use Rattle.dg_rank.specs.Trials.{IsTrial};
+ghost use Rattle.dg_rank.specs.Losses.{IsFound};
+ghost use Rattle.dg_rank.specs.Ranks.{IsWithin, IsRankTest, IsUnsettled, NeedsTooMany};
 ghost use Rattle.dg_rank.specs.declared.rank_verdict.RankFault.TheVariants.{TooMany};
 
 use crate::counting::{MAX_DEGREE, trials};
@@ -35,19 +38,12 @@ pub fn rank_at_least(
     let Some(count) = trials(size, k) else {
         return Err(RankFault::TooMany);
     };
-    let rest = degree_left(divisor, k);
-    if rest >= i64::from(graph.genus()) {
-        return Ok(RankVerdict::AtLeast(k));
-    }
-    if rest < 0 {
-        let first = Trial::with_number(size, k, 0).to_divisor();
-        return Ok(RankVerdict::Below(k, first));
+    if let Some(verdict) = settled(graph, divisor, k) {
+        return Ok(verdict);
     }
     let chips = reduce(graph, q, divisor).divisor;
-    match first_loss(graph, &chips, k, 0, count) {
-        Some(trial) => Ok(RankVerdict::Below(k, trial.to_divisor())),
-        None => Ok(RankVerdict::AtLeast(k)),
-    }
+    let loss = first_loss(graph, &chips, k, 0, count);
+    Ok(verdict_on(k, loss))
 }
 
 /// The rank of a divisor: the greatest k of which its rank is at least k, and -1 where it is not winnable. `None` where a
@@ -67,6 +63,38 @@ pub fn rank(graph: &Graph, q: usize, divisor: &Divisor) -> Option<i64>
         }
     }
     None
+}
+
+/// The answer of a rank test that the degree alone settles. `None` where trials must be made.
+pub(crate) fn settled(graph: &Graph, divisor: &Divisor, k: u32) -> Option<RankVerdict>
+    requires size { divisor.now.size ≡ graph.now.size }
+    requires limits { IsWithin graph.now.size k }
+    ensures { MatchOption result
+        (IsUnsettled graph.now (at divisor.now) k)
+        (IsRankTest graph.now (at divisor.now) k) }
+{
+    let size = graph.size();
+    let rest = degree_left(divisor, k);
+    if rest >= i64::from(graph.genus()) {
+        return Some(RankVerdict::AtLeast(k));
+    }
+    if rest < 0 {
+        let first = Trial::with_number(size, k, 0).to_divisor();
+        return Some(RankVerdict::Below(k, first));
+    }
+    None
+}
+
+/// The answer where this is the first loss of all trials, or where none was found. The condition is that it is a trial.
+pub(crate) fn verdict_on(k: u32, loss: Option<Trial>) -> RankVerdict
+    requires { MatchOption loss ⊤ (λ E. (n : ℕ) × (c : ℕ) × IsWithinLimits n k c × IsTrial n k E) }
+    ensures { (g : Multigraph) (D x : Amounts) (c : ℕ) → IsWithinLimits g.size k c → AreEquivalent g D x →
+        IsFound g x k 0 c loss → IsRankTest g D k result }
+{
+    match loss {
+        Some(trial) => RankVerdict::Below(k, trial.to_divisor()),
+        None => RankVerdict::AtLeast(k),
+    }
 }
 
 /// The degree of what is left of a divisor after a loss of degree k.

@@ -4,10 +4,12 @@ ghost use Rattle.dg_chips.specs.Vector.{at};
 ghost use Rattle.dg_rank.specs.Ranks.{IsWithin, IsRankTest, IsRankFault, MayHaveWorkers};
 
 use crate::counting::trials;
+use crate::pieces::{Search, first_loss_among};
 use crate::rank_verdict::{RankFault, RankVerdict};
-use crate::ranks::rank_at_least;
-use dg_chips::Divisor;
+use crate::ranks::{settled, verdict_on};
+use dg_chips::{Divisor, Wide};
 use dg_graph::Graph;
+use dg_reduce::reduce;
 use std::marker::Sync;
 use std::sync::Wait;
 use std::thread::Threads;
@@ -29,19 +31,21 @@ impl Gate for OpenGate {
     fn enter(&self, _piece: u32) {}
 }
 
-/// The rank test among workers: the answer is that of `rank_at_least`, whatever their number and the gate. For now all
-/// trials are made by the caller, and no gate is entered.
+/// The rank test among workers: the answer is that of `rank_at_least`, whatever their number and the gate. The trials
+/// are shared in as many pieces as there are workers. Each piece has a thread of its own, which enters the gate with the
+/// piece's number, from 0 on, before its first trial, also where it has none to make.
 ///
-/// Refused with `TooMany` as there, then with `Workers` where their number is not 1 to 16, then with `OutOfMemory`, and
-/// with `Spawn` where a thread could not be started.
+/// Refused with `TooMany` as there, then with `Workers` where their number is not 1 to 16; then no gate is entered. Refused
+/// with `Spawn` where a thread could not be started; those that were have ended then. `OutOfMemory` does not come, since
+/// only threads take memory.
 pub fn rank_with<R: Threads + Wait, G: Gate>(
-    _rt: &R,
+    rt: &R,
     graph: &Graph,
     q: usize,
     divisor: &Divisor,
     k: u32,
     workers: u32,
-    _gate: &G,
+    gate: &G,
 ) -> Result<RankVerdict, RankFault>
     requires size { divisor.now.size ≡ graph.now.size }
     requires vertex { q < graph.now.size }
@@ -51,11 +55,34 @@ pub fn rank_with<R: Threads + Wait, G: Gate>(
         (IsRankFault graph.now.size k workers) }
 {
     let size = graph.size();
-    if trials(size, k).is_none() {
+    let Some(count) = trials(size, k) else {
         return Err(RankFault::TooMany);
-    }
+    };
     if workers < 1 || workers > MAX_WORKERS {
         return Err(RankFault::Workers);
     }
-    rank_at_least(graph, q, divisor, k)
+    if let Some(verdict) = settled(graph, divisor, k) {
+        let search = Search {
+            graph: *graph,
+            chips: Wide::zero(graph),
+            k,
+            count: 0,
+            workers,
+        };
+        return match first_loss_among(rt, &search, gate) {
+            Ok(_) => Ok(verdict),
+            Err(fault) => Err(fault),
+        };
+    }
+    let search = Search {
+        graph: *graph,
+        chips: reduce(graph, q, divisor).divisor,
+        k,
+        count,
+        workers,
+    };
+    match first_loss_among(rt, &search, gate) {
+        Ok(loss) => Ok(verdict_on(k, loss)),
+        Err(fault) => Err(fault),
+    }
 }

@@ -1,0 +1,16 @@
+use Rattle.std.proofs.Common.{refl}
+use Rattle.dg_theory.proofs.LossLaws.{equivalent-loss}
+use Rattle.dg_theory.proofs.RankLaws.{equivalent-rank}
+use Rattle.dg_chips.specs.Vector.{at}
+use Rattle.dg_rank.proofs.FirstLosses.{found_rank, found_loss}
+use Rattle.dg_rank.proofs.ranks.verdict_on.Goals as goal
+
+pub returns-in-Some : goal.returns-in-Some
+returns-in-Some c g D x count within same found =
+    let (size, loss) = found_loss g x c.args.k count c.in-Some.trial c.to_divisor.result within (rw c.in-Some.is at found)
+    c.to_divisor.ensures in
+    (refl, size, (equivalent-loss g D x c.args.k (at c.to_divisor.result) same).1 loss)
+
+pub returns-in-None : goal.returns-in-None
+returns-in-None c g D x count within same found =
+    (refl, (equivalent-rank g D x c.args.k same).1 (found_rank g x c.args.k count within (rw c.in-None.is at found)))
