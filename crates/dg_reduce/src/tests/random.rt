@@ -1,11 +1,12 @@
 //! Random graphs and amounts: the reductions that begin with a guess are those by levels.
 
-ghost use Rattle.std.specs.Prelude.{◌≡◌, ◌<◌, ◌≤◌};
+ghost use Rattle.std.specs.Prelude.{◌≡◌, ◌<◌, ◌≤◌, pos};
+ghost use Rattle.dg_chips.specs.Vector.{at};
 
 use crate::guess::guess;
-use crate::reducing::{is_within_start, reduce_by_levels};
+use crate::reducing::{is_within_start, reduce_after, reduce_by_levels};
 use crate::{Aim, order_if_reduced, reduce_certified};
-use dg_chips::Wide;
+use dg_chips::{Script, Wide};
 use dg_graph::Graph;
 use std::test::Fail;
 
@@ -90,7 +91,22 @@ fn graph_of(dice: &mut Dice, shape: Shape, size: u8) -> Option<Graph>
     Graph::new(usize::from(size), &items[..count.min(152)]).ok()
 }
 
-/// Whether a random reduction is the same with a guess and by levels; and whether the guess was right.
+/// A script that is 0 at q and near to another, but off by some lendings at each vertex.
+fn blunt(graph: &Graph, q: usize, script: &Script) -> Script
+    requires size { script.now.size ≡ graph.now.size }
+    requires vertex { q < graph.now.size }
+    ensures size { result.size ≡ graph.now.size }
+    ensures at_q { at result q ≡ pos 0 }
+{
+    let mut blunt = Wide::zero(graph);
+    for v in 0..graph.size() {
+        blunt = blunt.with_amount(v, i128::from(script.get(v) / 8 * 8));
+    }
+    Script::relative(&blunt, q)
+}
+
+/// Whether a random reduction is the same with a guess and by levels, which begin with a blunt script where amounts are
+/// large; and whether the guess was right.
 fn agrees(dice: &mut Dice, graph: &Graph, q: usize, most: u64) -> Option<(bool, bool)>
     requires vertex { q < graph.now.size }
     requires most { most ≤ 1000000 }
@@ -106,9 +122,14 @@ fn agrees(dice: &mut Dice, graph: &Graph, q: usize, most: u64) -> Option<(bool, 
     }
     let aim = Aim::new(graph, q);
     let found = reduce_certified(graph, &aim, q, &chips);
-    let wanted = reduce_by_levels(graph, q, &chips);
+    let script = guess(graph, &aim, q, &chips);
+    let wanted = if most <= 10 {
+        reduce_by_levels(graph, q, &chips)
+    } else {
+        reduce_after(graph, q, &chips, &blunt(graph, q, &script))
+    };
     let order = order_if_reduced(graph, q, &wanted.divisor);
-    let left = chips.fired_by(graph, &guess(graph, &aim, q, &chips));
+    let left = chips.fired_by(graph, &script);
     Some((
         found.reduced == wanted && order == Some(found.order),
         order_if_reduced(graph, q, &left).is_some(),
@@ -122,7 +143,7 @@ fn as_by_levels(rt: HostRuntime) -> Result<(), Fail> {
     let mut dice = Dice { state: 1 };
     let mut graphs = 0u32;
     let mut wrong = 0u32;
-    for _ in 0..400 {
+    for _ in 0..1500 {
         for shape in shapes {
             for most in limits {
                 let size = 1 + dice.byte(16);
@@ -139,7 +160,7 @@ fn as_by_levels(rt: HostRuntime) -> Result<(), Fail> {
             }
         }
     }
-    assert!(rt; graphs > 5000, "{graphs} graphs");
+    assert!(rt; graphs > 20_000, "{graphs} graphs");
     assert!(rt; wrong < 10, "{wrong} wrong guesses");
     Ok(())
 }
