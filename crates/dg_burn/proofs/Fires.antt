@@ -1,59 +1,153 @@
--- The fire before any vertex burns, and what the frontier of a fire tells.
+-- How a fire spreads, and what it tells.
 --   no_counts      nothing is counted at first
---   unlit-counts   what is counted is right where nothing burns
---   off_frontier   in a fire, who is not on the frontier may not burn
---   burnt_out      in a fire, nobody may burn where the frontier is empty
---   least_burns    in a fire, the least of the frontier burns next
-use Rattle.std.proofs.Common.{◌≡◌, ℕ, zero, suc, ◌<◌, true, false, replicate, arith, refl, sym, ◌∙◌}
-use Rattle.std.specs.Prelude.{slice_index}
-use Rattle.dg_theory.specs.Multigraph.{Multigraph}
-use Rattle.dg_theory.specs.Burning.{MayBurn, BurnsNext}
-use Rattle.dg_graph.specs.Sets.{in_set, IsLeastOf}
-use Rattle.dg_chips.specs.Vector.{Vector, at}
+--   into-none      nobody has an edge to a burning vertex where none burns
+--   into-more      one burning vertex more adds the edges to it
+--   into-few       a vertex has at most 63 edges to burning ones
+--   fire-unlit     a fire before any vertex burns is counted
+--   fire-room      the edges of one vertex more fit into a byte
+--   fire-more      a fire is counted after one vertex more burns
+--   burnt_out      in a fire, nobody may burn where no count is above what is held
+--   least_new      in a fire, such a vertex does not burn
+--   least_burns    in a fire, the least vertex whose count is above what it holds burns next
+use Rattle.std.proofs.Common.{◌≡◌, ℕ, zero, suc, ◌+◌, ◌<◌, ◌≤◌, Bool, false, List, length, length-set, set, replicate, arith, refl, sym, ap, ◌∙◌, ⊎_elim}
+use Rattle.std.specs.Prelude.{if◌then◌else◌, slice_index, ◌<ℤ◌}
+use Rattle.std.proofs.Math.IntN.{pos}
+use Rattle.std.proofs.lemmas.Bool.{cases_eq, cases_lt, both_ways, false_from_ne_true}
+use Rattle.std.proofs.lemmas.Int.{ints}
+use Rattle.std.proofs.lemmas.List.{get_or-set_same, get_or-set_other}
+use Rattle.dg_theory.specs.Sums.{total_below}
+use Rattle.dg_theory.specs.Multigraph.{Multigraph, IsMultigraph, edges_between, valence}
+use Rattle.dg_theory.specs.Burning.{edges_into, MayBurn, BurnsNext}
+use Rattle.dg_theory.proofs.TotalLaws.{total_below-cong, total_below-term, total_below-differ_at}
+use Rattle.dg_theory.proofs.Debts.{into-le-valence}
+use Rattle.dg_graph.specs.Graph.{IsGraph}
+use Rattle.dg_graph.specs.Sets.{in_set, IsWith}
+use Rattle.dg_graph.proofs.Valences.{valence-few, valence-outside}
 use Rattle.dg_burn.specs.declared.fire.Fire.{Fire}
-use Rattle.dg_burn.specs.Fires.{IsReadyToBurn, CountsEdges, IsUnlit, IsFire}
-use Rattle.dg_burn.proofs.Spreading.{into-none}
+use Rattle.dg_burn.specs.Fires.{dollars, IsUnlit, IsOut, IsNext, IsFire}
 
 pub no_counts : (k v : ℕ) → slice_index (replicate k 0) v ≡ 0
 no_counts zero v = refl
 no_counts (suc k) zero = refl
 no_counts (suc k) (suc v) = no_counts k v
 
-pub unlit-counts : (g : Multigraph) (x : Fire) → IsUnlit x → CountsEdges g x
-unlit-counts g x unlit v below _ = unlit.no_edges v ∙ sym (into-none g (in_set x.reached) v unlit.none_burns)
+total-zero : (n : ℕ) → total_below n (λ _. 0) ≡ 0
+total-zero zero = refl
+total-zero (suc n) = let before : total_below n (λ _. 0) ≡ 0 = total-zero n in omega arith
 
-ready-may : (g : Multigraph) (chips : Vector) (x : Fire) (v : ℕ) → chips.size ≡ g.size → CountsEdges g x →
-    IsReadyToBurn chips x v → MayBurn g (at chips) (in_set x.reached) v
-ready-may g chips x v size counts ready =
-    let below : v < chips.size = ready.vertex in
-    record {
-      vertex = omega arith;
-      unburnt = ready.unburnt;
-      reached = rw (← counts v (omega arith) ready.unburnt) ready.reached;
-    }
+abbrev counted : Bool → ℕ → ℕ
+counted b e = if b then e else 0
 
-may-ready : (g : Multigraph) (chips : Vector) (x : Fire) (v : ℕ) → chips.size ≡ g.size → CountsEdges g x →
-    MayBurn g (at chips) (in_set x.reached) v → IsReadyToBurn chips x v
-may-ready g chips x v size counts may =
+pub into-none : (g : Multigraph) (B : ℕ → Bool) (v : ℕ) → ((w : ℕ) → B w ≡ false) → edges_into g B v ≡ 0
+into-none g B v none =
+    let all : edges_into g B v ≡ total_below g.size (λ _. 0) =
+    total_below-cong g.size (λ w. counted (B w) (edges_between g v w)) (λ _. 0)
+    (λ w below. ap (λ b. counted b (edges_between g v w)) (none w)) in
+    omega (arith, total-zero g.size)
+
+pub into-more : (g : Multigraph) (S T : ℕ → Bool) (v w : ℕ) → IsMultigraph g → v < g.size → S v ≡ false → IsWith S v T →
+    edges_into g S w + edges_between g v w ≡ edges_into g T w
+into-more g S T v w graph below new more =
+    let differ : edges_into g T w + counted (S v) (edges_between g w v) ≡ edges_into g S w + counted (T v) (edges_between g w v) =
+    total_below-differ_at g.size (λ u. counted (T u) (edges_between g w u)) (λ u. counted (S u) (edges_between g w u)) v below
+    (λ u _ other. ap (λ b. counted b (edges_between g w u)) (more.others u other)) in
+    let before : counted (S v) (edges_between g w v) ≡ 0 = ap (λ b. counted b (edges_between g w v)) new in
+    let after : counted (T v) (edges_between g w v) ≡ edges_between g w v =
+    ap (λ b. counted b (edges_between g w v)) more.here in
+    omega (arith, graph.symmetric v w)
+
+pub into-few : (g : Multigraph) (B : ℕ → Bool) (v : ℕ) → IsGraph g → edges_into g B v ≤ 63
+into-few g B v graph = omega (arith, into-le-valence g B v, valence-few g v graph)
+
+edge-few : (g : Multigraph) (v w : ℕ) → IsGraph g → edges_between g v w ≤ 63
+edge-few g v w graph = ⊎_elim
+    (λ (inside : w < g.size).
+    let term : edges_between g v w ≤ valence g v = total_below-term g.size (edges_between g v) w inside in
+    omega (arith, valence-few g v graph))
+    (λ (outside : g.size ≤ w). omega (arith, graph.multigraph.inside v w outside))
+    (cases_lt w g.size)
+
+pub fire-unlit : (g : Multigraph) (held : List ℕ) (x : Fire) → length held ≡ 16 → IsUnlit held x → IsFire g held x
+fire-unlit g held x places unlit = record {
+  places = ap length unlit.held ∙ places;
+  counts = λ v. unlit.no_edges v ∙ sym (into-none g (in_set x.reached) v unlit.none_burns);
+  unburnt = λ v _. ap (λ (l : List ℕ). slice_index l v) unlit.held;
+  burnt = λ v burns. absurd (both_ways _ (unlit.none_burns v) burns);
+}
+
+pub fire-room : (g : Multigraph) (held : List ℕ) (x : Fire) (v w : ℕ) → IsGraph g → IsFire g held x →
+    slice_index x.joined w + edges_between g v w ≤ 255
+fire-room g held x v w graph fire =
+    omega (arith, fire.counts w, into-few g (in_set x.reached) w graph, edge-few g v w graph)
+
+pub fire-more : (g : Multigraph) (held : List ℕ) (x y : Fire) (v : ℕ) → IsMultigraph g → v < g.size → g.size ≤ 16 →
+    in_set x.reached v ≡ false → IsFire g held x → IsWith (in_set x.reached) v (in_set y.reached) →
+    ((w : ℕ) → slice_index y.joined w ≡ slice_index x.joined w + edges_between g v w) →
+    y.held ≡ set x.held v 255 → IsFire g held y
+fire-more g held x y v graph below few new fire more counts closed = record {
+  places = ap length closed ∙ length-set _ _ _ ∙ fire.places;
+  counts = λ w. omega (
+    arith,
+    counts w,
+    fire.counts w,
+    into-more g (in_set x.reached) (in_set y.reached) v w graph below new more,
+  );
+  unburnt = λ w out. ⊎_elim
+      (λ (equal : w ≡ v). absurd (both_ways _ out (ap (in_set y.reached) equal ∙ more.here)))
+      (λ (other : w ≡ v → ⊥). ap (λ (l : List ℕ). slice_index l w) closed ∙ get_or-set_other x.held v w 255 0 other
+      ∙ fire.unburnt w (sym (more.others w other) ∙ out))
+      (cases_eq w v);
+  burnt = λ w burns. ⊎_elim
+      (λ (equal : w ≡ v).
+      let full : slice_index y.held v ≡ 255 =
+      ap (λ (l : List ℕ). slice_index l v) closed ∙ get_or-set_same x.held v 255 0 (omega (arith, fire.places)) in
+      rw equal (omega arith))
+      (λ (other : w ≡ v → ⊥).
+      let same : slice_index y.held w ≡ slice_index x.held w =
+      ap (λ (l : List ℕ). slice_index l w) closed ∙ get_or-set_other x.held v w 255 0 other in
+      omega (arith, fire.burnt w (sym (more.others w other) ∙ burns)))
+      (cases_eq w v);
+}
+
+-- who may burn holds less than is counted at it
+may-counted : (g : Multigraph) (held : List ℕ) (x : Fire) (v : ℕ) → IsFire g held x →
+    MayBurn g (dollars held) (in_set x.reached) v → slice_index x.held v < slice_index x.joined v
+may-counted g held x v fire may =
+    let less : pos (slice_index held v) <ℤ pos (edges_into g (in_set x.reached) v) = may.reached in
+    omega (arith, ints, fire.counts v, fire.unburnt v may.unburnt)
+
+pub burnt_out : (g : Multigraph) (held : List ℕ) (x : Fire) → g.size ≤ 16 → IsFire g held x → IsOut x →
+    (v : ℕ) → ¬ MayBurn g (dollars held) (in_set x.reached) v
+burnt_out g held x few fire none v may =
     let below : v < g.size = may.vertex in
-    record {
-      vertex = omega arith;
-      unburnt = may.unburnt;
-      reached = rw (counts v below may.unburnt) may.reached;
-    }
+    let least : slice_index x.held v < slice_index x.joined v = may-counted g held x v fire may in
+    omega (arith, none v (omega arith))
 
-off_frontier : (g : Multigraph) (chips : Vector) (x : Fire) (v : ℕ) → chips.size ≡ g.size → IsFire g chips x →
-    in_set x.frontier v ≡ false → ¬ MayBurn g (at chips) (in_set x.reached) v
-off_frontier g chips x v size fire off may =
-    let on : in_set x.frontier v ≡ true = (fire.burnable v).1 (may-ready g chips x v size fire.counts may) in cc
+pub least_new : (g : Multigraph) (held : List ℕ) (x : Fire) (v : ℕ) → IsGraph g → IsFire g held x → IsNext x v →
+    in_set x.reached v ≡ false
+least_new g held x v graph fire next = false_from_ne_true (in_set x.reached v) (λ burns.
+    let few : edges_into g (in_set x.reached) v ≤ 63 = into-few g (in_set x.reached) v graph in
+    let less : slice_index x.held v < slice_index x.joined v = next.burns in
+    absurd (omega (arith, fire.counts v, fire.burnt v burns)))
 
-pub burnt_out : (g : Multigraph) (chips : Vector) (x : Fire) → chips.size ≡ g.size → IsFire g chips x →
-    ((v : ℕ) → in_set x.frontier v ≡ false) → (v : ℕ) → ¬ MayBurn g (at chips) (in_set x.reached) v
-burnt_out g chips x size fire none v = off_frontier g chips x v size fire (none v)
-
-pub least_burns : (g : Multigraph) (chips : Vector) (x : Fire) (v : ℕ) → chips.size ≡ g.size → IsFire g chips x →
-    IsLeastOf (in_set x.frontier) v → BurnsNext g (at chips) (in_set x.reached) v
-least_burns g chips x v size fire least = record {
-  may = ready-may g chips x v size fire.counts ((fire.burnable v).0 least.member);
-  least = λ u before. off_frontier g chips x u size fire (least.least u before);
+pub least_burns : (g : Multigraph) (held : List ℕ) (x : Fire) (v : ℕ) → IsGraph g → IsFire g held x → IsNext x v →
+    BurnsNext g (dollars held) (in_set x.reached) v
+least_burns g held x v graph fire next = record {
+  may = record {
+    vertex = ⊎_elim
+        (λ (inside : v < g.size). inside)
+        (λ (outside : g.size ≤ v).
+        let none : valence g v ≡ 0 = valence-outside g v graph outside in
+        let into : edges_into g (in_set x.reached) v ≤ valence g v = into-le-valence g (in_set x.reached) v in
+        let less : slice_index x.held v < slice_index x.joined v = next.burns in
+        absurd (omega (arith, fire.counts v)))
+        (cases_lt v g.size);
+    unburnt = least_new g held x v graph fire next;
+    reached =
+        let less : slice_index x.held v < slice_index x.joined v = next.burns in
+        omega (arith, ints, fire.counts v, fire.unburnt v (least_new g held x v graph fire next));
+  };
+  least = λ u earlier may.
+      let less_u : slice_index x.held u < slice_index x.joined u = may-counted g held x u fire may in
+      omega (arith, next.least u earlier);
 }

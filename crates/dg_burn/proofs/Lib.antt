@@ -3,4 +3,4 @@ pub mod Steps
 pub mod Rests
 pub mod Told
 pub mod Fires
-pub mod Spreading
+pub mod Capped

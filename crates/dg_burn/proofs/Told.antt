@@ -1,5 +1,6 @@
 -- What burning tells, by the set of the vertices that do not burn.
 --   set_is_rest     the set is what burning leaves
+--   rest_counts     the edges of a vertex that lead out of it are those to burnt vertices
 --   rest_is_free    it is the greatest that fires freely
 --   none_reduced    if it is empty, the divisor is reduced
 --   reduced_none    if the divisor is reduced, it is empty
@@ -10,10 +11,10 @@ use Rattle.std.specs.Prelude.{nat_lt, ◌↔◌}
 use Rattle.std.proofs.lemmas.Bool.{cases_lt, lt-ltb, le-ltb, and_left, and_right, not-false, not_from_true, true_from_ne_false}
 use Rattle.dg_theory.specs.Multigraph.{Multigraph, IsMultigraph}
 use Rattle.dg_theory.specs.Firing.{Amounts, HasNoDebtOff}
-use Rattle.dg_theory.specs.Reduced.{IsReduced}
-use Rattle.dg_theory.specs.Burning.{among, BurnsInOrder, IsGreatestFree}
+use Rattle.dg_theory.specs.Reduced.{edges_out, IsReduced}
+use Rattle.dg_theory.specs.Burning.{among, edges_into, BurnsInOrder, IsGreatestFree}
 use Rattle.dg_theory.specs.BurningLaws.{unburnt_by}
-use Rattle.dg_theory.proofs.BurningLaws.{unburnt_by-below, unburnt_fires, burnt_reduced, reduced_burnt}
+use Rattle.dg_theory.proofs.BurningLaws.{unburnt_by-below, rest-out, unburnt_fires, burnt_reduced, reduced_burnt}
 use Rattle.dg_theory.proofs.TotalLaws.{total_below-term}
 use Rattle.dg_graph.specs.Sets.{in_set}
 use Rattle.dg_graph.proofs.SetLaws.{in_set-none, no_set}
@@ -25,6 +26,13 @@ pub set_is_rest : (g : Multigraph) (l : List ℕ) (S : ℕ → Bool) (k m : ℕ)
     (v : ℕ) → in_set m v ≡ unburnt_by g l v
 set_is_rest g l S k m size same rest v =
     rest v ∙ ap (λ n. nat_lt v n && not (S v)) size ∙ ap (λ b. nat_lt v g.size && not b) (same v)
+
+pub rest_counts : (g : Multigraph) (l : List ℕ) (S : ℕ → Bool) (m v : ℕ) → ((w : ℕ) → S w ≡ among l w) →
+    ((w : ℕ) → in_set m w ≡ unburnt_by g l w) → edges_into g S v ≡ edges_out g (in_set m) v
+rest_counts g l S m v same rest =
+    ap (λ (B : ℕ → Bool). edges_into g B v) (λ i w. same w i)
+    ∙ sym (rest-out g l v)
+    ∙ ap (λ (B : ℕ → Bool). edges_out g B v) (λ i w. sym (rest w) i)
 
 pub rest_is_free : (g : Multigraph) (q : ℕ) (D : Amounts) (l : List ℕ) (m : ℕ) → IsMultigraph g → q < g.size →
     HasNoDebtOff g q D → BurnsInOrder g q D l → ((v : ℕ) → in_set m v ≡ unburnt_by g l v) →

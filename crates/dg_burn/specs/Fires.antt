@@ -1,34 +1,46 @@
--- A fire on a graph: which vertices burn, how many edges join each other vertex to them, and the frontier, which is the
--- set of those that may burn now.
---   IsReadyToBurn chips x v == v is a vertex that does not burn, and more edges are counted at it than it holds dollars
---   HoldsBurnable chips x v == v is on the frontier exactly where it is ready to burn
---   CountsEdges g x         == what is counted at each vertex that does not burn are its edges to those that do
---   IsUnlit x               == nothing burns, nothing is counted, and nothing is on the frontier
---   IsFire g chips x        == the edges are counted, and the frontier holds what is ready to burn and no more
-use Rattle.std.specs.Prelude.{◌≡◌, ℕ, ◌<◌, ◌↔◌, true, false, pos, ◌<ℤ◌, slice_index}
+-- A fire on a graph: which vertices burn, how many edges join each vertex to them, and what each that does not burn holds.
+--   dollars held v == what v holds, where a list tells it
+--   capped z       == the amount z, but 0 for a debt and 64 for more than 64: as no vertex has more than 63 edges, it burns
+--                     with one exactly where it burns with the other
+--   IsHeld n D l   == l are the amounts D of n vertices, capped
+--   IsUnlit l x    == nothing burns, nothing is counted, and all hold what they hold
+--   IsOut x        == no vertex has more edges to those that burn than it holds dollars
+--   IsNext x v     == v is the least vertex that has
+--   IsFire g l x   == what is counted at each vertex are its edges to those that burn; each that does not burn holds what
+--                     l tells, and each that does holds too much to burn again
+use Rattle.std.specs.Prelude.{◌≡◌, ℕ, ◌<◌, ◌≤◌, min, true, false, List, length, ℤ, pos, negsuc, slice_index}
 use Rattle.dg_theory.specs.Multigraph.{Multigraph}
+use Rattle.dg_theory.specs.Firing.{Amounts}
 use Rattle.dg_theory.specs.Burning.{edges_into}
+use Rattle.dg_graph.specs.declared.limits.TheConstants.{MAX_VERTICES}
 use Rattle.dg_graph.specs.Sets.{in_set}
-use Rattle.dg_chips.specs.Vector.{Vector, at}
 use Rattle.dg_burn.specs.declared.fire.Fire.{Fire}
 
-pub record IsReadyToBurn (chips : Vector) (x : Fire) (v : ℕ) : Type 0 where
-  pub vertex : v < chips.size
-  pub unburnt : in_set x.reached v ≡ false
-  pub reached : at chips v <ℤ pos (slice_index x.joined v)
+abbrev pub dollars : List ℕ → Amounts
+dollars held v = pos (slice_index held v)
 
-abbrev pub HoldsBurnable : Vector → Fire → ℕ → Type 0
-HoldsBurnable chips x v = (in_set x.frontier v ≡ true) ↔ IsReadyToBurn chips x v
+abbrev pub capped : ℤ → ℕ
+capped (pos n) = min 64 n
+capped (negsuc n) = 0
 
-abbrev pub CountsEdges : Multigraph → Fire → Type 0
-CountsEdges g x = (v : ℕ) → v < g.size → in_set x.reached v ≡ false →
-    slice_index x.joined v ≡ edges_into g (in_set x.reached) v
+abbrev pub IsHeld : ℕ → Amounts → List ℕ → Type 0
+IsHeld n D held = (v : ℕ) → v < n → slice_index held v ≡ capped (D v)
 
-pub record IsUnlit (x : Fire) : Type 0 where
+pub record IsUnlit (l : List ℕ) (x : Fire) : Type 0 where
   pub none_burns : (v : ℕ) → in_set x.reached v ≡ false
   pub no_edges : (v : ℕ) → slice_index x.joined v ≡ 0
-  pub none_waits : (v : ℕ) → in_set x.frontier v ≡ false
+  pub held : x.held ≡ l
 
-pub record IsFire (g : Multigraph) (chips : Vector) (x : Fire) : Type 0 where
-  pub counts : CountsEdges g x
-  pub burnable : (v : ℕ) → HoldsBurnable chips x v
+abbrev pub IsOut : Fire → Type 0
+IsOut x = (v : ℕ) → v < MAX_VERTICES → slice_index x.joined v ≤ slice_index x.held v
+
+pub record IsNext (x : Fire) (v : ℕ) : Type 0 where
+  pub few : v < MAX_VERTICES
+  pub burns : slice_index x.held v < slice_index x.joined v
+  pub least : (u : ℕ) → u < v → slice_index x.joined u ≤ slice_index x.held u
+
+pub record IsFire (g : Multigraph) (l : List ℕ) (x : Fire) : Type 0 where
+  pub places : length x.held ≡ MAX_VERTICES
+  pub counts : (v : ℕ) → slice_index x.joined v ≡ edges_into g (in_set x.reached) v
+  pub unburnt : (v : ℕ) → in_set x.reached v ≡ false → slice_index x.held v ≡ slice_index l v
+  pub burnt : (v : ℕ) → in_set x.reached v ≡ true → 63 ≤ slice_index x.held v

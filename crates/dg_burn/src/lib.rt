@@ -8,4 +8,4 @@ mod reference;
 #[cfg(test)]
 mod tests;
 
-pub use burning::{Burnt, burn};
+pub use burning::{Burnt, Counted, burn, burn_counted, held_at};

@@ -4,8 +4,8 @@ ghost use Rattle.std.specs.Prelude.{◌≡◌, ◌≢◌, ℕ, ◌<◌, pos, ◌
 ghost use Rattle.std.specs.Bool.{OnTrue};
 ghost use Rattle.dg_chips.specs.Vector.{at};
 
-use crate::burn;
 use crate::reference::burn_anew;
+use crate::{burn, burn_counted, held_at};
 use dg_chips::Wide;
 use dg_graph::Graph;
 use std::test::Fail;
@@ -97,7 +97,14 @@ fn as_counted_anew(rt: HostRuntime) -> Result<(), Fail> {
             let chips = Wide::new(&graph, &amounts[..graph.size()])?;
             for q in 0..graph.size() {
                 assert!(rt; is_free_off(q, &chips));
-                assert_eq!(rt; burn(&graph, q, &chips), burn_anew(&graph, q, &chips));
+                let burnt = burn(&graph, q, &chips);
+                assert_eq!(rt; burnt, burn_anew(&graph, q, &chips));
+                let counted = burn_counted(&graph, q, &held_at(&chips));
+                assert_eq!(rt; counted.burnt, burnt);
+                for v in 0..graph.size() {
+                    let out = graph.edges_out(burnt.unburnt, v);
+                    assert_eq!(rt; u32::from(counted.joined[v]), out, "vertex {v}");
+                }
             }
         }
     }

@@ -5,3 +5,4 @@ pub mod Reached
 pub mod Given
 pub mod NoEdges
 pub mod Genus
+pub mod Valences

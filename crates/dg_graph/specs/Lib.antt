@@ -4,5 +4,6 @@ pub mod Graph
 pub mod Items
 pub mod Faults
 pub mod Sets
--- What serves the search for chains of edges alone.
+-- What serves the search for chains of edges alone, and what a graph keeps.
 pub mod Search
+pub mod Valences

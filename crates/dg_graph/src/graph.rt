@@ -1,6 +1,6 @@
 //! A graph: its size and the numbers of its edges.
 
-ghost use Rattle.std.specs.Prelude.{◌≡◌, ◌<◌, MatchResult};
+ghost use Rattle.std.specs.Prelude.{◌≡◌, ℕ, ◌<◌, MatchResult, slice_index};
 ghost use Rattle.dg_theory.specs.Multigraph.{edges_between, valence, genus};
 ghost use Rattle.dg_graph.specs.Graph.{IsGraph};
 ghost use Rattle.dg_graph.specs.Items.{IsGiven};
@@ -10,7 +10,7 @@ use crate::build::{first_item_fault, table_of};
 use crate::connected::is_connected;
 use crate::fault::GraphFault;
 use crate::limits::MAX_VERTICES;
-use crate::table::{Table, edge_count, first_high, row_sum};
+use crate::table::{Table, edge_count, first_high, valences_of};
 use std::marker::Model;
 
 /// A finite connected multigraph without loops: 1 to 16 vertices, numbered from 0, and at most 63 edges at each.
@@ -18,6 +18,7 @@ use std::marker::Model;
 pub struct Graph {
     size: usize,
     table: Table,
+    valences: [u8; MAX_VERTICES],
 }
 
 impl Model for Graph {
@@ -25,13 +26,16 @@ impl Model for Graph {
 
     ghost Value = { Multigraph };
 
-    ghost use Rattle.dg_graph.specs.Graph.{IsGraph};
+    ghost use Rattle.std.proofs.Common.{sym};
+    ghost use Rattle.dg_graph.specs.Valences.{valences_of, IsKept};
 
     ghost view = { λ a. record { size = a.size; table = a.table } };
 
-    ghost invariant = { λ a. IsGraph (record { size = a.size; table = a.table }) };
+    ghost invariant = { λ a. IsKept (record { size = a.size; table = a.table }) a.valences };
 
-    ghost inverse = { λ g. record { size = g.size; table = g.table } };
+    ghost inverse = { λ g. record { size = g.size; table = g.table; valences = valences_of g } };
+
+    ghost inverse_ok = { λ a h i. record { size = a.size; table = a.table; valences = sym h.valences i } };
 }
 
 impl Graph {
@@ -56,7 +60,12 @@ impl Graph {
         if !is_connected(size, &table) {
             return Err(GraphFault::NotConnected);
         }
-        Ok(Graph { size, table })
+        let valences = valences_of(size, &table);
+        Ok(Graph {
+            size,
+            table,
+            valences,
+        })
     }
 
     /// The number of vertices, 1 to 16.
@@ -78,15 +87,23 @@ impl Graph {
         table[u][v]
     }
 
-    /// The number of edges at a vertex, at most 63.
+    /// The numbers of edges between a vertex and each other, 0 past the last vertex.
     #[tactic(auto, unfolding(dg_theory::specs::Multigraph::entry))]
+    pub fn row(&self, v: usize) -> &[u8; MAX_VERTICES]
+        requires { v < self.now.size }
+        ensures { (w : ℕ) → slice_index result.now w ≡ edges_between self.now v w }
+    {
+        let table = &self.table;
+        &table[v]
+    }
+
+    /// The number of edges at a vertex, at most 63.
     pub fn valence(&self, v: usize) -> u8
         requires { v < self.now.size }
         ensures { result ≡ valence self.now v }
     {
-        let size = self.size;
-        let table = &self.table;
-        row_sum(size, &table[v]) as u8
+        let valences = &self.valences;
+        valences[v]
     }
 
     /// The number of edges, less that of vertices, plus 1.

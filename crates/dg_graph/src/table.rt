@@ -3,6 +3,8 @@
 ghost use Rattle.std.specs.Prelude.{◌≡◌, ℕ, ◌<◌, ◌≤◌, ◌*◌, MatchOption, slice_index};
 ghost use Rattle.dg_theory.specs.Sums.{total_below};
 ghost use Rattle.dg_theory.specs.Multigraph.{entry};
+ghost use Rattle.dg_graph.specs.Graph.{IsGraph};
+ghost use Rattle.dg_graph.specs.Valences.{valences_of};
 
 use crate::limits::{MAX_VALENCE, MAX_VERTICES};
 
@@ -20,6 +22,19 @@ pub fn row_sum(size: usize, row: &[u8; MAX_VERTICES]) -> u32
         sum += u32::from(row[v]);
     }
     sum
+}
+
+/// The sums of all rows of the table of a graph, which are its valences.
+#[tactic(auto, unfolding(dg_theory::specs::Multigraph::entry))]
+pub fn valences_of(size: usize, table: &Table) -> [u8; MAX_VERTICES]
+    requires { IsGraph (record { size = size; table = table.now }) }
+    ensures { result ≡ valences_of (record { size = size; table = table.now }) }
+{
+    let mut valences = [0; MAX_VERTICES];
+    for v in 0..MAX_VERTICES {
+        valences[v] = row_sum(size, &table[v]) as u8;
+    }
+    valences
 }
 
 /// The sum of row v before its diagonal.

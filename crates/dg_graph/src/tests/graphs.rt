@@ -51,11 +51,26 @@ fn graphs_are_given_by_items(rt: HostRuntime) -> Result<(), Fail> {
         assert_eq!(rt; graph.size(), valences.len());
         for (v, valence) in valences.iter().enumerate() {
             assert_eq!(rt; graph.valence(v), *valence, "vertex {v}");
+            assert!(rt; v < graph.size());
+            for (w, edges) in graph.row(v).iter().enumerate() {
+                let inside = w < graph.size();
+                assert!(rt;
+                    if inside {
+                        graph.edges(v, w) == *edges
+                    } else {
+                        *edges == 0
+                    }
+                );
+            }
         }
         assert_eq!(rt; graph.genus(), genus);
     }
     let double = Graph::new(2, &[(0, 1, 1), (1, 0, 2)])?;
     assert_eq!(rt; (double.edges(0, 1), double.edges(1, 0)), (3, 3));
+    assert_eq!(rt;
+        *double.row(1),
+        [3, 0, 0, 0, 0, 0, 0, 0, 0, 0, 0, 0, 0, 0, 0, 0]
+    );
     Ok(())
 }
 

@@ -1,0 +1,69 @@
+-- Amounts that are capped burn as the amounts do: no vertex has more than 63 edges.
+--   capped-less    capped and not, an amount without debt is below the same numbers up to 63
+--   same-may       who may burn is the same, where q burns
+--   same-order     so the order is the same
+use Rattle.std.proofs.Common.{◌≡◌, ℕ, suc, ◌<◌, ◌≤◌, Bool, true, false, List, [], ◌∷◌, take, arith, refl, ap, ◌∙◌}
+use Rattle.std.specs.Prelude.{◌↔◌, ℤ, negsuc, slice_get, Some, ◌<ℤ◌, ◌≤ℤ◌}
+use Rattle.std.proofs.Math.IntN.{pos}
+use Rattle.std.proofs.lemmas.Bool.{both_ways, eq-eqb}
+use Rattle.std.proofs.lemmas.Int.{ints}
+use Rattle.dg_theory.specs.Multigraph.{Multigraph}
+use Rattle.dg_theory.specs.Firing.{Amounts, HasNoDebtOff}
+use Rattle.dg_theory.specs.Burning.{among, edges_into, MayBurn, BurnsNext, BurnsInOrder}
+use Rattle.dg_graph.specs.Graph.{IsGraph}
+use Rattle.dg_burn.specs.Fires.{dollars, capped, IsHeld}
+use Rattle.dg_burn.proofs.Fires.{into-few}
+
+pub capped-less : (z : ℤ) (e : ℕ) → pos 0 ≤ℤ z → e ≤ 63 → (pos (capped z) <ℤ pos e) ↔ (z <ℤ pos e)
+capped-less (pos n) e some few = (λ less. omega (arith, ints), λ less. omega (arith, ints))
+capped-less (negsuc n) e some few = absurd (omega (arith, ints))
+
+pub same-may : (g : Multigraph) (q : ℕ) (D : Amounts) (held : List ℕ) (B : ℕ → Bool) (v : ℕ) → IsGraph g →
+    HasNoDebtOff g q D → IsHeld g.size D held → B q ≡ true → MayBurn g (dollars held) B v ↔ MayBurn g D B v
+same-may g q D held B v graph solvent same burns = (
+  λ may. record {
+    vertex = may.vertex;
+    unburnt = may.unburnt;
+    reached = (both may.vertex may.unburnt).0 (rw (← same v may.vertex) may.reached);
+  },
+  λ may. record {
+    vertex = may.vertex;
+    unburnt = may.unburnt;
+    reached = rw (same v may.vertex) ((both may.vertex may.unburnt).1 may.reached);
+  },
+)
+  where
+    both : v < g.size → B v ≡ false → (pos (capped (D v)) <ℤ pos (edges_into g B v)) ↔ (D v <ℤ pos (edges_into g B v))
+    both below out = capped-less (D v) (edges_into g B v)
+        (solvent v below (λ is_q. both_ways _ out (ap B is_q ∙ burns)))
+        (into-few g B v graph)
+
+among-first : (l : List ℕ) (q i : ℕ) → slice_get l 0 ≡ Some q → among (take (suc i) l) q ≡ true
+among-first [] q i first = let clash : ⊥ = cc in absurd clash
+among-first (x ∷ l) q i first =
+    let is_q : x ≡ q = cc in
+    rw (eq-eqb x q is_q) refl
+
+among-all : (l : List ℕ) (q : ℕ) → slice_get l 0 ≡ Some q → among l q ≡ true
+among-all [] q first = let clash : ⊥ = cc in absurd clash
+among-all (x ∷ l) q first =
+    let is_q : x ≡ q = cc in
+    rw (eq-eqb x q is_q) refl
+
+pub same-order : (g : Multigraph) (q : ℕ) (D : Amounts) (held l : List ℕ) → IsGraph g →
+    HasNoDebtOff g q D → IsHeld g.size D held → BurnsInOrder g q (dollars held) l → BurnsInOrder g q D l
+same-order g q D held l graph solvent same order = record {
+  begun = record {
+    first = order.begun.first;
+    next = λ i v place.
+        let burns : among (take (suc i) l) q ≡ true = among-first l q i order.begun.first in
+        let next : BurnsNext g (dollars held) (among (take (suc i) l)) v = order.begun.next i v place in
+        record {
+          may = (same-may g q D held (among (take (suc i) l)) v graph solvent same burns).0 next.may;
+          least = λ u before may.
+              next.least u before ((same-may g q D held (among (take (suc i) l)) u graph solvent same burns).1 may);
+        };
+  };
+  last = λ v may.
+      order.last v ((same-may g q D held (among l) v graph solvent same (among-all l q order.begun.first)).1 may);
+}

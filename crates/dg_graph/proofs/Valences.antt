@@ -1,0 +1,43 @@
+-- The valences that a graph keeps.
+--   valence-outside   no edge meets past the size
+--   valence-few       at most 63 edges meet, at a vertex and past the size
+--   valences_of-at    what is kept at a place
+--   filled-more       a list that is filled in one place after another
+use Rattle.std.proofs.Common.{◌≡◌, ℕ, zero, suc, ◌+◌, ◌<◌, ◌≤◌, List, length, set, arith, refl, ◌∙◌, ⊎_elim}
+use Rattle.std.specs.Prelude.{slice_index}
+use Rattle.std.proofs.lemmas.Bool.{cases_lt, cases_eq}
+use Rattle.std.proofs.lemmas.List.{get_or-set_same, get_or-set_other}
+use Rattle.std.proofs.lemmas.List.FromFn.{get_or-map-range_with_len}
+use Rattle.dg_theory.specs.Sums.{total_below}
+use Rattle.dg_theory.specs.Multigraph.{Multigraph, valence, edges_between}
+use Rattle.dg_graph.specs.Graph.{IsGraph}
+use Rattle.dg_graph.specs.Valences.{valences_of}
+
+none_below : (n : ℕ) (f : ℕ → ℕ) → ((w : ℕ) → f w ≡ 0) → total_below n f ≡ 0
+none_below zero f none = refl
+none_below (suc n) f none =
+    let before : total_below n f ≡ 0 = none_below n f none in
+    let last : f n ≡ 0 = none n in
+    omega arith
+
+pub valence-outside : (g : Multigraph) (v : ℕ) → IsGraph g → g.size ≤ v → valence g v ≡ 0
+valence-outside g v graph outside = none_below g.size (edges_between g v)
+    (λ w. graph.multigraph.symmetric v w ∙ graph.multigraph.inside w v outside)
+
+pub valence-few : (g : Multigraph) (v : ℕ) → IsGraph g → valence g v ≤ 63
+valence-few g v graph = ⊎_elim
+    (λ (inside : v < g.size). graph.valences v inside)
+    (λ (outside : g.size ≤ v). omega (arith, valence-outside g v graph outside))
+    (cases_lt v g.size)
+
+pub valences_of-at : (g : Multigraph) (v : ℕ) → v < 16 → slice_index (valences_of g) v ≡ valence g v
+unfolding valences_of
+valences_of-at g v below = get_or-map-range_with_len (valence g) 0 16 v v 0 below (omega arith)
+
+-- the places of a list below v + 1, where those below v agree with f, and so does a
+pub filled-more : (xs : List ℕ) (v a : ℕ) (f : ℕ → ℕ) → v < length xs → a ≡ f v →
+    ((w : ℕ) → w < v → slice_index xs w ≡ f w) → (w : ℕ) → w < v + 1 → slice_index (set xs v a) w ≡ f w
+filled-more xs v a f within here before w below = ⊎_elim
+    (λ (equal : w ≡ v). rw equal (get_or-set_same xs v a 0 within ∙ here))
+    (λ (other : w ≡ v → ⊥). get_or-set_other xs v w a 0 other ∙ before w (omega arith))
+    (cases_eq w v)
