@@ -5,6 +5,7 @@
 mod burning_down;
 mod clearing;
 mod effective_form;
+mod form;
 mod guess;
 mod levels;
 mod limits;
@@ -17,5 +18,6 @@ mod tests;
 mod walk;
 
 pub use effective_form::effective;
+pub use form::Form;
 pub use limits::MAX_START;
 pub use reducing::{Reduced, reduce, reduce_wide};
