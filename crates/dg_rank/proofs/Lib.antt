@@ -14,6 +14,7 @@ pub mod FirstLosses
 pub mod Search
 pub mod PieceLosses
 pub mod Bearers
+pub mod Elsewhere
 -- The reduced divisor in place of the one given.
 pub mod SmallAmounts
 pub mod RankByTests

@@ -1,6 +1,6 @@
 //! Amounts without debts, from which dollars are taken.
 
-ghost use Rattle.std.specs.Prelude.{◌≡◌, ℕ, ◌<◌, ◌≤◌, ◌^◌, ◌-◌, ◌+ℤ◌, MatchBool, MatchOption, slice_index};
+ghost use Rattle.std.specs.Prelude.{◌≡◌, ℕ, ◌<◌, ◌≤◌, ◌^◌, ◌-◌, pos, ◌+ℤ◌, ◌-ℤ◌, MatchBool, MatchOption, slice_index};
 ghost use Rattle.std.specs.Int.RustNames.{unsigned_abs};
 ghost use Rattle.dg_theory.specs.Firing.{only_at, indicator, gain, FiresTo, HasNoDebtOff};
 ghost use Rattle.dg_theory.specs.Play.{IsWinnable};
@@ -59,16 +59,28 @@ impl Form {
         amounts[v]
     }
 
-    /// Gives dollars to a vertex, or takes them where the number is below 0.
-    pub fn add(&mut self, v: usize, more: i32)
+    /// Gives dollars to a vertex.
+    pub fn give(&mut self, v: usize, dollars: u32)
         requires vertex { v < self.old.size }
         requires range { unsigned_abs (at self.old v) ≤ 2 ^ 29 }
-        requires more { unsigned_abs more ≤ 2 ^ 29 }
+        requires dollars { dollars ≤ 2 ^ 29 }
         ensures size { self.new.size ≡ self.old.size }
-        ensures amounts { (w : ℕ) → at self.new w ≡ at self.old w +ℤ only_at v more w }
+        ensures amounts { (w : ℕ) → at self.new w ≡ at self.old w +ℤ only_at v (pos dollars) w }
     {
         let amounts = &mut self.amounts;
-        amounts[v] += more;
+        amounts[v] += dollars as i32;
+    }
+
+    /// Takes dollars from a vertex, which may then be in debt.
+    pub fn take(&mut self, v: usize, dollars: u32)
+        requires vertex { v < self.old.size }
+        requires range { unsigned_abs (at self.old v) ≤ 2 ^ 29 }
+        requires dollars { dollars ≤ 2 ^ 29 }
+        ensures size { self.new.size ≡ self.old.size }
+        ensures amounts { (w : ℕ) → at self.new w ≡ at self.old w -ℤ only_at v (pos dollars) w }
+    {
+        let amounts = &mut self.amounts;
+        amounts[v] -= dollars as i32;
     }
 
     /// Pays back what one vertex owes, where nobody else may be in debt: as long as it does, the vertices that burning from it leaves
