@@ -33,7 +33,7 @@ pub fn first_loss(graph: &Graph, chips: &Wide, k: u32, from: u32, to: u32) -> Op
     let Some(mut left) = left_without(graph, chips, &trial) else {
         return Some(trial);
     };
-    'trials: for _number in from + 1..to {
+    'trials: for number in from + 1..to {
         let moved = trial.advance();
         if !lose_elsewhere(graph, &mut left, &moved) {
             return Some(trial);

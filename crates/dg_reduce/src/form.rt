@@ -55,8 +55,8 @@ impl Form {
         requires { v < self.now.size }
         ensures { result ≡ at self.now v }
     {
-        let amounts = &self.amounts;
-        amounts[v]
+        let dollars = &self.amounts;
+        dollars[v]
     }
 
     /// Gives dollars to a vertex.

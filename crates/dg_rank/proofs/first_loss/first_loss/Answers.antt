@@ -50,7 +50,7 @@ trials-init c =
 pub advance-moved-requires : goal.advance-moved-requires
 advance-moved-requires c =
     let (count, within, few) = c.requires.limits in
-    (c.args.graph.now.size, c.args.k, count, c.trials._number - 1, within, omega arith, c.trials.invariant.here)
+    (c.args.graph.now.size, c.args.k, count, c.trials.number - 1, within, omega arith, c.trials.invariant.here)
 
 pub lose_elsewhere-requires-clause-effective : goal.lose_elsewhere-requires-clause-effective
 lose_elsewhere-requires-clause-effective c = c.trials.invariant.form.effective
@@ -64,21 +64,21 @@ pub lose_elsewhere-requires-clause-place : goal.lose_elsewhere-requires-clause-p
 lose_elsewhere-requires-clause-place c =
     let (count, within, few) = c.requires.limits in
     let places : length c.trials.trial ≡ c.args.graph.now.size =
-    trial_places c.args.graph.now.size c.args.k count (c.trials._number - 1) c.trials.trial within (omega arith) c.trials.invariant.here in
+    trial_places c.args.graph.now.size c.args.k count (c.trials.number - 1) c.trials.trial within (omega arith) c.trials.invariant.here in
     omega (arith, c.advance-moved.ensures.moved.within)
 
 pub returns-then-not-lose_elsewhere : goal.returns-then-not-lose_elsewhere
 returns-then-not-lose_elsewhere c =
     let (count, within, few) = c.requires.limits in
-    let number : c.trials._number - 1 + 1 ≡ c.trials._number = omega arith in
+    let number : c.trials.number - 1 + 1 ≡ c.trials.number = omega arith in
     let places : length c.trials.trial ≡ c.args.graph.now.size =
-    trial_places c.args.graph.now.size c.args.k count (c.trials._number - 1) c.trials.trial within (omega arith) c.trials.invariant.here in
+    trial_places c.args.graph.now.size c.args.k count (c.trials.number - 1) c.trials.trial within (omega arith) c.trials.invariant.here in
     record {
-      number = c.trials._number;
+      number = c.trials.number;
       from = omega arith;
       to = omega arith;
       trial =
-          c.advance-moved.ensures.next c.args.graph.now.size c.args.k count (c.trials._number - 1) within (omega arith)
+          c.advance-moved.ensures.next c.args.graph.now.size c.args.k count (c.trials.number - 1) within (omega arith)
           c.trials.invariant.here ∙ ap (nth_trial c.args.graph.now.size c.args.k) number;
       loses =
           next_told false c.args.graph.now (at c.args.chips.now) c.trials.trial c.advance-moved.new.self c.advance-moved.result
@@ -89,12 +89,12 @@ returns-then-not-lose_elsewhere c =
 pub trials-preserved : goal.trials-preserved
 trials-preserved c =
     let (count, within, few) = c.requires.limits in
-    let number : c.trials._number - 1 + 1 ≡ c.trials._number = omega arith in
-    let later : c.trials._number ≡ c.trials._number + 1 - 1 = omega arith in
+    let number : c.trials.number - 1 + 1 ≡ c.trials.number = omega arith in
+    let later : c.trials.number ≡ c.trials.number + 1 - 1 = omega arith in
     let places : length c.trials.trial ≡ c.args.graph.now.size =
-    trial_places c.args.graph.now.size c.args.k count (c.trials._number - 1) c.trials.trial within (omega arith) c.trials.invariant.here in
-    let here : c.advance-moved.new.self ≡ nth_trial c.args.graph.now.size c.args.k c.trials._number =
-    c.advance-moved.ensures.next c.args.graph.now.size c.args.k count (c.trials._number - 1) within (omega arith)
+    trial_places c.args.graph.now.size c.args.k count (c.trials.number - 1) c.trials.trial within (omega arith) c.trials.invariant.here in
+    let here : c.advance-moved.new.self ≡ nth_trial c.args.graph.now.size c.args.k c.trials.number =
+    c.advance-moved.ensures.next c.args.graph.now.size c.args.k count (c.trials.number - 1) within (omega arith)
     c.trials.invariant.here ∙ ap (nth_trial c.args.graph.now.size c.args.k) number in
     let form : IsEffectiveForm c.args.graph.now (less (at c.args.chips.now) (amounts_of c.advance-moved.new.self)) c.lose_elsewhere.new.left =
     next_told true c.args.graph.now (at c.args.chips.now) c.trials.trial c.advance-moved.new.self c.advance-moved.result
@@ -102,7 +102,7 @@ trials-preserved c =
     record {
       some = omega arith;
       wins =
-          win_next c.args.graph.now (at c.args.chips.now) c.args.k c.args.from c.trials._number c.advance-moved.new.self here
+          win_next c.args.graph.now (at c.args.chips.now) c.args.k c.args.from c.trials.number c.advance-moved.new.self here
           c.trials.invariant.wins
           (form_wins c.args.graph.now (less (at c.args.chips.now) (amounts_of c.advance-moved.new.self)) c.lose_elsewhere.new.left form);
       here = here ∙ ap (nth_trial c.args.graph.now.size c.args.k) later;

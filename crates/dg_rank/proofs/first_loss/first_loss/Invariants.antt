@@ -9,8 +9,8 @@ use Rattle.dg_rank.proofs.first_loss.first_loss.Given as goal
 
 abbrev pub invariant-trials : goal.invariant-trials
 invariant-trials l = record {
-  some : l.from < l._number;
-  wins : AllWin l.graph (at l.chips) l.k l.from l._number;
-  here : l.trial ≡ nth_trial l.graph.size l.k (l._number - 1);
+  some : l.from < l.number;
+  wins : AllWin l.graph (at l.chips) l.k l.from l.number;
+  here : l.trial ≡ nth_trial l.graph.size l.k (l.number - 1);
   form : IsEffectiveForm l.graph (less (at l.chips) (amounts_of l.trial)) l.left;
 }
