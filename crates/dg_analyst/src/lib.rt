@@ -11,4 +11,4 @@ mod tests;
 pub use commits::{commit, commit_rank};
 pub use looking::look;
 pub use looks::Look;
-pub use reckoning::{Reckoned, Tried, reckon, try_rank};
+pub use reckoning::{Reckoned, Tried, reckon, reckon_aimed, try_rank};

@@ -8,7 +8,8 @@ use crate::looks::Look;
 use dg_game::Finding;
 use dg_log::Name;
 use dg_rank::{Gate, RankFault, RankVerdict, rank_with};
-use dg_verdict::{Verdict, judge};
+use dg_reduce::Aim;
+use dg_verdict::{Verdict, judge_aimed};
 use std::marker::Model;
 use std::sync::Wait;
 use std::thread::Threads;
@@ -93,7 +94,17 @@ pub fn reckon<N: Name>(look: Look<N>) -> Reckoned<N>
     ensures look { result.look ≡ look }
     ensures judged { IsJudged N.start.q look result.verdict }
 {
-    let verdict = judge(&look.shown.graph, usize::from(look.q), &look.shown.position);
+    let aim = Aim::new(&look.shown.graph, usize::from(look.q));
+    reckon_aimed(look, &aim)
+}
+
+/// The verdict as `reckon` gives it, whatever is aimed by: the aim of the look's table saves the time to make one anew.
+pub fn reckon_aimed<N: Name>(look: Look<N>, aim: &Aim) -> Reckoned<N>
+    ensures look { result.look ≡ look }
+    ensures judged { IsJudged N.start.q look result.verdict }
+{
+    let q = usize::from(look.q);
+    let verdict = judge_aimed(&look.shown.graph, aim, q, &look.shown.position);
     Reckoned { look, verdict }
 }
 

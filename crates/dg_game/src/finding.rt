@@ -9,7 +9,8 @@ ghost use Rattle.dg_game.specs.declared.entry.Request.TheVariants.{Judge as Judg
 use crate::entry::Request;
 use crate::look::LookData;
 use dg_rank::{RankFault, RankVerdict, rank_at_least};
-use dg_verdict::{Verdict, judge};
+use dg_reduce::Aim;
+use dg_verdict::{Verdict, judge_aimed};
 
 /// What was reckoned on a look.
 #[derive(Clone, Copy, PartialEq, Eq)]
@@ -41,7 +42,18 @@ pub fn judge_look(q: usize, look: &LookData) -> Finding
     ensures found { IsFoundFor q look.now result }
     ensures asks { (i : ℕ) → asked_for i result ≡ JudgeRequest i }
 {
-    Finding::Judged(judge(&look.graph, q, &look.position))
+    judge_look_aimed(&Aim::new(&look.graph, q), q, look)
+}
+
+/// The finding as `judge_look` gives it, whatever is aimed by: an aim that was made for the graph and q saves the time to
+/// make it anew.
+pub fn judge_look_aimed(aim: &Aim, q: usize, look: &LookData) -> Finding
+    requires size { look.now.position.size ≡ look.now.graph.size }
+    requires vertex { q < look.now.graph.size }
+    ensures found { IsFoundFor q look.now result }
+    ensures asks { (i : ℕ) → asked_for i result ≡ JudgeRequest i }
+{
+    Finding::Judged(judge_aimed(&look.graph, aim, q, &look.position))
 }
 
 /// The rank test of degree k for the amounts that a look showed. The conditions are those of `judge_look`.

@@ -211,6 +211,9 @@ impl Game {
         ensures order { result.order ≡ verdict.now.order }
     {
         let _size = self.amounts.size();
+        if *then == self.amounts {
+            return *verdict;
+        }
         let since = self.drift_from(then, drift);
         rebase(self.q(), verdict, &since)
     }

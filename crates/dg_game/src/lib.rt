@@ -12,7 +12,7 @@ mod step;
 mod tests;
 
 pub use entry::{Entry, MAX_GIFT, MAX_SEATS, Plain, Refusal, Reply, Request};
-pub use finding::{Finding, judge_look, rank_look};
+pub use finding::{Finding, judge_look, judge_look_aimed, rank_look};
 pub use game::{Game, MAX_ENTRIES};
 pub use laws::{law_of_histories, law_of_legal_histories};
 pub use look::LookData;

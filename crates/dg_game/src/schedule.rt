@@ -12,11 +12,12 @@ ghost use Rattle.dg_game.specs.declared.step.Step.{Step};
 ghost use Rattle.dg_game.specs.declared.step.Command.TheVariants.{Call, Commit, Rank};
 
 use crate::entry::{Entry, MAX_SEATS, Plain};
-use crate::finding::{Finding, judge_look, rank_look};
+use crate::finding::{Finding, judge_look_aimed, rank_look};
 use crate::game::{Game, MAX_ENTRIES};
 use crate::look::LookData;
 use crate::step::{Command, Step};
 use dg_chips::Start;
+use dg_reduce::Aim;
 use std::alloc::Allocator;
 
 /// Why a schedule is not played. Steps are numbered from 0.
@@ -39,6 +40,8 @@ pub enum RehearseFault {
 pub struct Rehearsal {
     /// The game as it stands.
     pub game: Game,
+    /// What serves all its verdicts; no answer depends on it.
+    pub aim: Aim,
     /// The look that a seat has taken last and not used up, at the place of the seat's number.
     pub looks: [Option<LookData>; 65],
 }
@@ -77,6 +80,7 @@ impl Rehearsal {
     {
         Rehearsal {
             game: Game::new(start),
+            aim: Aim::new(start.graph(), usize::from(start.q())),
             looks: [None; 65],
         }
     }
@@ -130,7 +134,7 @@ impl Rehearsal {
             (λ e. PlaysOn self.old (record { seat = seat; command = Commit }) e self.new) }
     {
         let look = self.kept(seat)?;
-        let finding = judge_look(self.game.q(), &look);
+        let finding = judge_look_aimed(&self.aim, self.game.q(), &look);
         Some(self.enter(seat, &look, &finding))
     }
 

@@ -3,13 +3,19 @@
 --   IsReduction g q D bound x == x has a reduced divisor and a script that leads to it from D; the script is 0 at q and
 --                                within the bound; and D has no other reduced divisor, and no other script that is 0
 --                                at q and leads to it
-use Rattle.std.specs.Prelude.{◌≡◌, ℕ, ◌<◌, ◌≤◌, pos}
+--   IsBurningOrder g q D l    == l are the vertices in the order in which they burn from q, the least first, all of them,
+--                                and then zeros up to 16 places
+--   IsCertified g q D bound x == x has a reduction of D, and the order in which all vertices burn in the reduced divisor
+use Rattle.std.specs.Prelude.{◌≡◌, ℕ, ◌<◌, ◌≤◌, List, take, pos}
+use Rattle.std.specs.List.{slice_index_or}
 use Rattle.std.specs.Int.RustNames.{unsigned_abs}
 use Rattle.dg_theory.specs.Multigraph.{Multigraph}
 use Rattle.dg_theory.specs.Firing.{Amounts, fired, FiresTo}
 use Rattle.dg_theory.specs.Reduced.{IsReduced}
+use Rattle.dg_theory.specs.Burning.{BurnsInOrder}
 use Rattle.dg_chips.specs.Vector.{at}
 use Rattle.dg_reduce.specs.declared.reducing.Reduced.{Reduced}
+use Rattle.dg_reduce.specs.declared.reducing.Certified.{Certified}
 
 abbrev pub IsOnly : Multigraph → ℕ → Amounts → Amounts → Amounts → Type 0
 IsOnly g q D R s = (t : Amounts) → t q ≡ pos 0 → IsReduced g q (fired g D t) →
@@ -22,3 +28,11 @@ pub record IsReduction (g : Multigraph) (q : ℕ) (D : Amounts) (bound : ℕ) (x
   pub at_q : at x.script q ≡ pos 0
   pub limit : (v : ℕ) → v < g.size → unsigned_abs (at x.script v) ≤ bound
   pub only : IsOnly g q D (at x.divisor) (at x.script)
+
+pub record IsBurningOrder (g : Multigraph) (q : ℕ) (D : Amounts) (l : List ℕ) : Type 0 where
+  pub burns : BurnsInOrder g q D (take g.size l)
+  pub rest : (i : ℕ) → g.size ≤ i → i < 16 → slice_index_or l i 0 ≡ 0
+
+pub record IsCertified (g : Multigraph) (q : ℕ) (D : Amounts) (bound : ℕ) (x : Certified) : Type 0 where
+  pub reduction : IsReduction g q D bound x.reduced
+  pub order : IsBurningOrder g q (at x.reduced.divisor) x.order

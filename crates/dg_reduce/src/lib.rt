@@ -2,7 +2,9 @@
 //! without debts that can be reached.
 #![tactic(auto)]
 
+mod aim;
 mod burning_down;
+mod certificate;
 mod clearing;
 mod effective_form;
 mod form;
@@ -17,7 +19,9 @@ mod repaying;
 mod tests;
 mod walk;
 
+pub use aim::Aim;
+pub use certificate::{is_solvent_off, order_if_reduced};
 pub use effective_form::effective;
 pub use form::Form;
 pub use limits::MAX_START;
-pub use reducing::{Reduced, reduce, reduce_wide};
+pub use reducing::{Certified, Reduced, reduce, reduce_certified, reduce_wide};

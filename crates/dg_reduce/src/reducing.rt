@@ -4,13 +4,16 @@ ghost use Rattle.std.specs.Prelude.{◌≡◌, ℕ, ◌<◌, ◌≤◌, pos};
 ghost use Rattle.std.specs.Bool.{OnTrue, OnFalse};
 ghost use Rattle.std.specs.Int.RustNames.{unsigned_abs};
 ghost use Rattle.dg_chips.specs.Vector.{at};
-ghost use Rattle.dg_reduce.specs.Reductions.{IsReduction};
+ghost use Rattle.dg_reduce.specs.Reductions.{IsReduction, IsCertified};
 
+use crate::aim::Aim;
 use crate::burning_down::burn_down;
+use crate::certificate::order_if_reduced;
 use crate::clearing::clear_levels;
 use crate::guess::guess;
 use crate::levels::levels_from;
 use crate::limits::MAX_START;
+use dg_burn::burn;
 use dg_chips::{Divisor, Script, Wide};
 use dg_graph::Graph;
 
@@ -21,6 +24,15 @@ pub struct Reduced {
     pub divisor: Wide,
     /// How often each vertex lends: 0 at q.
     pub script: Script,
+}
+
+/// A reduced divisor, the script that leads to it, and what shows that it is reduced.
+#[derive(Clone, Copy)]
+pub struct Certified {
+    /// The reduced divisor and the script.
+    pub reduced: Reduced,
+    /// The order in which all vertices burn from q, the least first; zeros past the last.
+    pub order: [u8; 16],
 }
 
 /// The divisor that is reduced for q and can be reached by firing, and the script that leads to it.
@@ -43,10 +55,42 @@ pub fn reduce_wide(graph: &Graph, q: usize, chips: &Wide) -> Reduced
     requires range { (v : ℕ) → v < graph.now.size → unsigned_abs (at chips.now v) ≤ MAX_START }
     ensures { IsReduction graph.now q (at chips.now) 451000000 result }
 {
-    match guess(graph, q, chips) {
-        Some(script) => reduce_after(graph, q, chips, &script),
-        None => reduce_by_levels(graph, q, chips),
+    reduce_certified(graph, &Aim::new(graph, q), q, chips).reduced
+}
+
+/// The amounts, within 2,000,000 before, that are reduced for q and can be reached by firing, with the script that leads to
+/// them and the order in which all vertices burn. What is aimed by changes how long that takes, and no answer.
+pub fn reduce_certified(graph: &Graph, aim: &Aim, q: usize, chips: &Wide) -> Certified
+    requires size { chips.now.size ≡ graph.now.size }
+    requires vertex { q < graph.now.size }
+    requires range { (v : ℕ) → v < graph.now.size → unsigned_abs (at chips.now v) ≤ MAX_START }
+    ensures { IsCertified graph.now q (at chips.now) 451000000 result }
+{
+    certified_by(graph, q, chips, &guess(graph, aim, q, chips))
+}
+
+/// The reduction that begins with a script, any that is 0 at q: where the script leads to amounts from which all vertices
+/// burn, these are the reduced ones.
+pub(crate) fn certified_by(graph: &Graph, q: usize, chips: &Wide, script: &Script) -> Certified
+    requires size { chips.now.size ≡ graph.now.size }
+    requires vertex { q < graph.now.size }
+    requires script { script.now.size ≡ graph.now.size }
+    requires range { (v : ℕ) → v < graph.now.size → unsigned_abs (at chips.now v) ≤ MAX_START }
+    requires start { at script.now q ≡ pos 0 }
+    ensures { IsCertified graph.now q (at chips.now) 451000000 result }
+{
+    let _size = graph.size();
+    let divisor = chips.fired_by(graph, script);
+    if let Some(order) = order_if_reduced(graph, q, &divisor) {
+        let reduced = Reduced {
+            divisor,
+            script: *script,
+        };
+        return Certified { reduced, order };
     }
+    let reduced = reduce_after(graph, q, chips, script);
+    let order = burn(graph, q, &reduced.divisor).order;
+    Certified { reduced, order }
 }
 
 /// The reduction that begins with a script, any that is 0 at q. What the script leaves is reduced, if it is within the
@@ -91,7 +135,7 @@ pub(crate) fn is_within_start(chips: &Wide) -> bool
 
 /// The reduction from the amounts as they are: first the debts off q are cleared, level by level of the distance from q,
 /// then the vertices that do not burn lend until all burn.
-fn reduce_by_levels(graph: &Graph, q: usize, chips: &Wide) -> Reduced
+pub(crate) fn reduce_by_levels(graph: &Graph, q: usize, chips: &Wide) -> Reduced
     requires size { chips.now.size ≡ graph.now.size }
     requires vertex { q < graph.now.size }
     requires range { (v : ℕ) → v < graph.now.size → unsigned_abs (at chips.now v) ≤ MAX_START }

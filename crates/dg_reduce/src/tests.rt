@@ -2,5 +2,6 @@
 
 mod effective_forms;
 mod guesses;
+mod random;
 mod reductions;
 mod reference;

@@ -7,7 +7,7 @@ ghost use Rattle.dg_session.specs.Saying.{AnswersCommand, AnswersLine, fault_tex
 ghost use Rattle.dg_session.specs.Steps.{kept_number, IsDone, RefusesCommand, RefusesLine};
 
 use crate::ends::SessionEnd;
-use dg_analyst::{Look, commit, commit_rank, look, reckon, try_rank};
+use dg_analyst::{Look, commit, commit_rank, look, reckon_aimed, try_rank};
 use dg_file::Names;
 use dg_game::{Command, Plain};
 use dg_lines::{LineFault, parse_line, push_entry};
@@ -227,7 +227,8 @@ fn enter_verdict<N: Name, R: Threads + Wait>(
         };
     };
     let _receipt = look.receipt();
-    match commit(shared.table, shared.rt, shared.alloc, seat, reckon(look)) {
+    let reckoned = reckon_aimed(look, shared.table.aim());
+    match commit(shared.table, shared.rt, shared.alloc, seat, reckoned) {
         Ok(receipt) => match said.say_entry(shared.table, shared.names, &receipt) {
             Ok(()) => Ok(()),
             Err(end) => Err(end),

@@ -17,6 +17,7 @@ use crate::seat::Seat;
 use dg_chips::Start;
 use dg_game::{Finding, LookData, MAX_SEATS, Plain};
 use dg_log::{Log, Name, Receipt, Row};
+use dg_reduce::Aim;
 use std::alloc::Global;
 use std::sync::{Mutex, Wait};
 
@@ -26,6 +27,7 @@ pub struct Table<N: Name> {
     held: Mutex<Held<N>>,
     log: Log<N>,
     start: Start,
+    aim: Aim,
     ghost started: { start ≡ N.start },
 }
 
@@ -70,6 +72,7 @@ impl<N: Name> Table<N> {
             held,
             log,
             start: *start,
+            aim: Aim::new(start.graph(), usize::from(start.q())),
         };
         Ok((table, all))
     }
@@ -134,6 +137,11 @@ impl<N: Name> Table<N> {
         &self.start
     }
 
+    /// What serves the verdicts on the looks at this table. Nothing is promised of it.
+    pub fn aim(&self) -> &Aim {
+        &self.aim
+    }
+
     /// The cells of the history, which anyone may read at any time.
     pub fn log(&self) -> &Log<N> {
         &self.log
@@ -149,14 +157,24 @@ impl<N: Name> Table<N> {
             (λ f. (f.seats.items ≡ seats.items) ×
             IsRefused N.start N.seats (length N.cells) seats.items f.missing) }
     {
-        let Table { held, log, start } = self;
+        let Table {
+            held,
+            log,
+            start,
+            aim,
+        } = self;
         let held = held.into_inner();
         match held.missing(&seats) {
             Some(missing) => {
                 let held = Mutex::new(held);
                 Err(CloseFault {
                     missing,
-                    table: Table { held, log, start },
+                    table: Table {
+                        held,
+                        log,
+                        start,
+                        aim,
+                    },
                     seats,
                 })
             }

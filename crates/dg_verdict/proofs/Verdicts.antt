@@ -1,14 +1,11 @@
 -- What makes a verdict right.
 --   all_in_order    where the order in which vertices burn is that of a reduced divisor, all burn
 --   told_apart      a flag and a test that is right tell by their being equal whether the flag is right
-use Rattle.std.proofs.Common.{◌≡◌, ℕ, ◌<◌, Bool, true, false, List, arith, refl}
-use Rattle.std.specs.Prelude.{◌↔◌, MatchBool, ◌≤ℤ◌}
+use Rattle.std.proofs.Common.{◌≡◌, ℕ, Bool, true, false, List, refl}
+use Rattle.std.specs.Prelude.{◌↔◌, MatchBool}
 use mathlib.Core.Bool.{beq}
-use Rattle.std.proofs.Math.IntN.{pos}
-use Rattle.std.proofs.lemmas.Int.{ints}
 use Rattle.dg_theory.specs.Multigraph.{Multigraph}
-use Rattle.dg_theory.specs.Firing.{Amounts, fired}
-use Rattle.dg_theory.specs.Play.{IsWinnable}
+use Rattle.dg_theory.specs.Firing.{Amounts}
 use Rattle.dg_theory.specs.Reduced.{IsReduced}
 use Rattle.dg_theory.specs.Burning.{BurnsInOrder, BurnsAll}
 use Rattle.dg_theory.proofs.BurningOrder.{may_burn}

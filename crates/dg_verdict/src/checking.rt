@@ -2,7 +2,6 @@
 
 ghost use Rattle.std.specs.Prelude.{◌≡◌, ℕ, ◌<◌, take, MatchBool};
 ghost use Rattle.dg_theory.specs.Burning.{MayBurn, BurnsAll};
-ghost use Rattle.dg_theory.specs.Firing.{HasNoDebtOff};
 ghost use Rattle.dg_graph.specs.Sets.{in_set};
 ghost use Rattle.dg_chips.specs.Vector.{at};
 ghost use Rattle.dg_verdict.specs.Right.{IsRight};
@@ -10,6 +9,7 @@ ghost use Rattle.dg_verdict.specs.Right.{IsRight};
 use crate::verdict::Verdict;
 use dg_chips::{Divisor, Wide};
 use dg_graph::{Graph, contains, with_vertex};
+use dg_reduce::is_solvent_off;
 
 /// Whether a verdict is right for a divisor and vertex q, whoever made it and whatever it holds. Nothing is reduced
 /// anew: firing by the script and burning in the order of the verdict tell.
@@ -34,21 +34,6 @@ pub fn check(graph: &Graph, q: usize, divisor: &Divisor, verdict: &Verdict) -> b
         return false;
     }
     verdict.winnable == (verdict.reduced.get(q) >= 0)
-}
-
-/// Whether nobody off q is in debt.
-fn is_solvent_off(graph: &Graph, q: usize, chips: &Wide) -> bool
-    requires { chips.now.size ≡ graph.now.size }
-    ensures { MatchBool result
-        (HasNoDebtOff graph.now q (at chips.now))
-        (¬ HasNoDebtOff graph.now q (at chips.now)) }
-{
-    for v in 0..graph.size() {
-        if v != q && chips.get(v) < 0 {
-            return false;
-        }
-    }
-    true
 }
 
 /// Whether the first places of the order, as many as there are vertices, name each of them once, q first, and each

@@ -9,4 +9,4 @@ mod verdict;
 
 pub use checking::check;
 pub use rebasing::rebase;
-pub use verdict::{Verdict, judge};
+pub use verdict::{Verdict, judge, judge_aimed};

@@ -6,10 +6,9 @@ ghost use Rattle.dg_theory.specs.Burning.{BurnsInOrder};
 ghost use Rattle.dg_chips.specs.Vector.{at};
 ghost use Rattle.dg_verdict.specs.Right.{IsRight};
 
-use dg_burn::burn;
 use dg_chips::{Divisor, Script, Wide};
 use dg_graph::{Graph, MAX_VERTICES};
-use dg_reduce::reduce;
+use dg_reduce::{Aim, reduce_certified};
 
 /// Whether a divisor is winnable, with what shows it.
 #[derive(Clone, Copy, PartialEq, Eq)]
@@ -33,10 +32,24 @@ pub fn judge(graph: &Graph, q: usize, divisor: &Divisor) -> Verdict
     ensures order { BurnsInOrder graph.now q (at result.reduced) (take graph.now.size result.order) }
     ensures rest { (i : ℕ) → graph.now.size ≤ i → i < MAX_VERTICES → slice_index_or result.order i 0 ≡ 0 }
 {
+    judge_aimed(graph, &Aim::new(graph, q), q, divisor)
+}
+
+/// The verdict as `judge` gives it, whatever is aimed by: an aim that was made for the graph and q saves the time to make
+/// it anew.
+pub fn judge_aimed(graph: &Graph, aim: &Aim, q: usize, divisor: &Divisor) -> Verdict
+    requires size { divisor.now.size ≡ graph.now.size }
+    requires vertex { q < graph.now.size }
+    ensures right { IsRight graph.now q (at divisor.now) result }
+    ensures order { BurnsInOrder graph.now q (at result.reduced) (take graph.now.size result.order) }
+    ensures rest { (i : ℕ) → graph.now.size ≤ i → i < MAX_VERTICES → slice_index_or result.order i 0 ≡ 0 }
+{
+    // The clauses of `size` say that graph and divisor are within their limits.
     let _size = graph.size();
-    let reduced = reduce(graph, q, divisor);
-    let burnt = burn(graph, q, &reduced.divisor);
-    let order = burnt.order;
+    let _amounts = divisor.size();
+    let found = reduce_certified(graph, aim, q, &Wide::of(divisor));
+    let reduced = found.reduced;
+    let order = found.order;
     Verdict {
         winnable: reduced.divisor.get(q) >= 0,
         script: reduced.script,

@@ -2,7 +2,7 @@
 ghost use Rattle.std.specs.Prelude.{◌≡◌};
 
 use crate::tests::{triangle, winnable};
-use crate::{commit, commit_rank, look, reckon, try_rank};
+use crate::{commit, commit_rank, look, reckon, reckon_aimed, try_rank};
 use dg_chips::{Divisor, Move, Start};
 use dg_game::{Plain, Reply};
 use dg_graph::Graph;
@@ -152,7 +152,14 @@ fn asks_too_much<N: Name, R: Threads + Wait + Abort>(
         .ok_or("a test with too many workers")?;
     assert_eq!(rt; fault, RankFault::Workers);
     assert_eq!(rt; (taken.receipt().number(), first.calls()), (0, 1));
-    let receipt = commit(&table, rt, alloc, &mut second, reckon(taken)).map_err(|_| "an entry")?;
+    let receipt = commit(
+        &table,
+        rt,
+        alloc,
+        &mut second,
+        reckon_aimed(taken, table.aim()),
+    )
+    .map_err(|_| "an entry")?;
     assert_eq!(rt; (receipt.number(), second.calls()), (1, 1));
     Ok(())
 }

@@ -2,9 +2,11 @@
 
 ghost use Rattle.std.specs.Prelude.{◌≡◌};
 
-use crate::Reduced;
-use crate::guess::{guess, needs_no_guess};
-use crate::reducing::{is_within_start, reduce_after};
+use crate::guess::guess;
+use crate::reducing::{certified_by, is_within_start};
+use crate::{
+    Aim, Certified, Reduced, is_solvent_off, order_if_reduced, reduce_certified, reduce_wide,
+};
 use dg_chips::{Script, Wide};
 use dg_graph::Graph;
 use std::test::Fail;
@@ -143,15 +145,15 @@ static CASES: [Case; 5] = [
     ),
 ];
 
-/// The reduction after a script, where it may be asked for.
-fn reduced_after(graph: &Graph, q: usize, chips: &Wide, script: &Script) -> Option<Reduced>
+/// The reduction that begins with a script, where it may be asked for.
+fn certified_after(graph: &Graph, q: usize, chips: &Wide, script: &Script) -> Option<Certified>
     requires size { chips.now.size ≡ graph.now.size }
     requires script { script.now.size ≡ graph.now.size }
 {
     if q >= graph.size() || !is_within_start(chips) || script.get(q) != 0 {
         return None;
     }
-    Some(reduce_after(graph, q, chips, script))
+    Some(certified_by(graph, q, chips, script))
 }
 
 #[test]
@@ -161,28 +163,33 @@ fn wrong_guesses(rt: HostRuntime) -> Result<(), Fail> {
         let start = Wide::new(&graph, amounts)?;
         let divisor = Wide::new(&graph, chips)?;
         let script = Script::new(&graph, script)?;
-        let wanted = Some(Reduced { divisor, script });
+        assert!(rt; q < graph.size());
+        let order = order_if_reduced(&graph, q, &divisor);
+        assert!(rt; order.is_some(), "{chips:?}");
+        let wanted = Reduced { divisor, script };
         for guess in guesses {
             let guessed = Script::new(&graph, guess)?;
-            assert!(rt;
-                reduced_after(&graph, q, &start, &guessed) == wanted,
-                "{guess:?}"
-            );
+            let Some(found) = certified_after(&graph, q, &start, &guessed) else {
+                panic!(rt; "{guess:?}");
+            };
+            assert!(rt; found.reduced == wanted, "{guess:?}");
+            assert!(rt; Some(found.order) == order, "{guess:?}");
         }
     }
     Ok(())
 }
 
-// By exact lendings nobody off q would hold anything. They are rounded down, so that a vertex holds less than it has
-// edges.
+// What a guess leads to is the reduced divisor itself: here, and wherever else it was tried. One amount off the guess's
+// path, and it is not.
 #[test]
-fn guesses_leave_little(rt: HostRuntime) -> Result<(), Fail> {
+fn guesses_are_right(rt: HostRuntime) -> Result<(), Fail> {
     let mut items = [(0, 0, 1); 15];
     for v in 0..15u8 {
         items[usize::from(v)] = (v, v + 1, 1);
     }
     let path = Graph::new(16, &items)?;
-    let cases: [(usize, &[i128]); 4] = [
+    let cases: [(usize, &[i128]); 5] = [
+        (0, &[0; 16]),
         (0, &[1_000_000; 16]),
         (15, &[-2_000_000; 16]),
         (7, &[1_999_999; 16]),
@@ -197,12 +204,34 @@ fn guesses_leave_little(rt: HostRuntime) -> Result<(), Fail> {
     for (q, amounts) in cases {
         let chips = Wide::new(&path, amounts)?;
         assert!(rt; q < path.size() && is_within_start(&chips));
-        assert!(rt; !needs_no_guess(q, &chips));
-        let Some(script) = guess(&path, q, &chips) else {
-            panic!(rt; "no guess at {q}");
-        };
+        let script = guess(&path, &Aim::new(&path, q), q, &chips);
         let left = chips.fired_by(&path, &script);
-        assert!(rt; needs_no_guess(q, &left), "for {q}");
+        assert!(rt; order_if_reduced(&path, q, &left).is_some(), "for {q}");
+        assert!(rt; left.get(3) < 1 || q == 3);
+        let other = left.with_amount(if q == 3 { 5 } else { 3 }, 2);
+        assert!(rt; order_if_reduced(&path, q, &other).is_none(), "for {q}");
+        assert!(rt; is_solvent_off(&path, q, &other));
+    }
+    Ok(())
+}
+
+// An aim of another graph or vertex makes bad guesses, and changes no answer.
+#[test]
+fn aims_of_others(rt: HostRuntime) -> Result<(), Fail> {
+    let square = Graph::new(4, SQUARE)?;
+    let path = Graph::new(4, PATH)?;
+    let chips = Wide::new(&square, &[-300, 100, 90, 80])?;
+    assert!(rt; is_within_start(&chips));
+    let wanted = reduce_wide(&square, 0, &chips);
+    assert!(rt; wanted.divisor == Wide::new(&square, &[-30, 0, 0, 0])?);
+    for aim in [
+        Aim::new(&square, 0),
+        Aim::new(&square, 2),
+        Aim::new(&path, 3),
+    ] {
+        let found = reduce_certified(&square, &aim, 0, &chips);
+        assert!(rt; found.reduced == wanted);
+        assert!(rt; found.order.starts_with(&[0, 1, 2, 3]));
     }
     Ok(())
 }

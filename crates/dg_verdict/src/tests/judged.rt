@@ -1,8 +1,9 @@
 //! Verdicts that are made.
 
-use crate::judge;
+use crate::{judge, judge_aimed};
 use dg_chips::{Divisor, Script, Wide};
 use dg_graph::Graph;
+use dg_reduce::Aim;
 use std::test::Fail;
 
 /// Edges, q, amounts, whether they are winnable, the script, the reduced amounts, and the first places of the order.
@@ -96,6 +97,9 @@ fn what_is_winnable(rt: HostRuntime) -> Result<(), Fail> {
         );
         assert!(rt; verdict.reduced == Wide::new(&graph, chips)?, "{chips:?}");
         assert!(rt; verdict.order.starts_with(order), "{order:?}");
+        // An aim at another vertex changes nothing.
+        let aim = Aim::new(&graph, 0);
+        assert!(rt; judge_aimed(&graph, &aim, q, &divisor) == verdict);
     }
     Ok(())
 }

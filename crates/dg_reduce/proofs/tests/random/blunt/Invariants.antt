@@ -1,10 +1,10 @@
 use Rattle.std.proofs.Common.{◌≡◌, ℕ, ◌≤◌}
 use Rattle.std.specs.Int.RustNames.{unsigned_abs}
 use Rattle.dg_chips.specs.Vector.{at}
-use Rattle.dg_reduce.proofs.guess.rounded.Given as goal
+use Rattle.dg_reduce.proofs.tests.random.blunt.Given as goal
 
 abbrev pub invariant-loop-v : goal.invariant-loop-v
 invariant-loop-v l = record {
-  size : l.whole.size ≡ l.graph.size;
-  few : (w : ℕ) → unsigned_abs (at l.whole w) ≤ 500000000;
+  size : l.blunt.size ≡ l.graph.size;
+  few : (w : ℕ) → unsigned_abs (at l.blunt w) ≤ 500000000;
 }
