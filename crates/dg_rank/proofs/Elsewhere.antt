@@ -17,7 +17,7 @@
 --   form_kept       the same amounts are as good a form, of what is the same on the vertices
 --   repaid_told     what repaying tells, once dollars were taken from a form, it tells of all that the form stands for
 --   left_degree     what is left without a trial adds up to no more than before
-use Rattle.std.proofs.Common.{◌≡◌, ◌≢◌, ℕ, ◌+◌, ◌-◌, ◌*◌, ◌<◌, ◌≤◌, Bool, true, false, List, [], length, arith, refl, sym, ap, subst, ◌∙◌, ⊎_elim}
+use Rattle.std.proofs.Common.{◌≡◌, ℕ, ◌+◌, ◌*◌, ◌<◌, ◌≤◌, Bool, true, false, List, [], length, arith, sym, ap, subst, ◌∙◌, ⊎_elim}
 use Rattle.std.specs.Prelude.{slice_index, ◌≤ℤ◌, MatchBool}
 use Rattle.std.specs.Int.RustNames.{unsigned_abs}
 use Rattle.std.proofs.lemmas.Bool.{cases_eq}
@@ -31,7 +31,7 @@ use Rattle.dg_theory.specs.Play.{IsWinnable}
 use Rattle.dg_theory.specs.Rank.{less}
 use Rattle.dg_theory.proofs.Absolute.{within_abs, abs_within}
 use Rattle.dg_theory.proofs.Equivalence.{equivalent-refl, equivalent-trans, equivalent-degree}
-use Rattle.dg_theory.proofs.Giving.{win_more, degree-only_at, degree-less, effective-only_at}
+use Rattle.dg_theory.proofs.Giving.{degree-only_at, degree-less}
 use Rattle.dg_theory.proofs.Plays.{only_at-here, only_at-other}
 use Rattle.dg_theory.proofs.Range.{sum_below-one, sum_below-at_most}
 use Rattle.dg_theory.proofs.SumLaws.{sum_below-cong, sum_below-add}
