@@ -13,7 +13,7 @@ pub mod TrialLists
 pub mod FirstLosses
 pub mod Search
 pub mod PieceLosses
-pub mod Bearers
+pub mod Elsewhere
 -- The reduced divisor in place of the one given.
 pub mod SmallAmounts
 pub mod RankByTests

@@ -6,13 +6,20 @@
 --   room               a trial that has a next one has room
 --   last_held          a trial that has a next one holds something past its first place
 --   following          the walk makes the next trial of one that has a next
-use Rattle.std.proofs.Common.{◌≡◌, ◌≢◌, ℕ, ◌+◌, ◌-◌, ◌<◌, ◌≤◌, List, length, set, arith, ap, ◌∙◌, ⊎_elim, length-set, get_or-set_same, get_or-set_other}
+--   moved_as_told      the walk moves what it tells
+use Rattle.std.proofs.Common.{◌≡◌, ◌≢◌, ℕ, ◌+◌, ◌-◌, ◌<◌, ◌≤◌, List, length, set, arith, sym, ap, ◌∙◌, ⊎_elim, length-set, get_or-set_same, get_or-set_other}
 use Rattle.std.specs.Prelude.{slice_index}
 use Rattle.std.specs.List.{sum}
-use Rattle.std.proofs.lemmas.Bool.{cases_lt}
-use Rattle.std.proofs.lemmas.List.Sums.{sum_by-set}
+use Rattle.std.proofs.Math.IntN.{pos, ◌-ℤ◌}
+use Rattle.std.proofs.lemmas.Bool.{cases_eq, cases_lt}
+use Rattle.std.proofs.lemmas.Int.{ints}
+use Rattle.std.proofs.lemmas.List.Sums.{sum_by-set, get_or-le-sum_by}
+use Rattle.dg_theory.specs.Firing.{only_at}
+use Rattle.dg_theory.proofs.Plays.{only_at-here, only_at-other}
 use Rattle.dg_rank.specs.Trials.{IsTrial}
 use Rattle.dg_rank.specs.Limits.{IsWithinLimits}
+use Rattle.dg_rank.specs.Divisors.{amounts_of}
+use Rattle.dg_rank.specs.Moves.{change, IsMoved}
 use Rattle.dg_rank.specs.Numbering.{trial_count, nth_trial}
 use Rattle.dg_rank.proofs.Counts.{limits_count, limits_trial}
 use Rattle.dg_rank.proofs.NextTrial.{IsNext, next_number, has_place}
@@ -115,3 +122,79 @@ last_held E q (n, k, c, i, limits, low, is) within held after =
     let count : c ≡ trial_count n k = limits_count n k c limits in
     let past : 0 < q = has_place n k i E q (omega arith) is after in
     record { past = past; within = within; held = held past; after = after }
+
+at_end : (E : List ℕ) (q v : ℕ) → IsLastHeld E q → v < length E → v ≡ length E - 1 →
+    amounts_of (moved E q) v ≡ amounts_of E v -ℤ change (length E) (record { place = q; others = slice_index E q - 1 }) v
+at_end E q v last inside end =
+    let t : ℕ = slice_index E q in
+    let held : 0 < t = last.held in
+    let there : slice_index (moved E q) v ≡ t - 1 =
+    ap (slice_index (moved E q)) end ∙ get_or-set_same (taken E q) (length E - 1) (t - 1) 0 (omega (arith, taken_length E q)) in
+    let before : v ≢ q - 1 = omega (arith, last.past, last.within) in
+    let none : only_at (q - 1) (pos 1) v ≡ pos 0 = only_at-other (q - 1) (pos 1) v before in
+    let others : only_at (length E - 1) (pos (t - 1)) v ≡ pos (t - 1) =
+    ap (only_at (length E - 1) (pos (t - 1))) end ∙ only_at-here (length E - 1) (pos (t - 1)) in
+    ⊎_elim
+    (λ (same : v ≡ q).
+    let here : slice_index E v ≡ t = ap (slice_index E) same in
+    let back : only_at q (pos (t - 1 + 1)) v ≡ pos (t - 1 + 1) = ap (only_at q (pos (t - 1 + 1))) same ∙ only_at-here q (pos (t - 1 + 1)) in
+    omega (arith, ints))
+    (λ (other : v ≡ q → ⊥).
+    let here : slice_index E v ≡ 0 = last.after v (omega (arith, last.within)) in
+    let back : only_at q (pos (t - 1 + 1)) v ≡ pos 0 = only_at-other q (pos (t - 1 + 1)) v other in
+    omega (arith, ints))
+    (cases_eq v q)
+
+before_end : (E : List ℕ) (q v : ℕ) → IsLastHeld E q → v + 1 < length E →
+    amounts_of (moved E q) v ≡ amounts_of E v -ℤ change (length E) (record { place = q; others = slice_index E q - 1 }) v
+before_end E q v last inside =
+    let t : ℕ = slice_index E q in
+    let held : 0 < t = last.held in
+    let past : 0 < q = last.past in
+    let there : slice_index (moved E q) v ≡ slice_index (taken E q) v = moved_inside E q v last inside in
+    let apart : v ≢ length E - 1 = omega arith in
+    let others : only_at (length E - 1) (pos (t - 1)) v ≡ pos 0 = only_at-other (length E - 1) (pos (t - 1)) v apart in
+    ⊎_elim
+    (λ (same : v ≡ q).
+    let here : slice_index E v ≡ t = ap (slice_index E) same in
+    let gone : slice_index (taken E q) v ≡ 0 = taken_after E q v last (omega arith) in
+    let back : only_at q (pos (t - 1 + 1)) v ≡ pos (t - 1 + 1) = ap (only_at q (pos (t - 1 + 1))) same ∙ only_at-here q (pos (t - 1 + 1)) in
+    let none : only_at (q - 1) (pos 1) v ≡ pos 0 = only_at-other (q - 1) (pos 1) v (omega arith) in
+    omega (arith, ints))
+    (λ (other : v ≡ q → ⊥).
+    let back : only_at q (pos (t - 1 + 1)) v ≡ pos 0 = only_at-other q (pos (t - 1 + 1)) v other in
+    ⊎_elim
+    (λ (same : v ≡ q - 1).
+    let more : slice_index (taken E q) v ≡ slice_index E v + 1 =
+    ap (slice_index (taken E q)) same ∙ taken_there E q last.within ∙ ap (λ (u : ℕ). slice_index E u + 1) (sym same) in
+    let one : only_at (q - 1) (pos 1) v ≡ pos 1 = ap (only_at (q - 1) (pos 1)) same ∙ only_at-here (q - 1) (pos 1) in
+    omega (arith, ints))
+    (λ (apart_too : v ≡ q - 1 → ⊥).
+    let none : only_at (q - 1) (pos 1) v ≡ pos 0 = only_at-other (q - 1) (pos 1) v apart_too in
+    ⊎_elim
+    (λ (low : v < q).
+    let kept : slice_index (taken E q) v ≡ slice_index E v = taken_before E q v past (omega arith) in
+    omega (arith, ints))
+    (λ (high : q ≤ v).
+    let gone : slice_index (taken E q) v ≡ 0 = taken_after E q v last high in
+    let here : slice_index E v ≡ 0 = last.after v (omega arith) in
+    omega (arith, ints))
+    (cases_lt v q))
+    (cases_eq v (q - 1)))
+    (cases_eq v q)
+
+pub moved_as_told : (E : List ℕ) (q : ℕ) → sum E ≤ 1000 → IsLastHeld E q →
+    IsMoved E (moved E q) (record { place = q; others = slice_index E q - 1 })
+moved_as_told E q small last = record {
+  past = last.past;
+  within = last.within;
+  few =
+      let most : slice_index E q ≤ sum E = get_or-le-sum_by (λ (x : ℕ). x) E q 0 last.within in
+      let some : 0 < slice_index E q = last.held in
+      omega arith;
+  places = length-set _ _ _ ∙ taken_length E q;
+  amounts = λ v inside. ⊎_elim
+      (λ (end : v ≡ length E - 1). at_end E q v last inside end)
+      (λ (other : v ≡ length E - 1 → ⊥). before_end E q v last (omega arith))
+      (cases_eq v (length E - 1));
+}

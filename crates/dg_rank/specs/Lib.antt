@@ -5,5 +5,6 @@ pub mod Divisors
 pub mod Ranks
 -- Words of private functions: how trials are numbered, and what the search for a loss finds.
 pub mod Numbering
+pub mod Moves
 pub mod Losses
 pub mod Pieces

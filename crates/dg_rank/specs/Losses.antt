@@ -1,25 +1,18 @@
 -- A piece of the trials, from one number up to another, for the divisor D.
 --   WinsWithout g D E       == D less the trial E is winnable
---   Bears g D E x           == x holds amounts that are equivalent to D, and at least those of the trial E
 --   AllWin g D k i j        == D less each trial from number i up to, but not including, number j is winnable
 --   IsLossIn g D k i j E    == E is the first trial of the piece from i up to j whose loss leaves D unwinnable
 --   IsFound g D k i j found == what was found is the first loss of the piece, or nothing where all win
 use Rattle.std.specs.Prelude.{◌≡◌, ℕ, ◌<◌, ◌≤◌, List, Option, Some, None}
 use Rattle.dg_theory.specs.Multigraph.{Multigraph}
-use Rattle.dg_theory.specs.Firing.{Amounts, IsEffective, AreEquivalent}
+use Rattle.dg_theory.specs.Firing.{Amounts}
 use Rattle.dg_theory.specs.Play.{IsWinnable}
 use Rattle.dg_theory.specs.Rank.{less}
-use Rattle.dg_chips.specs.Vector.{Vector, at}
 use Rattle.dg_rank.specs.Divisors.{amounts_of}
 use Rattle.dg_rank.specs.Numbering.{nth_trial}
 
 abbrev pub WinsWithout : Multigraph → Amounts → List ℕ → Type 0
 WinsWithout g D E = IsWinnable g (less D (amounts_of E))
-
-pub record Bears (g : Multigraph) (D : Amounts) (E : List ℕ) (x : Vector) : Type 0 where
-  pub size : x.size ≡ g.size
-  pub equivalent : AreEquivalent g D (at x)
-  pub enough : IsEffective g.size (less (at x) (amounts_of E))
 
 abbrev pub AllWin : Multigraph → Amounts → ℕ → ℕ → ℕ → Type 0
 AllWin g D k i j = (m : ℕ) → i ≤ m → m < j → WinsWithout g D (nth_trial g.size k m)

@@ -4,11 +4,21 @@ ghost use Rattle.dg_rank.specs.Limits.{IsWithinLimits};
 ghost use Rattle.dg_rank.specs.Numbering.{trial_count, nth_trial};
 ghost use Rattle.dg_rank.specs.Trials.{IsTrial};
 ghost use Rattle.dg_rank.specs.Divisors.{HoldsTrial};
+ghost use Rattle.dg_rank.specs.Moves.{IsMoved};
 
 use crate::counting::{MAX_DEGREE, MAX_TRIALS, count};
 use dg_chips::Divisor;
 use dg_graph::MAX_VERTICES;
 use std::marker::Model;
+
+/// What is moved from a trial to the next one.
+#[derive(Clone, Copy)]
+pub struct Moved {
+    /// The place from which one dollar goes to the place before it.
+    pub place: usize,
+    /// How many dollars go from there to the last place.
+    pub others: u32,
+}
 
 /// A trial: an amount for each place, none of them a debt.
 #[derive(Drop)]
@@ -78,11 +88,12 @@ impl Trial {
 
     /// Goes from a trial to the next one, in place: of what lies at the last place that holds something, one dollar goes to
     /// the place before it, and the others go to the last place. The condition is that there is a next one.
-    pub fn advance(&mut self)
+    pub fn advance(&mut self) -> Moved
         requires { (n : ℕ) × (k : ℕ) × (c : ℕ) × (i : ℕ) × IsWithinLimits n k c ×
             (i + 1 < c) × (self.old ≡ nth_trial n k i) }
-        ensures { (n k c i : ℕ) → IsWithinLimits n k c → i + 1 < c →
+        ensures next { (n k c i : ℕ) → IsWithinLimits n k c → i + 1 < c →
             self.old ≡ nth_trial n k i → self.new ≡ nth_trial n k (i + 1) }
+        ensures moved { IsMoved self.old self.new result }
     {
         let last = self.size() - 1;
         let place = self.last_held();
@@ -92,6 +103,7 @@ impl Trial {
         self.set(place, 0);
         self.set(before, more);
         self.set(last, others);
+        Moved { place, others }
     }
 
     /// The last place that holds something, or the first place where no other does.

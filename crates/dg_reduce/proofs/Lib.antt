@@ -15,3 +15,4 @@ pub mod Joined
 -- Debts that are paid back.
 pub mod DebtSteps
 pub mod EffectiveForms
+pub mod FormSteps

@@ -5,4 +5,5 @@ pub mod Effective
 -- the states on the way.
 pub mod Reaching
 pub mod Firings
+pub mod Rests
 pub mod States

@@ -1,6 +1,6 @@
 use Rattle.std.proofs.Common.{ℕ, ◌-◌, arith}
 use Rattle.std.proofs.lemmas.List.Sums.{get_or-le-sum_by}
-use Rattle.dg_rank.proofs.Walk.{IsLastHeld, room, last_held, following}
+use Rattle.dg_rank.proofs.Walk.{IsLastHeld, room, last_held, following, moved_as_told}
 use Rattle.dg_rank.proofs.enumeration.Trial.advance.Goals as goal
 use Rattle.dg_rank.proofs.enumeration.Trial.advance.Goals.{After-last_held-place}
 
@@ -27,7 +27,13 @@ overflow_add-more c = omega (
   get_or-le-sum_by (λ (x : ℕ). x) c.args.self.now (c.last_held-place.result - 1) 0 (omega (arith, c.last_held-place.ensures.within)),
 )
 
-pub returns : goal.returns
-returns c n k count i limits small is =
+pub returns-clause-moved : goal.returns-clause-moved
+returns-clause-moved c =
     rw (c.set-3.ensures, c.set-2.ensures, c.set.ensures, c.size-last.ensures.size, c.get-more.ensures, c.get-others.ensures)
-    (following n k count i _ _ limits small is (held (goal.at.returns c).After-last_held-place))
+    (moved_as_told c.args.self.now c.last_held-place.result (room c.args.self.now c.requires).amount
+    (held (goal.at.returns-clause-moved c).After-last_held-place))
+
+pub returns-clause-next : goal.returns-clause-next
+returns-clause-next c n k count i limits small is =
+    rw (c.set-3.ensures, c.set-2.ensures, c.set.ensures, c.size-last.ensures.size, c.get-more.ensures, c.get-others.ensures)
+    (following n k count i _ _ limits small is (held (goal.at.returns-clause-next c).After-last_held-place))

@@ -8,6 +8,6 @@ to_divisor-requires c = (
   c.args.k,
   c.in-Some.count,
   c.in-Some.ensures,
-  rw (c.advance.ensures c.args.n c.args.k c.in-Some.count c.args.i c.in-Some.ensures (omega arith) c.with_number-trial.ensures)
+  rw (c.advance.ensures.next c.args.n c.args.k c.in-Some.count c.args.i c.in-Some.ensures (omega arith) c.with_number-trial.ensures)
       (limits_trial c.args.n c.args.k c.in-Some.count (c.args.i + 1) c.in-Some.ensures (omega arith)),
 )

@@ -1,0 +1,102 @@
+-- How a form is fired by what burning leaves, and pays back what one vertex owes.
+--   edges_apart      an edge of a vertex leads into a set or out of it
+--   rest_lends       a vertex of the set gains what leads out of it, below 0
+--   rest_receives    any other vertex gains all its edges but those that lead out of the set
+--   gain_small       so no vertex gains or loses more than 63
+--   once_more        after one more set has lent, such sets led there
+--   once_falls       the weight falls where one more set lends once
+--   once_limit       from amounts within 2^26 come amounts within 17 * 2^26
+use Rattle.std.proofs.Common.{◌≡◌, ℕ, zero, suc, ◌+◌, ◌*◌, ◌^◌, ◌<◌, ◌≤◌, Bool, true, false, arith, refl, sym, ◌∙◌, ⊎_elim}
+use Rattle.std.specs.Prelude.{if◌then◌else◌}
+use Rattle.std.specs.Int.RustNames.{unsigned_abs}
+use Rattle.std.proofs.lemmas.Bool.{cases_Bool}
+use Rattle.std.proofs.lemmas.Int.{ints}
+use Rattle.std.proofs.Math.IntN.{pos, ◌-ℤ◌}
+use Rattle.dg_theory.specs.Sums.{total_below}
+use Rattle.dg_theory.specs.Multigraph.{Multigraph, edges_between, valence}
+use Rattle.dg_theory.specs.Firing.{Amounts, fired, gain, indicator, multiple, FiresTo}
+use Rattle.dg_theory.specs.Reduced.{edges_out}
+use Rattle.dg_theory.specs.Burning.{edges_into, FiresFreely}
+use Rattle.dg_theory.proofs.Absolute.{abs_within}
+use Rattle.dg_theory.proofs.Debts.{into-le-valence, out-le-valence}
+use Rattle.dg_theory.proofs.Equivalence.{equivalent-trans}
+use Rattle.dg_theory.proofs.FiringLaws.{fired-cong}
+use Rattle.dg_theory.proofs.Multiples.{multiple-once}
+use Rattle.dg_theory.proofs.Potential.{weights, levels_are_potential}
+use Rattle.dg_theory.proofs.Range.{led_step, led-cong, led_limit}
+use Rattle.dg_theory.proofs.Reach.{distance_from, distance_from-is}
+use Rattle.dg_theory.proofs.SetFiring.{gain-inside, gain-outside}
+use Rattle.dg_theory.proofs.Weights.{weight_of, weight_of-cong, weight_falls_by_set}
+use Rattle.dg_graph.specs.Graph.{IsGraph}
+use Rattle.dg_chips.specs.Vector.{Vector, at}
+use Rattle.dg_reduce.proofs.DebtSteps.{IsRepaying}
+
+apart : (b : Bool) (e : ℕ) → (if b then e else 0) + (if b then 0 else e) ≡ e
+apart true e = omega arith
+apart false e = omega arith
+
+totals_apart : (n : ℕ) (S : ℕ → Bool) (f : ℕ → ℕ) →
+    total_below n (λ w. if S w then f w else 0) + total_below n (λ w. if S w then 0 else f w) ≡ total_below n f
+totals_apart zero S f = refl
+totals_apart (suc n) S f =
+    let before : total_below n (λ w. if S w then f w else 0) + total_below n (λ w. if S w then 0 else f w) ≡ total_below n f =
+    totals_apart n S f in
+    let last : (if S n then f n else 0) + (if S n then 0 else f n) ≡ f n = apart (S n) (f n) in
+    omega arith
+
+pub edges_apart : (g : Multigraph) (S : ℕ → Bool) (v : ℕ) → edges_into g S v + edges_out g S v ≡ valence g v
+edges_apart g S v = totals_apart g.size S (edges_between g v)
+
+pub rest_lends : (g : Multigraph) (S : ℕ → Bool) (v : ℕ) → S v ≡ true → gain g (indicator S) v ≡ pos 0 -ℤ pos (edges_out g S v)
+rest_lends g S v inside = omega (arith, ints, gain-inside g S v inside)
+
+pub rest_receives : (g : Multigraph) (S : ℕ → Bool) (v : ℕ) → S v ≡ false →
+    gain g (indicator S) v ≡ pos (valence g v) -ℤ pos (edges_out g S v)
+rest_receives g S v outside = omega (arith, ints, gain-outside g S v outside, edges_apart g S v)
+
+pub gain_small : (g : Multigraph) (S : ℕ → Bool) (v : ℕ) → IsGraph g → v < g.size → unsigned_abs (gain g (indicator S) v) ≤ 63
+gain_small g S v graph inside =
+    let few : valence g v ≤ 63 = graph.valences v inside in
+    let into : edges_into g S v ≤ valence g v = into-le-valence g S v in
+    let out : edges_out g S v ≤ valence g v = out-le-valence g S v in
+    ⊎_elim
+    (λ (member : S v ≡ true).
+    let lost : gain g (indicator S) v ≡ pos 0 -ℤ pos (edges_out g S v) = rest_lends g S v member in
+    abs_within (gain g (indicator S) v) 63 (omega (arith, ints)) (omega (arith, ints)))
+    (λ (other : S v ≡ false).
+    let got : gain g (indicator S) v ≡ pos (edges_into g S v) = gain-outside g S v other in
+    abs_within (gain g (indicator S) v) 63 (omega (arith, ints)) (omega (arith, ints)))
+    (cases_Bool (S v))
+
+once : (g : Multigraph) (D : Amounts) (S : ℕ → Bool) (w : ℕ) → w < g.size →
+    fired g D (multiple (pos 1) (indicator S)) w ≡ fired g D (indicator S) w
+once g D S w below = fired-cong g D (multiple (pos 1) (indicator S)) (indicator S) w below (λ u _. multiple-once (indicator S) u)
+
+pub once_more : (g : Multigraph) (v : ℕ) (S : ℕ → Bool) (x y z : Vector) → IsGraph g → v < g.size →
+    IsRepaying g v x y → FiresFreely g v (at y) S → z.size ≡ g.size → FiresTo g (indicator S) (at y) (at z) → IsRepaying g v x z
+once_more g v S x y z graph vertex state free size fires = record {
+  size = size;
+  led = led-cong g v (at x) (fired g (at y) (multiple (pos 1) (indicator S))) (at z) vertex
+      (λ w below. once g (at y) S w below ∙ sym (fires w below))
+      (led_step g v (at x) (at y) S (pos 1) graph.multigraph state.led free.without (omega (arith, ints))
+      (λ w below other. rw (once g (at y) S w below) (free.no_debt w below other)));
+  equivalent = equivalent-trans g (at x) (at y) (at z) state.equivalent (indicator S, fires);
+}
+
+pub once_falls : (g : Multigraph) (v : ℕ) (S : ℕ → Bool) (x y z : Vector) (u : ℕ) → IsGraph g → v < g.size →
+    IsRepaying g v x y → FiresFreely g v (at y) S → S u ≡ true → FiresTo g (indicator S) (at y) (at z) →
+    weight_of g (weights (distance_from g v)) (at z) < weight_of g (weights (distance_from g v)) (at y)
+once_falls g v S x y z u graph vertex state free member fires =
+    let less : weight_of g (weights (distance_from g v)) (fired g (at y) (indicator S))
+    < weight_of g (weights (distance_from g v)) (at y) =
+    weight_falls_by_set g v (weights (distance_from g v)) (at y) S u graph.multigraph
+    (levels_are_potential g v (distance_from g v) graph.multigraph (distance_from-is g v graph.multigraph vertex) graph.few graph.valences)
+    state.led.no_debt free (free.vertices u member) member in
+    let now : weight_of g (weights (distance_from g v)) (at z)
+    ≡ weight_of g (weights (distance_from g v)) (fired g (at y) (indicator S)) =
+    weight_of-cong g (weights (distance_from g v)) (at z) (fired g (at y) (indicator S)) fires in
+    omega arith
+
+pub once_limit : (g : Multigraph) (v : ℕ) (x y : Vector) → IsGraph g → v < g.size → IsRepaying g v x y →
+    ((w : ℕ) → w < g.size → unsigned_abs (at x w) ≤ 2 ^ 26) → (w : ℕ) → w < g.size → unsigned_abs (at y w) ≤ 17 * 2 ^ 26
+once_limit g v x y graph vertex state range w inside = led_limit g v (at x) (at y) (2 ^ 26) w vertex graph.few range state.led inside

@@ -1,0 +1,167 @@
+//! Amounts without debts, from which dollars are taken.
+
+ghost use Rattle.std.specs.Prelude.{◌≡◌, ℕ, ◌<◌, ◌≤◌, ◌^◌, ◌-◌, pos, ◌+ℤ◌, ◌-ℤ◌, MatchBool, MatchOption, slice_index};
+ghost use Rattle.std.specs.Int.RustNames.{unsigned_abs};
+ghost use Rattle.dg_theory.specs.Firing.{only_at, indicator, gain, FiresTo, HasNoDebtOff};
+ghost use Rattle.dg_theory.specs.Play.{IsWinnable};
+ghost use Rattle.dg_theory.specs.Reduced.{edges_out, IsReduced};
+ghost use Rattle.dg_graph.specs.Sets.{in_set};
+ghost use Rattle.dg_chips.specs.Vector.{at};
+ghost use Rattle.dg_burn.specs.Fires.{IsHeld};
+ghost use Rattle.dg_reduce.specs.Effective.{IsEffectiveForm};
+ghost use Rattle.dg_reduce.specs.Rests.{IsRest};
+
+use dg_burn::{Counted, burn_counted};
+use dg_chips::Wide;
+use dg_graph::{Graph, contains};
+use std::marker::Model;
+
+/// An amount of dollars for each vertex of a graph, in 32 bits, changed in place.
+#[derive(Clone, Copy)]
+pub struct Form {
+    size: usize,
+    amounts: [i32; 16],
+}
+
+impl Model for Form {
+    ghost use Rattle.dg_chips.specs.Vector.{Vector, IsWide};
+
+    ghost Value = { Vector };
+
+    ghost view = { λ a. record { size = a.size; numbers = a.amounts } };
+
+    ghost invariant = { λ a. IsWide (record { size = a.size; numbers = a.amounts }) };
+
+    ghost inverse = { λ x. record { size = x.size; amounts = x.numbers } };
+}
+
+impl Form {
+    /// The same amounts in 32 bits.
+    pub fn of(chips: &Wide) -> Form
+        requires range { (v : ℕ) → v < chips.now.size → unsigned_abs (at chips.now v) ≤ 2 ^ 30 }
+        ensures size { result.size ≡ chips.now.size }
+        ensures amounts { (v : ℕ) → v < chips.now.size → at result v ≡ at chips.now v }
+    {
+        let size = chips.size();
+        let mut amounts = [0; 16];
+        for v in 0..size {
+            amounts[v] = chips.get(v) as i32;
+        }
+        Form { size, amounts }
+    }
+
+    /// The amount of a vertex.
+    fn get(&self, v: usize) -> i32
+        requires { v < self.now.size }
+        ensures { result ≡ at self.now v }
+    {
+        let dollars = &self.amounts;
+        dollars[v]
+    }
+
+    /// Gives dollars to a vertex.
+    pub fn give(&mut self, v: usize, dollars: u32)
+        requires vertex { v < self.old.size }
+        requires range { unsigned_abs (at self.old v) ≤ 2 ^ 29 }
+        requires dollars { dollars ≤ 2 ^ 29 }
+        ensures size { self.new.size ≡ self.old.size }
+        ensures amounts { (w : ℕ) → at self.new w ≡ at self.old w +ℤ only_at v (pos dollars) w }
+    {
+        let amounts = &mut self.amounts;
+        amounts[v] += dollars as i32;
+    }
+
+    /// Takes dollars from a vertex, which may then be in debt.
+    pub fn take(&mut self, v: usize, dollars: u32)
+        requires vertex { v < self.old.size }
+        requires range { unsigned_abs (at self.old v) ≤ 2 ^ 29 }
+        requires dollars { dollars ≤ 2 ^ 29 }
+        ensures size { self.new.size ≡ self.old.size }
+        ensures amounts { (w : ℕ) → at self.new w ≡ at self.old w -ℤ only_at v (pos dollars) w }
+    {
+        let amounts = &mut self.amounts;
+        amounts[v] -= dollars as i32;
+    }
+
+    /// Pays back what one vertex owes, where nobody else may be in debt: as long as it does, the vertices that burning from it leaves
+    /// lend. False where the amounts can't be won; then nothing is said of what is left.
+    pub fn repay(&mut self, graph: &Graph, v: usize) -> bool
+        requires size { self.old.size ≡ graph.now.size }
+        requires vertex { v < graph.now.size }
+        requires no_debt { HasNoDebtOff graph.now v (at self.old) }
+        requires range { (w : ℕ) → w < graph.now.size → unsigned_abs (at self.old w) ≤ 2 ^ 26 }
+        ensures { MatchBool result
+            (IsEffectiveForm graph.now (at self.old) self.new)
+            (¬ IsWinnable graph.now (at self.old)) }
+    {
+        // The clause of `size` says that the graph is within its limits.
+        let _size = graph.size();
+        'paying: while self.get(v) < 0 {
+            let Some(rest) = self.rest(graph, v) else {
+                return false;
+            };
+            self.fire(graph, &rest);
+        }
+        true
+    }
+
+    /// What burning from a vertex leaves, with its counts, if it leaves something.
+    fn rest(&self, graph: &Graph, v: usize) -> Option<Counted>
+        requires size { self.now.size ≡ graph.now.size }
+        requires vertex { v < graph.now.size }
+        requires no_debt { HasNoDebtOff graph.now v (at self.now) }
+        ensures { MatchOption result
+            (IsReduced graph.now v (at self.now))
+            (IsRest graph.now v (at self.now)) }
+    {
+        let _size = graph.size();
+        let counted = burn_counted(graph, v, &self.held());
+        if counted.burnt.unburnt == 0 {
+            return None;
+        }
+        Some(counted)
+    }
+
+    /// The amounts as far as burning looks at them.
+    fn held(&self) -> [u8; 16]
+        ensures { IsHeld self.now.size (at self.now) result }
+    {
+        let amounts = &self.amounts;
+        let mut held = [0; 16];
+        for v in 0..16 {
+            held[v] = amounts[v].clamp(0, 64) as u8;
+        }
+        held
+    }
+
+    /// Lets each vertex that burning left lend once.
+    fn fire(&mut self, graph: &Graph, rest: &Counted)
+        requires size { self.old.size ≡ graph.now.size }
+        requires rest { (v : ℕ) → slice_index rest.now.joined v ≡ edges_out graph.now (in_set rest.now.burnt.unburnt) v }
+        requires range { (v : ℕ) → v < graph.now.size → unsigned_abs (at self.old v) ≤ 2 ^ 31 - 64 }
+        ensures size { self.new.size ≡ graph.now.size }
+        ensures fires { FiresTo graph.now (indicator (in_set rest.now.burnt.unburnt)) (at self.old) (at self.new) }
+    {
+        let size = graph.size();
+        let mut amounts = [0; 16];
+        for v in 0..size {
+            amounts[v] = self.get(v) + gained(graph, rest, v);
+        }
+        *self = Form { size, amounts };
+    }
+}
+
+/// What a vertex gains where each vertex that burning left lends once.
+fn gained(graph: &Graph, rest: &Counted, v: usize) -> i32
+    requires vertex { v < graph.now.size }
+    requires rest { slice_index rest.now.joined v ≡ edges_out graph.now (in_set rest.now.burnt.unburnt) v }
+    ensures gain { result ≡ gain graph.now (indicator (in_set rest.now.burnt.unburnt)) v }
+    ensures few { unsigned_abs result ≤ 63 }
+{
+    let _size = graph.size();
+    let lost = i32::from(rest.joined[v]);
+    if contains(rest.burnt.unburnt, v) {
+        return -lost;
+    }
+    i32::from(graph.valence(v)) - lost
+}
