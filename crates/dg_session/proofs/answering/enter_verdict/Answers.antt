@@ -12,6 +12,6 @@ pub returns-in-Err-say_entry-clause-refused : goal.returns-in-Err-say_entry-clau
 returns-in-Err-say_entry-clause-refused g c =
     verdict_unsaid g.N.Name.start _ c.args.shared.now.names.now c.args.kept.now c.in-Some.look c.in-Ok-commit.receipt c.args.seat.now c.commit.new.seat
     c.in-Err-say_entry.end (sym c.take.ensures.value ∙ c.in-Some.is)
-    (settled_made g.N.Name.start c.in-Some.look c.reckon.result.look (Judged c.reckon.result.verdict) c.in-Ok-commit.receipt c.args.seat.now c.commit.new.seat
-    c.reckon.ensures.look c.receipt-receipt.ensures.taken c.in-Ok-commit.ensures.settled)
+    (settled_made g.N.Name.start c.in-Some.look c.reckon_aimed-reckoned.result.look (Judged c.reckon_aimed-reckoned.result.verdict) c.in-Ok-commit.receipt c.args.seat.now c.commit.new.seat
+    c.reckon_aimed-reckoned.ensures.look c.receipt-receipt.ensures.taken c.in-Ok-commit.ensures.settled)
     c.in-Err-say_entry.ensures.refused
