@@ -75,7 +75,7 @@ greedy_along : (o : Opening) (n : ℕ) (x : SeatView) (H : List Entry) (last : S
     FoldsTo (IsSettlerTurn greedily o) x (enumerate_from n H) last → AreGreedy o (entries x.mine) H
 greedy_along o n x [] last one count steps = tt
 greedy_along o n x (e ∷ H) last one count (z, step, rest) =
-    let turn = step.turn in
+    let turn = step.strategy.turn in
     let answered = turn.answered in
     let place : n ≡ length turn.history = answered.place in
     let K = turn.history ++ e ∷ [] in
@@ -104,10 +104,10 @@ moves_in (p ∷ es) moves = (moves.0, moves_in es moves.1)
 -- a claim by the settler is won
 claim_won : (o : Opening) (x : SeatView) (es : List (ℕ × Entry)) (r : ℕ × Entry) (last : SeatView) →
     FoldsTo (IsSettlerTurn greedily o) x (es ++ r ∷ []) last → r.1.request ≡ Claim → r.1.reply ≡ Won
-claim_won o x [] r last (z, step, same) claim = none step.turn.answer refl
+claim_won o x [] r last (z, step, same) claim = none step.strategy.turn.answer refl
   where
-    none : (m : Option Move) → step.turn.answer ≡ m → r.1.reply ≡ Won
-    none (Some m) is = absurd (subst IsMove (sym step.turn.answered.request' ∙ claim) (subst (λ a. IsMove (request_for a)) (sym is) tt))
+    none : (m : Option Move) → step.strategy.turn.answer ≡ m → r.1.reply ≡ Won
+    none (Some m) is = absurd (subst IsMove (sym step.strategy.turn.answered.request' ∙ claim) (subst (λ a. IsMove (request_for a)) (sym is) tt))
     none None is = step.won is
 claim_won o x (p ∷ es) r last (z, step, rest) claim = claim_won o z es r last rest claim
 

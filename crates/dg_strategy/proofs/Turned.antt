@@ -104,9 +104,7 @@ module _ (A : Answers) (o : Opening) (graph : IsGraph o.graph) (x : SeatView) (r
       let replies : RepliesToClaim p r.1.reply = subst (λ q. Replies o turn.history q r.1.reply) (ap request_for is) turn.answered.reply in
       claim_won p r.1.reply (λ v below. rw (← turn.shown.amounts v below) (effective v below)) replies in
       record {
-        turn = turn;
-        gifts = kept.gifts;
-        moved = kept.moved;
+        strategy = kept;
         borrows = λ m is. settles.moves p.graph turn.amounts m graph turn.shown.size (rw is at turn.chosen);
         won = won;
       }

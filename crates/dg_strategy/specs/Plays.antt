@@ -61,11 +61,9 @@ pub record IsStrategyTurn (A : Answers) (o : Opening) (x : SeatView) (r : ℕ ×
   pub moved : IsMove r.1.request → IsMoved r.1.reply
 
 pub record IsSettlerTurn (A : Answers) (o : Opening) (x : SeatView) (r : ℕ × Entry) (y : SeatView) : Type 0 where
-  pub turn : IsTurnBy A o x r y
-  pub gifts : gifts_in (turn.history ++ r.1 ∷ []) ≡ gifts_in turn.history
-  pub moved : IsMove r.1.request → IsMoved r.1.reply
-  pub borrows : (m : Move) → turn.answer ≡ Some m → BorrowsInDebt turn.amounts m
-  pub won : turn.answer ≡ None → r.1.reply ≡ Won
+  pub strategy : IsStrategyTurn A o x r y
+  pub borrows : (m : Move) → strategy.turn.answer ≡ Some m → BorrowsInDebt strategy.turn.amounts m
+  pub won : strategy.turn.answer ≡ None → r.1.reply ≡ Won
 
 abbrev pub is_settled : {N : Type 0} → Ended N → Bool
 is_settled (Settled r) = true
