@@ -94,6 +94,22 @@ impl Form {
             (IsEffectiveForm graph.now (at self.old) self.new)
             (¬ IsWinnable graph.now (at self.old)) }
     {
+        if self.get(v) >= 0 {
+            return true;
+        }
+        self.pay(graph, v)
+    }
+
+    /// The same, where the vertex is in debt at first.
+    fn pay(&mut self, graph: &Graph, v: usize) -> bool
+        requires size { self.old.size ≡ graph.now.size }
+        requires vertex { v < graph.now.size }
+        requires no_debt { HasNoDebtOff graph.now v (at self.old) }
+        requires range { (w : ℕ) → w < graph.now.size → unsigned_abs (at self.old w) ≤ 2 ^ 26 }
+        ensures { MatchBool result
+            (IsEffectiveForm graph.now (at self.old) self.new)
+            (¬ IsWinnable graph.now (at self.old)) }
+    {
         // The clause of `size` says that the graph is within its limits.
         let _size = graph.size();
         'paying: while self.get(v) < 0 {

@@ -3,7 +3,7 @@ use Rattle.dg_theory.proofs.Weights.{weight_of}
 use Rattle.dg_theory.proofs.Reach.{distance_from}
 use Rattle.dg_chips.specs.Vector.{at}
 use Rattle.dg_reduce.proofs.DebtSteps.{IsRepaying}
-use Rattle.dg_reduce.proofs.form.Form.repay.Given as goal
+use Rattle.dg_reduce.proofs.form.Form.pay.Given as goal
 
 abbrev pub invariant-paying : goal.invariant-paying
 invariant-paying l = IsRepaying l.graph l.v l.fn.self l.self
