@@ -51,7 +51,6 @@ static TOLD: [(&str, &str, &str); 22] = [
         "greedy table.json 2",
         "0 refused range\n1 refused range\nturns\n",
     ),
-
     (THREE_EDGES, "rank table.json 1", "rank at least 1\n"),
     (
         THREE_EDGES,
