@@ -4,8 +4,9 @@
     docs/pictures/draw.py            writes the pictures
     docs/pictures/draw.py --check    says which of them are not what it would write; the last line is 'N passed, M failed'
 
-A vertex has its name and its dollars; a red one is in debt, and q has a double ring. What burns is orange, with its number
-in the order of burning. The script needs Python 3 and nothing else. It reckons burnings, scripts and losses itself."""
+A vertex has its name and its dollars; a red one is in debt, and q has a double ring. What burns is orange, with its
+number in the order of burning. The script needs Python 3 and nothing else. It reckons burnings, scripts and losses
+itself."""
 import itertools, math, os, sys
 
 HERE = os.path.dirname(os.path.abspath(__file__))
