@@ -1,4 +1,4 @@
-# Completion of the command line of dollar, for bash 4.1 or later:
+# Completion of the command line of dollar, for bash 4 or later:
 #
 #     source completions/dollar.bash
 #
