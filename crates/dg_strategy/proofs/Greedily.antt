@@ -2,7 +2,7 @@
 --   filter_whole   a filter that leaves as many leaves all
 --   greedy_game    the history of a table that only such a seat played on
 --   game_of        the same, from the seats before and after
-use Rattle.std.proofs.Common.{◌≡◌, ℕ, zero, suc, ◌+◌, ◌<◌, ◌≤◌, Bool, true, false, cond, List, [], ◌∷◌, ◌++◌, length, length-append, map, slice_get, Option, Some, None, append-nil, eq-eqb, arith, refl, sym, ap, subst, ◌∙◌}
+use Rattle.std.proofs.Common.{◌≡◌, ℕ, suc, ◌+◌, ◌<◌, ◌≤◌, Bool, true, false, cond, List, [], ◌∷◌, ◌++◌, length, length-append, map, slice_get, Option, Some, None, eq-eqb, arith, refl, sym, ap, subst, ◌∙◌}
 use Rattle.std.specs.Prelude.{◌==◌}
 use Rattle.std.specs.List.{filter, enumerate_from, FoldsTo}
 use Rattle.std.proofs.lemmas.List.{map-append, length-map, append_cancel_right}
@@ -19,7 +19,7 @@ use Rattle.dg_table.specs.Opened.{AreFresh}
 use Rattle.dg_table.specs.Closing.{IsClosed}
 use Rattle.dg_table.specs.Seats.{SeatView, AreSeated, Holds, entries_of}
 use Rattle.dg_strategy.specs.Choices.{Answers, BorrowsAtLeast}
-use Rattle.dg_strategy.specs.Greedy.{IsGreedyCall, AreGreedy, AllMoves, EndsSo, IsGreedyGame}
+use Rattle.dg_strategy.specs.Greedy.{IsGreedyCall, AreGreedy, AllMoves, IsGreedyGame}
 use Rattle.dg_strategy.specs.Plays.{IsSettlerTurn, IsMove, AreMoves, Gains, IsPlayed, is_settled}
 use Rattle.dg_strategy.specs.declared.playing.Ended.{Ended}
 use Rattle.dg_strategy.specs.declared.playing.Ended.TheVariants.{Settled, Turns}

@@ -2,20 +2,19 @@
 --   settler_moves    a settler's moves can be made
 --   strategy_turn    a turn by a choice whose moves can be made
 --   settler_turn     a turn by a choice that settles debts
-use Rattle.std.proofs.Common.{◌≡◌, ℕ, ◌+◌, ◌<◌, ◌≤◌, List, [], ◌∷◌, ◌++◌, Option, Some, None, arith, refl, sym, ap, subst, ◌∙◌}
+use Rattle.std.proofs.Common.{◌≡◌, ℕ, ◌<◌, Option, Some, None, arith, refl, ap, subst, ◌∙◌}
 use Rattle.dg_theory.specs.Firing.{IsEffective}
 use Rattle.dg_graph.specs.Graph.{IsGraph}
 use Rattle.dg_chips.specs.Opening.{Opening}
-use Rattle.dg_chips.specs.Vector.{Vector, at}
+use Rattle.dg_chips.specs.Vector.{at}
 use Rattle.dg_chips.specs.Moves.{IsPlayable}
 use Rattle.dg_chips.specs.declared.moves.Move.{Move}
 use Rattle.dg_chips.specs.declared.moves.Move.TheVariants.{Lend, Borrow, Fire, Script}
-use Rattle.dg_game.specs.History.{position_after, gifts_in, gift_counted}
-use Rattle.dg_game.specs.Position.{Position, Shows}
+use Rattle.dg_game.specs.History.{position_after, gift_counted}
+use Rattle.dg_game.specs.Position.{Position}
 use Rattle.dg_game.specs.MoveReplies.{RepliesToMove}
 use Rattle.dg_game.specs.Replies.{Replies, RepliesToClaim}
 use Rattle.dg_game.specs.declared.entry.Entry.{Entry}
-use Rattle.dg_game.specs.declared.entry.Refusal.{Refusal}
 use Rattle.dg_game.specs.declared.entry.Refusal.TheVariants.{NoVertex, Empty, Script as OtherScript, Gift, Range}
 use Rattle.dg_game.specs.declared.entry.Reply.{Reply}
 use Rattle.dg_game.specs.declared.entry.Reply.TheVariants.{Moved, Refused, Won, NotWon}

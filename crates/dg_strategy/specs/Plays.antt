@@ -12,7 +12,7 @@
 --   IsPlayed T n x y ended  == in n turns, all moves, the seat gained n entries; or in fewer, by moves and then by the claim of
 --                              the receipt, those entries
 --   IsStopped T o cap n x y fault == after fewer than n turns, all moves, the next one was refused with the fault
-use Rattle.std.specs.Prelude.{◌≡◌, ℕ, ◌<◌, Bool, true, false, List, [], ◌∷◌, ◌++◌, length, slice_get, Option, Some, None, ⊤}
+use Rattle.std.specs.Prelude.{◌≡◌, ℕ, ◌<◌, Bool, true, false, List, [], ◌∷◌, ◌++◌, length, Option, Some, None, ⊤}
 use Rattle.std.specs.List.{FoldsTo}
 use Rattle.dg_chips.specs.Opening.{Opening}
 use Rattle.dg_chips.specs.Vector.{Vector}

@@ -1,4 +1,4 @@
-use Rattle.std.proofs.Common.{◌≡◌, ℕ, ◌+◌, List, length}
+use Rattle.std.proofs.Common.{◌≡◌, ℕ, List, length}
 use Rattle.std.specs.List.{FoldsTo}
 use Rattle.dg_game.specs.declared.entry.Entry.{Entry}
 use Rattle.dg_strategy.specs.Plays.{IsTurnBy, AreMoves}
