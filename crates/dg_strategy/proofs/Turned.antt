@@ -23,11 +23,11 @@ use Rattle.dg_game.proofs.HistoryLaws.{gifts_in-more}
 use Rattle.dg_table.specs.Seats.{SeatView}
 use Rattle.dg_table.specs.Turns.{request_for}
 use Rattle.dg_strategy.specs.Choices.{Answers, GivesMoves, SettlesDebts, BorrowsInDebt}
-use Rattle.dg_strategy.specs.Plays.{IsTurnBy, IsMove, IsMoved, IsStrategyTurn, IsSettlerTurn}
+use Rattle.dg_strategy.specs.Plays.{IsTurnBy, IsMove, IsMadeOrPastRange, IsStrategyTurn, IsSettlerTurn}
 
 -- a move that can be made is refused for the range alone
 move_answered : (p : Position) (m : Move) (reply : Reply) → IsPlayable p.graph.size m → RepliesToMove p m reply →
-    IsMoved reply × (gift_counted reply ≡ 0)
+    IsMadeOrPastRange reply × (gift_counted reply ≡ 0)
 move_answered p m (Moved d) playable replies = (tt, refl)
 move_answered p (Lend v) (Refused NoVertex) playable replies = absurd (omega (arith, playable, replies))
 move_answered p (Borrow v) (Refused NoVertex) playable replies = absurd (omega (arith, playable, replies))
@@ -67,7 +67,7 @@ settler_moves A settles g d m graph size may = borrows m (settles.moves g d m gr
 module _ (A : Answers) (o : Opening) (graph : IsGraph o.graph) (x : SeatView) (r : ℕ × Entry) (y : SeatView) where
   -- the reply to what was answered, and what is known of it where the answer is a move that can be made
   answered : (gives : GivesMoves A) (turn : IsTurnBy A o x r y) (m : Option Move) → turn.answer ≡ m →
-      (IsMove r.1.request → IsMoved r.1.reply) × (gift_counted r.1.reply ≡ 0)
+      (IsMove r.1.request → IsMadeOrPastRange r.1.reply) × (gift_counted r.1.reply ≡ 0)
   unfolding position_after
   answered gives turn (Some m) is =
       let chosen = rw is at turn.chosen in

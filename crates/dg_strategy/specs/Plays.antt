@@ -4,7 +4,7 @@
 --   AreMoves es             == each of the entries es is a move
 --   IsTurnBy A o x r y      == after some history the seat x is answered with the receipt r, and is then y: what it asked for is
 --                              what A has there
---   IsMoved reply           == the move was made, or refused only since an amount would have left the range
+--   IsMadeOrPastRange reply == the move was made, or refused only since an amount would have left the range
 --   IsStrategyTurn A o x r y == so it is; the gift count stays, and a move is answered so
 --   IsSettlerTurn A o x r y == so it is; a move is a borrowing by a vertex in debt, and a claim is won
 --   is_settled ended        == whether it ended with a claim
@@ -50,15 +50,15 @@ pub record IsTurnBy (A : Answers) (o : Opening) (x : SeatView) (r : ℕ × Entry
   pub chosen : A (position_after o history).graph amounts answer
   pub answered : IsAnsweredAfter o history (request_for answer) r x y
 
-abbrev pub IsMoved : Reply → Type 0
-IsMoved (Moved d) = ⊤
-IsMoved (Refused Range) = ⊤
-IsMoved reply = ⊥
+abbrev pub IsMadeOrPastRange : Reply → Type 0
+IsMadeOrPastRange (Moved d) = ⊤
+IsMadeOrPastRange (Refused Range) = ⊤
+IsMadeOrPastRange reply = ⊥
 
 pub record IsStrategyTurn (A : Answers) (o : Opening) (x : SeatView) (r : ℕ × Entry) (y : SeatView) : Type 0 where
   pub turn : IsTurnBy A o x r y
   pub gifts : gifts_in (turn.history ++ r.1 ∷ []) ≡ gifts_in turn.history
-  pub moved : IsMove r.1.request → IsMoved r.1.reply
+  pub moved : IsMove r.1.request → IsMadeOrPastRange r.1.reply
 
 pub record IsSettlerTurn (A : Answers) (o : Opening) (x : SeatView) (r : ℕ × Entry) (y : SeatView) : Type 0 where
   pub strategy : IsStrategyTurn A o x r y
