@@ -16,5 +16,5 @@ pub use finding::{Finding, judge_look, judge_look_aimed, rank_look};
 pub use game::{Game, MAX_ENTRIES};
 pub use laws::{law_of_histories, law_of_legal_histories};
 pub use look::LookData;
-pub use schedule::{RehearseFault, rehearse};
+pub use schedule::{Rehearsal, RehearseFault, rehearse};
 pub use step::{Command, Step};

@@ -1,5 +1,5 @@
 //! Schedules: their steps are played one after another.
-ghost use Rattle.std.specs.Prelude.{◌≡◌, ℕ, ◌<◌, ◌≤◌, List, [], ◌∷◌, ◌++◌, length, slice_get, Some, MatchResult, MatchOption};
+ghost use Rattle.std.specs.Prelude.{◌≡◌, ℕ, ◌<◌, ◌≤◌, List, [], ◌∷◌, ◌++◌, length, slice_get, Some, MatchResult, MatchOption, OnErr, None};
 ghost use Rattle.dg_chips.specs.Opening.{Opening};
 ghost use Rattle.dg_game.specs.Legal.{IsSeat};
 ghost use Rattle.dg_game.specs.Look.{IsFoundFor, asked_for};
@@ -75,7 +75,7 @@ pub fn rehearse<A: Allocator + Drop>(
 
 impl Rehearsal {
     /// The schedule before its first step.
-    fn new(start: &Start) -> Rehearsal
+    pub fn new(start: &Start) -> Rehearsal
         ensures { (steps : List Step) → IsPlaying start.now steps [] result }
     {
         Rehearsal {
@@ -85,12 +85,16 @@ impl Rehearsal {
         }
     }
 
-    /// Plays the next step, and gives its entry; or why it can't be played.
-    fn play(&mut self, step: &Step) -> Result<Entry, RehearseFault>
+    /// Plays the next step, and gives its entry. The condition is that steps were played from a start, and nothing else
+    /// has happened to the game or the looks.
+    ///
+    /// Refused with `Seat`, `Full`, `NoLook` or `TooMany` as `rehearse` refuses the step; then nothing has changed.
+    pub fn play(&mut self, step: &Step) -> Result<Entry, RehearseFault>
         requires { IsInPlay self.old }
-        ensures { MatchResult result
+        ensures plays { MatchResult result
             (λ e. (self.old.game.entries < MAX_ENTRIES) × PlaysOn self.old step.now e self.new)
             (StopsAt self.old step.now) }
+        ensures same { OnErr result (self.new ≡ self.old) }
     {
         let i = self.game.entries() as usize;
         if step.seat < 1 || step.seat > MAX_SEATS {
@@ -128,10 +132,11 @@ impl Rehearsal {
         requires playing { IsInPlay self.old }
         requires room { self.old.game.entries < MAX_ENTRIES }
         requires seat { IsSeat seat }
-        ensures { MatchOption result
+        ensures plays { MatchOption result
             ((o : Opening) (H : List Entry) (steps : List Step) → IsPlaying o steps H self.old →
             (i : ℕ) → ¬ IsKept steps seat (length H) i)
             (λ e. PlaysOn self.old (record { seat = seat; command = Commit }) e self.new) }
+        ensures same { result ≡ None → self.new ≡ self.old }
     {
         let look = self.kept(seat)?;
         let finding = judge_look_aimed(&self.aim, self.game.q(), &look);
@@ -143,9 +148,10 @@ impl Rehearsal {
         requires playing { IsInPlay self.old }
         requires room { self.old.game.entries < MAX_ENTRIES }
         requires seat { IsSeat seat }
-        ensures { MatchResult result
+        ensures plays { MatchResult result
             (λ e. PlaysOn self.old (record { seat = seat; command = Rank k }) e self.new)
             (StopsAt self.old (record { seat = seat; command = Rank k })) }
+        ensures same { OnErr result (self.new ≡ self.old) }
     {
         let i = self.game.entries() as usize;
         let Some(look) = self.kept(seat) else {

@@ -2,3 +2,4 @@
 mod Limited
 pub mod Gathered
 pub mod Serving
+pub mod UnderWay

@@ -1,10 +1,17 @@
 -- A schedule that is played and printed.
 --   IsPrinted o names lines text    == the lines spell steps, and the text is that of the legal history which these
 --                                      steps make from the opening o
-use Rattle.std.specs.Prelude.{◌≡◌, ℕ, List}
+--   IsPlayed o names steps r text   == r is what the steps have come to from the opening o, whatever steps follow, and the
+--                                      text is that of their history
+--   IsStopped o steps fault         == the fault is the first of these steps, whatever steps follow
+use Rattle.std.specs.Prelude.{◌≡◌, ℕ, List, ◌++◌, length}
 use Rattle.dg_chips.specs.Opening.{Opening}
+use Rattle.dg_game.specs.Rehearsal.{IsPlaying}
 use Rattle.dg_game.specs.Schedule.{IsRehearsal}
+use Rattle.dg_game.specs.ScheduleFaults.{IsFirstFault}
 use Rattle.dg_game.specs.declared.entry.Entry.{Entry}
+use Rattle.dg_game.specs.declared.schedule.Rehearsal.{Rehearsal}
+use Rattle.dg_game.specs.declared.schedule.RehearseFault.{RehearseFault}
 use Rattle.dg_game.specs.declared.step.Step.{Step}
 use Rattle.dg_lines.specs.Schedules.{AreStepsOf}
 use Rattle.dg_lines.specs.Texts.{history_text}
@@ -15,3 +22,12 @@ pub record IsPrinted (o : Opening) (names : List (List ℕ)) (lines : List (List
   pub history : List Entry
   pub rehearsal : IsRehearsal o steps history
   pub printed : text ≡ history_text names 0 history
+
+pub record IsPlayed (o : Opening) (names : List (List ℕ)) (steps : List Step) (r : Rehearsal) (text : List ℕ) : Type 0 where
+  pub history : List Entry
+  pub playing : (more : List Step) → IsPlaying o (steps ++ more) history r
+  pub count : length history ≡ length steps
+  pub printed : text ≡ history_text names 0 history
+
+abbrev pub IsStopped : Opening → List Step → RehearseFault → Type 0
+IsStopped o steps fault = (more : List Step) → IsFirstFault o.graph.size (steps ++ more) fault

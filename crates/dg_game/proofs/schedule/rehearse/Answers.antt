@@ -19,7 +19,7 @@ returns-in_err-entry g c =
     let read : slice_get c.args.steps.now c.loop-step.step-index ≡ Some c.step-item.result =
     slice_get_read c.args.steps.now (length c.args.steps.now) c.loop-step.step-index c.step-item.result refl within c.step-item.is in
     told_err c.from_residual.result _ _ _ (c.from_residual.ensures.1)
-    (c.in_err-entry.ensures c.args.start.now c.loop-step.history.items c.args.steps.now c.loop-step.invariant.playing
+    (c.in_err-entry.ensures.plays c.args.start.now c.loop-step.history.items c.args.steps.now c.loop-step.invariant.playing
     (ap (slice_get c.args.steps.now) c.loop-step.invariant.played ∙ read))
 
 pub unwrap-requires : goal.unwrap-requires
@@ -27,7 +27,7 @@ unwrap-requires g c =
     let within : c.loop-step.step-index < length c.args.steps.now = omega arith in
     let read : slice_get c.args.steps.now c.loop-step.step-index ≡ Some c.step-item.result =
     slice_get_read c.args.steps.now (length c.args.steps.now) c.loop-step.step-index c.step-item.result refl within c.step-item.is in
-    let (below, playing) = c.in_ok-entry.ensures in
+    let (below, playing) = c.in_ok-entry.ensures.plays in
     c.push.ensures.succeeds (omega (arith, below, c.loop-step.invariant.playing.leads.entries, c.loop-step.invariant.played, c.loop-step.invariant.room, c.loop-step.history.ok))
 
 pub loop-step-preserved : goal.loop-step-preserved
@@ -36,7 +36,7 @@ loop-step-preserved g c =
     let within : c.loop-step.step-index < length c.args.steps.now = omega arith in
     let read : slice_get c.args.steps.now c.loop-step.step-index ≡ Some c.step-item.result =
     slice_get_read c.args.steps.now (length c.args.steps.now) c.loop-step.step-index c.step-item.result refl within c.step-item.is in
-    let (below, plays) = c.in_ok-entry.ensures in
+    let (below, plays) = c.in_ok-entry.ensures.plays in
     record {
       room = omega (arith, c.push.ensures.capacity, c.loop-step.invariant.room);
       few = omega (arith, below, c.loop-step.invariant.playing.leads.entries, c.loop-step.invariant.played);

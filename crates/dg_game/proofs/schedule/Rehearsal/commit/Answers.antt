@@ -22,8 +22,8 @@ enter-requires-clause-playing c =
 pub enter-requires-clause-found : goal.enter-requires-clause-found
 enter-requires-clause-found c = rw c.q.ensures.q at c.judge_look_aimed-finding.ensures.found
 
-pub returns : goal.returns
-returns c = λ o H steps playing there.
+pub returns-clause-plays : goal.returns-clause-plays
+returns-clause-plays c = λ o H steps playing there.
     let keeps = c.in_ok-look.ensures o H steps playing in
     c.enter.ensures o H steps Commit playing keeps there tt tt
     (c.in_ok-look.look.number, keeps.0, c.judge_look_aimed-finding.ensures.asks c.in_ok-look.look.number)

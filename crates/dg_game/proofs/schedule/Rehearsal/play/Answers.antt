@@ -5,8 +5,8 @@ use Rattle.dg_game.specs.declared.step.Command.TheVariants.{Call}
 use Rattle.dg_game.proofs.RehearsalLaws.{lookless, told_ok_or}
 use Rattle.dg_game.proofs.schedule.Rehearsal.play.Goals as goal
 
-pub returns-in-Call : goal.returns-in-Call
-returns-in-Call c = (
+pub returns-in-Call-clause-plays : goal.returns-in-Call-clause-plays
+returns-in-Call-clause-plays c = (
   omega (arith, c.entries-i.ensures.entries, c.entries-i.ensures.limit),
   λ o H steps playing there.
       let step : slice_get steps (length H) ≡ Some (record { seat = c.args.step.now.seat; command = Call c.in-Call.plain }) =
@@ -14,9 +14,9 @@ returns-in-Call c = (
       c.call.ensures o H steps playing step,
 )
 
-pub returns-in-Commit : goal.returns-in-Commit
-returns-in-Commit c =
-    rw c.ok_or.ensures.value (told_ok_or c.commit.result _ _ _ _ _ c.commit.ensures
+pub returns-in-Commit-clause-plays : goal.returns-in-Commit-clause-plays
+returns-in-Commit-clause-plays c =
+    rw c.ok_or.ensures.value (told_ok_or c.commit.result _ _ _ _ _ c.commit.ensures.plays
     (λ none o H steps playing there. lookless o H steps c.args.self.now c.args.step.now _ playing there
     (omega (arith, playing.leads.entries, c.entries-i.ensures.entries))
     (omega (arith, playing.leads.entries, c.entries-i.ensures.entries, c.entries-i.ensures.limit)) (c.if-step-lt1.false, c.if-step-gt-MAX_SEATS.false)
@@ -27,9 +27,9 @@ returns-in-Commit c =
           (there ∙ ap (λ (k : Command). Some (record { seat = c.args.step.now.seat; command = k })) c.in-Commit.is),
     )))
 
-pub returns-in-Rank : goal.returns-in-Rank
-returns-in-Rank c =
-    MatchResult-weaker c.rank.result c.rank.ensures
+pub returns-in-Rank-clause-plays : goal.returns-in-Rank-clause-plays
+returns-in-Rank-clause-plays c =
+    MatchResult-weaker c.rank.result c.rank.ensures.plays
     (λ e goes. (
       omega (arith, c.entries-i.ensures.entries, c.entries-i.ensures.limit),
       λ o H steps playing there. goes o H steps playing

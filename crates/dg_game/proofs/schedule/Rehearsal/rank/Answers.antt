@@ -26,8 +26,8 @@ enter-entry-requires-clause-playing c =
 pub enter-entry-requires-clause-found : goal.enter-entry-requires-clause-found
 enter-entry-requires-clause-found c = let (within, found, asks) = c.in-Ok.ensures in rw c.q.ensures.q at found
 
-pub returns-in_default-rank_look : goal.returns-in_default-rank_look
-returns-in_default-rank_look c = λ o H steps playing there.
+pub returns-in_default-rank_look-clause-plays : goal.returns-in_default-rank_look-clause-plays
+returns-in_default-rank_look-clause-plays c = λ o H steps playing there.
     let (kept, look) = c.in-Some.ensures o H steps playing in
     let (fault, past) = c.in_default-rank_look.ensures in
     let size : c.in-Some.look.graph.size ≡ o.graph.size =
@@ -36,8 +36,8 @@ returns-in_default-rank_look c = λ o H steps playing there.
     (omega (arith, playing.leads.entries, c.entries-i.ensures.entries)) (omega (arith, c.requires.room, c.entries-i.ensures.entries))
     c.requires.seat kept (rw size at past)
 
-pub returns : goal.returns
-returns c = λ o H steps playing there.
+pub returns-clause-plays : goal.returns-clause-plays
+returns-clause-plays c = λ o H steps playing there.
     let keeps = c.in-Some.ensures o H steps playing in
     let (within, found, asks) = c.in-Ok.ensures in
     let size : c.in-Some.look.graph.size ≡ o.graph.size =
