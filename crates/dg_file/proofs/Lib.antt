@@ -1,5 +1,7 @@
 -- Reading.
 mod NamesLaws
+mod Writing
+mod Labelling
 mod Naming
 mod NamesRead
 mod Listing

@@ -6,3 +6,5 @@ pub mod FileFaults
 pub mod FileLaws
 -- What serves the reading alone.
 pub mod Reading
+-- What serves the writing alone.
+pub mod Labels

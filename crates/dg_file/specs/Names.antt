@@ -8,7 +8,8 @@
 --   added names name    == the names with the name put last where it is new, and otherwise as they are
 --   place_of names name == the first vertex of that name, where there is one
 --   name_at names v     == the name of the vertex v
-use Rattle.std.specs.Prelude.{ℕ, ◌≤◌, ◌||◌, ◌&&◌, not, Bool, IsTrue, List, [], ◌∷◌, ◌++◌, length, Option, cond, leb, ◌==◌, bytes_eq, All, position}
+--   label name          == what stands before the amount of a vertex of that name: a space, the name and `=`
+use Rattle.std.specs.Prelude.{ℕ, ◌≤◌, ◌||◌, ◌&&◌, not, Bool, IsTrue, List, [], ◌∷◌, ◌++◌, length, Option, cond, leb, ◌==◌, bytes_eq, codes, All, position}
 use Rattle.std.specs.List.{list_any, list_all, slice_index_or}
 use Rattle.dg_file.specs.declared.names.TheConstants.{MAX_NAME}
 
@@ -41,3 +42,6 @@ place_of names name = position (λ own. bytes_eq own name) names
 
 abbrev pub name_at : List (List ℕ) → ℕ → List ℕ
 name_at names v = slice_index_or names v []
+
+abbrev pub label : List ℕ → List ℕ
+label name = codes " " ++ name ++ codes "="

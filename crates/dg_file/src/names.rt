@@ -1,10 +1,11 @@
 //! The names of a table's vertices.
-ghost use Rattle.std.specs.Prelude.{◌≡◌, ◌↔◌, ◌<◌, ◌≤◌, [], length, Some, IsTrue, IfSome, IfOk, OnErr, position, bytes_eq, string_bytes};
+ghost use Rattle.std.specs.Prelude.{◌≡◌, ◌↔◌, ◌+◌, ◌<◌, ◌≤◌, ◌++◌, [], length, drop, Some, IsTrue, IfSome, IfOk, OnErr, position, bytes_eq, string_bytes};
 ghost use Rattle.std.specs.List.{IsDistinct};
 ghost use Rattle.indexmap.specs.IndexSet.{index_set_len};
-ghost use Rattle.dg_file.specs.Names.{IsName, is_new, added, place_of, name_at};
+ghost use Rattle.dg_file.specs.Names.{IsName, is_new, added, place_of, name_at, label};
 ghost use Rattle.dg_file.specs.TableFiles.{AreNames};
 
+use crate::label::{Label, MAX_LABEL};
 use dg_graph::MAX_VERTICES;
 use indexmap::IndexSet;
 use std::alloc::{AllocError, Global};
@@ -31,6 +32,8 @@ fn is_name_byte(byte: u8) -> bool
 #[derive(Drop)]
 pub struct Names {
     set: IndexSet<String>,
+    // Of the vertices that have no name yet, any.
+    labels: [Label; MAX_VERTICES],
 }
 
 impl Model for Names {
@@ -38,6 +41,7 @@ impl Model for Names {
     ghost use Rattle.std.specs.List.{IsDistinct};
     ghost use Rattle.indexmap.specs.IndexSet.{index_set_len};
     ghost use Rattle.dg_graph.specs.declared.limits.TheConstants.{MAX_VERTICES};
+    ghost use Rattle.dg_file.specs.Labels.{AreLabels};
     ghost use Rattle.dg_file.specs.TableFiles.{AreNames};
 
     ghost Value = { List (List ℕ) };
@@ -45,7 +49,8 @@ impl Model for Names {
     ghost view = { λ names. map string_bytes names.set.keys };
 
     ghost invariant = { λ names. (index_set_len names.set ≤ MAX_VERTICES)
-        × AreNames (map string_bytes names.set.keys) };
+        × AreNames (map string_bytes names.set.keys)
+        × AreLabels names.labels (map string_bytes names.set.keys) };
 }
 
 impl Names {
@@ -55,6 +60,7 @@ impl Names {
     {
         Names {
             set: IndexSet::new(alloc),
+            labels: [Label::empty(); MAX_VERTICES],
         }
     }
 
@@ -87,6 +93,8 @@ impl Names {
             return Ok(false);
         }
         let own = String::from_str(alloc, name)?;
+        let next = self.set.len();
+        self.labels[next] = Label::new(name.as_bytes());
         let is_new = self.set.insert(own)?;
         Ok(is_new)
     }
@@ -109,6 +117,20 @@ impl Names {
         ensures placed { place_of self.now result.now ≡ Some v }
     {
         self.set[v].as_str()
+    }
+
+    /// Writes the label of a vertex, ` name=`, so that it ends at `end`, and says where it starts. The bytes before it are
+    /// then any.
+    pub fn write_label(&self, v: usize, line: &mut [u8], end: usize) -> usize
+        requires vertex { v < length self.now }
+        requires room { MAX_LABEL ≤ end }
+        requires within { end ≤ length line.old }
+        ensures start { result + length (label (name_at self.now v)) ≡ end }
+        ensures short { end ≤ result + MAX_LABEL }
+        ensures written { drop result line.new ≡ label (name_at self.now v) ++ drop end line.old }
+    {
+        let labels = &self.labels;
+        labels[v].write(line, end)
     }
 }
 

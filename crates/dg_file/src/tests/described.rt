@@ -67,5 +67,9 @@ fn names_are_kept_once(rt: HostRuntime) -> Result<(), Fail> {
     assert!(rt; names.add(alloc, "a")?);
     assert!(rt; !names.add(alloc, "a")? && !names.is_empty());
     assert!(rt; names.place(b"a") == Some(0) && names.place(b"A").is_none());
+    assert_eq!(rt; names.len(), 1);
+    let mut line = [b'.'; 20];
+    let start = names.write_label(0, &mut line, 19);
+    assert!(rt; &line[start..] == b" a=.".as_slice());
     Ok(())
 }

@@ -1,7 +1,8 @@
 -- What `insert` leaves, as a list of names.
 use Rattle.dg_file.proofs.Naming.{has_text, insert_text}
 use Rattle.dg_file.proofs.NamesLaws.{is_new-named, is_new-no_name, AreNames-added}
-use Rattle.std.proofs.Common.{◌≡◌, ℕ, ◌≤◌, Bool, true, false, ap, not, cond, ◌∙◌, sym, length, List, [], ◌∷◌, ◌++◌, map, string_bytes, arith}
+use Rattle.dg_file.proofs.Labelling.{AreLabels-added}
+use Rattle.std.proofs.Common.{◌≡◌, ℕ, ◌≤◌, Bool, true, false, ap, not, cond, ◌∙◌, sym, length, List, [], ◌∷◌, ◌++◌, map, string_bytes, arith, rules}
 use Rattle.std.proofs.lemmas.Bool.{false≢true}
 use Rattle.std.proofs.lemmas.List.{length-map}
 use Rattle.std.specs.Prelude.{String}
@@ -44,7 +45,9 @@ returns-then-not-is_name-clause-names c =
 pub invariant_of-self-2 : goal.invariant_of-self-2
 invariant_of-self-2 c =
     let old : length c.self.inside.set.keys ≡ length c.args.self.now =
-    sym (length-map c.self.inside.set.keys string_bytes) ∙ ap length c.self.view_is in (
+    sym (length-map c.self.inside.set.keys string_bytes) ∙ ap length c.self.view_is in
+    let size : length c.self.inside.labels ≡ 16 = search rules in (
       omega (arith, old, at_most_one c.in_ok-is_new.is_new, c.in_ok-is_new.ensures.len, c.requires),
       rw (left c) (AreNames-added c.args.self.now c.args.name.now (rw c.self.view_is at c.self.invariant.1)),
+      rw (left c) (AreLabels-added c.self.inside.labels c.args.self.now c.args.name.now c.len-next.result _ (omega (arith, old, c.len-next.ensures.len)) (omega (arith, c.requires, old, c.len-next.ensures.len, size)) (rw c.as_bytes-2.ensures.value at c.new.ensures) (rw c.self.view_is at c.self.invariant.2)),
     )
