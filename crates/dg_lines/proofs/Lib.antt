@@ -13,5 +13,6 @@ pub mod StepMeaning
 pub mod Decimals
 pub mod Schedule
 pub mod Pairs
+pub mod Signs
 pub mod Joining
 pub mod Printing

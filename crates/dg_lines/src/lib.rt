@@ -3,6 +3,7 @@
 
 mod amounts;
 mod cuts;
+mod digits;
 mod history;
 mod laws;
 mod line;

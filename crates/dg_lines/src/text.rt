@@ -6,9 +6,11 @@ ghost use Rattle.dg_lines.specs.Texts.{HasNames, pair, pairs, refusal_text, verd
 ghost use Rattle.dg_game.specs.declared.entry.Reply.TheVariants.{Rank};
 
 use crate::amounts::Amounts;
+use crate::digits::MAX_DIGITS;
 use dg_chips::Divisor;
-use dg_file::Names;
+use dg_file::{MAX_LABEL, Names};
 use dg_game::{Refusal, Reply};
+use dg_graph::MAX_VERTICES;
 use dg_rank::RankVerdict;
 use dg_verdict::Verdict;
 use itoa::Buffer;
@@ -191,6 +193,9 @@ fn push_refusal<A: Allocator>(text: &mut Vec<u8, A>, refusal: Refusal) -> Result
     Ok(())
 }
 
+/// The most bytes of all pairs, and of the space before the first.
+const MAX_PAIRS: usize = MAX_VERTICES * (MAX_LABEL + MAX_DIGITS);
+
 /// The pairs of all vertices, with one space between two.
 fn push_pairs<A: Allocator, N: Amounts>(
     text: &mut Vec<u8, A>,
@@ -200,24 +205,14 @@ fn push_pairs<A: Allocator, N: Amounts>(
     requires { length names.now ≡ (N.numbers amounts.now).size }
     ensures { OnOk result (text.new.items ≡ text.old.items ++ pairs names.now (at (N.numbers amounts.now))) }
 {
-    'vertices: for v in 0..amounts.count() {
-        if v > 0 {
-            text.extend_from_slice(b" ")?;
-        }
-        push_pair(text, names.name(v), amounts.amount(v))?;
+    // The pairs are written from the last to the first, so that each number ends where it must.
+    let mut line = [0; MAX_PAIRS];
+    let mut start = MAX_PAIRS;
+    for v in (0..names.len()).rev() {
+        start = amounts.write(v, &mut line, start);
+        start = names.write_label(v, &mut line, start);
     }
-    Ok(())
-}
-
-fn push_pair<A: Allocator>(
-    text: &mut Vec<u8, A>,
-    name: &str,
-    amount: i128,
-) -> Result<(), AllocError>
-    ensures { OnOk result (text.new.items ≡ text.old.items ++ pair name.now amount) }
-{
-    text.extend_from_slice(name.as_bytes())?;
-    text.extend_from_slice(b"=")?;
-    text.extend_from_slice(Buffer::new().format(amount).as_bytes())?;
+    // The first pair has no space before it.
+    text.extend_from_slice(&line[(start + 1).min(MAX_PAIRS)..])?;
     Ok(())
 }

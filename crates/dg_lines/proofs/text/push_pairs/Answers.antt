@@ -1,29 +1,31 @@
--- Each turn writes the next pair.
-use Rattle.std.proofs.Common.{◌≡◌, ◌++◌, FitsSigned, ℕ, ℤ, refl, arith, rules}
-use Rattle.std.specs.Int.{w128}
+-- Each turn writes the vertex's pair, and its space, before those of the vertices after it.
+use Rattle.std.proofs.Common.{◌≡◌, ◌++◌, ◌+◌, ◌-◌, ◌<◌, ℕ, length, sym, ap, ◌∙◌, List, arith, rules}
 use Rattle.dg_chips.specs.Vector.{at}
-use Rattle.dg_lines.specs.Texts.{pair, pairs}
-use Rattle.dg_file.specs.Names.{name_at}
-use Rattle.dg_lines.proofs.Pairs.{space_before, space_written, space_left, pair_written, pairs_step, pairs_done}
+use Rattle.dg_lines.proofs.Pairs.{pairs_last, pairs_before, pairs_whole}
 use Rattle.dg_lines.proofs.text.push_pairs.Goals as goal
-use Rattle.dg_lines.proofs.text.push_pairs.Goals.{then-v-gt0+in_ok-extend_from_slice, else-v-gt0}
 
-pub vertices-preserved : goal.vertices-preserved
-vertices-preserved g c =
-    let v = c.vertices.v in
-    let amounts : ℕ → ℤ = at (g.N.Amounts.numbers c.args.amounts.now) in
-    let spaced : c.if-v-gt0.text.items ≡ c.vertices.text.items ++ space_before v =
-    elim c.if-v-gt0.branch [
-      | then-v-gt0+in_ok-extend_from_slice w ↦
-          space_written c.vertices.text.items c.if-v-gt0.text.items v w.if-v-gt0.true (rw w.text-is w.in_ok-extend_from_slice.ensures.items)
-      | else-v-gt0 w ↦ space_left c.vertices.text.items c.if-v-gt0.text.items v w.if-v-gt0.false (rw w.text-is refl)
-    ] in
-    let held : FitsSigned w128 c.amount.result = search rules in
-    let shown : c.push_pair.new.text.items ≡ c.if-v-gt0.text.items ++ pair (name_at c.args.names.now v) (amounts v) =
-    pair_written c.if-v-gt0.text.items c.push_pair.new.text.items c.name.result.now (name_at c.args.names.now v)
-    c.amount.result (amounts v) held c.in_ok-push_pair.ensures c.name.ensures.name c.amount.ensures in
-    pairs_step (c.args.text.now.items ++ pairs c.args.names.now amounts) c.vertices.text.items c.if-v-gt0.text.items c.push_pair.new.text.items c.args.names.now amounts v
-    c.vertices.invariant spaced shown (omega arith)
+pub loop-v-init : goal.loop-v-init
+loop-v-init g c = record {
+  inside = omega arith;
+  room = omega (arith, c.len-v.ensures.few);
+  written = sym (pairs_last c.args.names.now (at (g.N.Amounts.numbers c.args.amounts.now)) c.len-v.result (omega (arith, c.len-v.ensures.len)));
+}
+
+pub loop-v-preserved : goal.loop-v-preserved
+loop-v-preserved g c =
+    let known = c.loop-v.invariant in
+    let next : c.loop-v.v ≡ c.loop-v.v - 1 + 1 = omega (arith, c.loop-v-test.true) in
+    let here : c.loop-v.v - 1 < length c.args.names.now = omega (arith, c.loop-v-test.true, c.loop-v.auto.v, c.len-v.ensures.len) in
+    record {
+      inside = omega (arith, known.inside, c.write-start.ensures.start, c.write_label-start.ensures.start);
+      room = omega (arith, known.room, c.loop-v-test.true, c.write-start.ensures.short, c.write_label-start.ensures.short);
+      written = pairs_before _ _ _ c.args.names.now (at (g.N.Amounts.numbers c.args.amounts.now)) (c.loop-v.v - 1) c.loop-v.v next here
+          known.written c.write-start.ensures.written c.write_label-start.ensures.written;
+    }
 
 pub returns : goal.returns
-returns g c = pairs_done _ c.vertices.text.items c.args.names.now (at (g.N.Amounts.numbers c.args.amounts.now)) c.vertices.v c.vertices.invariant (omega arith)
+returns g c =
+    c.in_ok-extend_from_slice.ensures.items
+    ∙ ap (λ (written : List ℕ). c.args.text.now.items ++ written)
+    (pairs_whole c.loop-v.line c.args.names.now (at (g.N.Amounts.numbers c.args.amounts.now)) c.loop-v.start c.loop-v.v 928 c.min.result
+    (omega (arith, c.loop-v-test.false)) (search rules) c.min.ensures c.loop-v.invariant.written)

@@ -1,11 +1,12 @@
--- The text so far, with the pairs that are left, is the text with all pairs.
-use Rattle.std.proofs.Common.{◌≡◌, ◌++◌}
+-- What stands at the end of the line are the pairs of the vertices from the turn's one on, and there is room for the others.
+use Rattle.std.proofs.Common.{◌≡◌, ◌*◌, ◌≤◌, drop}
 use Rattle.dg_chips.specs.Vector.{at}
-use Rattle.dg_lines.specs.Texts.{pairs}
-use Rattle.dg_lines.proofs.Pairs.{pairs_left}
+use Rattle.dg_lines.specs.Texts.{more_pairs}
 use Rattle.dg_lines.proofs.text.push_pairs.Given as goal
 
-abbrev pub invariant-vertices : goal.invariant-vertices
-invariant-vertices g l =
-    l.text.items ++ pairs_left l.names (at (g.N.Amounts.numbers l.amounts)) l.v
-    ≡ l.fn.text.items ++ pairs l.names (at (g.N.Amounts.numbers l.amounts))
+abbrev pub invariant-loop-v : goal.invariant-loop-v
+invariant-loop-v g l = record {
+  inside : l.start ≤ 928;
+  room : l.v * 58 ≤ l.start;
+  written : drop l.start l.line ≡ more_pairs (drop l.v l.names) (at (g.N.Amounts.numbers l.amounts)) l.v;
+}
