@@ -56,9 +56,9 @@ pub fn push_entry<A: Allocator>(
     ensures { OnOk result (text.new.items ≡ text.old.items ++ entry_text names.now number reply.now) }
 {
     text.extend_from_slice(Buffer::new().format(number).as_bytes())?;
-    text.extend_from_slice(b" ")?;
+    text.push(b' ')?;
     push_reply(text, reply, names)?;
-    text.extend_from_slice(b"\n")?;
+    text.push(b'\n')?;
     Ok(())
 }
 
@@ -123,7 +123,7 @@ fn push_counted<A: Allocator>(
     ensures { OnOk result (text.new.items ≡ text.old.items ++ (decimal gifts ++ codes " " ++ pairs names.now (at divisor.now))) }
 {
     text.extend_from_slice(Buffer::new().format(gifts).as_bytes())?;
-    text.extend_from_slice(b" ")?;
+    text.push(b' ')?;
     push_pairs(text, names, divisor)?;
     Ok(())
 }
