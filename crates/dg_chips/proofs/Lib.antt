@@ -1,4 +1,5 @@
 pub mod VectorLaws
 pub mod FlowLaws
 pub mod DriftLaws
+pub mod OneLending
 pub mod Applying

@@ -7,6 +7,7 @@
 --   rest-set      the law of the rest for 0
 --   single        zeros with x written at v are x at v and 0 elsewhere
 --   only_at_small a script of one small entry is within the limit
+--   within_all    past the size too, the numbers of a vector are within its limit
 use Rattle.std.proofs.Common.{◌≡◌, ◌≢◌, ℕ, ◌+◌, ◌<◌, ◌≤◌, List, length, slice_set, arith, inl, inr, get_or-set_same, get_or-set_other, below_more, ◌∙◌, nat_eq, true, false, lit≤}
 use Rattle.std.specs.Int.RustNames.{unsigned_abs}
 use Rattle.std.specs.Prelude.{replicate, if◌then◌else◌}
@@ -16,6 +17,7 @@ use Rattle.std.proofs.lemmas.Bool.{cases_lt}
 use Rattle.std.proofs.lemmas.List.{get_or-replicate, get_or_past, length-replicate}
 use Rattle.std.proofs.lemmas.Bool.Decides.{nat_tests}
 use Rattle.dg_theory.specs.Firing.{only_at}
+use Rattle.dg_chips.specs.Vector.{Vector, IsVector, at}
 
 pub at_same : {X : Type 0} (n v : ℕ) (x : X) → slice_index_or (replicate n x) v x ≡ x
 at_same n v x = elim (cases_lt v n) [
@@ -65,4 +67,10 @@ pub only_at_small : (v : ℕ) (x : ℤ) → unsigned_abs x ≤ 1 → (w : ℕ) �
 only_at_small v x small w = elim (nat_eq w v) as (λ same. unsigned_abs (if same then x else pos 0) ≤ 1000000000) [
   | true ↦ omega arith
   | false ↦ lit≤ tt
+]
+
+pub within_all : (limit : ℕ) (x : Vector) → IsVector limit x → (v : ℕ) → unsigned_abs (at x v) ≤ limit
+within_all limit x right v = elim (cases_lt v x.size) [
+  | inl below ↦ right.within v below
+  | inr above ↦ rw (right.inside v (omega arith)) (omega arith)
 ]

@@ -7,6 +7,7 @@ pub mod ScriptFaults
 pub mod Moves
 pub mod Drifts
 pub mod Applied
+pub mod Lent
 pub mod Refused
 pub mod Opening
 pub mod StartFaults

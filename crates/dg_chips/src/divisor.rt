@@ -4,10 +4,11 @@ ghost use Rattle.std.specs.Prelude.{◌≡◌, ℕ, ◌<◌, ◌≤◌, ◌↔�
 ghost use Rattle.std.specs.List.{slice_index_or};
 ghost use Rattle.std.specs.Int.RustNames.{unsigned_abs};
 ghost use Rattle.dg_theory.specs.Rank.{canonical};
-ghost use Rattle.dg_theory.specs.Firing.{degree, IsEffective, only_at};
-ghost use Rattle.dg_chips.specs.Vector.{at, HoldsNumbers, IsDivisor, IsInRange};
+ghost use Rattle.dg_theory.specs.Firing.{degree, IsEffective, only_at, fired};
+ghost use Rattle.dg_chips.specs.Vector.{at, HoldsNumbers, IsDivisor, IsInRange, IsOutOfRange};
 ghost use Rattle.dg_chips.specs.DivisorFaults.{IsFirstChipFault, IsFirstMinusFault};
 
+use crate::firing::carried;
 use crate::limits::MAX_AMOUNT;
 use crate::vector::{first_past, padded};
 use dg_graph::{Graph, MAX_VERTICES};
@@ -176,6 +177,31 @@ impl Divisor {
         let size = self.size;
         let mut amounts = self.amounts;
         amounts[v] = amount;
+        Some(Divisor { size, amounts })
+    }
+
+    /// The divisor after a vertex has lent once, or borrowed once where `times` is -1; `None` where an amount is then not within
+    /// 1,000,000.
+    pub(crate) fn after_lending(&self, graph: &Graph, v: usize, times: i64) -> Option<Divisor>
+        requires size { self.now.size ≡ graph.now.size }
+        requires vertex { v < graph.now.size }
+        requires times { unsigned_abs times ≤ 1 }
+        ensures { MatchOption result
+            (IsOutOfRange graph.now.size (fired graph.now (at self.now) (only_at v times)))
+            (λ d. (d.size ≡ graph.now.size)
+            × IsInRange graph.now.size (fired graph.now (at self.now) (only_at v times))
+            × ((w : ℕ) → w < graph.now.size → at d w ≡ fired graph.now (at self.now) (only_at v times) w)) }
+    {
+        let size = graph.size();
+        let row = graph.row(v);
+        let mut amounts = self.amounts;
+        amounts[v] -= carried(graph.valence(v), times);
+        for w in 0..16 {
+            amounts[w] += carried(row[w], times);
+            if amounts[w].unsigned_abs() > MAX_AMOUNT {
+                return None;
+            }
+        }
         Some(Divisor { size, amounts })
     }
 }

@@ -4,13 +4,13 @@ ghost use Rattle.std.specs.Prelude.{◌≡◌, ℕ, ◌<◌, ◌≤◌, ◌+ℤ�
 ghost use Rattle.std.specs.Int.RustNames.{unsigned_abs};
 ghost use Rattle.dg_chips.specs.Vector.{at, IsDrift};
 ghost use Rattle.dg_chips.specs.Moves.{script_of, IsPlayable};
-ghost use Rattle.dg_theory.specs.Firing.{FiresTo};
+ghost use Rattle.dg_theory.specs.Firing.{FiresTo, only_at};
 ghost use Rattle.dg_chips.specs.Drifts.{IsPastDrift};
 
 use crate::divisor::Divisor;
 use crate::firing::gained;
 use crate::limits::MAX_DRIFT;
-use crate::moves::{Move, script_of};
+use crate::moves::Move;
 use crate::script::Script;
 use dg_graph::Graph;
 use std::marker::Model;
@@ -88,9 +88,37 @@ impl Drift {
         ensures entries { (v : ℕ) → v < graph.now.size → at result v ≡ at self.now v +ℤ script_of play.now v }
     {
         let size = graph.size();
-        let Ok(script) = script_of(size, play) else {
-            unreachable!()
-        };
+        match play {
+            Move::Lend(v) => self.plus_at(usize::from(*v), 1),
+            Move::Borrow(v) => self.plus_at(usize::from(*v), -1),
+            Move::Fire(set) => self.plus_script(&Script::indicator(size, *set)),
+            Move::Script(script) => self.plus_script(script),
+        }
+    }
+
+    /// The drift with one lending more, or one borrowing where `times` is -1.
+    fn plus_at(&self, v: usize, times: i64) -> Drift
+        requires vertex { v < self.now.size }
+        requires times { unsigned_abs times ≤ 1 }
+        requires limit { unsigned_abs (at self.now v +ℤ times) ≤ MAX_DRIFT }
+        ensures size { result.size ≡ self.now.size }
+        ensures entries { (w : ℕ) → w < self.now.size → at result w ≡ at self.now w +ℤ only_at v times w }
+    {
+        let entry = self.get(v) + times;
+        let size = self.size;
+        let mut entries = self.entries;
+        entries[v] = entry;
+        Drift { size, entries }
+    }
+
+    /// The drift with the lendings of a script more.
+    fn plus_script(&self, script: &Script) -> Drift
+        requires size { script.now.size ≡ self.now.size }
+        requires limit { (v : ℕ) → v < self.now.size → unsigned_abs (at self.now v +ℤ at script.now v) ≤ MAX_DRIFT }
+        ensures size { result.size ≡ self.now.size }
+        ensures entries { (v : ℕ) → v < self.now.size → at result v ≡ at self.now v +ℤ at script.now v }
+    {
+        let size = self.size();
         let mut entries = [0; 16];
         for v in 0..size {
             entries[v] = self.get(v) + script.get(v);

@@ -6,6 +6,7 @@ ghost use Rattle.std.specs.Int.RustNames.{unsigned_abs};
 ghost use Rattle.dg_theory.specs.Firing.{gain, fired};
 ghost use Rattle.dg_chips.specs.Vector.{at};
 ghost use Rattle.dg_chips.specs.Applied.{IsMoved};
+ghost use Rattle.dg_chips.specs.Lent.{IsLent, IsLendingRefusal};
 ghost use Rattle.dg_chips.specs.Refused.{IsRefusal};
 
 use crate::divisor::Divisor;
@@ -20,6 +21,37 @@ use dg_graph::Graph;
 /// set, `Script` where its script has another size, `Range` where an amount of the result is not within 1,000,000.
 /// What lies between the single lendings of a move is not tested.
 pub fn apply(graph: &Graph, divisor: &Divisor, play: &Move) -> Result<Divisor, MoveFault>
+    requires { divisor.now.size ≡ graph.now.size }
+    ensures { MatchResult result
+        (IsMoved graph.now (at divisor.now) play.now)
+        (IsRefusal graph.now (at divisor.now) play.now) }
+{
+    match play {
+        Move::Lend(v) => lent(graph, divisor, usize::from(*v), 1),
+        Move::Borrow(v) => lent(graph, divisor, usize::from(*v), -1),
+        Move::Fire(_) | Move::Script(_) => apply_script(graph, divisor, play),
+    }
+}
+
+/// The divisor after a vertex has lent once, or borrowed once where `times` is -1.
+fn lent(graph: &Graph, divisor: &Divisor, v: usize, times: i64) -> Result<Divisor, MoveFault>
+    requires divisor { divisor.now.size ≡ graph.now.size }
+    requires times { unsigned_abs times ≤ 1 }
+    ensures { MatchResult result
+        (IsLent graph.now (at divisor.now) v times)
+        (IsLendingRefusal graph.now (at divisor.now) v times) }
+{
+    if v >= graph.size() {
+        return Err(MoveFault::NoVertex);
+    }
+    match divisor.after_lending(graph, v, times) {
+        Some(divisor) => Ok(divisor),
+        None => Err(MoveFault::Range),
+    }
+}
+
+/// The divisor after a move of any kind, from the script of the move.
+fn apply_script(graph: &Graph, divisor: &Divisor, play: &Move) -> Result<Divisor, MoveFault>
     requires { divisor.now.size ≡ graph.now.size }
     ensures { MatchResult result
         (IsMoved graph.now (at divisor.now) play.now)
@@ -70,4 +102,13 @@ fn flow(edges: u8, there: i64, here: i64) -> i64
     ensures { result ≡ pos edges *ℤ (there -ℤ here) }
 {
     i64::from(edges) * (there - here)
+}
+
+/// What some edges carry together when each of them carries `each`.
+pub(crate) fn carried(edges: u8, each: i64) -> i64
+    requires { unsigned_abs each ≤ MAX_DRIFT }
+    ensures product { result ≡ pos edges *ℤ each }
+    ensures limit { unsigned_abs result ≤ 255 * unsigned_abs each }
+{
+    i64::from(edges) * each
 }

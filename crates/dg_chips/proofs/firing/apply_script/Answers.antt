@@ -1,8 +1,8 @@
 use Rattle.std.proofs.Common.{arith, ◌∙◌}
 use Rattle.dg_chips.specs.Vector.{at}
 use Rattle.dg_chips.proofs.Applying.{AreFired, moved, out_of_range}
-use Rattle.dg_chips.proofs.firing.apply.Goals as goal
-use Rattle.dg_chips.proofs.firing.apply.Goals.{After-size-2}
+use Rattle.dg_chips.proofs.firing.apply_script.Goals as goal
+use Rattle.dg_chips.proofs.firing.apply_script.Goals.{After-size-2}
 
 -- the numbers at hand come from firing the move's script
 made : (c : After-size-2) → AreFired c.args.graph.now (at c.args.divisor.now) (at c.of.result) c.args.play.now

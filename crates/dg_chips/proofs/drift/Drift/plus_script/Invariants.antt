@@ -2,7 +2,7 @@ use Rattle.std.proofs.Common.{◌≡◌, ℕ, ◌<◌, ◌≤◌, length}
 use Rattle.std.specs.List.{slice_index_or}
 use Rattle.std.proofs.Math.IntN.{pos, ◌+ℤ◌}
 use Rattle.dg_chips.specs.Vector.{at}
-use Rattle.dg_chips.proofs.drift.Drift.plus.Given as goal
+use Rattle.dg_chips.proofs.drift.Drift.plus_script.Given as goal
 
 abbrev pub invariant-loop-v : goal.invariant-loop-v
 invariant-loop-v l = record {
