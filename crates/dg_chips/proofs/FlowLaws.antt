@@ -1,41 +1,62 @@
 -- What flows along edges, at vertices that lend or borrow at most 10^14 times.
---   difference_limit   two such vertices differ by at most 2 * 10^14
---   flow_limit         at most 255 edges between them carry at most 510 * 10^14 dollars
---   flow_held          a machine's value of what flows is that value, within the limit
---   times_held         a machine's value of a number within 2^120 is that number
-use Rattle.std.proofs.Common.{◌≡◌, ℕ, ◌*◌, ◌^◌, ◌≤◌, arith, w64, ◌∙◌, ap}
-use Rattle.std.proofs.lemmas.Int.{ints, unsigned_abs-mul}
-use Rattle.std.proofs.Math.IntN.{ℤ, pos, ◌-ℤ◌, ◌*ℤ◌}
-use Rattle.std.proofs.Math.Nat.{mul-le-mul}
+--   sum_below-edges   what all edges of a vertex carry together, each of them y dollars
+--   sum_below-past    a sum is that of fewer terms, where those past them are 0
+--   gain-products     a vertex gets what each other lends along each edge to it, less what it lends itself
+--   gain-row          the same from a longer row
+--   carried_held      a machine's value of what edges carry is that value, within the limit
+--   times_held        a machine's value of a number within 2^120 is that number
+use Rattle.std.proofs.Common.{◌≡◌, ℕ, zero, suc, ◌*◌, ◌^◌, ◌≤◌, arith, refl, sym, w64, ◌∙◌, ap, ⊎_elim}
+use Rattle.std.proofs.lemmas.Bool.{cases_eq}
+use Rattle.std.proofs.lemmas.Int.{ints}
+use Rattle.std.proofs.Math.IntN.{ℤ, pos, ◌-ℤ◌, ◌*ℤ◌, zero-*ℤ, *ℤ_comm}
 use Rattle.std.specs.Int.RustNames.{unsigned_abs}
 use Rattle.std.specs.Int.{w128}
 use mir.Val.{to_z, of_z}
-use Rattle.dg_theory.proofs.Absolute.{within_abs, abs_within}
+use Rattle.dg_theory.specs.Sums.{sum_below, total_below}
+use Rattle.dg_theory.specs.Multigraph.{Multigraph, IsMultigraph, edges_between, valence}
+use Rattle.dg_theory.specs.Firing.{Amounts, gain}
+use Rattle.dg_theory.proofs.Absolute.{within_abs}
+use Rattle.dg_theory.proofs.Products.{mulz-sub}
+use Rattle.dg_theory.proofs.SumLaws.{sum_below-cong}
+use Rattle.dg_theory.proofs.SumSwap.{sum_below-scale, sum_below-sub}
+use Rattle.dg_theory.proofs.SumTotals.{sum_below-total}
 
-pub difference_limit : (there here : ℤ) → unsigned_abs there ≤ 100000000000000 → unsigned_abs here ≤ 100000000000000 →
-    unsigned_abs (there -ℤ here) ≤ 200000000000000
-difference_limit there here first second =
-    let (low, high) = within_abs there 100000000000000 first in
-    let (low', high') = within_abs here 100000000000000 second in
-    abs_within (there -ℤ here) 200000000000000 (omega (arith, ints)) (omega (arith, ints))
+pub sum_below-edges : (n : ℕ) (e : ℕ → ℕ) (y : ℤ) → sum_below n (λ w. pos (e w) *ℤ y) ≡ pos (total_below n e) *ℤ y
+sum_below-edges n e y =
+    sum_below-cong n _ _ (λ w _. *ℤ_comm (pos (e w)) y)
+    ∙ sym (sum_below-scale n y (λ w. pos (e w)))
+    ∙ ap (λ (z : ℤ). y *ℤ z) (sum_below-total n (λ w. pos (e w)) e (λ _ _. refl))
+    ∙ *ℤ_comm y (pos (total_below n e))
 
-pub flow_limit : (edges : ℕ) (there here : ℤ) → edges ≤ 255 → unsigned_abs there ≤ 100000000000000 → unsigned_abs here ≤ 100000000000000 →
-    unsigned_abs (pos edges *ℤ (there -ℤ here)) ≤ 51000000000000000
-flow_limit edges there here few first second =
-    let product : unsigned_abs (pos edges *ℤ (there -ℤ here)) ≡ edges * unsigned_abs (there -ℤ here) = unsigned_abs-mul (pos edges) (there -ℤ here) in
-    let most : edges * unsigned_abs (there -ℤ here) ≤ 255 * 200000000000000 = mul-le-mul few (difference_limit there here first second) in
-    omega arith
+pub sum_below-past : (n m : ℕ) (f : ℕ → ℤ) → n ≤ m → ((w : ℕ) → n ≤ w → f w ≡ pos 0) → sum_below m f ≡ sum_below n f
+sum_below-past n zero f less none = let same : n ≡ 0 = omega arith in rw same refl
+sum_below-past n (suc m) f less none =
+    ⊎_elim
+    (λ (same : n ≡ suc m). rw same refl)
+    (λ (other : n ≡ suc m → ⊥). omega (arith, ints, sum_below-past n m f (omega arith) none, none m (omega arith)))
+    (cases_eq n (suc m))
 
-pub flow_held : (edges : ℕ) (there here flow : ℤ) → edges ≤ 255 → unsigned_abs there ≤ 100000000000000 → unsigned_abs here ≤ 100000000000000 →
-    flow ≡ pos edges *ℤ (to_z w64 (of_z w64 there) -ℤ to_z w64 (of_z w64 here)) →
-    (flow ≡ pos edges *ℤ (there -ℤ here)) × (unsigned_abs flow ≤ 51000000000000000)
-flow_held edges there here flow few first second value =
-    let (low, high) = within_abs there 100000000000000 first in
-    let (low', high') = within_abs here 100000000000000 second in
-    let there_is : to_z w64 (of_z w64 there) ≡ there = omega (arith, ints) in
-    let here_is : to_z w64 (of_z w64 here) ≡ here = omega (arith, ints) in
-    let plain : flow ≡ pos edges *ℤ (there -ℤ here) = value ∙ ap (λ x. pos edges *ℤ (x -ℤ to_z w64 (of_z w64 here))) there_is ∙ ap (λ x. pos edges *ℤ (there -ℤ x)) here_is in
-    (plain, rw plain (flow_limit edges there here few first second))
+pub gain-products : (g : Multigraph) (s : Amounts) (v : ℕ) →
+    gain g s v ≡ sum_below g.size (λ w. pos (edges_between g v w) *ℤ s w) -ℤ pos (valence g v) *ℤ s v
+gain-products g s v =
+    sum_below-cong g.size _ _ (λ w _. mulz-sub (pos (edges_between g v w)) (s w) (s v))
+    ∙ sum_below-sub g.size (λ w. pos (edges_between g v w) *ℤ s w) (λ w. pos (edges_between g v w) *ℤ s v)
+    ∙ ap (λ (z : ℤ). sum_below g.size (λ w. pos (edges_between g v w) *ℤ s w) -ℤ z) (sum_below-edges g.size (edges_between g v) (s v))
+
+pub gain-row : (g : Multigraph) (s : Amounts) (v n : ℕ) → IsMultigraph g → g.size ≤ n →
+    gain g s v ≡ sum_below n (λ w. pos (edges_between g v w) *ℤ s w) -ℤ pos (valence g v) *ℤ s v
+gain-row g s v n graph few =
+    let same : sum_below n (λ w. pos (edges_between g v w) *ℤ s w) ≡ sum_below g.size (λ w. pos (edges_between g v w) *ℤ s w) =
+    sum_below-past g.size n (λ w. pos (edges_between g v w) *ℤ s w) few (λ w past. rw (graph.inside v w past) (zero-*ℤ (s w))) in
+    gain-products g s v ∙ ap (λ (z : ℤ). z -ℤ pos (valence g v) *ℤ s v) (sym same)
+
+pub carried_held : (edges : ℕ) (each flow : ℤ) → unsigned_abs each ≤ 100000000000000 →
+    flow ≡ pos edges *ℤ to_z w64 (of_z w64 each) → unsigned_abs flow ≤ 255 * unsigned_abs (to_z w64 (of_z w64 each)) →
+    (flow ≡ pos edges *ℤ each) × (unsigned_abs flow ≤ 25500000000000000)
+carried_held edges each flow small value limit =
+    let (low, high) = within_abs each 100000000000000 small in
+    let held : to_z w64 (of_z w64 each) ≡ each = omega (arith, ints) in
+    (value ∙ ap (λ (z : ℤ). pos edges *ℤ z) held, omega (arith, ap unsigned_abs held))
 
 pub times_held : (z : ℤ) → unsigned_abs z ≤ 2 ^ 120 → to_z w128 (of_z w128 z) ≡ z
 times_held z small = let (low, high) = within_abs z (2 ^ 120) small in omega (arith, ints)

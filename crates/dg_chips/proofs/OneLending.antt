@@ -7,34 +7,25 @@
 --                     to v, has the amounts after it
 --   held_gain         a machine's sum of an amount and what comes to it is the amount after it
 --   read_back         and is read as that, where it was written
-use Rattle.std.proofs.Common.{◌≡◌, ◌≢◌, ℕ, ◌<◌, ◌≤◌, List, length, slice_set, get_or-set_same, arith, refl, sym, ap, ◌∙◌, ⊎_elim, w64}
+use Rattle.std.proofs.Common.{◌≡◌, ◌≢◌, ℕ, ◌<◌, ◌≤◌, List, length, slice_set, get_or-set_same, arith, refl, ◌∙◌, ⊎_elim, w64}
 use Rattle.std.specs.Int.RustNames.{unsigned_abs}
 use Rattle.std.specs.List.{slice_index_or}
 use mir.Val.{to_z, of_z}
 use Rattle.std.proofs.lemmas.Bool.{cases_eq}
 use Rattle.std.proofs.lemmas.Int.{ints}
-use Rattle.std.proofs.Math.IntN.{ℤ, pos, ◌+ℤ◌, ◌-ℤ◌, ◌*ℤ◌, *ℤ-zero, zero-*ℤ, *ℤ_comm}
-use Rattle.dg_theory.specs.Sums.{sum_below, total_below}
+use Rattle.std.proofs.Math.IntN.{ℤ, pos, ◌+ℤ◌, ◌-ℤ◌, ◌*ℤ◌, *ℤ-zero, zero-*ℤ}
+use Rattle.dg_theory.specs.Sums.{sum_below}
 use Rattle.dg_theory.specs.Multigraph.{Multigraph, IsMultigraph, edges_between, valence}
 use Rattle.dg_theory.specs.Firing.{Amounts, gain, fired, only_at}
 use Rattle.dg_theory.proofs.Absolute.{within_abs}
 use Rattle.dg_theory.proofs.Products.{mulz-sub}
-use Rattle.dg_theory.proofs.SumLaws.{sum_below-cong, sum_below-zero, sum_below-differ_at}
-use Rattle.dg_theory.proofs.SumSwap.{sum_below-scale}
-use Rattle.dg_theory.proofs.SumTotals.{sum_below-total}
+use Rattle.dg_theory.proofs.SumLaws.{sum_below-zero, sum_below-differ_at}
 use Rattle.dg_theory.proofs.Plays.{only_at-here, only_at-other}
+use Rattle.dg_chips.proofs.FlowLaws.{sum_below-edges}
 
 -- what comes to u from w
 abbrev along : Multigraph → ℕ → ℤ → ℕ → ℕ → ℤ
 along g v x u w = pos (edges_between g u w) *ℤ (only_at v x w -ℤ only_at v x u)
-
--- what all edges carry together, each of them y dollars
-carried : (n : ℕ) (e : ℕ → ℕ) (y : ℤ) → sum_below n (λ w. pos (e w) *ℤ y) ≡ pos (total_below n e) *ℤ y
-carried n e y =
-    sum_below-cong n _ _ (λ w _. *ℤ_comm (pos (e w)) y)
-    ∙ sym (sum_below-scale n y (λ w. pos (e w)))
-    ∙ ap (λ (z : ℤ). y *ℤ z) (sum_below-total n (λ w. pos (e w)) e (λ _ _. refl))
-    ∙ *ℤ_comm y (pos (total_below n e))
 
 pub gain-lender : (g : Multigraph) (v : ℕ) (x : ℤ) → IsMultigraph g → v < g.size →
     gain g (only_at v x) v +ℤ pos (valence g v) *ℤ x ≡ pos 0
@@ -47,7 +38,7 @@ gain-lender g v x graph inside =
     ≡ sum_below g.size (λ w. pos (edges_between g v w) *ℤ (pos 0 -ℤ x)) +ℤ along g v x v v =
     sum_below-differ_at g.size (along g v x v) (λ w. pos (edges_between g v w) *ℤ (pos 0 -ℤ x)) v inside others in
     let whole : gain g (only_at v x) v ≡ pos (valence g v) *ℤ (pos 0 -ℤ x) =
-    omega (arith, ints, carried g.size (edges_between g v) (pos 0 -ℤ x)) in
+    omega (arith, ints, sum_below-edges g.size (edges_between g v) (pos 0 -ℤ x)) in
     omega (arith, ints, mulz-sub (pos (valence g v)) (pos 0) x, *ℤ-zero (pos (valence g v)))
 
 pub gain-neighbour : (g : Multigraph) (v : ℕ) (x : ℤ) (u : ℕ) → IsMultigraph g → v < g.size → u ≢ v →

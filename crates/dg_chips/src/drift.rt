@@ -48,19 +48,6 @@ impl Drift {
         }
     }
 
-    /// The drift of one script.
-    pub(crate) fn of(script: &Script) -> Drift
-        ensures size { result.size ≡ script.now.size }
-        ensures entries { (v : ℕ) → v < script.now.size → at result v ≡ at script.now v }
-    {
-        let size = script.size();
-        let mut entries = [0; 16];
-        for v in 0..size {
-            entries[v] = script.get(v);
-        }
-        Drift { size, entries }
-    }
-
     /// What the first script lends more than the second, at each vertex.
     pub fn between(first: &Script, second: &Script) -> Drift
         requires { first.now.size ≡ second.now.size }
@@ -155,7 +142,7 @@ impl Drift {
             (¬ FiresTo graph.now (at self.now) (at from.now) (at to.now)) }
     {
         for v in 0..graph.size() {
-            if from.get(v) + gained(graph, self, v) != to.get(v) {
+            if from.get(v) + gained(graph, &self.entries, v) != to.get(v) {
                 return false;
             }
         }

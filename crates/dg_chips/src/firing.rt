@@ -10,9 +10,9 @@ ghost use Rattle.dg_chips.specs.Lent.{IsLent, IsLendingRefusal};
 ghost use Rattle.dg_chips.specs.Refused.{IsRefusal};
 
 use crate::divisor::Divisor;
-use crate::drift::Drift;
 use crate::limits::MAX_DRIFT;
 use crate::moves::{Move, MoveFault, script_of};
+use crate::script::Script;
 use dg_graph::Graph;
 
 /// The divisor after a move; the one that is handed in stays as it is.
@@ -58,7 +58,7 @@ fn apply_script(graph: &Graph, divisor: &Divisor, play: &Move) -> Result<Divisor
         (IsRefusal graph.now (at divisor.now) play.now) }
 {
     let script = script_of(graph.size(), play)?;
-    let amounts = fired_amounts(graph, divisor, &Drift::of(&script));
+    let amounts = fired_amounts(graph, divisor, &script);
     match Divisor::new(graph, &amounts[..graph.size()]) {
         Ok(divisor) => Ok(divisor),
         Err(_) => Err(MoveFault::Range),
@@ -66,42 +66,34 @@ fn apply_script(graph: &Graph, divisor: &Divisor, play: &Move) -> Result<Divisor
 }
 
 /// The amounts after a firing.
-fn fired_amounts(graph: &Graph, divisor: &Divisor, drift: &Drift) -> [i64; 16]
+fn fired_amounts(graph: &Graph, divisor: &Divisor, script: &Script) -> [i64; 16]
     requires divisor { divisor.now.size ≡ graph.now.size }
-    requires drift { drift.now.size ≡ graph.now.size }
     ensures places { length result ≡ 16 }
     ensures amounts { (v : ℕ) → v < graph.now.size →
-        slice_index_or result v (pos 0) ≡ fired graph.now (at divisor.now) (at drift.now) v }
+        slice_index_or result v (pos 0) ≡ fired graph.now (at divisor.now) (at script.now) v }
 {
+    let lendings = script.entries();
     let mut amounts = [0; 16];
     for v in 0..graph.size() {
-        amounts[v] = divisor.get(v) + gained(graph, drift, v);
+        amounts[v] = divisor.get(v) + gained(graph, lendings, v);
     }
     amounts
 }
 
-/// What a vertex gets by a drift.
-pub(crate) fn gained(graph: &Graph, drift: &Drift, v: usize) -> i64
+/// What a vertex gets where each vertex lends so often.
+pub(crate) fn gained(graph: &Graph, lendings: &[i64; 16], v: usize) -> i64
     requires vertex { v < graph.now.size }
-    requires drift { drift.now.size ≡ graph.now.size }
-    ensures gain { result ≡ gain graph.now (at drift.now) v }
+    requires lendings { (w : ℕ) → unsigned_abs (slice_index_or lendings.now w (pos 0)) ≤ MAX_DRIFT }
+    ensures gain { result ≡ gain graph.now (λ w. slice_index_or lendings.now w (pos 0)) v }
     ensures limit { unsigned_abs result ≤ 51000000000000000 * 16 }
 {
-    let here = drift.get(v);
+    let _size = graph.size();
+    let row = graph.row(v);
     let mut sum = 0;
-    for w in 0..graph.size() {
-        sum += flow(graph.edges(v, w), drift.get(w), here);
+    for w in 0..16 {
+        sum += carried(row[w], lendings[w]);
     }
-    sum
-}
-
-/// What comes along some edges, where the vertex there and the vertex here lend so often.
-fn flow(edges: u8, there: i64, here: i64) -> i64
-    requires there { unsigned_abs there ≤ MAX_DRIFT }
-    requires here { unsigned_abs here ≤ MAX_DRIFT }
-    ensures { result ≡ pos edges *ℤ (there -ℤ here) }
-{
-    i64::from(edges) * (there - here)
+    sum - carried(graph.valence(v), lendings[v])
 }
 
 /// What some edges carry together when each of them carries `each`.

@@ -168,9 +168,8 @@ impl Script {
             (FiresTo graph.now (at self.now) (at from.now) (at to.now))
             (¬ FiresTo graph.now (at self.now) (at from.now) (at to.now)) }
     {
-        let drift = Drift::of(self);
         for v in 0..graph.size() {
-            let amount = from.get(v) + gained(graph, &drift, v);
+            let amount = from.get(v) + gained(graph, &self.entries, v);
             if i128::from(amount) != to.get(v) {
                 return false;
             }
@@ -184,6 +183,14 @@ impl Script {
         ensures script { IsScript self.now }
     {
         self.size
+    }
+
+    /// How often each vertex lends, and 0 past the last one.
+    pub(crate) fn entries(&self) -> &[i64; 16]
+        ensures entries { result.now ≡ self.now.numbers }
+        ensures script { IsScript self.now }
+    {
+        &self.entries
     }
 
     /// How often a vertex lends.

@@ -8,7 +8,6 @@ ghost use Rattle.dg_chips.specs.Vector.{at, HoldsNumbers, IsWide};
 ghost use Rattle.dg_chips.specs.DivisorFaults.{IsWideFault};
 
 use crate::divisor::{ChipFault, Divisor};
-use crate::drift::Drift;
 use crate::firing::gained;
 use crate::script::Script;
 use crate::set_firing::{gained_by_set, lendings};
@@ -134,10 +133,10 @@ impl Wide {
             at result v ≡ fired graph.now (at self.now) (at script.now) v }
     {
         let size = graph.size();
-        let drift = Drift::of(script);
+        let lendings = script.entries();
         let mut amounts = [0; 16];
         for v in 0..size {
-            let gain = gained(graph, &drift, v);
+            let gain = gained(graph, lendings, v);
             amounts[v] = self.get(v) + i128::from(gain);
         }
         Wide { size, amounts }

@@ -189,10 +189,8 @@ fn where_scripts_and_drifts_lead(rt: HostRuntime) -> Result<(), Fail> {
             script.leads(&graph, &from, &Wide::of(&to)) == leads,
             "script"
         );
-        assert!(rt;
-            Drift::of(&script).leads(&graph, &from, &to) == leads,
-            "drift"
-        );
+        let drift = with_move(&graph, &Drift::zero(&graph), &Move::Script(script))?;
+        assert!(rt; drift.leads(&graph, &from, &to) == leads, "drift");
     }
     let script = Script::new(&triangle, &[1_000_000_000, -1_000_000_000, 0])?;
     let from = Divisor::new(&triangle, &[2, 0, 0])?;

@@ -1,11 +1,11 @@
-use Rattle.std.proofs.Common.{arith, ◌∙◌}
+use Rattle.std.proofs.Common.{arith}
 use Rattle.dg_chips.specs.Vector.{at}
 use Rattle.dg_chips.proofs.Applying.{AreFired, moved, out_of_range}
 use Rattle.dg_chips.proofs.firing.apply_script.Goals as goal
 use Rattle.dg_chips.proofs.firing.apply_script.Goals.{After-size-2}
 
 -- the numbers at hand come from firing the move's script
-made : (c : After-size-2) → AreFired c.args.graph.now (at c.args.divisor.now) (at c.of.result) c.args.play.now
+made : (c : After-size-2) → AreFired c.args.graph.now (at c.args.divisor.now) (at c.in_ok-script.script) c.args.play.now
     c.size-2.result c.fired_amounts-amounts.result
 made c = record {
   size = c.size-2.ensures.size;
@@ -13,7 +13,7 @@ made c = record {
   places = c.fired_amounts-amounts.ensures.places;
   playable = rw (← c.size.ensures.size) c.in_ok-script.ensures.1;
   amounts = c.fired_amounts-amounts.ensures.amounts;
-  script = λ v below. c.of.ensures.entries v (omega (arith, c.in_ok-script.ensures.0)) ∙ c.in_ok-script.ensures.2 v (omega arith);
+  script = λ v below. c.in_ok-script.ensures.2 v (omega arith);
 }
 
 pub returns-in-Ok : goal.returns-in-Ok

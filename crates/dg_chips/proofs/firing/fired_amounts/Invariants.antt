@@ -8,5 +8,5 @@ use Rattle.dg_chips.proofs.firing.fired_amounts.Given as goal
 abbrev pub invariant-loop-v : goal.invariant-loop-v
 invariant-loop-v l = record {
   size : length l.amounts ≡ 16;
-  fired : (u : ℕ) → u < l.v → slice_index_or l.amounts u (pos 0) ≡ fired l.graph (at l.divisor) (at l.drift) u;
+  fired : (u : ℕ) → u < l.v → slice_index_or l.amounts u (pos 0) ≡ fired l.graph (at l.divisor) (at l.script) u;
 }

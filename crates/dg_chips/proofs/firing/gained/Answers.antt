@@ -1,33 +1,45 @@
-use Rattle.std.proofs.Common.{◌≡◌, ◌+◌, ◌*◌, arith, refl, w64, ◌∙◌}
+use Rattle.std.proofs.Common.{◌≡◌, ℕ, ◌+◌, ◌*◌, arith, ap, w64, ◌∙◌}
 use mir.Val.{to_z, of_z}
+use Rattle.std.specs.List.{slice_index_or}
 use Rattle.std.proofs.lemmas.Int.{ints}
-use Rattle.std.proofs.Math.IntN.{ℤ, pos, ◌-ℤ◌, ◌*ℤ◌, ◌+ℤ◌}
-use Rattle.dg_theory.specs.Multigraph.{edges_between}
+use Rattle.std.proofs.Math.IntN.{ℤ, pos, ◌*ℤ◌, ◌+ℤ◌}
+use Rattle.dg_theory.specs.Multigraph.{edges_between, valence}
 use Rattle.dg_theory.proofs.Absolute.{within_abs, abs_within}
 use Rattle.dg_theory.proofs.SumLaws.{sum_below-more}
-use Rattle.dg_chips.specs.Vector.{at}
-use Rattle.dg_chips.proofs.FlowLaws.{flow_held}
+use Rattle.dg_chips.proofs.FlowLaws.{carried_held, gain-row}
 use Rattle.dg_chips.proofs.firing.gained.Goals as goal
 
 pub overflow_add-sum : goal.overflow_add-sum
 overflow_add-sum c =
-    let (flow, flow_small) = flow_held c.edges.result c.get.result c.get-here.result c.flow-sum.result (omega arith) c.get.ensures.limit
-    c.get-here.ensures.limit c.flow-sum.ensures in
-    let (low, high) = within_abs c.flow-sum.result 51000000000000000 flow_small in
-    let (low', high') = within_abs (to_z w64 c.loop-w.sum-bits) (51000000000000000 * c.loop-w.w) c.loop-w.invariant.limit in
+    let (value, small) = carried_held (slice_index_or c.row-row.result.now c.loop-w.w 0) (slice_index_or c.args.lendings.now c.loop-w.w (pos 0)) c.carried-sum.result (c.requires.lendings c.loop-w.w) c.carried-sum.ensures.product c.carried-sum.ensures.limit in
+    let (low, high) = within_abs c.carried-sum.result 25500000000000000 small in
+    let (low', high') = within_abs (to_z w64 c.loop-w.sum-bits) (25500000000000000 * c.loop-w.w) c.loop-w.invariant.limit in
     omega (arith, ints)
 
 pub loop-w-preserved : goal.loop-w-preserved
 loop-w-preserved c =
-    let (flow, flow_small) = flow_held c.edges.result c.get.result c.get-here.result c.flow-sum.result (omega arith) c.get.ensures.limit
-    c.get-here.ensures.limit c.flow-sum.ensures in
-    let (low, high) = within_abs c.flow-sum.result 51000000000000000 flow_small in
-    let (low', high') = within_abs (to_z w64 c.loop-w.sum-bits) (51000000000000000 * c.loop-w.w) c.loop-w.invariant.limit in
-    let more : ℤ = to_z w64 (of_z w64 (to_z w64 c.loop-w.sum-bits +ℤ to_z w64 (of_z w64 c.flow-sum.result))) in
-    let term : ℤ = pos (edges_between c.args.graph.now c.args.v c.loop-w.w) *ℤ (at c.args.drift.now c.loop-w.w -ℤ at c.args.drift.now c.args.v) in
-    let last : c.flow-sum.result ≡ term = flow ∙ rw (c.edges.ensures, c.get.ensures.entry, c.get-here.ensures.entry) refl in
+    let (value, small) = carried_held (slice_index_or c.row-row.result.now c.loop-w.w 0) (slice_index_or c.args.lendings.now c.loop-w.w (pos 0)) c.carried-sum.result (c.requires.lendings c.loop-w.w) c.carried-sum.ensures.product c.carried-sum.ensures.limit in
+    let (low, high) = within_abs c.carried-sum.result 25500000000000000 small in
+    let (low', high') = within_abs (to_z w64 c.loop-w.sum-bits) (25500000000000000 * c.loop-w.w) c.loop-w.invariant.limit in
+    let more : ℤ = to_z w64 (of_z w64 (to_z w64 c.loop-w.sum-bits +ℤ to_z w64 (of_z w64 c.carried-sum.result))) in
+    let each : ℤ = slice_index_or c.args.lendings.now c.loop-w.w (pos 0) in
+    let last : c.carried-sum.result ≡ pos (edges_between c.args.graph.now c.args.v c.loop-w.w) *ℤ each =
+    value ∙ ap (λ (k : ℕ). pos k *ℤ each) (c.row-row.ensures c.loop-w.w) in
     record {
-      sum = sum_below-more c.loop-w.w (λ u. pos (edges_between c.args.graph.now c.args.v u) *ℤ (at c.args.drift.now u -ℤ at c.args.drift.now c.args.v))
-          (to_z w64 c.loop-w.sum-bits) c.flow-sum.result more c.loop-w.invariant.sum last (omega (arith, ints));
-      limit = abs_within more (51000000000000000 * (c.loop-w.w + 1)) (omega (arith, ints)) (omega (arith, ints));
+      sum = sum_below-more c.loop-w.w (λ u. pos (edges_between c.args.graph.now c.args.v u) *ℤ slice_index_or c.args.lendings.now u (pos 0))
+          (to_z w64 c.loop-w.sum-bits) c.carried-sum.result more c.loop-w.invariant.sum last (omega (arith, ints));
+      limit = abs_within more (25500000000000000 * (c.loop-w.w + 1)) (omega (arith, ints)) (omega (arith, ints));
     }
+
+pub returns-clause-gain : goal.returns-clause-gain
+returns-clause-gain c =
+    let here : ℤ = slice_index_or c.args.lendings.now c.args.v (pos 0) in
+    let (value, small) = carried_held c.valence.result here c.carried.result (c.requires.lendings c.args.v) c.carried.ensures.product c.carried.ensures.limit in
+    let lent : c.carried.result ≡ pos (valence c.args.graph.now c.args.v) *ℤ here = value ∙ ap (λ (k : ℕ). pos k *ℤ here) c.valence.ensures in
+    let (low, high) = within_abs c.carried.result 25500000000000000 small in
+    let (low', high') = within_abs (to_z w64 c.loop-w.sum-bits) (25500000000000000 * c.loop-w.w) c.loop-w.invariant.limit in
+    omega (
+      arith,
+      ints,
+      gain-row c.args.graph.now (λ w. slice_index_or c.args.lendings.now w (pos 0)) c.args.v c.loop-w.w c.size-size.ensures.graph.multigraph (omega arith),
+    )

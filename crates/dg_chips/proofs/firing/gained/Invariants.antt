@@ -1,13 +1,13 @@
 use Rattle.std.proofs.Common.{◌≡◌, ◌≤◌, ◌*◌}
+use Rattle.std.specs.List.{slice_index_or}
 use Rattle.std.specs.Int.RustNames.{unsigned_abs}
-use Rattle.std.proofs.Math.IntN.{pos, ◌-ℤ◌, ◌*ℤ◌}
+use Rattle.std.proofs.Math.IntN.{pos, ◌*ℤ◌}
 use Rattle.dg_theory.specs.Sums.{sum_below}
 use Rattle.dg_theory.specs.Multigraph.{edges_between}
-use Rattle.dg_chips.specs.Vector.{at}
 use Rattle.dg_chips.proofs.firing.gained.Given as goal
 
 abbrev pub invariant-loop-w : goal.invariant-loop-w
 invariant-loop-w l = record {
-  sum : l.sum ≡ sum_below l.w (λ u. pos (edges_between l.graph l.v u) *ℤ (at l.drift u -ℤ at l.drift l.v));
-  limit : unsigned_abs l.sum ≤ 51000000000000000 * l.w;
+  sum : l.sum ≡ sum_below l.w (λ u. pos (edges_between l.graph l.v u) *ℤ slice_index_or l.lendings u (pos 0));
+  limit : unsigned_abs l.sum ≤ 25500000000000000 * l.w;
 }
