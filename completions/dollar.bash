@@ -23,7 +23,7 @@ _dollar_words() {
 }
 
 _dollar() {
-    local commands='rehearse judge rank rr greedy serve party help'
+    local commands='judge rank rr greedy rehearse serve party help'
     local word=${COMP_WORDS[COMP_CWORD]} before=${COMP_WORDS[COMP_CWORD - 1]}
     local command= place=0 ended= i
     local -a arguments=() options=(--help)
@@ -50,19 +50,19 @@ _dollar() {
                 if [ "$i" -ge "$COMP_CWORD" ]; then return; fi
                 ;;
             --cap=* | --workers=*) ;;
-            -h | --help) return ;;
+            -h | --help | -V | --version) return ;;
             *)
                 if [ "$command" ]; then place=$((place + 1)); else command=${COMP_WORDS[i]}; fi
                 ;;
         esac
     done
     case $command in
-        '') arguments=(COMMAND) ;;
-        rehearse) arguments=(FILE STEPS) ;;
+        '') arguments=(COMMAND) options=(--help --version) ;;
         judge) arguments=(FILE) ;;
         rank) arguments=(FILE K) options=(--workers --help) ;;
         rr) arguments=(FILE) ;;
         greedy) arguments=(FILE TURNS) ;;
+        rehearse) arguments=(FILE STEPS) ;;
         serve) arguments=(FILE) options=(--cap --workers --help) ;;
         party) arguments=(FILE SCRIPT SCRIPT..) options=(--cap --help) ;;
         help) arguments=(COMMAND) ;;

@@ -6,6 +6,7 @@ mod command_line;
 mod fault;
 mod games;
 mod gathering;
+mod help_texts;
 mod numbered;
 mod printed;
 mod program;

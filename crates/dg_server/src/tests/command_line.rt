@@ -1,11 +1,13 @@
-//! Command lines that are calls for help, or are refused.
+//! Command lines that are calls for help or the version, or are refused.
 
 use crate::tests::runs::{Given, TRIANGLE, outcome_of};
 use std::test::Fail;
 
-// Command lines that call for help.
-static HELP: [&str; 9] = [
+// Command lines that call for help, or the version.
+static HELP: [&str; 11] = [
     "dollar --help",
+    "dollar --version",
+    "dollar -V",
     "dollar rehearse --help",
     "dollar help rehearse",
     "dollar judge --help",
@@ -17,7 +19,7 @@ static HELP: [&str; 9] = [
 ];
 
 // Command lines that are refused.
-static REFUSED: [&str; 31] = [
+static REFUSED: [&str; 33] = [
     "",
     "dollar",
     "dollar gamble table.json",
@@ -29,6 +31,7 @@ static REFUSED: [&str; 31] = [
     "dollar rank table.json one",
     "dollar rank table.json -1",
     "dollar rank table.json 4294967296",
+    "dollar rank table.json 1 --workers -1",
     "dollar rank table.json 1 --workers 0",
     "dollar rank table.json 1 --workers 17",
     "dollar rank table.json 1 --workers",
@@ -42,6 +45,7 @@ static REFUSED: [&str; 31] = [
     "dollar rehearse table.json steps.txt more",
     "dollar serve",
     "dollar serve table.json steps.txt",
+    "dollar serve table.json --cap -1",
     "dollar serve table.json --cap 0",
     "dollar serve table.json --cap 65537",
     "dollar serve table.json --cap 01",

@@ -1,0 +1,230 @@
+//! What `dollar --help` and the help of each command say. Every command that is shown there with a `$` before it is run
+//! by `docs/check`, on the table and the files that are shown, and its answer compared with what stands below it.
+
+/// The program's version, and the toolchain that it is proved with, which `completions/check` compares with the one at
+/// hand.
+pub(crate) const VERSION: &str = "1.0.0\nproved with rattle-kit-13b, logic dac8208d650f15bf";
+
+pub(crate) const FILE_HELP: &str = r#"The table: a JSON file, such as triangle.json:
+{
+  "vertices": ["a", "b", "c"],
+  "edges": [["a", "b", 1], ["b", "c", 1], ["a", "c", 1]],
+  "amounts": [2, -1, -1],
+  "q": "a"
+}
+1 to 16 vertices, with names of 1 to 16 letters, digits or `_`;
+a connected graph, with at most 63 edges at each vertex;
+whole amounts from -1000000 to 1000000, one for each vertex"#;
+
+pub(crate) const STEPS_HELP: &str =
+    "A text file with a step on each line: a seat, 1 to 64, and a command";
+
+pub(crate) const DEGREE_HELP: &str =
+    "How many dollars are lost: a whole number from 0 to 4294967295";
+
+pub(crate) const TURNS_HELP: &str = "How many turns there may be: a whole number from 0 to 65536";
+
+pub(crate) const SCRIPT_HELP: &str = "Text files with the lines of a session each, up to 64 files";
+
+pub(crate) const WORKERS_HELP: &str = "How many threads share the trials, 1 to 16; default 1";
+
+pub(crate) const CAPACITY_HELP: &str = "How many entries there may be, 1 to 65536; default 65536";
+
+pub(crate) const MORE: &str =
+    r#"The vertices of a graph hold dollars or owe them. A vertex that lends gives a
+dollar along each of its edges, and one that borrows takes a dollar along each.
+A table, which is a graph with the dollars at its vertices, is winnable where
+this can clear all debts. This is the table triangle.json:
+
+    {
+      "vertices": ["a", "b", "c"],
+      "edges": [["a", "b", 1], ["b", "c", 1], ["a", "c", 1]],
+      "amounts": [2, -1, -1],
+      "q": "a"
+    }
+
+An edge is two names and how often it is there. The amounts stand in the order
+of the vertices, and a negative one is a debt. From the vertex q verdicts are
+reckoned; any one will do.
+
+    $ dollar judge triangle.json
+    winnable by a=0 b=-1 c=-1 to a=0 b=0 c=0
+
+The debts are cleared where b and c each borrow once. The help of each command,
+such as `dollar judge --help`, tells how its answers are read, and its limits.
+
+/dev/stdin may stand for a file; `-` may not. A line that refuses a file counts
+vertices and edges from 0, and lines and steps from 1: `edge 0 is empty` tells
+of the first edge, and `line 1: bad seat` of the first line.
+
+A run that fails prints nothing but a line that says why, on standard error; but
+`serve` has answered the lines before, and `party` prints the history where a
+session ended early. The status is
+
+    0  where there is an answer, also `unwinnable` and `rank below ..`
+    2  where the command line is refused
+    3  where a file, a line or a limit is
+    4  where memory or a thread is wanting
+    5  where a file can't be read or the output can't be written
+"#;
+
+pub(crate) const JUDGE_MORE: &str = "\
+The verdict comes with what shows it:
+
+    $ dollar judge triangle.json
+    winnable by a=0 b=-1 c=-1 to a=0 b=0 c=0
+
+The first numbers say how often each vertex lends, a negative one how often it
+borrows; q does neither. The second are the dollars after that. Off q nobody is
+in debt then, and no vertices other than q could lend together without one of
+them falling into debt. The table is winnable exactly where q is not in debt
+either; the answer is `unwinnable by .. to ..` where q is, with the status 0 as
+well.
+";
+
+pub(crate) const RANK_MORE: &str = "\
+A trial takes K dollars from the vertices, in one of the ways to do so. They are
+tried in this order, here for two dollars and three vertices:
+
+    0 0 2, 0 1 1, 0 2 0, 1 0 1, 1 1 0, 2 0 0
+
+Where each leaves a table that is winnable, the rank is at least K; otherwise
+the first that does not is shown. The status is 0 for both answers.
+
+    $ dollar rank triangle.json 0
+    rank at least 0
+
+    $ dollar rank triangle.json 1
+    rank below 1 at a=0 b=0 c=1
+
+K may be at most 1000, and there may be at most 200000 trials; a test past that
+is refused with `too many trials`. The workers change no answer.
+";
+
+pub(crate) const RIEMANN_ROCH_MORE: &str = "\
+For the triangle they are:
+
+    $ dollar rr triangle.json
+    degree 0
+    genus 1
+    rank 0
+    dual 0
+
+    degree  the sum of the dollars
+    genus   edges less vertices, plus 1
+    rank    the most dollars that can be taken, wherever one likes, so that the
+            rest can still be won; -1 if the table can't be won as it is
+    dual    the same where each vertex holds two dollars less than it has
+            edges, less its dollars on the table
+
+By Riemann-Roch, rank - dual = degree + 1 - genus.
+
+Each rank is found by tests with the limits of `dollar rank`, and `too many
+trials` does not say which of the two was too great. With 16 vertices each may
+be at most 6.
+";
+
+pub(crate) const GREEDY_MORE: &str = "\
+At each turn the first vertex in debt, in the order of the file, borrows; where
+nobody is in debt, the turn is a claim, which is won and ends the game. A line
+for each turn has its number, from 0 on, and what came of it. A game that has
+used up its turns ends with `turns`.
+
+    $ dollar greedy triangle.json 10
+    0 moved a=1 b=1 c=-2
+    1 moved a=0 b=0 c=0
+    2 won
+
+    $ dollar greedy triangle.json 1
+    0 moved a=1 b=1 c=-2
+    turns
+
+A table that is winnable is won so, if there are turns enough and no amount
+leaves its range on the way; `dollar judge` tells whether it is.
+";
+
+pub(crate) const REHEARSE_MORE: &str = "\
+STEPS has up to 65536 lines, each with a seat and one of these commands:
+
+    lend V              V lends
+    borrow V            V borrows
+    fire V,V,..         the vertices named lend at once
+    script V=x,V=x,..   each vertex named lends x times, at once
+    gift V x            V is given x dollars
+    claim               the seat claims that nobody is in debt
+    look                the seat looks at the amounts, and keeps the look
+    commit              the verdict on the look that it keeps is entered
+    rank k              the rank test of degree k on that look is entered
+
+There is exactly one space between two words, and none at the end. Tabs, empty
+lines, comments and carriage returns are refused, and the fault counts lines
+from 1, as in `line 1: bad seat`.
+
+    $ cat steps.txt
+    1 look
+    2 lend a
+    1 commit
+    1 look
+    2 gift b 1
+    1 rank 1
+    2 claim
+    $ dollar rehearse triangle.json steps.txt
+    0 looked 0 a=2 b=-1 c=-1
+    1 moved a=0 b=0 c=0
+    2 winnable by a=0 b=0 c=0 to a=0 b=0 c=0
+    3 looked 0 a=0 b=0 c=0
+    4 given 1 a=0 b=1 c=0
+    5 stale 1
+    6 won
+
+Each step gives a line with its number, from 0 on, and what came of it. A commit
+or a rank test uses up the look of its seat. It holds for the amounts at which
+it is entered, though there were moves since the look; only a gift makes it
+stale. The steps are judged before the first is played.
+";
+
+pub(crate) const SERVE_MORE: &str = "\
+A line of the input is a command, as `dollar rehearse --help` shows them, but
+without a seat: there is one. It is answered before the next is waited for.
+
+    $ cat lines.txt
+    look
+    lend a
+    commit
+    commit
+    lend z
+    $ dollar serve triangle.json < lines.txt
+    0 looked 0 a=2 b=-1 c=-1
+    1 moved a=0 b=0 c=0
+    2 winnable by a=0 b=0 c=0 to a=0 b=0 c=0
+    bad look
+    bad name
+
+An entry of the history is answered with its number, from 0 on, and what came of
+it. A line that is no entry is answered with what is wrong with it: `bad word`,
+`bad form`, `bad name`, `bad number`; `bad look` where a commit or a rank test
+finds no look that is not used up; `bad trials` where a rank test is past the
+limits of `dollar rank`. The session goes on after it.
+
+A line has at most 1024 bytes, and a session at most 1000000 lines. Nothing is
+kept after the run.
+";
+
+pub(crate) const PARTY_MORE: &str = "\
+A script has the lines of a session, as `dollar serve --help` shows them. The
+first is played by seat 1, the next by seat 2, and so on, all at once, in an
+order that nobody fixes. Then the history is printed, each entry with its
+number, its seat and what came of it, and what was counted in it:
+
+    $ cat lend.txt
+    lend a
+    $ dollar party triangle.json lend.txt
+    0 1 moved a=0 b=0 c=0
+    entries 1
+    gifts 0
+    position a=0 b=0 c=0
+    seat 1 calls 1
+
+A session that ends before its script does has a line on standard error, such as
+`dollar: seat 2: the history is full`, and what it entered before stays.
+";
