@@ -180,7 +180,8 @@ from 1, as in `line 1: bad seat`.
 Each step gives a line with its number, from 0 on, and what came of it. A commit
 or a rank test uses up the look of its seat. It holds for the amounts at which
 it is entered, though there were moves since the look; only a gift makes it
-stale. The steps are judged before the first is played.
+stale. Where a line or a step is refused, nothing is printed but the fault of
+the first such line, or else of the first such step.
 ";
 
 pub(crate) const SERVE_MORE: &str = "\
