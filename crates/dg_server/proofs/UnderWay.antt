@@ -12,11 +12,10 @@
 --   all_played       after the last line the text is that of the history
 --   first_fault      after the last line the fault is the first one of the steps
 --   never_unseated   a step that a line spells has a seat
-use Rattle.std.proofs.Common.{◌≡◌, ℕ, zero, suc, ◌+◌, ◌≤◌, ◌==◌, cond, true, false, Bool, List, [], ◌∷◌, ◌++◌, length, slice_get, Option, Some, None, arith, refl, sym, ap, subst, ◌∙◌, append_assoc, append-nil, length-append}
+use Rattle.std.proofs.Common.{◌≡◌, ℕ, ◌+◌, ◌≤◌, ◌==◌, cond, true, false, List, [], ◌∷◌, ◌++◌, length, slice_get, Option, Some, None, arith, refl, sym, ap, subst, ◌∙◌, append_assoc, append-nil, length-append}
 use Rattle.std.specs.Option.{is_none}
 use Rattle.dg_chips.specs.Opening.{Opening}
 use Rattle.dg_game.specs.Rehearsal.{IsPlaying, PlaysOn, StopsAt}
-use Rattle.dg_game.specs.Schedule.{IsRehearsal}
 use Rattle.dg_game.specs.ScheduleFaults.{IsFirstFault}
 use Rattle.dg_game.specs.declared.entry.Entry.{Entry}
 use Rattle.dg_game.specs.declared.schedule.Rehearsal.{Rehearsal}
@@ -25,7 +24,6 @@ use Rattle.dg_game.specs.declared.schedule.RehearseFault.TheVariants.{Seat}
 use Rattle.dg_game.specs.declared.step.Step.{Step}
 use Rattle.dg_game.proofs.ListLaws.{slice_get-seam}
 use Rattle.dg_lines.specs.Cuts.{lines, onto_first}
-use Rattle.dg_lines.specs.Schedules.{AreStepsOf}
 use Rattle.dg_lines.specs.Steps.{IsStepLine}
 use Rattle.dg_lines.specs.Texts.{history_text, entry_text}
 use Rattle.dg_lines.proofs.Printing.{history_more}

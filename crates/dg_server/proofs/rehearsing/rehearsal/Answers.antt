@@ -1,7 +1,6 @@
-use Rattle.std.proofs.Common.{arith, ap, subst, not, ◌∙◌}
+use Rattle.std.proofs.Common.{arith, ap, not, ◌∙◌}
 use Rattle.dg_lines.specs.Cuts.{lines}
 use Rattle.dg_lines.specs.declared.lines.Lines.{Lines}
-use Rattle.dg_server.specs.Refusals.{IsFaultOf}
 use Rattle.dg_server.proofs.UnderWay.{under_way_none, one_played, one_refused, one_passed, lines_read, all_played, first_fault, never_unseated}
 use Rattle.dg_server.proofs.rehearsing.rehearsal.Goals as goal
 
