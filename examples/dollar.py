@@ -29,7 +29,7 @@ tuple: its word, its numbers, and its lists of amounts as dicts.
     ([('moved', {'a': 1, 'b': 1, 'c': -2}), ('turns',)], ('won',))
 
 What the program refuses is a Fault, with the text on standard error and the exit status."""
-import contextlib, doctest, json, os, re, subprocess, sys, tempfile
+import contextlib, doctest, functools, json, os, re, subprocess, sys, tempfile
 
 HERE = os.path.dirname(os.path.abspath(__file__))
 FORMS = [form.replace("P", r"(\w+=-?\d+(?: \w+=-?\d+)*)").replace("N", r"(\d+)") for form in (
@@ -58,6 +58,14 @@ def example(name):
         return json.load(file)
 
 
+@functools.lru_cache(maxsize=None)
+def script():
+    """The script above this folder. If it has to build the program first, it says so on standard error."""
+    place = os.path.join(HERE, "..", "dollar")
+    subprocess.run([place, "--version"], stdin=subprocess.DEVNULL, stdout=subprocess.DEVNULL)
+    return place
+
+
 @contextlib.contextmanager
 def words(program, command, given):
     """The words of a command line: a dict stands for a file with that table, a list for a file with these lines."""
@@ -70,7 +78,7 @@ def words(program, command, given):
                 file.write(json.dumps(thing) if isinstance(thing, dict) else "".join(line + "\n" for line in thing))
             return name
 
-        program = program or os.environ.get("DOLLAR") or os.path.join(HERE, "..", "dollar")
+        program = program or os.environ.get("DOLLAR") or script()
         yield [program, command, *(word(*pair) for pair in enumerate(given))]
 
 

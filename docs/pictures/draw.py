@@ -3,16 +3,17 @@
 
     docs/pictures/draw.py            writes the pictures
     docs/pictures/draw.py --check    says which of them are not what it would write; the last line is 'N passed, M failed'
+    docs/pictures/draw.py FILE       prints a picture of a table of yours, its vertices in a ring, and of its verdict
 
 A vertex has its name and its dollars; a red one is in debt, and q has a double ring. What burns is orange, with its
 number in the order of burning. The script needs Python 3 and nothing else. It reckons burnings, scripts and losses
-itself."""
-import itertools, math, os, sys
+itself; but a verdict of yours is the program's."""
+import html, itertools, json, math, os, sys
 
 HERE = os.path.dirname(os.path.abspath(__file__))
 sys.dont_write_bytecode = True
 sys.path.insert(0, os.path.join(HERE, "..", "..", "examples"))
-from dollar import burnt, edges, example, fired
+from dollar import Fault, burnt, edges, example, fired, judge
 
 ROUND, MARGIN, FOOT = 21, 36, 46
 
@@ -81,7 +82,7 @@ def frame(middle, size, table, places, amounts, lines, order=()):
         long = math.hypot(z - x, w - y)
         colour = "#e07b00" if u in number and v in number else "#667"
         for i in range(count):
-            bow = (i - (count - 1) / 2) * 36
+            bow = (i - (count - 1) / 2) * min(36, 252 / count)
             bent = (x + z) / 2 - bow * (w - y) / long, (y + w) / 2 + bow * (z - x) / long
             yield ('<path d="M%.1f %.1f Q%.1f %.1f %.1f %.1f" fill="none" stroke="%s" stroke-width="1.8"/>'
                    % (x, y, *bent, z, w, colour))
@@ -167,6 +168,17 @@ def loss(name, places, degree):
         (table, places, end, says, burnt(table, end))]
 
 
+def yours(place):
+    """The table of a file and its verdict."""
+    with open(place) as file:
+        table = json.load(file)
+    word, script, end = judge(table)
+    places, name, by = ring(table["vertices"], -90), html.escape(os.path.basename(place)), pairs(script)
+    return "%s, %s by %s" % (name, word, by), [
+        (table, places, held(table), [name, "script: " + by] if len(by) < 40 else [name]),
+        (table, places, end, ["all burns, in this order:", word], burnt(table, end))]
+
+
 PICTURES = {
     "triangle": plain("triangle", TRIANGLE),
     "complete_four": plain("debts_on_four", SQUARE),
@@ -204,4 +216,9 @@ def main(checking):
 
 
 if __name__ == "__main__":
-    sys.exit(main("--check" in sys.argv[1:]))
+    if sys.argv[1:] in ([], ["--check"]):
+        sys.exit(main("--check" in sys.argv))
+    try:
+        print("\n".join(picture(*yours(sys.argv[1]))))
+    except (OSError, ValueError, Fault) as fault:
+        sys.exit("draw.py: %s: %s" % (sys.argv[1], fault))
