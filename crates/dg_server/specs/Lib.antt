@@ -1,5 +1,5 @@
 -- What is known of files; what a rehearsal, a judgement, a rank test and a greedy game print, and when they are refused; sessions and parties;
--- and how runs end.
+-- and when what is asked for is done.
 pub mod Held
 pub mod Rehearsals
 pub mod Judgements
@@ -10,4 +10,4 @@ pub mod Tasks
 pub mod Services
 pub mod Gatherings
 pub mod Status
-pub mod Runs
+pub mod Performed

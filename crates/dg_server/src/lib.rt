@@ -1,12 +1,10 @@
-//! The program `dollar` but for its `main`: the command line, the files, the faults, and what the commands print.
+//! What the commands of the program `dollar` do: the files that they read, what they print, and their faults.
 #![tactic(auto)]
 
 mod asked;
-mod command_line;
 mod fault;
 mod games;
 mod gathering;
-mod help_texts;
 mod numbered;
 mod printed;
 mod program;
@@ -17,11 +15,10 @@ mod sources;
 mod table_source;
 
 pub use asked::{Asked, Gathering, Service, Task};
-pub use command_line::{asked_by, words_of};
 pub use fault::{Fault, report, status_of};
 pub use numbered::{GreedyTask, RankTask};
 pub use printed::judgement;
-pub use program::{perform, run};
+pub use program::perform;
 pub use ranks::{rank_answer, riemann_roch};
 pub use rehearsing::rehearsal;
 pub use sources::{Disk, MAX_FILE, Shelf, SourceFault, Sources, read_within};

@@ -1,12 +1,10 @@
-//! A run of the program: what the words of a command line come to.
+//! What is asked for is done.
 ghost use Rattle.std.specs.Prelude.{◌≡◌, ◌≢◌, Err, true, IfOk, IfErr, OnOk};
 ghost use Rattle.dg_server.specs.Tasks.{IsAnswer, Answers, RefusesOn, RefusesTask};
-ghost use Rattle.dg_server.specs.Runs.{Performs, Succeeds, Refuses, Fails};
-ghost use Rattle.dg_server.specs.Status.{IsStatus};
+ghost use Rattle.dg_server.specs.Performed.{Performs, Refuses};
 
 use crate::asked::{Asked, Task};
-use crate::command_line::asked_by;
-use crate::fault::{Fault, report};
+use crate::fault::Fault;
 use crate::games::greedy_history;
 use crate::gathering::play_scripts;
 use crate::printed::judgement;
@@ -21,38 +19,6 @@ use std::io::{BufRead, Write};
 use std::rt::Files;
 use std::sync::Wait;
 use std::thread::Threads;
-
-/// Does what the words of a command line ask for, the first of which is the program's name, and gives the exit status: 0
-/// where it was done to the end, or that of the fault that ended the run, of which `faults` is told. Only a session reads the
-/// input.
-pub fn run<R, S, I, O, F>(
-    rt: &R,
-    words: &[String],
-    sources: &S,
-    input: I,
-    output: &mut Output<O>,
-    faults: &mut F,
-) -> u8
-where
-    R: Files + AllocGlobal + Threads + Wait + Sync,
-    S: Sources,
-    I: BufRead + Drop,
-    O: Write,
-    F: Write,
-    ensures status { IsStatus result }
-    ensures done { result ≡ 0 →
-        Succeeds (S.held sources.now) (I.remaining input) (O.contents output.old.inner) (O.contents output.new.inner) }
-    ensures failed { result ≢ 0 →
-        Fails (S.held sources.now) (I.remaining input) result (O.contents output.old.inner) (O.contents output.new.inner) }
-{
-    match asked_by(rt.alloc(), words) {
-        Ok(asked) => match perform(rt, asked, sources, input, output) {
-            Ok(()) => 0,
-            Err(fault) => report(&fault, faults),
-        },
-        Err(fault) => report(&fault, faults),
-    }
-}
 
 /// Does what is asked for. The whole text of an answer is made before its first byte is written, so that `output` gets
 /// nothing where another fault than `Write` comes; but a session answers as its lines come, and the history of a party

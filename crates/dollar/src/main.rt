@@ -1,7 +1,8 @@
 //! The program `dollar`: plays the dollar game on a graph. `dollar --help` says how it is called.
 #![tactic(auto)]
 
-use dg_server::{Disk, report, run, words_of};
+use dg_command::{run, words_of};
+use dg_server::{Disk, report};
 use dg_session::Output;
 use std::process::ExitCode;
 

@@ -3,19 +3,17 @@ ghost use Rattle.std.specs.Prelude.{◌≡◌, ◌≤◌, length, IfErr, IfOk, I
 ghost use Rattle.std.specs.Vec.{vec_len};
 ghost use Rattle.dg_game.specs.declared.game.TheConstants.{MAX_ENTRIES};
 ghost use Rattle.dg_rank.specs.Ranks.{MayHaveWorkers};
-ghost use Rattle.dg_server.specs.Runs.{IsOfWords};
+ghost use Rattle.dg_command.specs.Runs.{IsOfWords};
 
-use crate::asked::{Asked, Gathering, Service, Task};
-use crate::fault::Fault;
 use crate::help_texts::{
     CAPACITY_HELP, DEGREE_HELP, FILE_HELP, GREEDY_MORE, JUDGE_MORE, MORE, PARTY_MORE, RANK_MORE,
     REHEARSE_MORE, RIEMANN_ROCH_MORE, SCRIPT_HELP, SERVE_MORE, STEPS_HELP, TURNS_HELP, VERSION,
     WORKERS_HELP,
 };
-use crate::numbered::{GreedyTask, RankTask};
 use clap::error::ErrorKind;
 use clap::{Arg, ArgMatches, Command};
 use dg_lines::{degree, natural};
+use dg_server::{Asked, Fault, Gathering, GreedyTask, RankTask, Service, Task};
 use std::alloc::{AllocError, Global};
 use std::rt::Env;
 use std::{env, io};
@@ -79,14 +77,19 @@ fn number_refused(
     let text = format!(in alloc;
         "invalid value '{word}' for '{shown}': a whole number from {range}"
     )?;
-    let mut command = match name {
-        "rank" => rank(alloc)?.bin_name("dollar rank")?,
-        "greedy" => greedy(alloc)?.bin_name("dollar greedy")?,
-        "serve" => serve(alloc)?.bin_name("dollar serve")?,
-        "party" => party(alloc)?.bin_name("dollar party")?,
-        _ => dollar(alloc)?,
-    };
+    let mut command = shown_command(alloc, name)?;
     command.error(ErrorKind::ValueValidation, text.as_str())
+}
+
+/// The command that takes a number, as its usage shows it; any other name stands for the whole program.
+fn shown_command<'a>(alloc: Global, name: &str) -> Result<Command<'a>, AllocError> {
+    match name {
+        "rank" => rank(alloc)?.bin_name("dollar rank"),
+        "greedy" => greedy(alloc)?.bin_name("dollar greedy"),
+        "serve" => serve(alloc)?.bin_name("dollar serve"),
+        "party" => party(alloc)?.bin_name("dollar party"),
+        _ => dollar(alloc),
+    }
 }
 
 /// An argument that is a whole number of some range.
@@ -244,15 +247,26 @@ fn scripts_in<'a>(alloc: Global, matches: &ArgMatches<'a>) -> Result<Vec<&'a str
 }
 
 fn dollar<'a>(alloc: Global) -> Result<Command<'a>, AllocError> {
-    Command::new(alloc, "dollar")
+    let command = Command::new(alloc, "dollar")
         .about("Plays the dollar game on a graph, and tells whether a table is winnable")
         .version(VERSION)
         .after_help(MORE)
         .subcommand_required(true)
-        .arg_required_else_help(true)
+        .arg_required_else_help(true);
+    with_games(alloc, with_answers(alloc, command)?)
+}
+
+/// The command with those below it that answer what is so of a table.
+fn with_answers<'a>(alloc: Global, command: Command<'a>) -> Result<Command<'a>, AllocError> {
+    command
         .subcommand(judge(alloc)?)?
         .subcommand(rank(alloc)?)?
-        .subcommand(riemann_roch(alloc)?)?
+        .subcommand(riemann_roch(alloc)?)
+}
+
+/// The command with those below it that play a game on a table.
+fn with_games<'a>(alloc: Global, command: Command<'a>) -> Result<Command<'a>, AllocError> {
+    command
         .subcommand(greedy(alloc)?)?
         .subcommand(rehearse(alloc)?)?
         .subcommand(serve(alloc)?)?

@@ -1,0 +1,2 @@
+-- How runs end.
+pub mod Runs

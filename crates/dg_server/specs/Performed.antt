@@ -1,0 +1,26 @@
+-- What is asked for, done or refused. `held` tells what is known of the file of each name; input stands for the bytes that the reader
+-- gives, and old and new for what the output held and holds, where those are known.
+--   Performs held input asked old new == what is asked for is done: the output has grown by the answer to the task, by the text of a
+--                                    call for help, by what a session said, or by the history and the totals of a party
+--   Refuses held input asked fault old new == what is asked for is refused so, or ended so; a call for help never is
+use Rattle.std.specs.Prelude.{ℕ, List, Option, string_bytes}
+use Rattle.std.specs.Io.KnownBytes.{Appends, Keeps}
+use Rattle.dg_server.specs.Held.{Held}
+use Rattle.dg_server.specs.Tasks.{IsAnswer, RefusesTask}
+use Rattle.dg_server.specs.Services.{Serves, RefusesService}
+use Rattle.dg_server.specs.Gatherings.{Gathers, RefusesGathering}
+use Rattle.dg_server.specs.declared.asked.Asked.{Asked}
+use Rattle.dg_server.specs.declared.asked.Asked.TheVariants.{Task, Serve, Party, Text}
+use Rattle.dg_server.specs.declared.fault.Fault.{Fault}
+
+abbrev pub Performs : (List ℕ → Held) → Option (List ℕ) → Asked → Option (List ℕ) → Option (List ℕ) → Type 0
+Performs held input (Task task) old new = (text : List ℕ) × IsAnswer held task text × Appends old new text
+Performs held input (Serve service) old new = Serves held input service old new
+Performs held input (Party gathering) old new = Gathers held gathering old new
+Performs held input (Text help) old new = Appends old new (string_bytes help)
+
+abbrev pub Refuses : (List ℕ → Held) → Option (List ℕ) → Asked → Fault → Option (List ℕ) → Option (List ℕ) → Type 0
+Refuses held input (Task task) fault old new = RefusesTask held task fault × Keeps old new
+Refuses held input (Serve service) fault old new = RefusesService held input service fault old new
+Refuses held input (Party gathering) fault old new = RefusesGathering held gathering fault old new
+Refuses held input (Text help) fault old new = ⊥
