@@ -3,7 +3,7 @@
 
 mod command_line;
 mod help_texts;
-mod run;
+mod running;
 
 pub use command_line::{asked_by, words_of};
-pub use run::run;
+pub use running::run;
