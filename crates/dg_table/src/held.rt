@@ -1,5 +1,6 @@
 //! What the lock of a table holds.
 ghost use Rattle.std.specs.Prelude.{ℕ, List, Some, slice_get, ◌≡◌, ◌<◌, ◌≤◌, ◌↔◌, [], ◌∷◌, ◌++◌, true, false, length, IsTrue, IfOk, IfSome, IfErr, MatchOption, MatchResult, MatchBool};
+ghost use Rattle.dg_chips.specs.Opening.{Opening};
 ghost use Rattle.dg_game.specs.History.{with_entry};
 ghost use Rattle.dg_game.specs.Legal.{IsSeat, IsLegal};
 ghost use Rattle.dg_game.specs.Look.{IsFoundFor};
@@ -132,7 +133,7 @@ impl<N: Name> Held<N> {
         self.ready(log, seat)?;
         let mut game = self.game;
         let reply = game.act(plain);
-        self.enter(log, seat, slot, plain.request(), reply, game)
+        self.enter(log, seat, slot, &plain.request(), &reply, &game)
     }
 
     /// Asks for a call at the position found, once: a move, or none, which claims. Answers it, enters it as the last of the
@@ -161,7 +162,7 @@ impl<N: Name> Held<N> {
         let mut game = self.game;
         let chosen = call_for(choose(game.graph(), game.position()));
         let reply = game.act(chosen);
-        self.enter(log, seat, slot, chosen.request(), reply, game)
+        self.enter(log, seat, slot, &chosen.request(), &reply, &game)
     }
 
     /// Enters a finding on a look as the last of the history, gives the seat its receipt, and tells the seat of the
@@ -193,7 +194,7 @@ impl<N: Name> Held<N> {
         let mut game = self.game;
         let reply = game.settle(shown, finding);
         let request = finding.request(shown.number);
-        let receipt = self.enter(log, seat, slot, request, reply, game)?;
+        let receipt = self.enter(log, seat, slot, &request, &reply, &game)?;
         seat.hear(look);
         Ok(receipt)
     }
@@ -217,61 +218,43 @@ impl<N: Name> Held<N> {
         Ok(())
     }
 
-    /// What a seat keeps of its last look after one more entry of it.
-    fn last_look(&self, seat: &Seat<N>, request: &Request, reply: &Reply) -> Option<LookData>
-        requires { Replies N.start self.now.entries request.now reply.now }
-        ensures { (e : EntryData) → e.request ≡ request.now → e.reply ≡ reply.now →
-            IsKept N.start (seat.now.mine ++ (length self.now.entries, e) ∷ []) result }
-    {
-        match (request, reply) {
-            (Request::Look, Reply::Looked(gifts, position)) => Some(LookData {
-                gifts: *gifts,
-                position: *position,
-                ..self.game.look_data()
-            }),
-            _ => seat.look,
-        }
-    }
-
     /// Enters a reply as the last entry of the history, with the game that it leads to, and gives the seat its receipt.
     fn enter(
         &mut self,
         log: &Log<N>,
         seat: &mut Seat<N>,
         slot: Box<Entry>,
-        request: Request,
-        reply: Reply,
-        game: Game,
+        request: &Request,
+        reply: &Reply,
+        game: &Game,
     ) -> Result<Receipt<N>, Fault>
         requires space { seat.old.space ≡ true }
         requires ready { IsReady (length N.cells) self.old.entries seat.old }
-        requires replies { Replies N.start self.old.entries request reply }
-        requires legal { IsLegal N.start (with_entry self.old.entries seat.old.number request reply) }
-        requires leads { LeadsTo N.start (with_entry self.old.entries seat.old.number request reply) game }
-        ensures entered { IfOk result (λ r. IsAnsweredAfter N.start self.old.entries request r seat.old seat.new ×
+        requires replies { Replies N.start self.old.entries request.now reply.now }
+        requires legal { IsLegal N.start (with_entry self.old.entries seat.old.number request.now reply.now) }
+        requires leads { LeadsTo N.start (with_entry self.old.entries seat.old.number request.now reply.now) game.now }
+        ensures entered { IfOk result (λ r. IsAnsweredAfter N.start self.old.entries request.now r seat.old seat.new ×
             (self.new ≡ record { entries = self.old.entries ++ r.1 ∷ []; stuck = false })) }
-        ensures reply { IfOk result (λ r. r.1.reply ≡ reply) }
+        ensures reply { IfOk result (λ r. r.1.reply ≡ reply.now) }
         ensures hears { seat.new.hears ≡ true }
         ensures refused { IfErr result (λ f. (self.new ≡ record { entries = self.old.entries; stuck = true }) ×
             (seat.new ≡ seat.old) ×
             RefusesStep N.start (length N.cells) self.old.entries seat.old self.old.stuck self.new.stuck f) }
     {
-        let seen = self.last_look(seat, &request, &reply);
         let mut slot = slot;
-        *slot = Entry {
-            seat: seat.number,
-            request,
-            reply,
-        };
+        let entry = &mut *slot;
+        entry.seat = seat.number;
+        entry.request = *request;
+        entry.reply = *reply;
         let Ok(receipt) = self.pen.put(log, slot) else {
             return Err(Fault::Log);
         };
         let place = usize::from(seat.number - 1);
-        self.game = game;
+        keep_look(&mut seat.look, &self.game, request, reply);
+        self.game = *game;
         self.counts[place] += 1;
         seat.mine_digest = seat.mine_digest.and(&receipt);
         seat.mine.push(receipt.again()).unwrap();
-        seat.look = seen;
         Ok(receipt)
     }
 
@@ -328,6 +311,24 @@ impl<N: Name> Held<N> {
             log,
             pen,
         }
+    }
+}
+
+/// Keeps the look that an entry after the game's history takes, where it takes one, in place of an older look.
+fn keep_look(look: &mut Option<LookData>, game: &Game, request: &Request, reply: &Reply)
+    ensures { (o : Opening) (H : List EntryData) (ps : List (ℕ × EntryData)) (e : EntryData) →
+        LeadsTo o H game.now → Replies o H request.now reply.now → e.request ≡ request.now → e.reply ≡ reply.now →
+        IsKept o ps look.old → IsKept o (ps ++ (length H, e) ∷ []) look.new }
+{
+    match (request, reply) {
+        (Request::Look, Reply::Looked(gifts, position)) => {
+            *look = Some(LookData {
+                gifts: *gifts,
+                position: *position,
+                ..game.look_data()
+            });
+        }
+        _ => {}
     }
 }
 

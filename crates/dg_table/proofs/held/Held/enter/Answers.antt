@@ -6,7 +6,7 @@ use Rattle.dg_table.proofs.held.Held.enter.Goals as goal
 
 pub invariant_of-self-2 : goal.invariant_of-self-2
 invariant_of-self-2 g c =
-    let e : Entry = record { seat = c.seat.inside.number; request = c.args.request; reply = c.args.reply } in
+    let e : Entry = record { seat = c.seat.inside.number; request = c.args.request.now; reply = c.args.reply.now } in
     let history : c.put.new.self.entries ≡ c.self.inside.pen.entries ++ e ∷ [] =
     ap (λ (w : Written). w.entries) c.in-Ok.ensures.1 in
     let legal = rw (← c.self.view_is, ← c.seat.view_is) at c.requires.legal in
@@ -19,19 +19,22 @@ invariant_of-self-2 g c =
 
 pub invariant_of-seat : goal.invariant_of-seat
 invariant_of-seat g c =
-    let e : Entry = record { seat = c.seat.inside.number; request = c.args.request; reply = c.args.reply } in
+    let e : Entry = record { seat = c.seat.inside.number; request = c.args.request.now; reply = c.args.reply.now } in
     let receipt : c.in-Ok.receipt ≡ (length c.self.inside.pen.entries, e) = c.in-Ok.ensures.0 in
     let items : c.push.new.self.items ≡ c.seat.inside.mine.items ++ c.in-Ok.receipt ∷ [] =
     (rw c.unwrap.ensures at c.push.ensures.items) ∙ ap (λ p. c.seat.inside.mine.items ++ p ∷ []) c.again.ensures in
     let below = rw (← c.self.view_is, ← c.seat.view_is) at c.requires.ready.admissible.mine in
-    let seen = rw (← c.self.view_is, ← c.seat.view_is) at c.last_look-seen.ensures e refl refl in
+    let replies = rw (← c.self.view_is) at c.requires.replies in
+    let seen =
+    c.keep_look.ensures g.N.Name.start c.self.inside.pen.entries c.seat.inside.mine.items e c.self.invariant.0.game' replies refl refl
+    c.seat.invariant.look_kept in
     let last = length c.self.inside.pen.entries in
     rw (items, c.and-seat-inside.ensures, receipt)
-    (kept_more last c.last_look-seen.result (last, e) c.seat.invariant below (omega arith) refl seen)
+    (kept_more last c.keep_look.new.look (last, e) c.seat.invariant below (omega arith) refl seen)
 
 pub returns-clause-entered : goal.returns-clause-entered
 returns-clause-entered g c =
-    let e : Entry = record { seat = c.seat.inside.number; request = c.args.request; reply = c.args.reply } in
+    let e : Entry = record { seat = c.seat.inside.number; request = c.args.request.now; reply = c.args.reply.now } in
     let receipt : c.in-Ok.receipt ≡ (length c.self.inside.pen.entries, e) = c.in-Ok.ensures.0 in
     let items : c.push.new.self.items ≡ c.seat.inside.mine.items ++ c.in-Ok.receipt ∷ [] =
     (rw c.unwrap.ensures at c.push.ensures.items) ∙ ap (λ p. c.seat.inside.mine.items ++ p ∷ []) c.again.ensures in
