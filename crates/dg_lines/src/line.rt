@@ -58,10 +58,9 @@ pub fn parse_line(line: &[u8], names: &Names) -> Result<Command, LineFault>
 {
     let (word, rest) = cut(line, b' ');
     if word == b"script".as_slice() {
-        script(rest, names)
-    } else {
-        other_command(word, rest, names)
+        return script(rest, names);
     }
+    other_command(word, rest, names)
 }
 
 /// The command of a first word, which is not `script`, and of what follows it.
@@ -70,24 +69,30 @@ fn other_command(word: &[u8], rest: Option<&[u8]>, names: &Names) -> Result<Comm
     ensures { result ≡ command_of names.now word.now (words_after (option_copied rest.entry)) }
 {
     if word == b"lend".as_slice() {
-        lend(rest, names)
-    } else if word == b"borrow".as_slice() {
-        borrow(rest, names)
-    } else if word == b"fire".as_slice() {
-        fire(rest, names)
-    } else if word == b"look".as_slice() {
-        bare(rest, Command::Call(Plain::Look))
-    } else if word == b"gift".as_slice() {
-        gift(rest, names)
-    } else if word == b"claim".as_slice() {
-        bare(rest, Command::Call(Plain::Claim))
-    } else if word == b"commit".as_slice() {
-        bare(rest, Command::Commit)
-    } else if word == b"rank".as_slice() {
-        rank(rest)
-    } else {
-        Err(LineFault::Word)
+        return lend(rest, names);
     }
+    if word == b"borrow".as_slice() {
+        return borrow(rest, names);
+    }
+    if word == b"fire".as_slice() {
+        return fire(rest, names);
+    }
+    if word == b"look".as_slice() {
+        return bare(rest, Command::Call(Plain::Look));
+    }
+    if word == b"gift".as_slice() {
+        return gift(rest, names);
+    }
+    if word == b"claim".as_slice() {
+        return bare(rest, Command::Call(Plain::Claim));
+    }
+    if word == b"commit".as_slice() {
+        return bare(rest, Command::Commit);
+    }
+    if word == b"rank".as_slice() {
+        return rank(rest);
+    }
+    Err(LineFault::Word)
 }
 
 #[tactic(auto, unfolding(crate::specs::Read::lend_of))]

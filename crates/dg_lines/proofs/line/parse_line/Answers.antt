@@ -13,8 +13,8 @@ returns-then-eq c =
     c.if-eq.true c.eq.ensures c.as_slice.ensures c.script.ensures in
     record { command = known.0; refused = known.1 }
 
-pub returns-else-eq : goal.returns-else-eq
-returns-else-eq c =
+pub returns : goal.returns
+returns c =
     let known =
     other_line c.args.names.now c.args.line.now c.cut.result.0.now c.as_slice.result.now (words_after (option_copied c.cut.result.1)) c.eq.result
     c.other_command.result (line_cut c.args.line.now c.cut.result.0.now (option_copied c.cut.result.1) c.cut.ensures.before c.cut.ensures.after)
