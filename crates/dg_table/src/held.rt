@@ -1,7 +1,6 @@
 //! What the lock of a table holds.
 ghost use Rattle.std.specs.Prelude.{ℕ, List, Some, slice_get, ◌≡◌, ◌<◌, ◌≤◌, ◌↔◌, [], ◌∷◌, ◌++◌, true, false, length, IsTrue, IfOk, IfSome, IfErr, MatchOption, MatchResult, MatchBool};
 ghost use Rattle.dg_chips.specs.Opening.{Opening};
-ghost use Rattle.dg_game.specs.History.{with_entry};
 ghost use Rattle.dg_game.specs.Legal.{IsSeat, IsLegal};
 ghost use Rattle.dg_game.specs.Look.{IsFoundFor};
 ghost use Rattle.dg_game.specs.Replies.{Replies};
@@ -132,8 +131,12 @@ impl<N: Name> Held<N> {
     {
         self.ready(log, seat)?;
         let mut game = self.game;
-        let reply = game.act(plain);
-        self.enter(log, seat, slot, &plain.request(), &reply, &game)
+        let mut slot = slot;
+        let entry = &mut *slot;
+        entry.seat = seat.number();
+        entry.request = plain.request();
+        entry.reply = game.act(plain);
+        self.enter(log, seat, slot, &game)
     }
 
     /// Asks for a call at the position found, once: a move, or none, which claims. Answers it, enters it as the last of the
@@ -161,8 +164,12 @@ impl<N: Name> Held<N> {
         self.ready(log, seat)?;
         let mut game = self.game;
         let chosen = call_for(choose(game.graph(), game.position()));
-        let reply = game.act(chosen);
-        self.enter(log, seat, slot, &chosen.request(), &reply, &game)
+        let mut slot = slot;
+        let entry = &mut *slot;
+        entry.seat = seat.number();
+        entry.request = chosen.request();
+        entry.reply = game.act(chosen);
+        self.enter(log, seat, slot, &game)
     }
 
     /// Enters a finding on a look as the last of the history, gives the seat its receipt, and tells the seat of the
@@ -192,9 +199,12 @@ impl<N: Name> Held<N> {
     {
         self.ready_on(log, seat, look)?;
         let mut game = self.game;
-        let reply = game.settle(shown, finding);
-        let request = finding.request(shown.number);
-        let receipt = self.enter(log, seat, slot, &request, &reply, &game)?;
+        let mut slot = slot;
+        let entry = &mut *slot;
+        entry.seat = seat.number();
+        entry.request = finding.request(shown.number);
+        entry.reply = game.settle(shown, finding);
+        let receipt = self.enter(log, seat, slot, &game)?;
         seat.hear(look);
         Ok(receipt)
     }
@@ -218,39 +228,35 @@ impl<N: Name> Held<N> {
         Ok(())
     }
 
-    /// Enters a reply as the last entry of the history, with the game that it leads to, and gives the seat its receipt.
+    /// Enters what is in the box as the last entry of the history, with the game that it leads to, and gives the seat its
+    /// receipt.
     fn enter(
         &mut self,
         log: &Log<N>,
         seat: &mut Seat<N>,
         slot: Box<Entry>,
-        request: &Request,
-        reply: &Reply,
         game: &Game,
     ) -> Result<Receipt<N>, Fault>
         requires space { seat.old.space ≡ true }
         requires ready { IsReady (length N.cells) self.old.entries seat.old }
-        requires replies { Replies N.start self.old.entries request.now reply.now }
-        requires legal { IsLegal N.start (with_entry self.old.entries seat.old.number request.now reply.now) }
-        requires leads { LeadsTo N.start (with_entry self.old.entries seat.old.number request.now reply.now) game.now }
-        ensures entered { IfOk result (λ r. IsAnsweredAfter N.start self.old.entries request.now r seat.old seat.new ×
+        requires seat { slot.value.seat ≡ seat.old.number }
+        requires replies { Replies N.start self.old.entries slot.value.request slot.value.reply }
+        requires legal { IsLegal N.start (self.old.entries ++ slot.value ∷ []) }
+        requires leads { LeadsTo N.start (self.old.entries ++ slot.value ∷ []) game.now }
+        ensures entered { IfOk result (λ r.
+            IsAnsweredAfter N.start self.old.entries slot.value.request r seat.old seat.new ×
             (self.new ≡ record { entries = self.old.entries ++ r.1 ∷ []; stuck = false })) }
-        ensures reply { IfOk result (λ r. r.1.reply ≡ reply.now) }
-        ensures hears { seat.new.hears ≡ true }
+        ensures reply { IfOk result (λ r. r.1.reply ≡ slot.value.reply) }
+        ensures hears { IfOk result (λ _. seat.new.hears ≡ true) }
         ensures refused { IfErr result (λ f. (self.new ≡ record { entries = self.old.entries; stuck = true }) ×
             (seat.new ≡ seat.old) ×
             RefusesStep N.start (length N.cells) self.old.entries seat.old self.old.stuck self.new.stuck f) }
     {
-        let mut slot = slot;
-        let entry = &mut *slot;
-        entry.seat = seat.number;
-        entry.request = *request;
-        entry.reply = *reply;
         let Ok(receipt) = self.pen.put(log, slot) else {
             return Err(Fault::Log);
         };
         let place = usize::from(seat.number - 1);
-        keep_look(&mut seat.look, &self.game, request, reply);
+        keep_look(&mut seat.look, &self.game, log.entry(&receipt));
         self.game = *game;
         self.counts[place] += 1;
         seat.mine_digest = seat.mine_digest.and(&receipt);
@@ -315,12 +321,12 @@ impl<N: Name> Held<N> {
 }
 
 /// Keeps the look that an entry after the game's history takes, where it takes one, in place of an older look.
-fn keep_look(look: &mut Option<LookData>, game: &Game, request: &Request, reply: &Reply)
-    ensures { (o : Opening) (H : List EntryData) (ps : List (ℕ × EntryData)) (e : EntryData) →
-        LeadsTo o H game.now → Replies o H request.now reply.now → e.request ≡ request.now → e.reply ≡ reply.now →
-        IsKept o ps look.old → IsKept o (ps ++ (length H, e) ∷ []) look.new }
+fn keep_look(look: &mut Option<LookData>, game: &Game, entry: &Entry)
+    ensures { (o : Opening) (H : List EntryData) (ps : List (ℕ × EntryData)) →
+        LeadsTo o H game.now → Replies o H entry.now.request entry.now.reply →
+        IsKept o ps look.old → IsKept o (ps ++ (length H, entry.now) ∷ []) look.new }
 {
-    match (request, reply) {
+    match (&entry.request, &entry.reply) {
         (Request::Look, Reply::Looked(gifts, position)) => {
             *look = Some(LookData {
                 gifts: *gifts,

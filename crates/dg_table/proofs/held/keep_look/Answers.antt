@@ -7,11 +7,11 @@ use Rattle.dg_table.proofs.Findings.{look_seen, looked_size}
 use Rattle.dg_table.proofs.held.keep_look.Goals as goal
 
 pub returns-in-Look-Looked : goal.returns-in-Look-Looked
-returns-in-Look-Looked c = λ o H ps e leads replies request reply kept.
+returns-in-Look-Looked c = λ o H ps leads replies kept.
     let looked = c.in-Look-Looked in
     let shown : Replies o H Look (Looked looked.gifts looked.position) = rw (looked.is-0, looked.is-1) at replies in
     let number : c.look_data.result.number ≡ length H = c.look_data.ensures.number ∙ leads.entries in
     let graph : c.look_data.result.graph ≡ o.graph = c.look_data.ensures.graph ∙ leads.graph ∙ graph_stays o H in
-    look_seen o ps (length H, e) _
-    (record { look = request ∙ looked.is-0; shown = reply ∙ looked.is-1; number = number; graph = graph })
+    look_seen o ps (length H, c.args.entry.now) _
+    (record { look = looked.is-0; shown = looked.is-1; number = number; graph = graph })
     (looked_size o H looked.gifts looked.position shown)

@@ -5,15 +5,15 @@ use Rattle.dg_table.proofs.Findings.{look_stands}
 use Rattle.dg_table.proofs.Steps.{settling_refused, settled}
 use Rattle.dg_table.proofs.held.Held.settle.Goals as goal
 
-pub settle-reply-requires-clause-look : goal.settle-reply-requires-clause-look
-settle-reply-requires-clause-look g c =
+pub settle-entry-requires-clause-look : goal.settle-entry-requires-clause-look
+settle-entry-requires-clause-look g c =
     let H = c.args.self.now.entries in
     let held = rw c.self.view_is at c.self.invariant.0 in
     let look = look_stands g.N.Name.start H c.args.look.now c.args.shown.now held.legal c.requires.look c.in_ok-ready_on.ensures.1 in
     (g.N.Name.start, H, held.game', look)
 
-pub settle-reply-requires-clause-found : goal.settle-reply-requires-clause-found
-settle-reply-requires-clause-found g c =
+pub settle-entry-requires-clause-found : goal.settle-entry-requires-clause-found
+settle-entry-requires-clause-found g c =
     let held = rw c.self.view_is at c.self.invariant.0 in
     rw held.game'.q c.requires.found
 
@@ -22,14 +22,14 @@ enter-requires-clause-replies g c =
     let H = c.args.self.now.entries in
     let held = rw c.self.view_is at c.self.invariant.0 in
     let look = look_stands g.N.Name.start H c.args.look.now c.args.shown.now held.legal c.requires.look c.in_ok-ready_on.ensures.1 in
-    rw c.request-request.ensures (c.settle-reply.ensures.replies g.N.Name.start H held.game' look)
+    rw c.request-entry.ensures (c.settle-entry.ensures.replies g.N.Name.start H held.game' look)
 
 pub enter-requires-clause-legal : goal.enter-requires-clause-legal
 enter-requires-clause-legal g c =
     let H = c.args.self.now.entries in
     let held = rw c.self.view_is at c.self.invariant.0 in
     let look = look_stands g.N.Name.start H c.args.look.now c.args.shown.now held.legal c.requires.look c.in_ok-ready_on.ensures.1 in
-    rw c.request-request.ensures (c.settle-reply.ensures.legal g.N.Name.start H c.args.seat.now.number held.game' look held.legal
+    rw (c.request-entry.ensures, c.number-entry.ensures) (c.settle-entry.ensures.legal g.N.Name.start H c.args.seat.now.number held.game' look held.legal
     c.in_ok-ready_on.ensures.0.seat)
 
 pub enter-requires-clause-leads : goal.enter-requires-clause-leads
@@ -37,7 +37,7 @@ enter-requires-clause-leads g c =
     let H = c.args.self.now.entries in
     let held = rw c.self.view_is at c.self.invariant.0 in
     let look = look_stands g.N.Name.start H c.args.look.now c.args.shown.now held.legal c.requires.look c.in_ok-ready_on.ensures.1 in
-    rw c.request-request.ensures (c.settle-reply.ensures.leads g.N.Name.start H c.args.seat.now.number held.game' look)
+    rw (c.request-entry.ensures, c.number-entry.ensures) (c.settle-entry.ensures.leads g.N.Name.start H c.args.seat.now.number held.game' look)
 
 pub returns-in_err-receipt-clause-refused : goal.returns-in_err-receipt-clause-refused
 returns-in_err-receipt-clause-refused g c =
@@ -55,9 +55,9 @@ returns-clause-settled g c =
     let H = c.args.self.now.entries in
     let entered = c.in_ok-receipt.ensures.entered in
     let kept : KeepsFinding c.args.finding.now c.in_ok-receipt.receipt.1.reply =
-    rw c.in_ok-receipt.ensures.reply c.settle-reply.ensures.kept in (
+    rw c.in_ok-receipt.ensures.reply c.settle-entry.ensures.kept in (
       settled g.N.Name.start H c.args.look.now c.args.shown.now c.args.finding.now c.in_ok-receipt.receipt c.args.seat.now c.enter.new.seat
-          c.hear.new.self (rw c.request-request.ensures at entered.0) c.requires.look c.in_ok-ready_on.ensures.1
+          c.hear.new.self (rw c.request-entry.ensures at entered.0) c.requires.look c.in_ok-ready_on.ensures.1
           kept c.hear.ensures.number c.hear.ensures.mine c.hear.ensures.told,
       entered.1,
       c.in_ok-ready_on.ensures.0.room,
