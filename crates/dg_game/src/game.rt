@@ -8,14 +8,14 @@ ghost use Rattle.dg_theory.specs.Firing.{FiresTo, AreEquivalent};
 ghost use Rattle.dg_verdict.specs.Right.{IsRight};
 ghost use Rattle.dg_game.specs.MoveReplies.{RepliesToMove};
 ghost use Rattle.dg_game.specs.GiftReplies.{RepliesToGift};
-ghost use Rattle.dg_game.specs.Replies.{Replies, RepliesAt, RepliesToClaim};
+ghost use Rattle.dg_game.specs.Replies.{Replies, RepliesToLook, RepliesToClaim};
 ghost use Rattle.dg_game.specs.History.{with_entry};
 ghost use Rattle.dg_game.specs.Legal.{IsSeat, IsLegal};
 ghost use Rattle.dg_game.specs.Look.{IsLookAt, IsFoundFor, asked_for, KeepsFinding};
 ghost use Rattle.dg_game.specs.State.{State, IsState, LeadsTo, IsNext, position_of};
 ghost use Rattle.dg_game.specs.Schedule.{asked};
 ghost use Rattle.dg_game.specs.declared.entry.Entry.{Entry};
-ghost use Rattle.dg_game.specs.declared.entry.Request.TheVariants.{Move as MoveRequest, Gift as GiftRequest, Claim as ClaimRequest};
+ghost use Rattle.dg_game.specs.declared.entry.Request.TheVariants.{Move as MoveRequest, Gift as GiftRequest, Look as LookRequest, Claim as ClaimRequest};
 
 use crate::entry::{MAX_GIFT, Plain, Refusal, Reply};
 use crate::finding::Finding;
@@ -154,7 +154,12 @@ impl Game {
         ensures legal { (o : Opening) (H : List Entry) (seat : ℕ) → LeadsTo o H self.old →
             IsLegal o H → IsSeat seat → IsLegal o (with_entry H seat (asked plain) result) }
     {
-        self.answer(&plain)
+        match plain {
+            Plain::Move(play) => self.play(&play),
+            Plain::Gift(v, dollars) => self.give(v, dollars),
+            Plain::Look => self.look(),
+            Plain::Claim => self.claim(),
+        }
     }
 
     /// Enters what was reckoned on a look: `Stale` where gifts were accepted since; otherwise a verdict that is right
@@ -247,23 +252,6 @@ impl Game {
         self.drift.since(drift)
     }
 
-    /// Answers a call, and takes it into the state.
-    fn answer(&mut self, plain: &Plain) -> Reply
-        requires { self.old.entries < MAX_ENTRIES }
-        ensures replies { RepliesAt (position_of self.old) self.old.gifts plain.now result }
-        ensures next { IsNext self.old (asked plain.now) result self.new }
-    {
-        match plain {
-            Plain::Move(play) => self.play(play),
-            Plain::Gift(v, dollars) => self.give(*v, *dollars),
-            Plain::Look => {
-                self.entries += 1;
-                Reply::Looked(self.gifts, self.amounts)
-            }
-            Plain::Claim => self.claim(),
-        }
-    }
-
     /// Plays a move: the amounts after it, or its refusal.
     fn play(&mut self, play: &Move) -> Reply
         requires { self.old.entries < MAX_ENTRIES }
@@ -304,6 +292,16 @@ impl Game {
             }
             None => Reply::Refused(Refusal::Range),
         }
+    }
+
+    /// Shows the count of accepted gifts, and the amounts.
+    fn look(&mut self) -> Reply
+        requires { self.old.entries < MAX_ENTRIES }
+        ensures replies { RepliesToLook (position_of self.old) self.old.gifts result }
+        ensures next { IsNext self.old LookRequest result self.new }
+    {
+        self.entries += 1;
+        Reply::Looked(self.gifts, self.amounts)
     }
 
     /// Tells whether nobody is in debt.
