@@ -22,6 +22,3 @@ pub use moves::{Move, MoveFault};
 pub use script::{Script, ScriptFault};
 pub use start::{Start, StartFault};
 pub use wide::Wide;
-
-#[cfg(test)]
-mod tests;

@@ -13,6 +13,3 @@ pub use label::MAX_LABEL;
 pub use laws::files_have_one_meaning;
 pub use names::{MAX_NAME, Names, is_name};
 pub use table_file::{TableFile, read_table};
-
-#[cfg(test)]
-mod tests;

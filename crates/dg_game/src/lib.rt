@@ -8,8 +8,6 @@ mod laws;
 mod look;
 mod schedule;
 mod step;
-#[cfg(test)]
-mod tests;
 
 pub use entry::{Entry, MAX_GIFT, MAX_SEATS, Plain, Refusal, Reply, Request};
 pub use finding::{Finding, judge_look, judge_look_aimed, rank_look};

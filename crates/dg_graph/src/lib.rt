@@ -9,8 +9,6 @@ mod graph;
 mod limits;
 mod sets;
 mod table;
-#[cfg(test)]
-mod tests;
 
 pub use fault::GraphFault;
 pub use graph::Graph;

@@ -20,6 +20,3 @@ pub use lines::Lines;
 pub use number::{degree, natural};
 pub use steps_file::{StepsFault, parse_steps};
 pub use text::{entry_line, push_amounts, push_entry, push_reply, reply_text};
-
-#[cfg(test)]
-mod tests;

@@ -7,8 +7,6 @@ mod first_loss;
 mod pieces;
 mod rank_verdict;
 mod ranks;
-#[cfg(test)]
-mod tests;
 mod workers;
 
 pub use counting::{MAX_DEGREE, MAX_TRIALS, trial, trials};

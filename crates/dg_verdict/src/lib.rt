@@ -3,8 +3,6 @@
 
 mod checking;
 mod rebasing;
-#[cfg(test)]
-mod tests;
 mod verdict;
 
 pub use checking::check;

@@ -1,9 +1,0 @@
-//! Examples, by topic.
-
-mod divisors;
-mod drifts;
-mod duals;
-mod moves;
-mod scripts;
-mod starts;
-mod wide;

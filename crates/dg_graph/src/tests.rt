@@ -1,4 +1,0 @@
-//! The tests, by topic.
-
-mod graphs;
-mod sets;

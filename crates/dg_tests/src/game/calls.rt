@@ -1,0 +1,40 @@
+//! Calls one after another, and what they are answered.
+use crate::game::triangle;
+use dg_chips::{Divisor, Move, Start};
+use dg_game::{Game, Plain, Refusal, Reply};
+use std::test::Fail;
+
+#[test]
+fn calls_are_answered_in_turn(rt: HostRuntime) -> Result<(), Fail> {
+    let graph = triangle()?;
+    let start = Start::new(graph, Divisor::new(&graph, &[2, -1, -1])?, 0)?;
+    let given = Divisor::new(&graph, &[2, 0, -1])?;
+    let lent = Divisor::new(&graph, &[0, 1, 0])?;
+    let rich = Divisor::new(&graph, &[1_000_000, 1, 0])?;
+    let refused = |refusal| Reply::Refused(refusal);
+    let calls = [
+        (Plain::Look, Reply::Looked(0, *start.divisor())),
+        (Plain::Gift(1, 1), Reply::Given(1, given)),
+        (Plain::Gift(1, 0), refused(Refusal::Gift)),
+        (Plain::Gift(1, 1_000_001), refused(Refusal::Gift)),
+        (Plain::Gift(3, 0), refused(Refusal::NoVertex)),
+        (Plain::Move(Move::Fire(0)), refused(Refusal::Empty)),
+        (Plain::Move(Move::Borrow(3)), refused(Refusal::NoVertex)),
+        (Plain::Claim, Reply::NotWon),
+        (Plain::Move(Move::Lend(0)), Reply::Moved(lent)),
+        (Plain::Claim, Reply::Won),
+        (Plain::Gift(0, 1_000_000), Reply::Given(2, rich)),
+        (Plain::Gift(0, 1), refused(Refusal::Range)),
+        (Plain::Move(Move::Borrow(0)), refused(Refusal::Range)),
+        (Plain::Look, Reply::Looked(2, rich)),
+    ];
+    let mut game = Game::new(&start);
+    for (i, (plain, reply)) in calls.iter().enumerate() {
+        assert_eq!(rt; game.entries() as usize, i);
+        assert!(rt; game.act(*plain) == *reply, "call {i}");
+    }
+    assert_eq!(rt; game.gifts(), 2);
+    assert_eq!(rt; game.position().degree(), 1_000_001);
+    assert_eq!(rt; game.graph().genus(), 1);
+    Ok(())
+}

@@ -1,0 +1,116 @@
+//! Verdicts that are entered after a call, with drifts that lead there and drifts that don't.
+use crate::game::triangle;
+use dg_chips::{Divisor, Drift, Move, Script, Start, Wide};
+use dg_game::{Finding, Game, LookData, Plain, Reply};
+use dg_graph::Graph;
+use dg_verdict::{Verdict, check};
+use std::test::Fail;
+
+/// A start, the script and the order of its verdict, a call, and the script of the verdict after the call.
+struct Carried {
+    q: u8,
+    amounts: [i64; 3],
+    script: [i64; 3],
+    order: [u8; 3],
+    call: Plain,
+    carried: [i64; 3],
+}
+
+// By hand: on the triangle vertex 0 lends once, or 1 and 2 borrow once each. From there vertex 1 has lent once more than
+// the others when 0 1 0 comes to 1 -1 1, and with q = 2 the script from 0 0 0 after lending by 2 is that of 0 and 1.
+const CASES: [Carried; 5] = [
+    Carried {
+        q: 0,
+        amounts: [2, -1, -1],
+        script: [0, -1, -1],
+        order: [0, 1, 2],
+        call: Plain::Move(Move::Lend(0)),
+        carried: [0, 0, 0],
+    },
+    Carried {
+        q: 0,
+        amounts: [2, -1, -1],
+        script: [0, -1, -1],
+        order: [0, 2, 1],
+        call: Plain::Move(Move::Lend(1)),
+        carried: [0, -2, -1],
+    },
+    Carried {
+        q: 0,
+        amounts: [2, -1, -1],
+        script: [0, -1, -1],
+        order: [0, 1, 2],
+        call: Plain::Gift(1, 0),
+        carried: [0, -1, -1],
+    },
+    Carried {
+        q: 2,
+        amounts: [-1, -1, 2],
+        script: [-1, -1, 0],
+        order: [2, 1, 0],
+        call: Plain::Move(Move::Lend(2)),
+        carried: [0, 0, 0],
+    },
+    Carried {
+        q: 2,
+        amounts: [2, -1, -1],
+        script: [1, 0, 0],
+        order: [2, 0, 1],
+        call: Plain::Claim,
+        carried: [1, 0, 0],
+    },
+];
+
+// The reply to a verdict on the start that is entered after a look and a call, with this drift in the look's data; or
+// `None` where the verdict is not right.
+fn settled(start: &Start, call: Plain, drift: &Drift, verdict: &Verdict) -> Option<Reply> {
+    let mut game = Game::new(start);
+    let look = LookData {
+        drift: *drift,
+        ..game.look_data()
+    };
+    game.act(Plain::Look);
+    game.act(call);
+    let q = usize::from(start.q());
+    if !check(&look.graph, q, &look.position, verdict) {
+        return None;
+    }
+    Some(game.settle(&look, &Finding::Judged(*verdict)))
+}
+
+/// The verdict with this script and order that wins with no dollar left.
+fn won_by(graph: &Graph, script: &[i64], first: [u8; 3]) -> Result<Verdict, Fail> {
+    let mut order = [0; 16];
+    order[0] = first[0];
+    order[1] = first[1];
+    order[2] = first[2];
+    Ok(Verdict {
+        winnable: true,
+        script: Script::new(graph, script)?,
+        reduced: Wide::new(graph, &[0, 0, 0])?,
+        order,
+    })
+}
+
+#[test]
+fn verdicts_are_carried_along(rt: HostRuntime) -> Result<(), Fail> {
+    let graph = triangle()?;
+    let none = Script::new(&graph, &[0, 0, 0])?;
+    let odd = Drift::between(&Script::new(&graph, &[0, 1, 0])?, &none);
+    for case in &CASES {
+        let start = Start::new(graph, Divisor::new(&graph, &case.amounts)?, case.q)?;
+        let verdict = won_by(&graph, &case.script, case.order)?;
+        let entered = won_by(&graph, &case.carried, case.order)?;
+        for drift in [Drift::zero(&graph), odd] {
+            let reply = settled(&start, case.call, &drift, &verdict);
+            assert!(rt;
+                reply == Some(Reply::Verdict(entered)),
+                "{:?}",
+                case.carried
+            );
+        }
+        let reply = settled(&start, Plain::Gift(1, 1), &odd, &verdict);
+        assert!(rt; reply == Some(Reply::Stale(1)), "{:?}", case.carried);
+    }
+    Ok(())
+}

@@ -1,0 +1,3 @@
+//! Graphs, and sets of their vertices.
+mod graphs;
+mod sets;

@@ -1,0 +1,128 @@
+//! Rank tests in pieces, each in a thread of its own.
+ghost use Rattle.std.specs.Prelude.{◌<◌};
+
+use dg_chips::Divisor;
+use dg_graph::Graph;
+use dg_rank::{Gate, OpenGate, RankFault, RankVerdict, rank_at_least, rank_with};
+use std::sync::Wait;
+use std::sync::atomic::{AtomicBool, AtomicU64, Ordering};
+use std::test::Fail;
+use std::thread;
+use std::thread::Threads;
+use std::time::{Clock, Duration};
+
+// A gate that holds each piece until all have entered, but for no more than a million turns; then the first goes on last.
+// Four bits for each piece count how often it entered.
+#[derive(Drop)]
+struct Meeting<'a, R> {
+    rt: &'a R,
+    pieces: u64,
+    entered: AtomicU64,
+    counts: AtomicU64,
+    has_missed: AtomicBool,
+}
+
+impl<'a, R: Clock + Sync> Gate for Meeting<'a, R> {
+    fn enter(&self, piece: u32) {
+        if piece < 16 {
+            self.counts.fetch_add(1 << (4 * piece), Ordering::SeqCst);
+        }
+        self.entered.fetch_add(1, Ordering::SeqCst);
+        for _ in 0..1_000_000 {
+            if self.entered.load(Ordering::SeqCst) >= self.pieces {
+                if piece == 0 {
+                    thread::sleep(self.rt, Duration::from_millis(5));
+                }
+                return;
+            }
+            thread::sleep(self.rt, Duration::from_micros(10));
+        }
+        self.has_missed.store(true, Ordering::SeqCst);
+    }
+}
+
+// What a rank test answers where as many pieces meet at the gate as there are workers, if each enters it once and none
+// waits in vain.
+fn meets<R: Threads + Wait + Clock + Sync>(
+    rt: &R,
+    graph: &Graph,
+    amounts: &[i64],
+    degree: u32,
+    workers: u32,
+) -> Result<RankVerdict, Fail>
+    requires { 0 < graph.now.size }
+{
+    let meeting = Meeting {
+        rt,
+        pieces: u64::from(workers),
+        entered: AtomicU64::new(0),
+        counts: AtomicU64::new(0),
+        has_missed: AtomicBool::new(false),
+    };
+    let divisor = Divisor::new(graph, amounts)?;
+    let found = rank_with(rt, graph, 0, &divisor, degree, workers, &meeting)?;
+    let mut each_once = 0;
+    for piece in 0..workers.min(16) {
+        each_once |= 1u64 << (4 * piece);
+    }
+    if meeting.counts.load(Ordering::SeqCst) != each_once {
+        return Err(Fail::new("each piece enters the gate once"));
+    }
+    if meeting.has_missed.load(Ordering::SeqCst) {
+        return Err(Fail::new("the pieces meet"));
+    }
+    Ok(found)
+}
+
+// By hand: on the triangle a divisor of degree 0 is winnable where the amounts of the last two vertices agree but for a
+// multiple of 3, and all are won with a degree of at least 1.
+#[test]
+fn pieces_run_at_once(rt: HostRuntime) -> Result<(), Fail> {
+    let triangle = Graph::new(3, &[(0, 1, 1), (1, 2, 1), (0, 2, 1)])?;
+    let cases: [(&[i64], u32, &[i64]); 5] = [
+        (&[1, 0, 0], 1, &[0, 0, 1]),
+        (&[2, -1, -1], 0, &[]),
+        (&[2, 0, 0], 1, &[]),
+        (&[3, 0, 0], 3, &[0, 1, 2]),
+        (&[0, 0, 0], 1, &[0, 0, 1]),
+    ];
+    for (amounts, degree, loss) in cases {
+        let wanted = if loss.is_empty() {
+            RankVerdict::AtLeast(degree)
+        } else {
+            RankVerdict::Below(degree, Divisor::new(&triangle, loss)?)
+        };
+        for workers in [1, 2, 3, 16] {
+            let found = meets(&rt, &triangle, amounts, degree, workers)?;
+            assert!(rt; found == wanted, "{workers} workers at {amounts:?}");
+        }
+    }
+    Ok(())
+}
+
+// A cycle of four vertices, seen from the first, is in debt there; of the three tables some tests are settled by the degree.
+#[test]
+fn any_number_of_workers_agrees_with_one(rt: HostRuntime) -> Result<(), Fail> {
+    let triangle = Graph::new(3, &[(0, 1, 1), (1, 2, 1), (0, 2, 1)])?;
+    let square = Graph::new(4, &[(0, 1, 1), (1, 2, 1), (2, 3, 1), (0, 3, 1)])?;
+    let pair = Graph::new(2, &[(0, 1, 3)])?;
+    let cases: [(Graph, &[i64]); 3] = [
+        (triangle, &[3, 0, 0]),
+        (square, &[-2, 0, 3, 0]),
+        (pair, &[1, 1]),
+    ];
+    for (graph, amounts) in cases {
+        let divisor = Divisor::new(&graph, amounts)?;
+        for degree in 0..=4 {
+            let wanted = rank_at_least(&graph, 0, &divisor, degree);
+            for workers in 1..=16 {
+                let found = rank_with(&rt, &graph, 0, &divisor, degree, workers, &OpenGate);
+                assert!(rt;
+                    found == wanted,
+                    "{workers} workers, {degree} at {amounts:?}"
+                );
+            }
+        }
+    }
+    Ok(())
+}

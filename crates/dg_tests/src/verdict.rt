@@ -1,0 +1,4 @@
+//! Verdicts.
+mod checked;
+mod judged;
+mod rebased;

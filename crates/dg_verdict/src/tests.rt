@@ -1,5 +1,0 @@
-//! The tests, by topic.
-
-mod checked;
-mod judged;
-mod rebased;
