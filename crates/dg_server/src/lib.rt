@@ -22,6 +22,3 @@ pub use program::perform;
 pub use ranks::{rank_answer, riemann_roch};
 pub use rehearsing::rehearsal;
 pub use sources::{Disk, MAX_FILE, Shelf, SourceFault, Sources, read_within};
-
-#[cfg(test)]
-mod tests;

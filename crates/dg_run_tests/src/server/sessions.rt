@@ -1,7 +1,7 @@
 //! Sessions over the input, and parties.
 
-use crate::tests::runs::{TRIANGLE, words_in};
-use crate::{Shelf, run};
+use crate::server::runs::{TRIANGLE, run, words_in};
+use dg_server::Shelf;
 use dg_session::Output;
 use std::test::Fail;
 

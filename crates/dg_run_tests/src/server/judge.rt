@@ -1,6 +1,6 @@
 //! `judge`: tables that are judged and printed.
 
-use crate::tests::runs::{
+use crate::server::runs::{
     Given, ONE_VERTEX, SECOND_OF_THREE, TRIANGLE, TWICE_JOINED, ends, prints,
 };
 use std::alloc::{AllocError, Global};

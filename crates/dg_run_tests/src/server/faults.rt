@@ -1,10 +1,10 @@
 //! Faults: the line of each, and the exit status.
 
-use crate::{Fault, SourceFault, report, status_of};
 use dg_chips::ChipFault;
 use dg_file::{FileFault, Shape};
 use dg_graph::GraphFault;
 use dg_lines::LineFault;
+use dg_server::{Fault, SourceFault, report, status_of};
 use dg_session::SessionEnd;
 use dg_table::Fault as TableFault;
 use std::alloc::AllocError;

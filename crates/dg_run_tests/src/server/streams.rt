@@ -1,7 +1,7 @@
 //! Readers and writers that fail.
 
-use crate::tests::runs::{Given, REHEARSE, TRIANGLE, words_in};
-use crate::{SourceFault, read_within};
+use crate::server::runs::{Given, REHEARSE, TRIANGLE, words_in};
+use dg_server::{SourceFault, read_within};
 use dg_session::Output;
 use std::io;
 use std::io::{Read, Write};

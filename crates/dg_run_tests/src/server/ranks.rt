@@ -1,6 +1,6 @@
 //! Runs of `rank`, `rr` and `greedy`.
 
-use crate::tests::runs::{Given, REHEARSE, outcome_of};
+use crate::server::runs::{Given, REHEARSE, outcome_of};
 use std::test::Fail;
 
 const ONE_ON_THREE: &str =

@@ -1,6 +1,6 @@
 //! `rehearse`: schedules that are played and printed, or refused.
 
-use crate::tests::runs::{
+use crate::server::runs::{
     Given, ONE_VERTEX, REHEARSE, SECOND_OF_THREE, TRIANGLE, TWICE_JOINED, ends, outcome_of, prints,
 };
 use std::alloc::AllocError;

@@ -1,6 +1,6 @@
 //! Command lines that are calls for help or the version, or are refused.
 
-use crate::tests::runs::{Given, TRIANGLE, outcome_of};
+use crate::server::runs::{Given, TRIANGLE, outcome_of};
 use std::test::Fail;
 
 // Command lines that call for help, or the version.

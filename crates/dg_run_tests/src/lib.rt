@@ -1,0 +1,5 @@
+//! The tests of the program but for its `main`, which call only what `dg_server` makes public.
+#![tactic(auto)]
+
+#[cfg(test)]
+mod server;
