@@ -1,4 +1,4 @@
-//! The tests of the program but for its `main`, which call only what `dg_server` makes public.
+//! The tests of the program but for its `main`, which call only what `dg_server` and `dg_command` make public.
 #![tactic(auto)]
 
 #[cfg(test)]

@@ -1,7 +1,7 @@
 //! Runs over files in memory, and tables that several of them are played on.
 
+pub(super) use dg_command::run;
 use dg_server::Shelf;
-pub(super) use dg_server::run;
 use dg_session::Output;
 use std::alloc::{AllocError, Global};
 use std::io::Write;
