@@ -5,8 +5,6 @@ mod commits;
 mod looking;
 mod looks;
 mod reckoning;
-#[cfg(test)]
-mod tests;
 
 pub use commits::{commit, commit_rank};
 pub use looking::look;

@@ -2,8 +2,6 @@
 #![tactic(auto)]
 
 mod observer;
-#[cfg(test)]
-mod tests;
 mod watch;
 mod watches;
 

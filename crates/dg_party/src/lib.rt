@@ -12,6 +12,3 @@ pub use ending::{PartyRefusal, Played};
 pub use fault::PartyFault;
 pub use parties::party;
 pub use threads::sessions;
-
-#[cfg(test)]
-mod tests;

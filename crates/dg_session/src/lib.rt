@@ -15,6 +15,3 @@ pub use input::Input;
 pub use laws::streams_are_cut_in_one_way;
 pub use output::{Output, WriteFailed};
 pub use serving::serve;
-
-#[cfg(test)]
-mod tests;

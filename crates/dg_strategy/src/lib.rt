@@ -7,8 +7,6 @@ mod least_debtor;
 mod playing;
 mod settler;
 mod strategy;
-#[cfg(test)]
-mod tests;
 
 pub use choice::Choose;
 pub use games::{GreedyGame, greedy};

@@ -7,8 +7,6 @@ mod held;
 pub mod laws;
 mod seat;
 mod table;
-#[cfg(test)]
-mod tests;
 
 pub use audit::Audit;
 pub use fault::{Fault, TableFault};

@@ -1,0 +1,15 @@
+//! The tests of the locked table and of who plays on it or watches it, which call only what the libraries make public.
+#![tactic(auto)]
+
+#[cfg(test)]
+mod analyst;
+#[cfg(test)]
+mod observer;
+#[cfg(test)]
+mod players;
+#[cfg(test)]
+mod strategy;
+#[cfg(test)]
+mod table;
+#[cfg(test)]
+mod tables;
