@@ -10,7 +10,8 @@ pub mod LevelSteps
 pub mod Cleared
 pub mod BurningSteps
 pub mod Outcome
--- A reduction after a guess.
+-- A burning that is kept, and a reduction after a guess.
+pub mod Burnings
 pub mod Joined
 -- Debts that are paid back.
 pub mod DebtSteps

@@ -1,14 +1,47 @@
 //! Whether amounts are reduced, and what shows it.
 
-ghost use Rattle.std.specs.Prelude.{◌≡◌, ℕ, ◌<◌, ◌≤◌, MatchBool, MatchOption};
+ghost use Rattle.std.specs.Prelude.{◌≡◌, ℕ, ◌<◌, ◌≤◌, MatchBool, MatchOption, IfSome};
 ghost use Rattle.dg_theory.specs.Firing.{HasNoDebtOff};
 ghost use Rattle.dg_theory.specs.Reduced.{IsReduced};
 ghost use Rattle.dg_chips.specs.Vector.{at};
 ghost use Rattle.dg_reduce.specs.Reductions.{IsBurningOrder};
+ghost use Rattle.dg_reduce.specs.Burnings.{IsWhole};
 
-use dg_burn::burn;
+use dg_burn::{burn, held_at};
 use dg_chips::Wide;
 use dg_graph::Graph;
+
+/// A burning in which all vertices burn.
+#[derive(Clone, Copy)]
+pub struct Burning {
+    /// The amounts as far as burning looks at them.
+    pub held: [u8; 16],
+    /// The order in which all vertices burn, the least first; zeros past the last.
+    pub order: [u8; 16],
+}
+
+/// What `order_if_reduced` answers, where a burning is at hand: one of the same amounts serves for another.
+pub(crate) fn order_by(
+    graph: &Graph,
+    q: usize,
+    chips: &Wide,
+    known: &Option<Burning>,
+) -> Option<[u8; 16]>
+    requires size { chips.now.size ≡ graph.now.size }
+    requires vertex { q < graph.now.size }
+    requires known { IfSome known.now (λ x. IsWhole graph.now q x) }
+    ensures { MatchOption result
+        (¬ IsReduced graph.now q (at chips.now))
+        (λ order. IsReduced graph.now q (at chips.now) × IsBurningOrder graph.now q (at chips.now) order) }
+{
+    let _size = graph.size();
+    if let Some(burning) = known {
+        if held_at(chips) == burning.held && is_solvent_off(graph, q, chips) {
+            return Some(burning.order);
+        }
+    }
+    order_if_reduced(graph, q, chips)
+}
 
 /// The order in which all vertices burn from q, the least first, which shows that the amounts are reduced; `None` where
 /// they are not.

@@ -3,12 +3,14 @@
 //! Nothing is promised of where a guess leads: whoever fires by it tests that. So its numbers are small, and its sums may
 //! wrap where they are not.
 
-ghost use Rattle.std.specs.Prelude.{◌≡◌, ℕ, ◌<◌, ◌≤◌, pos};
+ghost use Rattle.std.specs.Prelude.{◌≡◌, ℕ, ◌<◌, ◌≤◌, pos, IfSome};
 ghost use Rattle.std.specs.Int.RustNames.{unsigned_abs};
 ghost use Rattle.dg_chips.specs.Vector.{at};
 ghost use Rattle.dg_reduce.specs.declared.limits.TheConstants.{MAX_START};
+ghost use Rattle.dg_reduce.specs.Burnings.{IsWhole};
 
 use crate::aim::Aim;
+use crate::certificate::Burning;
 use dg_burn::burn_counted;
 use dg_chips::{Script, Wide};
 use dg_graph::{Graph, contains};
@@ -31,17 +33,34 @@ struct Near {
     script: [i32; 16],
 }
 
+/// A script, and what was seen where it leads.
+#[derive(Clone, Copy)]
+pub struct Guessed {
+    /// The script: 0 at q.
+    pub script: Script,
+    /// The burning of the amounts that it seems to lead to, where all vertices burn.
+    pub burning: Option<Burning>,
+}
+
 /// A script that is 0 at q and that may lead to reduced amounts.
-pub fn guess(graph: &Graph, aim: &Aim, q: usize, chips: &Wide) -> Script
+pub fn guess(graph: &Graph, aim: &Aim, q: usize, chips: &Wide) -> Guessed
     requires size { chips.now.size ≡ graph.now.size }
     requires vertex { q < graph.now.size }
     requires range { (v : ℕ) → v < graph.now.size → unsigned_abs (at chips.now v) ≤ MAX_START }
-    ensures size { result.size ≡ graph.now.size }
-    ensures at_q { at result q ≡ pos 0 }
+    ensures size { result.script.size ≡ graph.now.size }
+    ensures at_q { at result.script q ≡ pos 0 }
+    ensures burning { IfSome result.burning (λ x. IsWhole graph.now q x) }
 {
-    let near = aimed(aim, &amounts_off(q, chips));
-    let paid = paid(aim, q, &near);
-    script_of(graph, q, &burnt_down(graph, aim, q, &paid).script)
+    let _size = graph.size();
+    let mut near = aimed(aim, &amounts_off(q, chips));
+    // No step looks at what q holds, but the burning is to tell it.
+    near.chips[q] = near.chips[q].wrapping_add(chips.get(q) as i32);
+    pay(aim, q, &mut near);
+    let burning = burn_down(graph, aim, q, &mut near);
+    Guessed {
+        script: script_of(graph, q, &near.script),
+        burning,
+    }
 }
 
 /// The amounts, but 0 at q.
@@ -59,12 +78,15 @@ fn amounts_off(q: usize, chips: &Wide) -> [i32; 16]
 
 /// The whole lendings nearest to those that leave what is aimed at, and where they lead.
 fn aimed(aim: &Aim, amounts: &[i32; 16]) -> Near {
-    let script = rounded(&aim.lendings(amounts));
-    let mut chips = *amounts;
+    let mut near = Near {
+        chips: *amounts,
+        script: rounded(&aim.lendings(amounts)),
+    };
     for v in 0..16 {
-        chips = lent(&chips, &aim.rows[v], script[v]);
+        let times = near.script[v];
+        lend(&mut near.chips, &aim.rows[v], times);
     }
-    Near { chips, script }
+    near
 }
 
 /// The whole numbers nearest to some that are not far past a thousand million.
@@ -77,25 +99,21 @@ fn rounded(lendings: &[f64; 16]) -> [i32; 16] {
     whole
 }
 
-/// The amounts after so many lendings of the vertex that this row is of.
-fn lent(chips: &[i32; 16], row: &[i32; 16], times: i32) -> [i32; 16] {
-    let mut chips = *chips;
+/// Lets the vertex that this row is of lend so often.
+fn lend(chips: &mut [i32; 16], row: &[i32; 16], times: i32) {
     for w in 0..16 {
         chips[w] = chips[w].wrapping_add(row[w].wrapping_mul(times));
     }
-    chips
 }
 
-/// Where each who owes, off q, borrows until it owes no more, again and again.
-fn paid(aim: &Aim, q: usize, near: &Near) -> Near {
-    let mut now = *near;
+/// Lets each who owes, off q, borrow until it owes no more, again and again.
+fn pay(aim: &Aim, q: usize, near: &mut Near) {
     for _ in 0..PAYING_ROUNDS {
-        if !owes(q, &now.chips) {
-            return now;
+        if !owes(q, &near.chips) {
+            return;
         }
-        now = paid_once(aim, q, &now);
+        pay_once(aim, q, near);
     }
-    now
 }
 
 /// Whether somebody off q owes.
@@ -108,17 +126,15 @@ fn owes(q: usize, chips: &[i32; 16]) -> bool {
     false
 }
 
-/// Where each who owes, off q, has borrowed in turn until it owed no more.
-fn paid_once(aim: &Aim, q: usize, near: &Near) -> Near {
-    let mut now = *near;
+/// Lets each who owes, off q, borrow in turn until it owes no more.
+fn pay_once(aim: &Aim, q: usize, near: &mut Near) {
     for v in 0..16 {
-        if v != q && now.chips[v] < 0 {
-            let times = times_to_pay(now.chips[v], aim.valences[v]);
-            now.chips = lent(&now.chips, &aim.rows[v], times);
-            now.script[v] = now.script[v].wrapping_add(times);
+        if v != q && near.chips[v] < 0 {
+            let times = times_to_pay(near.chips[v], aim.valences[v]);
+            lend(&mut near.chips, &aim.rows[v], times);
+            near.script[v] = near.script[v].wrapping_add(times);
         }
     }
-    now
 }
 
 /// How often, below 0, a vertex that owes lends until it owes no more. A vertex without edges never does.
@@ -129,19 +145,21 @@ fn times_to_pay(chips: i32, valence: i32) -> i32 {
     chips.saturating_sub(valence - 1) / valence
 }
 
-/// Where those who do not burn have lent together, once and again.
-fn burnt_down(graph: &Graph, aim: &Aim, q: usize, near: &Near) -> Near
+/// Lets those who do not burn lend together, once and again, until all burn: that burning is the result.
+fn burn_down(graph: &Graph, aim: &Aim, q: usize, near: &mut Near) -> Option<Burning>
     requires { q < graph.now.size }
+    ensures { IfSome result (λ x. IsWhole graph.now q x) }
 {
-    let mut now = *near;
     for _ in 0..BURNING_ROUNDS {
-        let counted = burn_counted(graph, q, &held_by(&now.chips));
+        let held = held_by(&near.chips);
+        let counted = burn_counted(graph, q, &held);
         if counted.burnt.unburnt == 0 {
-            return now;
+            let order = counted.burnt.order;
+            return Some(Burning { held, order });
         }
-        now = fired(aim, counted.burnt.unburnt, &counted.joined, &now);
+        fire(aim, counted.burnt.unburnt, &counted.joined, near);
     }
-    now
+    None
 }
 
 /// The amounts as far as burning looks at them.
@@ -153,17 +171,15 @@ fn held_by(chips: &[i32; 16]) -> [u8; 16] {
     held
 }
 
-/// Where each vertex of a set has lent once more; `joined` are the edges of each vertex to those that are not in it.
-fn fired(aim: &Aim, set: u16, joined: &[u8; 16], near: &Near) -> Near {
-    let mut now = *near;
+/// Lets each vertex of a set lend once more; `joined` are the edges of each vertex to those that are not in it.
+fn fire(aim: &Aim, set: u16, joined: &[u8; 16], near: &mut Near) {
     for v in 0..16 {
         let lends = i32::from(contains(set, v));
         let out = i32::from(joined[v]);
         let got = (1i32.wrapping_sub(lends)).wrapping_mul(aim.valences[v]);
-        now.chips[v] = now.chips[v].wrapping_sub(out).wrapping_add(got);
-        now.script[v] = now.script[v].wrapping_add(lends);
+        near.chips[v] = near.chips[v].wrapping_sub(out).wrapping_add(got);
+        near.script[v] = near.script[v].wrapping_add(lends);
     }
-    now
 }
 
 /// The lendings as a script, 0 at q and cut off at the most that are guessed.

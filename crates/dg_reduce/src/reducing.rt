@@ -1,14 +1,15 @@
 //! Reductions.
 
-ghost use Rattle.std.specs.Prelude.{◌≡◌, ℕ, ◌<◌, ◌≤◌, pos};
+ghost use Rattle.std.specs.Prelude.{◌≡◌, ℕ, ◌<◌, ◌≤◌, pos, IfSome};
 ghost use Rattle.std.specs.Bool.{OnTrue, OnFalse};
 ghost use Rattle.std.specs.Int.RustNames.{unsigned_abs};
 ghost use Rattle.dg_chips.specs.Vector.{at};
 ghost use Rattle.dg_reduce.specs.Reductions.{IsReduction, IsCertified};
+ghost use Rattle.dg_reduce.specs.Burnings.{IsWhole};
 
 use crate::aim::Aim;
 use crate::burning_down::burn_down;
-use crate::certificate::order_if_reduced;
+use crate::certificate::{Burning, order_by};
 use crate::clearing::clear_levels;
 use crate::guess::guess;
 use crate::levels::levels_from;
@@ -66,27 +67,37 @@ pub fn reduce_certified(graph: &Graph, aim: &Aim, q: usize, chips: &Wide) -> Cer
     requires range { (v : ℕ) → v < graph.now.size → unsigned_abs (at chips.now v) ≤ MAX_START }
     ensures { IsCertified graph.now q (at chips.now) 451000000 result }
 {
-    certified_by(graph, q, chips, &guess(graph, aim, q, chips))
+    let guess = guess(graph, aim, q, chips);
+    certified_by(graph, q, chips, &guess.script, &guess.burning)
 }
 
 /// The reduction that begins with a script, any that is 0 at q: where the script leads to amounts from which all vertices
-/// burn, these are the reduced ones.
-pub(crate) fn certified_by(graph: &Graph, q: usize, chips: &Wide, script: &Script) -> Certified
+/// burn, these are the reduced ones. A burning of these amounts may be known before.
+pub(crate) fn certified_by(
+    graph: &Graph,
+    q: usize,
+    chips: &Wide,
+    script: &Script,
+    known: &Option<Burning>,
+) -> Certified
     requires size { chips.now.size ≡ graph.now.size }
     requires vertex { q < graph.now.size }
     requires script { script.now.size ≡ graph.now.size }
     requires range { (v : ℕ) → v < graph.now.size → unsigned_abs (at chips.now v) ≤ MAX_START }
     requires start { at script.now q ≡ pos 0 }
+    requires known { IfSome known.now (λ x. IsWhole graph.now q x) }
     ensures { IsCertified graph.now q (at chips.now) 451000000 result }
 {
     let _size = graph.size();
     let divisor = chips.fired_by(graph, script);
-    if let Some(order) = order_if_reduced(graph, q, &divisor) {
-        let reduced = Reduced {
-            divisor,
-            script: *script,
+    if let Some(order) = order_by(graph, q, &divisor, known) {
+        return Certified {
+            reduced: Reduced {
+                divisor,
+                script: *script,
+            },
+            order,
         };
-        return Certified { reduced, order };
     }
     let reduced = reduce_after(graph, q, chips, script);
     let order = burn(graph, q, &reduced.divisor).order;

@@ -153,7 +153,32 @@ fn certified_after(graph: &Graph, q: usize, chips: &Wide, script: &Script) -> Op
     if q >= graph.size() || !is_within_start(chips) || script.get(q) != 0 {
         return None;
     }
-    Some(certified_by(graph, q, chips, script))
+    Some(certified_by(graph, q, chips, script, &None))
+}
+
+/// The same, where the burning that a guess for other amounts ends with is at hand.
+fn certified_beside(
+    graph: &Graph,
+    q: usize,
+    chips: &Wide,
+    script: &Script,
+    other: &Wide,
+) -> Option<Certified>
+    requires size { chips.now.size ≡ graph.now.size }
+    requires script { script.now.size ≡ graph.now.size }
+    requires other { other.now.size ≡ graph.now.size }
+{
+    if q >= graph.size() || !is_within_start(chips) || script.get(q) != 0 {
+        return None;
+    }
+    if !is_within_start(other) {
+        return None;
+    }
+    let known = guess(graph, &Aim::new(graph, q), q, other).burning;
+    if known.is_none() {
+        return None;
+    }
+    Some(certified_by(graph, q, chips, script, &known))
 }
 
 #[test]
@@ -174,6 +199,29 @@ fn wrong_guesses(rt: HostRuntime) -> Result<(), Fail> {
             };
             assert!(rt; found.reduced == wanted, "{guess:?}");
             assert!(rt; Some(found.order) == order, "{guess:?}");
+        }
+    }
+    Ok(())
+}
+
+// A burning of other amounts changes no answer: those where some vertex has a dollar less. One that burns in another order
+// is among them. Triangle from 2, by hand: with a dollar less at 0, what is left off q is 1 0, so that 1 burns before 0.
+#[test]
+fn burnings_of_others(rt: HostRuntime) -> Result<(), Fail> {
+    for (items, q, amounts, chips, script, _) in CASES {
+        let graph = Graph::new(amounts.len(), items)?;
+        let start = Wide::new(&graph, amounts)?;
+        let divisor = Wide::new(&graph, chips)?;
+        let script = Script::new(&graph, script)?;
+        assert!(rt; q < graph.size());
+        let order = order_if_reduced(&graph, q, &divisor);
+        for v in 0..graph.size() {
+            let other = start.with_amount(v, start.get(v).wrapping_sub(1));
+            let Some(found) = certified_beside(&graph, q, &start, &script, &other) else {
+                panic!(rt; "{amounts:?} but at {v}");
+            };
+            assert!(rt; found.reduced == Reduced { divisor, script }, "at {v}");
+            assert!(rt; Some(found.order) == order, "at {v}");
         }
     }
     Ok(())
@@ -204,7 +252,7 @@ fn guesses_are_right(rt: HostRuntime) -> Result<(), Fail> {
     for (q, amounts) in cases {
         let chips = Wide::new(&path, amounts)?;
         assert!(rt; q < path.size() && is_within_start(&chips));
-        let script = guess(&path, &Aim::new(&path, q), q, &chips);
+        let script = guess(&path, &Aim::new(&path, q), q, &chips).script;
         let left = chips.fired_by(&path, &script);
         assert!(rt; order_if_reduced(&path, q, &left).is_some(), "for {q}");
         assert!(rt; left.get(3) < 1 || q == 3);

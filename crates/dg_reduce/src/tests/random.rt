@@ -4,9 +4,10 @@ ghost use Rattle.std.specs.Prelude.{◌≡◌, ◌<◌, ◌≤◌, pos};
 ghost use Rattle.std.specs.Int.RustNames.{unsigned_abs};
 ghost use Rattle.dg_chips.specs.Vector.{at};
 
-use crate::guess::guess;
+use crate::guess::{Guessed, guess};
 use crate::reducing::{is_within_start, reduce_after, reduce_by_levels};
 use crate::{Aim, order_if_reduced, reduce_certified};
+use dg_burn::held_at;
 use dg_chips::{Script, Wide};
 use dg_graph::Graph;
 use std::test::Fail;
@@ -116,7 +117,7 @@ fn blunt(graph: &Graph, q: usize, script: &Script) -> Script
 }
 
 /// Whether a random reduction is the same with a guess and by levels, which begin with a blunt script where amounts are
-/// large; and whether the guess was right.
+/// large; and whether the guess was right, and its burning was that of the reduced amounts.
 fn agrees(dice: &mut Dice, graph: &Graph, q: usize, most: u64) -> Option<(bool, bool)>
     requires vertex { q < graph.now.size }
     requires most { most ≤ 1000000 }
@@ -132,7 +133,7 @@ fn agrees(dice: &mut Dice, graph: &Graph, q: usize, most: u64) -> Option<(bool, 
     }
     let aim = Aim::new(graph, q);
     let found = reduce_certified(graph, &aim, q, &chips);
-    let script = guess(graph, &aim, q, &chips);
+    let Guessed { script, burning } = guess(graph, &aim, q, &chips);
     let wanted = if most <= 10 {
         reduce_by_levels(graph, q, &chips)
     } else {
@@ -140,9 +141,13 @@ fn agrees(dice: &mut Dice, graph: &Graph, q: usize, most: u64) -> Option<(bool, 
     };
     let order = order_if_reduced(graph, q, &wanted.divisor);
     let left = chips.fired_by(graph, &script);
+    let known = match burning {
+        Some(burning) => burning.held == held_at(&left),
+        None => false,
+    };
     Some((
         found.reduced == wanted && order == Some(found.order),
-        order_if_reduced(graph, q, &left).is_some(),
+        known && order_if_reduced(graph, q, &left).is_some(),
     ))
 }
 

@@ -1,0 +1,12 @@
+-- A burning that is kept for amounts which may be those that burnt.
+--   IsWhole g q x == all vertices burn from q, in the order of x, where they hold what x tells
+use Rattle.std.specs.Prelude.{ℕ}
+use Rattle.dg_theory.specs.Multigraph.{Multigraph}
+use Rattle.dg_theory.specs.Reduced.{IsReduced}
+use Rattle.dg_burn.specs.Fires.{dollars}
+use Rattle.dg_reduce.specs.declared.certificate.Burning.{Burning}
+use Rattle.dg_reduce.specs.Reductions.{IsBurningOrder}
+
+pub record IsWhole (g : Multigraph) (q : ℕ) (x : Burning) : Type 0 where
+  pub reduced : IsReduced g q (dollars x.held)
+  pub order : IsBurningOrder g q (dollars x.held) x.order
