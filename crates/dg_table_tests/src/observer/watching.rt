@@ -5,7 +5,7 @@ use crate::players::lend_and_borrow;
 use crate::tables::triangle;
 use dg_chips::{Divisor, Move, Start};
 use dg_game::{Entry, Plain};
-use dg_log::{Name, Row};
+use dg_log::{Log, Name, Row};
 use dg_observer::{Gifts, Observer, ObserverFault, Positions, RefusedMoves, Watch};
 use dg_table::{Fault, Seat, Table};
 use std::alloc::{AllocError, Global};
@@ -58,19 +58,47 @@ fn watched<N: Name, R: Wait + Abort>(
     second.learn(&lent)?;
     table.call(rt, alloc, &mut second, Plain::Gift(1, 1))?;
     let log = table.log();
+    counts_gifts(rt, alloc, log)?;
+    table.call(rt, alloc, &mut second, Plain::Move(Move::Lend(3)))?;
+    counts_entries(rt, alloc, log)?;
+    counts_refused_moves(rt, alloc, log)?;
+    follows_the_position(rt, alloc, log, start)
+}
+
+// Of two entries the second is a gift.
+fn counts_gifts<N: Name>(rt: &impl Abort, alloc: Global, log: &Log<N>) -> Result<(), Fail> {
     let mut gifts = Observer::<N, Gifts>::new(alloc, Gifts, 0);
     assert_eq!(rt; gifts.catch_up(log)?, 2);
     assert_eq!(rt; *gifts.state(), 1);
     assert_eq!(rt; gifts.catch_up(log)?, 0);
     assert_eq!(rt; gifts.count(), 2);
     assert_eq!(rt; gifts.receipt(1).number(), 1);
-    table.call(rt, alloc, &mut second, Plain::Move(Move::Lend(3)))?;
+    Ok(())
+}
+
+fn counts_entries<N: Name>(rt: &impl Abort, alloc: Global, log: &Log<N>) -> Result<(), Fail> {
     let mut entries = Observer::<N, Entries>::new(alloc, Entries, 0);
     assert_eq!(rt; entries.catch_up(log)?, 3);
     assert_eq!(rt; *entries.state(), 3);
+    Ok(())
+}
+
+// The third entry is the only refused move, of seat 2.
+fn counts_refused_moves<N: Name>(rt: &impl Abort, alloc: Global, log: &Log<N>) -> Result<(), Fail> {
     let mut refused = Observer::<N, RefusedMoves>::new(alloc, RefusedMoves, [0; 64]);
     assert_eq!(rt; refused.catch_up(log)?, 3);
     assert!(rt; refused.state()[0] == 0 && refused.state()[1] == 1);
+    Ok(())
+}
+
+fn follows_the_position<N: Name>(
+    rt: &impl Abort,
+    alloc: Global,
+    log: &Log<N>,
+    start: &Start,
+) -> Result<(), Fail>
+    requires { start.now ≡ N.start }
+{
     let mut position = Observer::<N, Positions<N>>::new(alloc, Positions::new(), *start.divisor());
     assert_eq!(rt; position.catch_up(log)?, 3);
     assert!(rt; *position.state() == Divisor::new(start.graph(), &[-2, 2, 1])?);

@@ -4,7 +4,7 @@ ghost use Rattle.std.specs.Prelude.{◌≡◌};
 use crate::tables::{amounts, triangle};
 use dg_chips::{Move, Start};
 use dg_game::{Plain, Reply};
-use dg_log::{LogFault, Name, Row};
+use dg_log::{Log, LogFault, Name, Receipt, Row};
 use dg_table::{Fault, Seat, Table, TableFault};
 use std::alloc::Global;
 use std::marker::Brand;
@@ -94,14 +94,34 @@ fn one_tells_another<N: Name, R: Wait + Abort>(
     let lent = table.call(rt, alloc, &mut first, LEND)?;
     second.learn(&lent)?;
     let given = table.call(rt, alloc, &mut second, Plain::Gift(1, 1))?;
-    assert_eq!(rt; given.number(), 1);
     assert!(rt; table.log().entry(&given).reply == Reply::Given(1, amounts(&[-2, 2, 1])?));
     assert!(rt; table.log().entry(&lent).seat == 1);
-    let (found, entry) = table.log().read(1).ok_or("an entry that was set")?;
-    assert!(rt; entry.seat == 2);
-    found.again().compare(&given);
-    assert!(rt; table.log().read(2).is_none());
+    reads_the_second(rt, table.log(), &given)?;
     seats.push(first)?;
+    closes_with_the_second(rt, table, seats, second)
+}
+
+// The receipt is that of the second and last entry, which is seat 2's.
+fn reads_the_second<N: Name>(
+    rt: &impl Abort,
+    log: &Log<N>,
+    given: &Receipt<N>,
+) -> Result<(), Fail> {
+    assert_eq!(rt; given.number(), 1);
+    let (found, entry) = log.read(1).ok_or("an entry that was set")?;
+    assert!(rt; entry.seat == 2);
+    found.again().compare(given);
+    assert!(rt; log.read(2).is_none());
+    Ok(())
+}
+
+// Without the second seat the table is not closed, and with it it is.
+fn closes_with_the_second<N: Name>(
+    rt: &impl Abort,
+    table: Table<N>,
+    seats: Vec<Seat<N>>,
+    second: Seat<N>,
+) -> Result<(), Fail> {
     let fault = table.close(seats).err().ok_or("a seat that is missing")?;
     assert_eq!(rt; fault.missing, 2);
     let (table, mut seats) = (fault.table, fault.seats);
@@ -109,11 +129,9 @@ fn one_tells_another<N: Name, R: Wait + Abort>(
     seats.push(second)?;
     seats.push(first)?;
     let audit = table.close(seats).map_err(|_| "an audit")?;
-    assert_eq!(rt; audit.entries, 2);
-    assert_eq!(rt; audit.gifts, 1);
+    assert!(rt; audit.entries == 2 && audit.gifts == 1);
     assert!(rt; audit.position == amounts(&[-2, 2, 1])?);
-    assert_eq!(rt; audit.calls[0], 1);
-    assert_eq!(rt; audit.calls[1], 1);
+    assert!(rt; audit.calls[0] == 1 && audit.calls[1] == 1);
     Ok(())
 }
 

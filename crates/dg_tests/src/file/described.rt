@@ -30,10 +30,20 @@ fn table_files_are_read(rt: HostRuntime) -> Result<(), Fail> {
     assert_eq!(rt; divisor.size(), 3);
     assert!(rt; divisor.get(0) == 2 && divisor.get(1) == -1 && divisor.get(2) == 1_000_000);
     assert_eq!(rt; start.q(), 1);
+    Ok(())
+}
+
+#[test]
+fn edges_of_one_pair_are_added_up(rt: HostRuntime) -> Result<(), Fail> {
     let twice = read_table(rt.alloc(), TWICE.as_bytes())?;
     let pair = twice.start().graph();
     assert_eq!(rt; pair.size(), 2);
     assert_eq!(rt; pair.edges(0, 1), 3);
+    Ok(())
+}
+
+#[test]
+fn a_table_may_have_one_vertex(rt: HostRuntime) -> Result<(), Fail> {
     let alone = read_table(rt.alloc(), ALONE.as_bytes())?;
     let debt = alone.start().divisor();
     assert_eq!(rt; debt.size(), 1);
