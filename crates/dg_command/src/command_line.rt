@@ -1,9 +1,7 @@
 //! The command line: what its words ask for, and what is said of them.
-ghost use Rattle.std.specs.Prelude.{◌≡◌, ◌≤◌, length, IfErr, IfOk, IfSome};
+ghost use Rattle.std.specs.Prelude.{◌≡◌, ◌≤◌, length, IfOk};
 ghost use Rattle.std.specs.Vec.{vec_len};
-ghost use Rattle.dg_game.specs.declared.game.TheConstants.{MAX_ENTRIES};
-ghost use Rattle.dg_rank.specs.Ranks.{MayHaveWorkers};
-ghost use Rattle.dg_command.specs.Runs.{IsOfWords};
+ghost use Rattle.dg_asked.specs.declared.limits.TheConstants.{MAX_CAPACITY, MAX_TURNS, MAX_WORKERS};
 
 use crate::help_texts::{
     CAPACITY_HELP, DEGREE_HELP, FILE_HELP, GREEDY_MORE, JUDGE_MORE, MORE, PARTY_MORE, RANK_MORE,
@@ -12,42 +10,57 @@ use crate::help_texts::{
 };
 use clap::error::ErrorKind;
 use clap::{Arg, ArgMatches, Command};
-use dg_lines::{degree, natural};
-use dg_server::{Asked, Fault, Gathering, GreedyTask, RankTask, Service, Task};
+use dg_asked::{Asked, Gathering, GreedyTask, RankTask, Service, Task, Words, WordsFault};
+use dg_numbers::natural;
 use std::alloc::{AllocError, Global};
 use std::rt::Env;
 use std::{env, io};
 
 /// The words of the process's own command line, the program's name first.
 ///
-/// Refused with `Words` where one of them is no text, and with `OutOfMemory`.
-pub fn words_of<R: Env + AllocGlobal>(rt: &R) -> Result<Vec<String>, Fault>
-    ensures { IfErr result IsOfWords }
-{
+/// Refused with `NotText` where one of them is no text, and with `OutOfMemory`.
+pub fn words_of<R: Env + AllocGlobal>(rt: &R) -> Result<Vec<String>, WordsFault> {
     match env::args(rt) {
-        Ok(words) => Ok(words.collect(rt.alloc())?),
-        Err(error) if error.kind() == io::ErrorKind::OutOfMemory => Err(Fault::OutOfMemory),
-        Err(_) => Err(Fault::Words),
+        Ok(words) => match words.collect(rt.alloc()) {
+            Ok(words) => Ok(words),
+            Err(_) => Err(WordsFault::OutOfMemory),
+        },
+        Err(error) if error.kind() == io::ErrorKind::OutOfMemory => Err(WordsFault::OutOfMemory),
+        Err(_) => Err(WordsFault::NotText),
     }
 }
 
-/// What the words ask for, the first of which is the program's name.
-///
-/// Refused with `CommandLine` and what is to be said of it, and with `OutOfMemory`.
-pub fn asked_by<'a>(alloc: Global, words: &'a [String]) -> Result<Asked<'a>, Fault>
-    ensures { IfErr result IsOfWords }
-{
-    match command_of(alloc, words) {
-        Ok(asked) => Ok(asked),
-        Err(error) if error.kind() == ErrorKind::OutOfMemory => Err(Fault::OutOfMemory),
-        Err(error) => {
-            let text = format!(in alloc; "{error}")?;
-            if error.use_stderr() {
-                Err(Fault::CommandLine(text))
-            } else {
-                Ok(Asked::Text(text))
-            }
+/// The command line of the program, as `dollar --help` says it. What words it takes, and what for, no clause says.
+#[derive(Clone, Copy)]
+pub struct CommandLine;
+
+impl Words for CommandLine {
+    ghost use Rattle.std.specs.Prelude.{⊤};
+
+    ghost asks = { λ _ words asked. ⊤ };
+
+    ghost refuses = { λ _ words fault. ⊤ };
+
+    fn asked<'a>(&self, alloc: Global, words: &'a [String]) -> Result<Asked<'a>, WordsFault> {
+        match command_of(alloc, words) {
+            Ok(asked) => Ok(asked),
+            Err(error) => said_of(alloc, &error),
         }
+    }
+}
+
+/// What is said of words that ask for no command: on the standard output after a call for help, else as a fault.
+fn said_of<'a>(alloc: Global, error: &clap::Error) -> Result<Asked<'a>, WordsFault> {
+    if error.kind() == ErrorKind::OutOfMemory {
+        return Err(WordsFault::OutOfMemory);
+    }
+    let Ok(text) = format!(in alloc; "{error}") else {
+        return Err(WordsFault::OutOfMemory);
+    };
+    if error.use_stderr() {
+        Err(WordsFault::CommandLine(text))
+    } else {
+        Ok(Asked::Text(text))
     }
 }
 
@@ -191,7 +204,7 @@ fn task_in<'a>(name: &str, file: &'a str, inner: &ArgMatches<'a>) -> Result<Task
 
 /// The number of entries that the history may have, 65,536 where none is given.
 fn capacity_in<'a>(matches: &ArgMatches<'a>) -> Result<u32, Refusal<'a>>
-    ensures { IfOk result (λ capacity. (1 ≤ capacity) × (capacity ≤ MAX_ENTRIES)) }
+    ensures { IfOk result (λ capacity. (1 ≤ capacity) × (capacity ≤ MAX_CAPACITY)) }
 {
     match matches.get_str("cap") {
         Some(number) => match natural(number.as_bytes()) {
@@ -204,7 +217,7 @@ fn capacity_in<'a>(matches: &ArgMatches<'a>) -> Result<u32, Refusal<'a>>
 
 /// The number of workers, 1 where none is given.
 fn workers_in<'a>(matches: &ArgMatches<'a>) -> Result<u32, Refusal<'a>>
-    ensures { IfOk result MayHaveWorkers }
+    ensures { IfOk result (λ workers. (1 ≤ workers) × (workers ≤ MAX_WORKERS)) }
 {
     match matches.get_str("workers") {
         Some(number) => match natural(number.as_bytes()) {
@@ -217,15 +230,15 @@ fn workers_in<'a>(matches: &ArgMatches<'a>) -> Result<u32, Refusal<'a>>
 
 /// The degree of a rank test.
 fn degree_in(word: &str) -> Result<u32, Refusal<'_>> {
-    match degree(word.as_bytes()) {
-        Some(degree) => Ok(degree),
-        None => Err(Refusal::Number(NumberArgument::Degree, word)),
+    match natural(word.as_bytes()) {
+        Some(degree @ 0..=4_294_967_295) => Ok(degree as u32),
+        _ => Err(Refusal::Number(NumberArgument::Degree, word)),
     }
 }
 
 /// The number of turns.
 fn turns_in(word: &str) -> Result<u32, Refusal<'_>>
-    ensures { IfOk result (λ turns. turns ≤ MAX_ENTRIES) }
+    ensures { IfOk result (λ turns. turns ≤ MAX_TURNS) }
 {
     match natural(word.as_bytes()) {
         Some(turns @ 0..=65_536) => Ok(turns as u32),

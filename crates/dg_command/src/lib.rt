@@ -1,9 +1,7 @@
-//! The command line of the program: what its words ask for, what is said of them, and a run from its words to its exit status.
+//! The command line of the program: what its words ask for, and what is said of them.
 #![tactic(auto)]
 
 mod command_line;
 mod help_texts;
-mod running;
 
-pub use command_line::{asked_by, words_of};
-pub use running::run;
+pub use command_line::{CommandLine, words_of};

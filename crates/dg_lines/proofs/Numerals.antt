@@ -1,32 +1,9 @@
--- The decimals of numbers: what is no decimal, and the seat that a text spells.
+-- The seat that a text spells.
 use Rattle.std.proofs.Common.{◌≡◌, ◌≢◌, ℕ, zero, suc, ◌^◌, ◌<◌, ◌≤◌, ◌⊎◌, List, Some, None, Result, Ok, Err, Bool, true, false, cond, refl, ap, sym, ◌∙◌, subst, arith, decimal}
-use Rattle.std.specs.Prelude.{bytes_eq, IsUtf8}
-use Rattle.std.specs.Str.Parse.{ParsesUnsigned}
-use Rattle.std.proofs.lemmas.Fmt.{IsAscii-decimal, parse-decimal, decimal_injective}
-use Rattle.std.proofs.lemmas.Str.{IsUtf8-from_ascii}
+use Rattle.std.specs.Prelude.{bytes_eq}
+use Rattle.std.proofs.lemmas.Fmt.{decimal_injective}
 use Rattle.std.proofs.lemmas.Slice.Eq.{bytes_eq-Decides}
 use Rattle.dg_lines.specs.Numbers.{seat_up_to, seat_of}
-
-pub no_utf8 : (text : List ℕ) → (IsUtf8 text → ⊥) → (n : ℕ) → n < 2 ^ 64 → text ≡ decimal n → ⊥
-no_utf8 text never n small e = never (subst IsUtf8 (sym e) (IsUtf8-from_ascii (decimal n) (IsAscii-decimal n small)))
-
-pub no_number : {E : Type 0} (written text : List ℕ) (fault : E) → written ≡ text → ParsesUnsigned 64 10 written (Err fault)
-    → (n : ℕ) → n < 2 ^ 64 → text ≡ decimal n → ⊥
-no_number {E} written text fault same_text parses n small e =
-    let same : ◌≡◌ {A = Result ℕ E} (Err fault) (Ok n) =
-    parse-decimal 64 n written (Err fault) small small (same_text ∙ e) parses in
-    cc
-
-pub no_decimal : {E : Type 0} (written text shown : List ℕ) (number : ℕ) (read : Result ℕ E)
-    → written ≡ text → ParsesUnsigned 64 10 written read → read ≡ Ok number
-    → shown ≡ decimal number → false ≡ bytes_eq shown text
-    → (n : ℕ) → n < 2 ^ 64 → text ≡ decimal n → ⊥
-no_decimal {E} written text shown number read same_text parses is shows differs n small e =
-    let same : read ≡ Ok n = parse-decimal 64 n written read small small (same_text ∙ e) parses in
-    let number_is : number ≡ n = cc in
-    let equal : bytes_eq shown text ≡ true =
-    (bytes_eq-Decides shown text).1 (shows ∙ ap decimal number_is ∙ sym e) in
-    cc
 
 below_last : (k n : ℕ) (text : List ℕ) → n ≤ suc k → text ≡ decimal n → bytes_eq text (decimal (suc k)) ≡ false → n ≤ k
 below_last k n text last e missed =

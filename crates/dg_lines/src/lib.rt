@@ -17,6 +17,5 @@ pub use history::history_lines;
 pub use laws::{lines_have_one_meaning, numerals_are_decimals, steps_have_one_meaning};
 pub use line::{LineFault, parse_line, parse_step};
 pub use lines::Lines;
-pub use number::{degree, natural};
 pub use steps_file::{StepsFault, parse_steps};
 pub use text::{entry_line, push_amounts, push_entry, push_reply, reply_text};

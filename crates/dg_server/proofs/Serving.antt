@@ -14,7 +14,7 @@ use Rattle.std.specs.Prelude.{Result}
 use Rattle.dg_session.specs.declared.ends.SessionEnd.{SessionEnd}
 use Rattle.dg_party.specs.Sessions.{contents}
 use Rattle.dg_party.specs.Parties.{IsParty}
-use Rattle.dg_server.specs.declared.asked.Gathering.{Gathering}
+use Rattle.dg_asked.specs.declared.asked.Gathering.{Gathering}
 use Rattle.dg_server.specs.Tasks.{DescribesTable}
 use Rattle.dg_server.specs.Gatherings.{AreHeld, names_in, IsGathering}
 

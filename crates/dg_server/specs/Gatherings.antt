@@ -25,7 +25,7 @@ use Rattle.dg_party.specs.Parties.{IsParty}
 use Rattle.dg_server.specs.Held.{Held, IsHeld, RefusesHeld}
 use Rattle.dg_server.specs.Tasks.{IsOnTable, RefusesTable}
 use Rattle.dg_server.specs.declared.sources.SourceFault.{SourceFault}
-use Rattle.dg_server.specs.declared.asked.Gathering.{Gathering}
+use Rattle.dg_asked.specs.declared.asked.Gathering.{Gathering}
 use Rattle.dg_server.specs.declared.fault.Fault.{Fault}
 use Rattle.dg_server.specs.declared.fault.Fault.TheVariants.{Sessions, Seats, Source, File, OutOfMemory, NoThread, History}
 

@@ -11,3 +11,4 @@ pub mod Services
 pub mod Gatherings
 pub mod Status
 pub mod Performed
+pub mod Runs

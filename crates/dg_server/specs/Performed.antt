@@ -9,8 +9,8 @@ use Rattle.dg_server.specs.Held.{Held}
 use Rattle.dg_server.specs.Tasks.{IsAnswer, RefusesTask}
 use Rattle.dg_server.specs.Services.{Serves, RefusesService}
 use Rattle.dg_server.specs.Gatherings.{Gathers, RefusesGathering}
-use Rattle.dg_server.specs.declared.asked.Asked.{Asked}
-use Rattle.dg_server.specs.declared.asked.Asked.TheVariants.{Task, Serve, Party, Text}
+use Rattle.dg_asked.specs.declared.asked.Asked.{Asked}
+use Rattle.dg_asked.specs.declared.asked.Asked.TheVariants.{Task, Serve, Party, Text}
 use Rattle.dg_server.specs.declared.fault.Fault.{Fault}
 
 abbrev pub Performs : (List ℕ → Held) → Option (List ℕ) → Asked → Option (List ℕ) → Option (List ℕ) → Type 0

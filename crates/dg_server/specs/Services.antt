@@ -16,7 +16,7 @@ use Rattle.dg_session.specs.Ends.{IsSession}
 use Rattle.dg_session.specs.declared.ends.SessionEnd.{SessionEnd}
 use Rattle.dg_server.specs.Held.{Held}
 use Rattle.dg_server.specs.Tasks.{IsOnTable, RefusesItsTable}
-use Rattle.dg_server.specs.declared.asked.Service.{Service}
+use Rattle.dg_asked.specs.declared.asked.Service.{Service}
 use Rattle.dg_server.specs.declared.fault.Fault.{Fault}
 use Rattle.dg_server.specs.declared.fault.Fault.TheVariants.{Session, OutOfMemory}
 

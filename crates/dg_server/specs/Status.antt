@@ -1,13 +1,16 @@
 -- The exit statuses of runs that end with a fault.
 --   IsStatus n             == 0, or the status of a run that ends with a fault
+--   status_of_words fault  == the status where the words of the command line ask for nothing
 --   status_of_source fault == the status where a file is not read
 --   status_of_file fault   == the status where a table file is refused
 --   status_of_table fault  == the status where a call of a table is refused so
 --   status_of_end end      == the status where a session ends so
 --   status fault           == 2 for a refused command line, 3 for refused input, 4 for want of memory, 5 for reading and writing
 use Rattle.std.specs.Prelude.{◌≡◌, ℕ, ◌≤◌, ◌⊎◌}
+use Rattle.dg_asked.specs.declared.words.WordsFault.{WordsFault}
+use Rattle.dg_asked.specs.declared.words.WordsFault.TheVariants.{OutOfMemory as NoMemoryForWords}
 use Rattle.dg_server.specs.declared.fault.Fault.{Fault}
-use Rattle.dg_server.specs.declared.fault.Fault.TheVariants.{CommandLine, Words, Source, File, Line, Full, NoLook, StepTrials, TooMany, Chip, Turn, OutOfMemory, Session, Sessions, Seats, NoThread, History, Write}
+use Rattle.dg_server.specs.declared.fault.Fault.TheVariants.{Words, Source, File, Line, Full, NoLook, StepTrials, TooMany, Chip, Turn, OutOfMemory, Session, Sessions, Seats, NoThread, History, Write}
 use Rattle.dg_session.specs.declared.ends.SessionEnd.{SessionEnd}
 use Rattle.dg_session.specs.declared.ends.SessionEnd.TheVariants as end
 use Rattle.dg_table.specs.declared.fault.Fault.{Fault as TableFault}
@@ -16,6 +19,10 @@ use Rattle.dg_server.specs.declared.sources.SourceFault.{SourceFault}
 use Rattle.dg_server.specs.declared.sources.SourceFault.TheVariants.{Unreadable, TooLong, OutOfMemory as NoMemoryToRead}
 use Rattle.dg_file.specs.declared.fault.FileFault.{FileFault}
 use Rattle.dg_file.specs.declared.fault.FileFault.TheVariants.{OutOfMemory as NoMemoryForTable}
+
+abbrev pub status_of_words : WordsFault → ℕ
+status_of_words NoMemoryForWords = 4
+status_of_words _ = 2
 
 abbrev pub status_of_source : SourceFault → ℕ
 status_of_source TooLong = 3
@@ -41,8 +48,7 @@ status_of_end end.Memory = 4
 status_of_end end.Spawn = 4
 
 abbrev pub status : Fault → ℕ
-status (CommandLine _) = 2
-status Words = 2
+status (Words fault) = status_of_words fault
 status (Source fault) = status_of_source fault
 status (File fault) = status_of_file fault
 status (Line _ _) = 3

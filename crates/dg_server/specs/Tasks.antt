@@ -3,7 +3,6 @@
 --   IsOnTable h P                 == the file h describes a table, and P holds of its opening and names
 --   IsOfSteps h P                 == P holds of the lines of bytes that the file h may hold
 --   Answers held o names task text == the text is the answer to the task on the opening o with these names
---   file_of task                  == the name of the task's table file
 --   IsAnswer held task text       == the text is the answer to the task, for what the files hold that it names
 --   RefusesTable h fault          == bytes that the file h may hold are refused as a table file, with that fault
 --   RefusesItsTable h fault       == the table file h is not read, or it is refused
@@ -22,8 +21,9 @@ use Rattle.dg_server.specs.Judgements.{IsJudgement}
 use Rattle.dg_server.specs.RankTests.{IsRankAnswer, IsRiemannRoch, RefusesRank, RefusesRiemannRoch}
 use Rattle.dg_server.specs.Refusals.{RefusesSchedule}
 use Rattle.dg_server.specs.Games.{IsGreedyAnswer, RefusesTurns}
-use Rattle.dg_server.specs.declared.asked.Task.{Task}
-use Rattle.dg_server.specs.declared.asked.Task.TheVariants.{Rehearse, Judge, Rank, RiemannRoch, Greedy}
+use Rattle.dg_asked.specs.Files.{file_of}
+use Rattle.dg_asked.specs.declared.asked.Task.{Task}
+use Rattle.dg_asked.specs.declared.asked.Task.TheVariants.{Rehearse, Judge, Rank, RiemannRoch, Greedy}
 use Rattle.dg_server.specs.declared.fault.Fault.{Fault}
 use Rattle.dg_server.specs.declared.fault.Fault.TheVariants.{Source, File, OutOfMemory}
 
@@ -49,13 +49,6 @@ Answers held o names (Judge file) text = IsJudgement o names text
 Answers held o names (Rank test) text = IsRankAnswer o test.degree names text
 Answers held o names (RiemannRoch file) text = IsRiemannRoch o text
 Answers held o names (Greedy play) text = IsGreedyAnswer o play.turns names text
-
-abbrev pub file_of : Task → List ℕ
-file_of (Rehearse file steps) = file.now
-file_of (Judge file) = file.now
-file_of (Rank test) = test.file.now
-file_of (RiemannRoch file) = file.now
-file_of (Greedy play) = play.file.now
 
 abbrev pub IsAnswer : (List ℕ → Held) → Task → List ℕ → Type 0
 IsAnswer held task text = IsOnTable (held (file_of task)) (λ o names. Answers held o names task text)

@@ -3,10 +3,12 @@ ghost use Rattle.std.specs.Prelude.{◌≡◌};
 ghost use Rattle.dg_server.specs.Status.{status};
 
 use crate::sources::SourceFault;
+use dg_asked::WordsFault;
 use dg_chips::ChipFault;
 use dg_file::FileFault;
 use dg_lines::LineFault;
-use dg_session::{SessionEnd, WriteFailed};
+use dg_session::SessionEnd;
+use dg_streams::WriteFailed;
 use std::alloc::{AllocError, AllocFailed};
 use std::io::{self, Write};
 use thiserror::Error;
@@ -14,12 +16,9 @@ use thiserror::Error;
 /// What ends a run before its work is done. Its text is what the fault line says.
 #[derive(Debug, Drop, Error)]
 pub enum Fault {
-    /// The command line is refused; the text has all that is said of it.
-    #[error("{0}")]
-    CommandLine(String),
-    /// A word of the command line is no text.
-    #[error("a word of the command line is not UTF-8")]
-    Words,
+    /// The words of the command line ask for nothing.
+    #[error(transparent)]
+    Words(#[from] WordsFault),
     /// A file is not read.
     #[error(transparent)]
     Source(#[from] SourceFault),
@@ -119,7 +118,8 @@ pub fn status_of(fault: &Fault) -> u8
     ensures { result ≡ status fault.now }
 {
     match fault {
-        Fault::CommandLine(_) | Fault::Words => 2,
+        Fault::Words(WordsFault::OutOfMemory) => 4,
+        Fault::Words(_) => 2,
         Fault::Source(SourceFault::TooLong) => 3,
         Fault::Source(SourceFault::OutOfMemory) => 4,
         Fault::Source(SourceFault::Unreadable) => 5,
@@ -185,7 +185,7 @@ pub fn report<F: Write>(fault: &Fault, faults: &mut F) -> u8
     ensures { result ≡ status fault.now }
 {
     let _ = match fault {
-        Fault::CommandLine(text) => faults.write_all(text.as_bytes()),
+        Fault::Words(WordsFault::CommandLine(text)) => faults.write_all(text.as_bytes()),
         Fault::Sessions { all, .. } => report_seats(all.as_slice(), faults),
         _ => writeln!(faults, "dollar: {fault}"),
     };

@@ -4,14 +4,15 @@ ghost use Rattle.std.specs.Io.KnownBytes.{Appends};
 ghost use Rattle.dg_server.specs.Tasks.{DescribesTable};
 ghost use Rattle.dg_server.specs.Gatherings.{AreHeld, early, Gathers, names_in, IsFirstUnread, RefusesFiles, IsPrintedWith, RefusesGathering};
 
-use crate::asked::Gathering;
 use crate::fault::Fault;
 use crate::sources::{SourceFault, Sources};
+use dg_asked::Gathering;
 use dg_file::{TableFile, read_table};
 use dg_game::MAX_SEATS;
 use dg_party::{PartyRefusal, Played, party};
 use dg_rank::OpenGate;
-use dg_session::{Output, SessionEnd};
+use dg_session::SessionEnd;
+use dg_streams::Output;
 use std::alloc::{AllocError, Global};
 use std::io::Write;
 use std::rt::Files;
@@ -30,9 +31,9 @@ where
     S: Sources,
     O: Write,
     ensures done { OnOk result
-        (Gathers (S.held sources.now) gathering.now (O.contents output.old.inner) (O.contents output.new.inner)) }
+        (Gathers (S.held sources.now) gathering.now output.old.contents output.new.contents) }
     ensures refused { IfErr result (λ fault. fault ≢ Fault.Write →
-        RefusesGathering (S.held sources.now) gathering.now fault (O.contents output.old.inner) (O.contents output.new.inner)) }
+        RefusesGathering (S.held sources.now) gathering.now fault output.old.contents output.new.contents) }
     ensures failed { result ≡ Err Fault.Write → output.new.has_failed ≡ true }
 {
     if gathering.scripts.len() > usize::from(MAX_SEATS) {
@@ -118,9 +119,9 @@ fn print_played<O: Write>(
     output: &mut Output<O>,
 ) -> Result<(), Fault>
     ensures whole { OnOk result ((early 1 played.now.ends.items ≡ []) ×
-        Appends (O.contents output.old.inner) (O.contents output.new.inner) played.now.text.items) }
+        Appends output.old.contents output.new.contents played.now.text.items) }
     ensures refused { IfErr result (λ fault. fault ≢ Fault.Write → IsPrintedWith played.now.ends.items played.now.text.items fault
-        (O.contents output.old.inner) (O.contents output.new.inner)) }
+        output.old.contents output.new.contents) }
     ensures failed { result ≡ Err Fault.Write → output.new.has_failed ≡ true }
 {
     let all = match early_ends(alloc, played.ends.as_slice()) {

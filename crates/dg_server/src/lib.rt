@@ -1,24 +1,22 @@
 //! What the commands of the program `dollar` do: the files that they read, what they print, and their faults.
 #![tactic(auto)]
 
-mod asked;
 mod fault;
 mod games;
 mod gathering;
-mod numbered;
 mod printed;
 mod program;
 mod ranks;
 mod rehearsing;
+mod running;
 mod service;
 mod sources;
 mod table_source;
 
-pub use asked::{Asked, Gathering, Service, Task};
 pub use fault::{Fault, report, status_of};
-pub use numbered::{GreedyTask, RankTask};
 pub use printed::judgement;
 pub use program::perform;
 pub use ranks::{rank_answer, riemann_roch};
 pub use rehearsing::rehearsal;
+pub use running::run;
 pub use sources::{Disk, MAX_FILE, Shelf, SourceFault, Sources, read_within};

@@ -3,7 +3,6 @@ ghost use Rattle.std.specs.Prelude.{◌≡◌, ◌≢◌, Err, true, IfOk, IfErr
 ghost use Rattle.dg_server.specs.Tasks.{IsAnswer, Answers, RefusesOn, RefusesTask};
 ghost use Rattle.dg_server.specs.Performed.{Performs, Refuses};
 
-use crate::asked::{Asked, Task};
 use crate::fault::Fault;
 use crate::games::greedy_history;
 use crate::gathering::play_scripts;
@@ -13,8 +12,10 @@ use crate::rehearsing::rehearsal;
 use crate::service::serve_input;
 use crate::sources::Sources;
 use crate::table_source::table_in;
+use dg_asked::{Asked, Task};
 use dg_file::TableFile;
-use dg_session::{Output, SessionEnd};
+use dg_session::SessionEnd;
+use dg_streams::Output;
 use std::io::{BufRead, Write};
 use std::rt::Files;
 use std::sync::Wait;
@@ -36,9 +37,9 @@ where
     I: BufRead + Drop,
     O: Write,
     ensures done { OnOk result
-        (Performs (S.held sources.now) (I.remaining input) asked.entry (O.contents output.old.inner) (O.contents output.new.inner)) }
+        (Performs (S.held sources.now) (I.remaining input) asked.entry output.old.contents output.new.contents) }
     ensures refused { IfErr result (λ fault. fault ≢ Fault.Write →
-        Refuses (S.held sources.now) (I.remaining input) asked.entry fault (O.contents output.old.inner) (O.contents output.new.inner)) }
+        Refuses (S.held sources.now) (I.remaining input) asked.entry fault output.old.contents output.new.contents) }
     ensures failed { result ≡ Err Fault.Write → output.new.has_failed ≡ true }
     ensures unheard { result ≡ Err (Fault.Session SessionEnd.Write) → output.new.has_failed ≡ true }
 {

@@ -3,13 +3,14 @@ ghost use Rattle.std.specs.Prelude.{◌≡◌, ◌≢◌, ℕ, length, Ok, Err, 
 ghost use Rattle.dg_rank.specs.Ranks.{MayHaveWorkers};
 ghost use Rattle.dg_server.specs.Services.{Serves, EndsEarly, IsServed, RefusesService};
 
-use crate::asked::Service;
 use crate::fault::Fault;
 use crate::sources::Sources;
 use crate::table_source::table_in;
+use dg_asked::Service;
 use dg_file::TableFile;
 use dg_log::{Name, Row};
-use dg_session::{Input, Output, SessionEnd, serve};
+use dg_session::{SessionEnd, serve};
+use dg_streams::{Input, Output};
 use dg_table::Table;
 use std::io::{Read, Write};
 use std::marker::Brand;
@@ -31,11 +32,11 @@ where
     I: Read + Drop,
     O: Write,
     ensures done { OnOk result
-        (Serves (S.held sources.now) (I.remaining input) service.now (O.contents output.old.inner) (O.contents output.new.inner)) }
+        (Serves (S.held sources.now) (I.remaining input) service.now output.old.contents output.new.contents) }
     ensures no_write { IfErr result (λ fault. fault ≢ Fault.Write) }
     ensures failed { result ≡ Err (Fault.Session SessionEnd.Write) → output.new.has_failed ≡ true }
     ensures refused { IfErr result (λ fault. RefusesService (S.held sources.now) (I.remaining input) service.now fault
-        (O.contents output.old.inner) (O.contents output.new.inner)) }
+        output.old.contents output.new.contents) }
 {
     let table = match table_in(rt, sources, service.file) {
         Ok(table) => table,
@@ -72,11 +73,11 @@ where
     requires one { seats ≡ 1 }
     requires workers { MayHaveWorkers workers }
     ensures done { OnOk result ((count : ℕ) × IsServed table.now.start (length row) table.now.names (I.remaining input)
-        (O.contents output.old.inner) (O.contents output.new.inner) (Ok count)) }
+        output.old.contents output.new.contents (Ok count)) }
     ensures no_write { IfErr result (λ fault. fault ≢ Fault.Write) }
     ensures failed { result ≡ Err (Fault.Session SessionEnd.Write) → output.new.has_failed ≡ true }
     ensures early { IfErr result (λ fault. EndsEarly table.now.start (length row) table.now.names (I.remaining input) fault
-        (O.contents output.old.inner) (O.contents output.new.inner)) }
+        output.old.contents output.new.contents) }
 {
     let alloc = rt.alloc();
     let (opened, mut all) = match Table::<N>::open(alloc, row, table.start(), seats) {

@@ -2,7 +2,6 @@
 pub mod Cutting
 pub mod Made
 pub mod Lines
-pub mod Writing
 pub mod Halting
 pub mod Parts
 pub mod Passing

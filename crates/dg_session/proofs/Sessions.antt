@@ -20,7 +20,8 @@ use Rattle.dg_chips.specs.Opening.{Opening}
 use Rattle.dg_game.specs.declared.step.Command.{Command}
 use Rattle.dg_table.specs.Seats.{SeatView}
 use Rattle.dg_lines.specs.Cuts.{lines}
-use Rattle.dg_session.specs.Streams.{IsLine, Begins, AreLines, AppendsFront, with_newline, last_line}
+use Rattle.dg_streams.specs.Streams.{AppendsFront}
+use Rattle.dg_session.specs.Streams.{IsLine, Begins, AreLines, with_newline, last_line}
 use Rattle.dg_session.specs.Saying.{Answers}
 use Rattle.dg_session.specs.Ends.{AreAnswered, CallsTable, TriesRank, StopsAt, IsUnsaid, IsUnheard, IsAtBytes, IsTooLong, Ends, IsSession}
 use Rattle.dg_session.specs.Steps.{MayPend, BeginsWith, IsLast, IsEnded, Passes, PassesWritten, HaltsAt, HaltsIn, HaltsUnsaid, Halts, HaltsWritten, Tells}
@@ -31,7 +32,7 @@ use Rattle.dg_session.proofs.Cutting.{one_cutting}
 use Rattle.dg_session.proofs.Made.{gains_same, gains_more}
 use Rattle.dg_session.proofs.Halting.{answers_none, answers_more, passes_more, halts_after}
 use Rattle.dg_session.proofs.Passing.{one_line}
-use Rattle.dg_session.proofs.Writing.{appends_none, appends_more}
+use Rattle.dg_streams.proofs.Growing.{appends_none, appends_more}
 
 pub record IsSoFar (o : Opening) (names : List (List ℕ)) (input rest : Option (List ℕ)) (old new : Option (List ℕ)) (x : SeatView)
     (pending : List ℕ) (count : ℕ) (kept : Option ℕ) (y : SeatView) : Type 0 where

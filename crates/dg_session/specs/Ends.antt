@@ -26,7 +26,8 @@ use Rattle.dg_table.specs.Seats.{SeatView}
 use Rattle.dg_table.specs.Faults.{RefusesCall}
 use Rattle.dg_lines.specs.Commands.{IsCommandLine}
 use Rattle.dg_lines.specs.Cuts.{lines}
-use Rattle.dg_session.specs.Streams.{IsLine, HasNoNewline, with_newline, Begins, AreLines, Comes, AppendsFront}
+use Rattle.dg_streams.specs.Streams.{AppendsFront}
+use Rattle.dg_session.specs.Streams.{IsLine, HasNoNewline, with_newline, Begins, AreLines, Comes}
 use Rattle.dg_session.specs.Saying.{AnswersLine, Answers}
 use Rattle.dg_session.specs.declared.ends.TheConstants.{MAX_LINE, MAX_LINES, READ_SIZE}
 use Rattle.dg_session.specs.declared.ends.SessionEnd.{SessionEnd}

@@ -30,7 +30,8 @@ use Rattle.dg_table.specs.Seats.{SeatView}
 use Rattle.dg_table.specs.Faults.{RefusesCall}
 use Rattle.dg_analyst.specs.Views.{LookView}
 use Rattle.dg_lines.specs.Commands.{IsCommandLine}
-use Rattle.dg_session.specs.Streams.{IsLine, Begins, AppendsFront, last_line}
+use Rattle.dg_streams.specs.Streams.{AppendsFront}
+use Rattle.dg_session.specs.Streams.{IsLine, Begins, last_line}
 use Rattle.dg_session.specs.Saying.{AnswersCommand, AnswersLine, Answers}
 use Rattle.dg_session.specs.Ends.{Gains, CallsTable, TriesRank, IsTooLong}
 use Rattle.dg_session.specs.declared.ends.TheConstants.{MAX_LINE, MAX_LINES}

@@ -5,11 +5,9 @@
 --   Begins stream ls rest    == the stream is the lines ls, each with its newline, and then the rest
 --   AreLines ended stream ls == the stream begins with the lines ls; or it has ended, and they are all its lines
 --   Comes ended stream ls line == the lines ls and then one line more are such lines
---   AppendsFront old new told text == known bytes have grown by what was told, and by a front of the text
 --   OneCutting               == a stream is cut into lines in one way: where it begins with lines, and the rest has no newline,
 --                               its lines are those lines, and the rest as a last line if it has a byte
-use Rattle.std.specs.Prelude.{◌≡◌, ◌≢◌, ℕ, ◌≤◌, ◌⊎◌, List, [], ◌∷◌, ◌++◌, length, take, Option, All, flat_map}
-use Rattle.std.specs.Io.KnownBytes.{Appends}
+use Rattle.std.specs.Prelude.{◌≡◌, ◌≢◌, ℕ, ◌≤◌, ◌⊎◌, List, [], ◌∷◌, ◌++◌, length, All, flat_map}
 use Rattle.dg_lines.specs.Cuts.{lines}
 use Rattle.dg_session.specs.declared.ends.TheConstants.{MAX_LINE}
 
@@ -32,9 +30,6 @@ AreLines ended stream ls = ((rest : List ℕ) × Begins stream ls rest) ⊎ (end
 
 abbrev pub Comes : Type 0 → List ℕ → List (List ℕ) → List ℕ → Type 0
 Comes ended stream ls line = AreLines ended stream (ls ++ line ∷ [])
-
-abbrev pub AppendsFront : Option (List ℕ) → Option (List ℕ) → List ℕ → List ℕ → Type 0
-AppendsFront old new told text = (k : ℕ) × (k ≤ length text) × Appends old new (told ++ take k text)
 
 abbrev pub last_line : List ℕ → List (List ℕ)
 last_line [] = []

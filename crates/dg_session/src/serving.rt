@@ -6,11 +6,10 @@ ghost use Rattle.dg_session.specs.Ends.{IsSession};
 
 use crate::answering::Shared;
 use crate::ends::{READ_SIZE, SessionEnd};
-use crate::input::Input;
-use crate::output::Output;
 use crate::taking::{Progress, pass_bytes, pass_end};
 use dg_file::Names;
 use dg_log::Name;
+use dg_streams::{Input, Output};
 use dg_table::{Seat, Table};
 use std::alloc::Global;
 use std::io::{Read, Write};
@@ -37,8 +36,8 @@ pub fn serve<N: Name, R: Threads + Wait, I: Read, O: Write>(
 ) -> Result<u32, SessionEnd>
     requires names { length names.now ≡ N.start.graph.size }
     requires workers { MayHaveWorkers workers }
-    ensures session { IsSession N.start (length N.cells) names.now (I.remaining reader.old.inner) (I.remaining reader.new.inner)
-        (O.contents writer.old.inner) (O.contents writer.new.inner) seat.old seat.new result }
+    ensures session { IsSession N.start (length N.cells) names.now reader.old.remaining reader.new.remaining
+        writer.old.contents writer.new.contents seat.old seat.new result }
     ensures number { seat.new.number ≡ seat.old.number }
     ensures read { result ≡ Err SessionEnd.Read → reader.new.has_failed ≡ true }
     ensures write { result ≡ Err SessionEnd.Write → writer.new.has_failed ≡ true }
@@ -73,12 +72,12 @@ pub fn serve<N: Name, R: Threads + Wait, I: Read, O: Write>(
 
 /// Reads into the buffer, and says how many bytes came; `None` where the reader failed.
 fn read_some<I: Read>(reader: &mut Input<I>, buffer: &mut Vec<u8>) -> Option<usize>
-    ensures bytes { IfSome result (λ size. Consumes (I.remaining reader.old.inner) (I.remaining reader.new.inner)
+    ensures bytes { IfSome result (λ size. Consumes reader.old.remaining reader.new.remaining
         (take size buffer.new.items)) }
-    ensures end { IfSome result (λ size. size ≡ 0 → 0 < length buffer.old.items → IsAtEnd (I.remaining reader.new.inner)) }
+    ensures end { IfSome result (λ size. size ≡ 0 → 0 < length buffer.old.items → IsAtEnd reader.new.remaining) }
     ensures bound { IfSome result (λ size. size ≤ length buffer.new.items) }
     ensures size { length buffer.new.items ≡ length buffer.old.items }
-    ensures kept { result ≡ None → Keeps (I.remaining reader.old.inner) (I.remaining reader.new.inner) }
+    ensures kept { result ≡ None → Keeps reader.old.remaining reader.new.remaining }
     ensures failed { result ≡ None → reader.new.has_failed ≡ true }
 {
     match reader.read(buffer) {

@@ -9,10 +9,10 @@ ghost use Rattle.std.specs.declared.result.Result.TheVariants.{Err};
 
 use crate::answering::{Said, Shared, answer_line};
 use crate::ends::{MAX_LINE, MAX_LINES, SessionEnd};
-use crate::output::Output;
 use dg_analyst::Look;
 use dg_lines::cut;
 use dg_log::Name;
+use dg_streams::Output;
 use dg_table::Seat;
 use std::alloc::Global;
 use std::io::Write;
@@ -184,13 +184,13 @@ pub(crate) fn pass_bytes<N: Name, R: Threads + Wait, O: Write>(
     ensures passed { OnOk result (PassesWritten (Begins (progress.old.pending.items ++ bytes.now)) N.start shared.now.names.now
         progress.old.count (kept_number progress.old.kept) seat.old progress.new.pending.items
         progress.new.count (kept_number progress.new.kept) seat.new
-        (O.contents writer.old.inner) (O.contents writer.new.inner)) }
+        writer.old.contents writer.new.contents) }
     ensures pending { OnOk result (MayPend progress.new.pending.items progress.new.count) }
     ensures said { OnOk result (progress.new.said.text.items ≡ []) }
     ensures halted { IfErr result (HaltsWritten (BeginsWith (progress.old.pending.items ++ bytes.now))
         (Begins (progress.old.pending.items ++ bytes.now)) N.start (length N.cells) shared.now.names.now
         progress.old.count (kept_number progress.old.kept) seat.old seat.new
-        (O.contents writer.old.inner) (O.contents writer.new.inner)) }
+        writer.old.contents writer.new.contents) }
     ensures write { result ≡ Err WriteEnd → writer.new.has_failed ≡ true }
 {
     let taken = take_bytes(shared, progress, seat, bytes);
@@ -220,12 +220,12 @@ pub(crate) fn pass_end<N: Name, R: Threads + Wait, O: Write>(
     ensures passed { OnOk result (PassesWritten (IsEnded progress.old.pending.items) N.start shared.now.names.now
         progress.old.count (kept_number progress.old.kept) seat.old progress.new.pending.items
         progress.new.count (kept_number progress.new.kept) seat.new
-        (O.contents writer.old.inner) (O.contents writer.new.inner)) }
+        writer.old.contents writer.new.contents) }
     ensures count { OnOk result (progress.new.count ≤ MAX_LINES) }
     ensures halted { IfErr result (HaltsWritten (IsLast progress.old.pending.items) (λ ls rest. ⊥)
         N.start (length N.cells) shared.now.names.now
         progress.old.count (kept_number progress.old.kept) seat.old seat.new
-        (O.contents writer.old.inner) (O.contents writer.new.inner)) }
+        writer.old.contents writer.new.contents) }
     ensures write { result ≡ Err WriteEnd → writer.new.has_failed ≡ true }
 {
     let taken = take_end(shared, progress, seat);

@@ -1,9 +1,9 @@
 //! The program `dollar`: plays the dollar game on a graph. `dollar --help` says how it is called.
 #![tactic(auto)]
 
-use dg_command::{run, words_of};
-use dg_server::{Disk, report};
-use dg_session::Output;
+use dg_command::{CommandLine, words_of};
+use dg_server::{Disk, Fault, report, run};
+use dg_streams::Output;
 use std::process::ExitCode;
 
 fn main(rt: HostRuntime) -> ExitCode {
@@ -12,13 +12,14 @@ fn main(rt: HostRuntime) -> ExitCode {
     let status = match words_of(&rt) {
         Ok(words) => run(
             &rt,
+            &CommandLine,
             words.as_slice(),
             &Disk,
             rt.reader(),
             &mut output,
             &mut faults,
         ),
-        Err(fault) => report(&fault, &mut faults),
+        Err(fault) => report(&Fault::Words(fault), &mut faults),
     };
     ExitCode::from(status)
 }

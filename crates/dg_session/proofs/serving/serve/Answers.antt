@@ -8,12 +8,12 @@ use Rattle.dg_session.proofs.serving.serve.Goals as goal
 
 pub returns-in_default-clause-session : goal.returns-in_default-clause-session
 returns-in_default-clause-session g c =
-    session_unsaid g.N.Name.start (length g.N.Name.cells) c.args.names.now (g.I.Read.remaining c.args.reader.now.inner)
-    (g.O.Write.contents c.args.writer.now.inner) c.args.seat.now
+    session_unsaid g.N.Name.start (length g.N.Name.cells) c.args.names.now c.args.reader.now.remaining
+    c.args.writer.now.contents c.args.seat.now
 
 pub reads-init : goal.reads-init
 reads-init g c = (
-  so_far_none g.N.Name.start c.args.names.now (g.I.Read.remaining c.args.reader.now.inner) (g.O.Write.contents c.args.writer.now.inner) c.args.seat.now
+  so_far_none g.N.Name.start c.args.names.now c.args.reader.now.remaining c.args.writer.now.contents c.args.seat.now
       c.new-progress.result.pending.items c.new-progress.result.count (kept_number c.new-progress.result.kept)
       c.new-progress.ensures.pending c.new-progress.ensures.count c.new-progress.ensures.kept,
   c.new-progress.ensures.said,
@@ -22,63 +22,63 @@ reads-init g c = (
 
 pub returns-in_default-read_some-clause-session : goal.returns-in_default-read_some-clause-session
 returns-in_default-read_some-clause-session g c =
-    session_reads g.N.Name.start (length g.N.Name.cells) c.args.names.now (g.I.Read.remaining c.args.reader.now.inner) (g.I.Read.remaining c.reads.reader.inner)
-    (g.O.Write.contents c.args.writer.now.inner) (g.O.Write.contents c.reads.writer.inner) c.args.seat.now c.reads.progress.pending.items c.reads.progress.count
+    session_reads g.N.Name.start (length g.N.Name.cells) c.args.names.now c.args.reader.now.remaining c.reads.reader.remaining
+    c.args.writer.now.contents c.reads.writer.contents c.args.seat.now c.reads.progress.pending.items c.reads.progress.count
     (kept_number c.reads.progress.kept) c.reads.seat c.reads.invariant.0
-    (g.I.Read.remaining c.read_some.new.reader.inner) (c.in_default-read_some.ensures.kept refl)
+    c.read_some.new.reader.remaining (c.in_default-read_some.ensures.kept refl)
 
 pub returns-in_default-read_some-clause-number : goal.returns-in_default-read_some-clause-number
 returns-in_default-read_some-clause-number g c =
-    seat_so_far g.N.Name.start (length g.N.Name.cells) c.args.names.now (g.I.Read.remaining c.args.reader.now.inner) (g.I.Read.remaining c.reads.reader.inner)
-    (g.O.Write.contents c.args.writer.now.inner) (g.O.Write.contents c.reads.writer.inner) c.args.seat.now c.reads.progress.pending.items c.reads.progress.count
+    seat_so_far g.N.Name.start (length g.N.Name.cells) c.args.names.now c.args.reader.now.remaining c.reads.reader.remaining
+    c.args.writer.now.contents c.reads.writer.contents c.args.seat.now c.reads.progress.pending.items c.reads.progress.count
     (kept_number c.reads.progress.kept) c.reads.seat c.reads.invariant.0
 
 pub returns-in-Ok-pass_end-clause-session : goal.returns-in-Ok-pass_end-clause-session
 returns-in-Ok-pass_end-clause-session g c =
     let zero = c.if-size-eq0.true in
-    let read = read_nothing (g.I.Read.remaining c.reads.reader.inner) (g.I.Read.remaining c.read_some.new.reader.inner) c.in-Some.size
+    let read = read_nothing c.reads.reader.remaining c.read_some.new.reader.remaining c.in-Some.size
     c.read_some.new.buffer.items zero c.in-Some.ensures.bytes in
     let room : 0 < length c.reads.buffer.items = omega (arith, c.reads.invariant.2) in
-    session_ends g.N.Name.start (length g.N.Name.cells) c.args.names.now (g.I.Read.remaining c.args.reader.now.inner) (g.I.Read.remaining c.reads.reader.inner)
-    (g.O.Write.contents c.args.writer.now.inner) (g.O.Write.contents c.reads.writer.inner) c.args.seat.now c.reads.progress.pending.items c.reads.progress.count
+    session_ends g.N.Name.start (length g.N.Name.cells) c.args.names.now c.args.reader.now.remaining c.reads.reader.remaining
+    c.args.writer.now.contents c.reads.writer.contents c.args.seat.now c.reads.progress.pending.items c.reads.progress.count
     (kept_number c.reads.progress.kept) c.reads.seat c.reads.invariant.0
-    (g.I.Read.remaining c.read_some.new.reader.inner) (g.O.Write.contents c.pass_end.new.writer.inner) c.pass_end.new.progress.pending.items
+    c.read_some.new.reader.remaining c.pass_end.new.writer.contents c.pass_end.new.progress.pending.items
     c.pass_end.new.progress.count (kept_number c.pass_end.new.progress.kept) c.pass_end.new.seat read (c.in-Some.ensures.end zero room)
     c.in-Ok-pass_end.ensures.passed c.in-Ok-pass_end.ensures.count
 
 pub returns-in-Ok-pass_end-clause-number : goal.returns-in-Ok-pass_end-clause-number
 returns-in-Ok-pass_end-clause-number g c =
-    c.in-Ok-pass_end.ensures.passed.1.gained.number ∙ seat_so_far g.N.Name.start (length g.N.Name.cells) c.args.names.now (g.I.Read.remaining c.args.reader.now.inner) (g.I.Read.remaining c.reads.reader.inner)
-    (g.O.Write.contents c.args.writer.now.inner) (g.O.Write.contents c.reads.writer.inner) c.args.seat.now c.reads.progress.pending.items c.reads.progress.count
+    c.in-Ok-pass_end.ensures.passed.1.gained.number ∙ seat_so_far g.N.Name.start (length g.N.Name.cells) c.args.names.now c.args.reader.now.remaining c.reads.reader.remaining
+    c.args.writer.now.contents c.reads.writer.contents c.args.seat.now c.reads.progress.pending.items c.reads.progress.count
     (kept_number c.reads.progress.kept) c.reads.seat c.reads.invariant.0
 
 pub returns-in-Err-clause-session : goal.returns-in-Err-clause-session
 returns-in-Err-clause-session g c =
     let zero = c.if-size-eq0.true in
-    let read = read_nothing (g.I.Read.remaining c.reads.reader.inner) (g.I.Read.remaining c.read_some.new.reader.inner) c.in-Some.size
+    let read = read_nothing c.reads.reader.remaining c.read_some.new.reader.remaining c.in-Some.size
     c.read_some.new.buffer.items zero c.in-Some.ensures.bytes in
     let room : 0 < length c.reads.buffer.items = omega (arith, c.reads.invariant.2) in
-    session_halts_last g.N.Name.start (length g.N.Name.cells) c.args.names.now (g.I.Read.remaining c.args.reader.now.inner)
-    (g.I.Read.remaining c.reads.reader.inner) (g.I.Read.remaining c.read_some.new.reader.inner) (g.O.Write.contents c.args.writer.now.inner)
-    (g.O.Write.contents c.reads.writer.inner) (g.O.Write.contents c.pass_end.new.writer.inner) c.args.seat.now c.reads.seat c.pass_end.new.seat
+    session_halts_last g.N.Name.start (length g.N.Name.cells) c.args.names.now c.args.reader.now.remaining
+    c.reads.reader.remaining c.read_some.new.reader.remaining c.args.writer.now.contents
+    c.reads.writer.contents c.pass_end.new.writer.contents c.args.seat.now c.reads.seat c.pass_end.new.seat
     c.reads.progress.pending.items c.reads.progress.count (kept_number c.reads.progress.kept) c.in-Err.end c.reads.invariant.0 read
     (c.in-Some.ensures.end zero room) c.in-Err.ensures.halted
 
 pub returns-in-Err-clause-number : goal.returns-in-Err-clause-number
 returns-in-Err-clause-number g c =
     seat_halted (IsLast c.reads.progress.pending.items) (λ ls rest. ⊥) g.N.Name.start (length g.N.Name.cells) c.args.names.now c.reads.progress.count
-    (kept_number c.reads.progress.kept) c.args.seat.now c.reads.seat c.pass_end.new.seat (g.O.Write.contents c.reads.writer.inner)
-    (g.O.Write.contents c.pass_end.new.writer.inner) c.in-Err.end
-    (seat_so_far g.N.Name.start (length g.N.Name.cells) c.args.names.now (g.I.Read.remaining c.args.reader.now.inner) (g.I.Read.remaining c.reads.reader.inner)
-    (g.O.Write.contents c.args.writer.now.inner) (g.O.Write.contents c.reads.writer.inner) c.args.seat.now c.reads.progress.pending.items c.reads.progress.count
+    (kept_number c.reads.progress.kept) c.args.seat.now c.reads.seat c.pass_end.new.seat c.reads.writer.contents
+    c.pass_end.new.writer.contents c.in-Err.end
+    (seat_so_far g.N.Name.start (length g.N.Name.cells) c.args.names.now c.args.reader.now.remaining c.reads.reader.remaining
+    c.args.writer.now.contents c.reads.writer.contents c.args.seat.now c.reads.progress.pending.items c.reads.progress.count
     (kept_number c.reads.progress.kept) c.reads.seat c.reads.invariant.0)
     c.in-Err.ensures.halted
 
 pub returns-in-Err-clause-read : goal.returns-in-Err-clause-read
 returns-in-Err-clause-read g c e = absurd
     (no_read_end (IsLast c.reads.progress.pending.items) (λ ls rest. ⊥) g.N.Name.start (length g.N.Name.cells) c.args.names.now c.reads.progress.count
-    (kept_number c.reads.progress.kept) c.reads.seat c.pass_end.new.seat (g.O.Write.contents c.reads.writer.inner)
-    (g.O.Write.contents c.pass_end.new.writer.inner) c.in-Err.end c.in-Err.ensures.halted (inner_end c.in-Err.end _ e))
+    (kept_number c.reads.progress.kept) c.reads.seat c.pass_end.new.seat c.reads.writer.contents
+    c.pass_end.new.writer.contents c.in-Err.end c.in-Err.ensures.halted (inner_end c.in-Err.end _ e))
 
 pub returns-in-Err-clause-write : goal.returns-in-Err-clause-write
 returns-in-Err-clause-write g c e = c.in-Err.ensures.write (ap Err (inner_end c.in-Err.end Write e))
@@ -86,12 +86,12 @@ returns-in-Err-clause-write g c e = c.in-Err.ensures.write (ap Err (inner_end c.
 pub reads-preserved : goal.reads-preserved
 reads-preserved g c =
     let bytes = take c.in-Some.size c.deref.result.now in (
-      so_far_more g.N.Name.start (length g.N.Name.cells) c.args.names.now (g.I.Read.remaining c.args.reader.now.inner) (g.I.Read.remaining c.reads.reader.inner)
-          (g.O.Write.contents c.args.writer.now.inner) (g.O.Write.contents c.reads.writer.inner) c.args.seat.now c.reads.progress.pending.items c.reads.progress.count
+      so_far_more g.N.Name.start (length g.N.Name.cells) c.args.names.now c.args.reader.now.remaining c.reads.reader.remaining
+          c.args.writer.now.contents c.reads.writer.contents c.args.seat.now c.reads.progress.pending.items c.reads.progress.count
           (kept_number c.reads.progress.kept) c.reads.seat c.reads.invariant.0
-          (g.I.Read.remaining c.read_some.new.reader.inner) (g.O.Write.contents c.pass_bytes.new.writer.inner) bytes c.pass_bytes.new.progress.pending.items
+          c.read_some.new.reader.remaining c.pass_bytes.new.writer.contents bytes c.pass_bytes.new.progress.pending.items
           c.pass_bytes.new.progress.count (kept_number c.pass_bytes.new.progress.kept) c.pass_bytes.new.seat
-          (read_chunk (g.I.Read.remaining c.reads.reader.inner) (g.I.Read.remaining c.read_some.new.reader.inner) c.in-Some.size c.deref.result.now
+          (read_chunk c.reads.reader.remaining c.read_some.new.reader.remaining c.in-Some.size c.deref.result.now
           c.read_some.new.buffer.items c.deref.ensures.value c.in-Some.ensures.bytes)
           c.in-Ok-pass_bytes.ensures.passed c.in-Ok-pass_bytes.ensures.pending,
       c.in-Ok-pass_bytes.ensures.said,
@@ -106,7 +106,7 @@ reads-smaller g c =
     let some = some_of c.in-Some.size c.if-size-eq0.false in
     fewer_left g.N.Name.start c.args.names.now c.reads.progress.count c.pass_bytes.new.progress.count (kept_number c.reads.progress.kept)
     (kept_number c.pass_bytes.new.progress.kept) c.reads.seat c.pass_bytes.new.seat c.reads.progress.pending.items c.pass_bytes.new.progress.pending.items
-    bytes (g.O.Write.contents c.reads.writer.inner) (g.O.Write.contents c.pass_bytes.new.writer.inner) c.in-Ok-pass_bytes.ensures.passed
+    bytes c.reads.writer.contents c.pass_bytes.new.writer.contents c.in-Ok-pass_bytes.ensures.passed
     c.reads.invariant.0.may c.in-Ok-pass_bytes.ensures.pending (omega (arith, size, some))
 
 pub returns-in-Err-pass_bytes-clause-session : goal.returns-in-Err-pass_bytes-clause-session
@@ -114,11 +114,11 @@ returns-in-Err-pass_bytes-clause-session g c =
     let bytes = take c.in-Some.size c.deref.result.now in
     let room : length c.read_some.new.buffer.items ≡ READ_SIZE = c.in-Some.ensures.size ∙ c.reads.invariant.2 in
     let (size, small) = chunk_size c.in-Some.size c.deref.result.now c.read_some.new.buffer.items c.deref.ensures.value c.in-Some.ensures.bound room in
-    session_halts_in g.N.Name.start (length g.N.Name.cells) c.args.names.now (g.I.Read.remaining c.args.reader.now.inner)
-    (g.I.Read.remaining c.reads.reader.inner) (g.I.Read.remaining c.read_some.new.reader.inner) (g.O.Write.contents c.args.writer.now.inner)
-    (g.O.Write.contents c.reads.writer.inner) (g.O.Write.contents c.pass_bytes.new.writer.inner) c.args.seat.now c.reads.seat c.pass_bytes.new.seat
+    session_halts_in g.N.Name.start (length g.N.Name.cells) c.args.names.now c.args.reader.now.remaining
+    c.reads.reader.remaining c.read_some.new.reader.remaining c.args.writer.now.contents
+    c.reads.writer.contents c.pass_bytes.new.writer.contents c.args.seat.now c.reads.seat c.pass_bytes.new.seat
     c.reads.progress.pending.items bytes c.reads.progress.count (kept_number c.reads.progress.kept) c.in-Err-pass_bytes.end c.reads.invariant.0
-    (read_chunk (g.I.Read.remaining c.reads.reader.inner) (g.I.Read.remaining c.read_some.new.reader.inner) c.in-Some.size c.deref.result.now
+    (read_chunk c.reads.reader.remaining c.read_some.new.reader.remaining c.in-Some.size c.deref.result.now
     c.read_some.new.buffer.items c.deref.ensures.value c.in-Some.ensures.bytes)
     (omega (arith, size, small)) c.in-Err-pass_bytes.ensures.halted
 
@@ -126,10 +126,10 @@ pub returns-in-Err-pass_bytes-clause-number : goal.returns-in-Err-pass_bytes-cla
 returns-in-Err-pass_bytes-clause-number g c =
     let bytes = c.reads.progress.pending.items ++ take c.in-Some.size c.deref.result.now in
     seat_halted (BeginsWith bytes) (Begins bytes) g.N.Name.start (length g.N.Name.cells) c.args.names.now c.reads.progress.count
-    (kept_number c.reads.progress.kept) c.args.seat.now c.reads.seat c.pass_bytes.new.seat (g.O.Write.contents c.reads.writer.inner)
-    (g.O.Write.contents c.pass_bytes.new.writer.inner) c.in-Err-pass_bytes.end
-    (seat_so_far g.N.Name.start (length g.N.Name.cells) c.args.names.now (g.I.Read.remaining c.args.reader.now.inner) (g.I.Read.remaining c.reads.reader.inner)
-    (g.O.Write.contents c.args.writer.now.inner) (g.O.Write.contents c.reads.writer.inner) c.args.seat.now c.reads.progress.pending.items c.reads.progress.count
+    (kept_number c.reads.progress.kept) c.args.seat.now c.reads.seat c.pass_bytes.new.seat c.reads.writer.contents
+    c.pass_bytes.new.writer.contents c.in-Err-pass_bytes.end
+    (seat_so_far g.N.Name.start (length g.N.Name.cells) c.args.names.now c.args.reader.now.remaining c.reads.reader.remaining
+    c.args.writer.now.contents c.reads.writer.contents c.args.seat.now c.reads.progress.pending.items c.reads.progress.count
     (kept_number c.reads.progress.kept) c.reads.seat c.reads.invariant.0)
     c.in-Err-pass_bytes.ensures.halted
 
@@ -137,8 +137,8 @@ pub returns-in-Err-pass_bytes-clause-read : goal.returns-in-Err-pass_bytes-claus
 returns-in-Err-pass_bytes-clause-read g c e =
     let bytes = c.reads.progress.pending.items ++ take c.in-Some.size c.deref.result.now in absurd
     (no_read_end (BeginsWith bytes) (Begins bytes) g.N.Name.start (length g.N.Name.cells) c.args.names.now c.reads.progress.count
-    (kept_number c.reads.progress.kept) c.reads.seat c.pass_bytes.new.seat (g.O.Write.contents c.reads.writer.inner)
-    (g.O.Write.contents c.pass_bytes.new.writer.inner) c.in-Err-pass_bytes.end c.in-Err-pass_bytes.ensures.halted (inner_end c.in-Err-pass_bytes.end _ e))
+    (kept_number c.reads.progress.kept) c.reads.seat c.pass_bytes.new.seat c.reads.writer.contents
+    c.pass_bytes.new.writer.contents c.in-Err-pass_bytes.end c.in-Err-pass_bytes.ensures.halted (inner_end c.in-Err-pass_bytes.end _ e))
 
 pub returns-in-Err-pass_bytes-clause-write : goal.returns-in-Err-pass_bytes-clause-write
 returns-in-Err-pass_bytes-clause-write g c e =

@@ -7,8 +7,8 @@ use Rattle.dg_session.proofs.serving.serve.Given as goal
 
 abbrev pub invariant-reads : goal.invariant-reads
 invariant-reads g l =
-    IsSoFar g.N.Name.start l.names (g.I.Read.remaining l.fn.reader.inner) (g.I.Read.remaining l.reader.inner)
-    (g.O.Write.contents l.fn.writer.inner) (g.O.Write.contents l.writer.inner) l.fn.seat
+    IsSoFar g.N.Name.start l.names l.fn.reader.remaining l.reader.remaining
+    l.fn.writer.contents l.writer.contents l.fn.seat
     l.progress.pending.items l.progress.count (kept_number l.progress.kept) l.seat
     × (l.progress.said.text.items ≡ []) × (length l.buffer.items ≡ READ_SIZE)
 

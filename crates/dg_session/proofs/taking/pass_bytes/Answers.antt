@@ -1,5 +1,6 @@
 use Rattle.std.proofs.Common.{◌++◌, [], length, subst}
-use Rattle.dg_session.specs.Streams.{Begins, AppendsFront}
+use Rattle.dg_streams.specs.Streams.{AppendsFront}
+use Rattle.dg_session.specs.Streams.{Begins}
 use Rattle.dg_session.specs.Steps.{kept_number, BeginsWith}
 use Rattle.dg_session.proofs.Passing.{tells_taken, begins_fewer}
 use Rattle.dg_session.proofs.taking.pass_bytes.Goals as goal
@@ -14,6 +15,6 @@ returns-in-Err-clause-halted g c =
           c.args.seat.now c.take_bytes-taken.new.seat c.take_bytes-taken.new.progress.pending.items text c.take_bytes-taken.result
           (begins_fewer bytes) (λ ls rest b. (rest, b)) (λ ls rest b. (rest, b))
           c.take_bytes-taken.ensures.passed c.take_bytes-taken.ensures.halted,
-      subst (AppendsFront (g.O.Write.contents c.args.writer.now.inner) (g.O.Write.contents c.write_whole.new.self.inner) []) c.deref.ensures.value
+      subst (AppendsFront c.args.writer.now.contents c.write_whole.new.self.contents []) c.deref.ensures.value
           c.in-Err.ensures.front,
     )

@@ -1,5 +1,5 @@
 use Rattle.std.proofs.Common.{length, subst, []}
-use Rattle.dg_session.specs.Streams.{AppendsFront}
+use Rattle.dg_streams.specs.Streams.{AppendsFront}
 use Rattle.dg_session.specs.Steps.{kept_number, IsLast, IsEnded}
 use Rattle.dg_session.proofs.Passing.{tells_taken, last_fewer, ended_last}
 use Rattle.dg_session.proofs.taking.pass_end.Goals as goal
@@ -14,6 +14,6 @@ returns-in-Err-clause-halted g c =
           c.args.seat.now c.take_end-taken.new.seat c.take_end-taken.new.progress.pending.items text c.take_end-taken.result
           (last_fewer pending) (λ ls rest none. absurd none) (λ ls rest ended. ended_last pending ls rest c.requires.pending.line ended)
           c.take_end-taken.ensures.passed c.take_end-taken.ensures.halted,
-      subst (AppendsFront (g.O.Write.contents c.args.writer.now.inner) (g.O.Write.contents c.write_whole.new.self.inner) []) c.deref.ensures.value
+      subst (AppendsFront c.args.writer.now.contents c.write_whole.new.self.contents []) c.deref.ensures.value
           c.in-Err.ensures.front,
     )

@@ -5,18 +5,27 @@ ghost use Rattle.std.specs.Io.KnownBytes.{ReadConsumes};
 
 use std::io;
 use std::io::Read;
+use std::marker::Model;
 
-/// A reader of a session's lines, which remembers whether a read of it failed.
+/// A reader, which remembers whether a read of it failed.
 #[derive(Drop)]
-pub struct Input<I> {
+pub struct Input<I: Read> {
     inner: I,
     has_failed: bool,
 }
 
-impl<I> Input<I> {
+impl<I: Read> Model for Input<I> {
+    ghost use Rattle.dg_streams.specs.Streams.{Reading};
+
+    ghost Value = { Reading };
+
+    ghost view = { λ input. record { remaining = I.remaining input.inner; has_failed = input.has_failed } };
+}
+
+impl<I: Read> Input<I> {
     /// The reader, of which no read has failed.
     pub fn new(inner: I) -> Self
-        ensures inner { result.inner ≡ inner }
+        ensures remaining { result.remaining ≡ I.remaining inner }
         ensures has_failed { result.has_failed ≡ false }
     {
         Input {
@@ -31,13 +40,13 @@ impl<I> Input<I> {
     {
         self.has_failed
     }
-}
 
-impl<I: Read> Input<I> {
-    /// One read.
-    pub(crate) fn read(&mut self, buffer: &mut [u8]) -> io::Result<usize>
+    /// One read, into a front of the buffer.
+    ///
+    /// Refused as the reader refuses it.
+    pub fn read(&mut self, buffer: &mut [u8]) -> io::Result<usize>
         ensures bound { ReadsAtMost result buffer.new }
-        ensures bytes { ReadConsumes (I.remaining self.old.inner) (I.remaining self.new.inner) result buffer.new }
+        ensures bytes { ReadConsumes self.old.remaining self.new.remaining result buffer.new }
         ensures failed { OnErr result (self.new.has_failed ≡ true) }
         ensures kept { OnOk result (self.new.has_failed ≡ self.old.has_failed) }
     {

@@ -1,25 +1,34 @@
 //! Writers that remember whether they failed.
 ghost use Rattle.std.specs.Prelude.{◌≡◌, OnOk, OnErr, true, false, []};
 ghost use Rattle.std.specs.Io.KnownBytes.{Appends};
-ghost use Rattle.dg_session.specs.Streams.{AppendsFront};
+ghost use Rattle.dg_streams.specs.Streams.{AppendsFront};
 
 use std::io::Write;
+use std::marker::Model;
 
-/// A writer of a session's answers, which remembers whether a write to it failed.
+/// A writer, which remembers whether a write to it failed.
 #[derive(Drop)]
-pub struct Output<O> {
+pub struct Output<O: Write> {
     inner: O,
     has_failed: bool,
+}
+
+impl<O: Write> Model for Output<O> {
+    ghost use Rattle.dg_streams.specs.Streams.{Writing};
+
+    ghost Value = { Writing };
+
+    ghost view = { λ output. record { contents = O.contents output.inner; has_failed = output.has_failed } };
 }
 
 /// That a writer failed, or took no byte.
 #[derive(Clone, Copy, Debug, PartialEq, Eq)]
 pub struct WriteFailed;
 
-impl<O> Output<O> {
+impl<O: Write> Output<O> {
     /// The writer, to which no write has failed.
     pub fn new(inner: O) -> Self
-        ensures inner { result.inner ≡ inner }
+        ensures contents { result.contents ≡ O.contents inner }
         ensures has_failed { result.has_failed ≡ false }
     {
         Output {
@@ -37,19 +46,17 @@ impl<O> Output<O> {
 
     /// The writer, as the writes have left it.
     pub fn into_inner(self) -> O
-        ensures { result ≡ self.inner }
+        ensures { O.contents result ≡ self.contents }
     {
         self.inner
     }
-}
 
-impl<O: Write> Output<O> {
     /// Writes and flushes the whole text.
     ///
     /// Refused with `WriteFailed` where the writer fails, or takes no byte; it has then taken a front of the text.
     pub fn write_whole(&mut self, text: &[u8]) -> Result<(), WriteFailed>
-        ensures written { OnOk result (Appends (O.contents self.old.inner) (O.contents self.new.inner) text.now) }
-        ensures front { OnErr result (AppendsFront (O.contents self.old.inner) (O.contents self.new.inner) [] text.now) }
+        ensures written { OnOk result (Appends self.old.contents self.new.contents text.now) }
+        ensures front { OnErr result (AppendsFront self.old.contents self.new.contents [] text.now) }
         ensures failed { OnErr result (self.new.has_failed ≡ true) }
     {
         let mut at = 0;

@@ -1,7 +1,7 @@
 -- A text that is refused is the decimal of no number.
 use Rattle.std.proofs.Common.{◌∙◌}
-use Rattle.dg_lines.proofs.Numerals.{no_utf8, no_number, no_decimal}
-use Rattle.dg_lines.proofs.number.natural.Goals as goal
+use Rattle.dg_numbers.proofs.NoDecimals.{no_utf8, no_number, no_decimal}
+use Rattle.dg_numbers.proofs.decimals.natural.Goals as goal
 
 pub returns-in_default : goal.returns-in_default
 returns-in_default c = no_utf8 c.args.text.now c.in_default.ensures.cases.0

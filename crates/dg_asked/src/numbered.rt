@@ -1,7 +1,6 @@
 //! Tasks with a number that has limits.
 ghost use Rattle.std.specs.Prelude.{◌≤◌};
-ghost use Rattle.dg_game.specs.declared.game.TheConstants.{MAX_ENTRIES};
-ghost use Rattle.dg_rank.specs.Ranks.{MayHaveWorkers};
+ghost use Rattle.dg_asked.specs.declared.limits.TheConstants.{MAX_TURNS, MAX_WORKERS};
 
 /// A rank test of a table's position.
 #[derive(Drop)]
@@ -12,7 +11,7 @@ pub struct RankTask<'a> {
     pub degree: u32,
     /// How many workers share the trials, 1 to 16.
     pub workers: u32,
-    ghost helped: { MayHaveWorkers workers },
+    ghost helped: { (1 ≤ workers) × (workers ≤ MAX_WORKERS) },
 }
 
 /// The greedy strategy on a table.
@@ -22,5 +21,5 @@ pub struct GreedyTask<'a> {
     pub file: &'a str,
     /// How many turns it has, 0 to 65,536.
     pub turns: u32,
-    ghost few: { turns ≤ MAX_ENTRIES },
+    ghost few: { turns ≤ MAX_TURNS },
 }

@@ -1,13 +1,12 @@
-//! What a command line may ask for.
+//! What may be asked for.
 ghost use Rattle.std.specs.Prelude.{◌≡◌, ◌≤◌};
 ghost use Rattle.std.specs.Vec.{vec_len};
-ghost use Rattle.dg_game.specs.declared.game.TheConstants.{MAX_ENTRIES};
-ghost use Rattle.dg_rank.specs.Ranks.{MayHaveWorkers};
-ghost use Rattle.dg_server.specs.Tasks.{file_of};
+ghost use Rattle.dg_asked.specs.declared.limits.TheConstants.{MAX_CAPACITY, MAX_WORKERS};
+ghost use Rattle.dg_asked.specs.Files.{file_of};
 
 use crate::numbered::{GreedyTask, RankTask};
 
-/// What the command line asks for.
+/// What is answered by one text on one table.
 #[derive(Drop)]
 pub enum Task<'a> {
     /// Play the steps of one file on the table of another, and print the history.
@@ -57,8 +56,8 @@ pub struct Service<'a> {
     pub capacity: u32,
     /// How many workers a rank test has, 1 to 16.
     pub workers: u32,
-    ghost room: { (1 ≤ capacity) × (capacity ≤ MAX_ENTRIES) },
-    ghost helped: { MayHaveWorkers workers },
+    ghost room: { (1 ≤ capacity) × (capacity ≤ MAX_CAPACITY) },
+    ghost helped: { (1 ≤ workers) × (workers ≤ MAX_WORKERS) },
 }
 
 /// A session over each of some scripts, each with a seat and a thread of its own, on one table.
@@ -71,10 +70,10 @@ pub struct Gathering<'a> {
     /// How many entries the history may have, 1 to 65,536.
     pub capacity: u32,
     ghost played: { 1 ≤ vec_len scripts },
-    ghost room: { (1 ≤ capacity) × (capacity ≤ MAX_ENTRIES) },
+    ghost room: { (1 ≤ capacity) × (capacity ≤ MAX_CAPACITY) },
 }
 
-/// What a command line that is not refused comes to.
+/// What the words of a command line ask for.
 #[derive(Drop)]
 pub enum Asked<'a> {
     /// An answer to print.

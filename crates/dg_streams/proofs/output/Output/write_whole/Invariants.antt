@@ -1,10 +1,10 @@
 -- What is behind `at` was taken.
 use Rattle.std.proofs.Common.{length, ◌-◌, ◌≤◌, take}
 use Rattle.std.specs.Io.KnownBytes.{Appends}
-use Rattle.dg_session.proofs.output.Output.write_whole.Given as goal
+use Rattle.dg_streams.proofs.output.Output.write_whole.Given as goal
 
 abbrev pub invariant-writes : goal.invariant-writes
-invariant-writes g l = (l.at ≤ length l.text) × Appends (g.O.Write.contents l.fn.self.inner) (g.O.Write.contents l.self.inner) (take l.at l.text)
+invariant-writes g l = (l.at ≤ length l.text) × Appends l.fn.self.contents (g.O.Write.contents l.self-inside.inner) (take l.at l.text)
 
 abbrev pub decreases-writes : goal.decreases-writes
 decreases-writes g l = length l.text - l.at

@@ -1,0 +1,2 @@
+-- What is asked for.
+pub mod Files

@@ -1,0 +1,12 @@
+//! What the words of a command line may ask for.
+#![tactic(auto)]
+
+mod asked;
+mod limits;
+mod numbered;
+mod words;
+
+pub use asked::{Asked, Gathering, Service, Task};
+pub use limits::{MAX_CAPACITY, MAX_TURNS, MAX_WORKERS};
+pub use numbered::{GreedyTask, RankTask};
+pub use words::{Words, WordsFault};

@@ -1,2 +1,0 @@
--- How runs end.
-pub mod Runs

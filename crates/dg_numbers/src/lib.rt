@@ -1,0 +1,6 @@
+//! Whole numbers that texts spell.
+#![tactic(auto)]
+
+mod decimals;
+
+pub use decimals::natural;

@@ -1,0 +1,49 @@
+//! A run of the program: what the words of a command line come to.
+ghost use Rattle.std.specs.Prelude.{◌≡◌, ◌≢◌, map, string_bytes};
+ghost use Rattle.dg_server.specs.Runs.{Succeeds, Fails};
+ghost use Rattle.dg_server.specs.Status.{IsStatus};
+
+use crate::fault::{Fault, report};
+use crate::program::perform;
+use crate::sources::Sources;
+use dg_asked::Words;
+use dg_streams::Output;
+use std::io::{BufRead, Write};
+use std::rt::Files;
+use std::sync::Wait;
+use std::thread::Threads;
+
+/// Does what the words of a command line ask for, the first of which is the program's name, as the reader has it; and gives the
+/// exit status: 0 where it was done to the end, or that of the fault that ended the run, of which `faults` is told. Only a
+/// session reads the input.
+pub fn run<R, W, S, I, O, F>(
+    rt: &R,
+    reader: &W,
+    words: &[String],
+    sources: &S,
+    input: I,
+    output: &mut Output<O>,
+    faults: &mut F,
+) -> u8
+where
+    R: Files + AllocGlobal + Threads + Wait + Sync,
+    W: Words,
+    S: Sources,
+    I: BufRead + Drop,
+    O: Write,
+    F: Write,
+    ensures status { IsStatus result }
+    ensures done { result ≡ 0 →
+        Succeeds (W.asks reader.now) (S.held sources.now) (map string_bytes words.now) (I.remaining input) output.old output.new }
+    ensures failed { result ≢ 0 →
+        Fails (W.asks reader.now) (W.refuses reader.now) (S.held sources.now) (map string_bytes words.now) (I.remaining input) result
+            output.old output.new }
+{
+    match reader.asked(rt.alloc(), words) {
+        Ok(asked) => match perform(rt, asked, sources, input, output) {
+            Ok(()) => 0,
+            Err(fault) => report(&fault, faults),
+        },
+        Err(fault) => report(&Fault::Words(fault), faults),
+    }
+}

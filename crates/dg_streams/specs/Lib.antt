@@ -1,0 +1,2 @@
+-- What is known of streams.
+pub mod Streams

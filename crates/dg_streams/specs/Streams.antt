@@ -1,0 +1,17 @@
+-- What is known of streams.
+--   Reading                  == a reader: the bytes that it has yet to give, where they are known, and whether a read of it has failed
+--   Writing                  == a writer: the bytes that it holds, where they are known, and whether a write to it has failed
+--   AppendsFront old new told text == known bytes have grown by what was told, and by a front of the text
+use Rattle.std.specs.Prelude.{ℕ, Bool, ◌≤◌, List, ◌++◌, length, take, Option}
+use Rattle.std.specs.Io.KnownBytes.{Appends}
+
+pub record Reading : Type 0 where
+  pub remaining : Option (List ℕ)
+  pub has_failed : Bool
+
+pub record Writing : Type 0 where
+  pub contents : Option (List ℕ)
+  pub has_failed : Bool
+
+abbrev pub AppendsFront : Option (List ℕ) → Option (List ℕ) → List ℕ → List ℕ → Type 0
+AppendsFront old new told text = (k : ℕ) × (k ≤ length text) × Appends old new (told ++ take k text)
