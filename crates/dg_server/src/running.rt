@@ -37,7 +37,7 @@ where
         Succeeds (W.asks reader.now) (S.held sources.now) (map string_bytes words.now) (I.remaining input) output.old output.new }
     ensures failed { result ≢ 0 →
         Fails (W.asks reader.now) (W.refuses reader.now) (S.held sources.now) (map string_bytes words.now) (I.remaining input) result
-            output.old output.new }
+        output.old output.new }
 {
     match reader.asked(rt.alloc(), words) {
         Ok(asked) => match perform(rt, asked, sources, input, output) {
