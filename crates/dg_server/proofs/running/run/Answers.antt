@@ -1,0 +1,16 @@
+-- Words that are refused leave the output as it was.
+use Rattle.std.proofs.Common.{List, ℕ, Option, None, Some, refl, sym, inl}
+use Rattle.std.specs.Io.KnownBytes.{Keeps}
+use Rattle.dg_server.specs.declared.fault.Fault.TheVariants.{Words}
+use Rattle.dg_server.proofs.running.run.Goals as goal
+
+as_it_was : (held : Option (List ℕ)) → Keeps held held
+as_it_was None = tt
+as_it_was (Some bytes) = refl
+
+pub returns-in-Err-clause-failed : goal.returns-in-Err-clause-failed
+returns-in-Err-clause-failed g c differ = record {
+  fault = Words c.in-Err.fault;
+  tells = sym c.report-in-Err.ensures;
+  cause = inl (record { why = c.in-Err.fault; tells = refl; refused = c.in-Err.ensures.refused; kept = as_it_was c.args.output.now.contents });
+}
