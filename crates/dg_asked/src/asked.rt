@@ -49,7 +49,7 @@ impl Task<'_> {
 
 /// A session over the input, on a table with one seat.
 #[derive(Drop)]
-pub struct Service<'a> {
+pub struct ServeTask<'a> {
     /// The name of the table file.
     pub file: &'a str,
     /// How many entries the history may have, 1 to 65,536.
@@ -62,7 +62,7 @@ pub struct Service<'a> {
 
 /// A session over each of some scripts, each with a seat and a thread of its own, on one table.
 #[derive(Drop)]
-pub struct Gathering<'a> {
+pub struct PartyTask<'a> {
     /// The name of the table file.
     pub file: &'a str,
     /// The names of the scripts, one or more.
@@ -79,9 +79,9 @@ pub enum Asked<'a> {
     /// An answer to print.
     Task(Task<'a>),
     /// The lines of the input to answer.
-    Serve(Service<'a>),
+    Serve(ServeTask<'a>),
     /// Scripts to play, and the history that they make to print.
-    Party(Gathering<'a>),
+    Party(PartyTask<'a>),
     /// A text to print, as after `--help`.
     Text(String),
 }

@@ -6,7 +6,7 @@ mod limits;
 mod numbered;
 mod words;
 
-pub use asked::{Asked, Gathering, Service, Task};
+pub use asked::{Asked, PartyTask, ServeTask, Task};
 pub use limits::{MAX_CAPACITY, MAX_TURNS, MAX_WORKERS};
 pub use numbered::{GreedyTask, RankTask};
 pub use words::{Words, WordsFault};

@@ -10,7 +10,7 @@ use crate::help_texts::{
 };
 use clap::error::ErrorKind;
 use clap::{Arg, ArgMatches, Command};
-use dg_asked::{Asked, Gathering, GreedyTask, RankTask, Service, Task, Words, WordsFault};
+use dg_asked::{Asked, GreedyTask, PartyTask, RankTask, ServeTask, Task, Words, WordsFault};
 use dg_numbers::natural;
 use std::alloc::{AllocError, Global};
 use std::rt::Env;
@@ -152,7 +152,7 @@ fn command_in<'a>(alloc: Global, matches: &ArgMatches<'a>) -> Result<Asked<'a>, 
         "serve" => {
             let capacity = capacity_in(inner)?;
             let workers = workers_in(inner)?;
-            Ok(Asked::Serve(Service {
+            Ok(Asked::Serve(ServeTask {
                 file,
                 capacity,
                 workers,
@@ -161,7 +161,7 @@ fn command_in<'a>(alloc: Global, matches: &ArgMatches<'a>) -> Result<Asked<'a>, 
         "party" => {
             let capacity = capacity_in(inner)?;
             let scripts = scripts_in(alloc, inner)?;
-            Ok(Asked::Party(Gathering {
+            Ok(Asked::Party(PartyTask {
                 file,
                 scripts,
                 capacity,

@@ -1,5 +1,5 @@
 -- The lemmas that the proofs cite, each file over plain variables.
 mod Limited
-pub mod Gathered
+pub mod FilesAndEnds
 pub mod Serving
 pub mod UnderWay

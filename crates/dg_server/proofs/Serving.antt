@@ -2,7 +2,7 @@
 --   fresh_seat     the seat of a new table with one is seat 1, and knows of no entry
 --   held_count     files that are held are as many as their names
 --   may_play       scripts that are held are as many as may have seats
---   gathered       a party over files that are held is that of the table that one of them describes
+--   party_on       a party over files that are held is that of the table that one of them describes
 use Rattle.std.proofs.Common.{◌≡◌, ℕ, suc, ◌+◌, ◌≤◌, List, [], ◌∷◌, ◌++◌, length, map, arith, refl, sym, ap, ◌∙◌, slice_get, Some, Bor, Vec, Global}
 use Rattle.std.proofs.lemmas.List.{length-map}
 use Rattle.dg_game.specs.declared.entry.TheConstants.{MAX_SEATS}
@@ -14,9 +14,9 @@ use Rattle.std.specs.Prelude.{Result}
 use Rattle.dg_session.specs.declared.ends.SessionEnd.{SessionEnd}
 use Rattle.dg_party.specs.Sessions.{contents}
 use Rattle.dg_party.specs.Parties.{IsParty}
-use Rattle.dg_asked.specs.declared.asked.Gathering.{Gathering}
+use Rattle.dg_asked.specs.declared.asked.PartyTask.{PartyTask}
 use Rattle.dg_server.specs.Tasks.{DescribesTable}
-use Rattle.dg_server.specs.Gatherings.{AreHeld, names_in, IsGathering}
+use Rattle.dg_server.specs.Parties.{MayHoldAll, names_in, IsPartyOn}
 
 pub fresh_seat : (n : ℕ) (xs ys : List SeatView) (x : SeatView) → n ≡ 1 → AreFresh n xs → xs ≡ ys ++ x ∷ [] →
     (x.number ≡ 1) × (x.mine ≡ []) × (x.told ≡ [])
@@ -30,14 +30,14 @@ fresh_seat n xs (y ∷ z ∷ ys) x one fresh whole =
     let count : length xs ≡ suc (suc (length (ys ++ x ∷ []))) = ap length whole in
     absurd (omega (arith, count, fresh.count, one))
 
-pub held_count : (held : List ℕ → Held) (names all : List (List ℕ)) → AreHeld held names all → length all ≡ length names
+pub held_count : (held : List ℕ → Held) (names all : List (List ℕ)) → MayHoldAll held names all → length all ≡ length names
 held_count held [] [] known = refl
 held_count held [] (b ∷ all) known = absurd known
 held_count held (n ∷ names) [] known = absurd known
 held_count held (n ∷ names) (b ∷ all) known = ap suc (held_count held names all known.1)
 
 pub may_play : (held : List ℕ → Held) (n : ℕ) (names : List (Bor (List ℕ))) (all : List (Vec ℕ Global)) →
-    AreHeld held (map (λ name. name.now) names) (map (λ script. script.items) all) → n ≡ length names → 1 ≤ n → n ≤ MAX_SEATS → MayHaveSeats (length all)
+    MayHoldAll held (map (λ name. name.now) names) (map (λ script. script.items) all) → n ≡ length names → 1 ≤ n → n ≤ MAX_SEATS → MayHaveSeats (length all)
 may_play held n names all known count least most =
     let same : length (map (λ (script : Vec ℕ Global). script.items) all) ≡ length (map (λ (name : Bor (List ℕ)). name.now) names) =
     held_count held (map (λ (name : Bor (List ℕ)). name.now) names) (map (λ (script : Vec ℕ Global). script.items) all) known in
@@ -46,9 +46,9 @@ may_play held n names all known count least most =
     let total : length all ≡ n = sym scripts ∙ same ∙ given ∙ sym count in
     rw total (least, most)
 
-pub gathered : (held : List ℕ → Held) (gathering : Gathering) (o : Opening) (names : List (List ℕ)) (all : List (Vec ℕ Global))
-    (ends : List (Result ℕ SessionEnd)) (text : List ℕ) → DescribesTable (held gathering.file.now) o names →
-    AreHeld held (names_in gathering) (map (λ script. script.items) all) → IsParty o gathering.capacity names (contents all) ends text →
-    IsGathering held gathering ends text
-gathered held gathering o names all ends text table known party =
+pub party_on : (held : List ℕ → Held) (task : PartyTask) (o : Opening) (names : List (List ℕ)) (all : List (Vec ℕ Global))
+    (ends : List (Result ℕ SessionEnd)) (text : List ℕ) → DescribesTable (held task.file.now) o names →
+    MayHoldAll held (names_in task) (map (λ script. script.items) all) → IsParty o task.capacity names (contents all) ends text →
+    IsPartyOn held task ends text
+party_on held task o names all ends text table known party =
     record { opening = o; names = names; table = table; holds = (contents all, known, party) }

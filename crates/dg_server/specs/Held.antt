@@ -1,6 +1,6 @@
 -- What is known of the files of a source.
 --   Held                 == what is known of the file of a name: nothing; that there is none; or its bytes
---   IsHeld h bytes       == these may be the bytes of the file, and a file may have so many: where its bytes are known, they are
+--   MayHold h bytes       == these may be the bytes of the file, and a file may have so many: where its bytes are known, they are
 --                           just those
 --   RefusesHeld h fault  == the file may be refused so: as unreadable where it is not known that it is there, as too long where
 --                           it is not known that it has no more bytes than a file may have; of want of memory nothing is said
@@ -21,8 +21,8 @@ MayBe unknown read = ⊤
 MayBe missing read = ⊥
 MayBe (bytes known) read = read ≡ known
 
-abbrev pub IsHeld : Held → List ℕ → Type 0
-IsHeld h read = MayBe h read × (length read ≤ MAX_FILE)
+abbrev pub MayHold : Held → List ℕ → Type 0
+MayHold h read = MayBe h read × (length read ≤ MAX_FILE)
 
 abbrev pub RefusesHeld : Held → SourceFault → Type 0
 RefusesHeld h OutOfMemory = ⊤

@@ -7,8 +7,8 @@ pub mod RankTests
 pub mod Games
 pub mod Refusals
 pub mod Tasks
-pub mod Services
-pub mod Gatherings
+pub mod Sessions
+pub mod Parties
 pub mod Status
 pub mod Performed
 pub mod Runs

@@ -7,20 +7,20 @@ use Rattle.std.specs.Prelude.{ℕ, List, Option, string_bytes}
 use Rattle.std.specs.Io.KnownBytes.{Appends, Keeps}
 use Rattle.dg_server.specs.Held.{Held}
 use Rattle.dg_server.specs.Tasks.{IsAnswer, RefusesTask}
-use Rattle.dg_server.specs.Services.{Serves, RefusesService}
-use Rattle.dg_server.specs.Gatherings.{Gathers, RefusesGathering}
+use Rattle.dg_server.specs.Sessions.{Serves, RefusesServing}
+use Rattle.dg_server.specs.Parties.{PlaysParty, RefusesParty}
 use Rattle.dg_asked.specs.declared.asked.Asked.{Asked}
 use Rattle.dg_asked.specs.declared.asked.Asked.TheVariants.{Task, Serve, Party, Text}
 use Rattle.dg_server.specs.declared.fault.Fault.{Fault}
 
 abbrev pub Performs : (List ℕ → Held) → Option (List ℕ) → Asked → Option (List ℕ) → Option (List ℕ) → Type 0
 Performs held input (Task task) old new = (text : List ℕ) × IsAnswer held task text × Appends old new text
-Performs held input (Serve service) old new = Serves held input service old new
-Performs held input (Party gathering) old new = Gathers held gathering old new
+Performs held input (Serve task) old new = Serves held input task old new
+Performs held input (Party task) old new = PlaysParty held task old new
 Performs held input (Text help) old new = Appends old new (string_bytes help)
 
 abbrev pub Refuses : (List ℕ → Held) → Option (List ℕ) → Asked → Fault → Option (List ℕ) → Option (List ℕ) → Type 0
 Refuses held input (Task task) fault old new = RefusesTask held task fault × Keeps old new
-Refuses held input (Serve service) fault old new = RefusesService held input service fault old new
-Refuses held input (Party gathering) fault old new = RefusesGathering held gathering fault old new
+Refuses held input (Serve task) fault old new = RefusesServing held input task fault old new
+Refuses held input (Party task) fault old new = RefusesParty held task fault old new
 Refuses held input (Text help) fault old new = ⊥

@@ -2,9 +2,9 @@
 --   DescribesTable h o names      == bytes that the file h may hold are a table file, of the opening o with these names
 --   IsOnTable h P                 == the file h describes a table, and P holds of its opening and names
 --   IsOfSteps h P                 == P holds of the lines of bytes that the file h may hold
---   Answers held o names task text == the text is the answer to the task on the opening o with these names
+--   AnswersTask held o names task text == the text is the answer to the task on the opening o with these names
 --   IsAnswer held task text       == the text is the answer to the task, for what the files hold that it names
---   RefusesTable h fault          == bytes that the file h may hold are refused as a table file, with that fault
+--   RefusesContents h fault          == bytes that the file h may hold are refused as a table file, with that fault
 --   RefusesItsTable h fault       == the table file h is not read, or it is refused
 --   RefusesOn held o names task fault == the task is refused so on the table o with these names: STEPS is not read, or it is
 --                                    refused; or the test is past the limits, or the dual is no divisor; or a turn is refused
@@ -15,7 +15,7 @@ use Rattle.dg_file.specs.TableFiles.{IsTableFile}
 use Rattle.dg_file.specs.FileFaults.{RefusesFile}
 use Rattle.dg_file.specs.declared.fault.FileFault.{FileFault}
 use Rattle.dg_lines.specs.Cuts.{lines}
-use Rattle.dg_server.specs.Held.{Held, IsHeld, RefusesHeld}
+use Rattle.dg_server.specs.Held.{Held, MayHold, RefusesHeld}
 use Rattle.dg_server.specs.Rehearsals.{IsPrinted}
 use Rattle.dg_server.specs.Judgements.{IsJudgement}
 use Rattle.dg_server.specs.RankTests.{IsRankAnswer, IsRiemannRoch, RefusesRank, RefusesRiemannRoch}
@@ -29,7 +29,7 @@ use Rattle.dg_server.specs.declared.fault.Fault.TheVariants.{Source, File, OutOf
 
 pub record DescribesTable (h : Held) (o : Opening) (names : List (List ℕ)) : Type 0 where
   pub bytes : List ℕ
-  pub held : IsHeld h bytes
+  pub held : MayHold h bytes
   pub table : IsTableFile bytes o names
 
 pub record IsOnTable (h : Held) (P : Opening → List (List ℕ) → Type 0) : Type 0 where
@@ -40,22 +40,22 @@ pub record IsOnTable (h : Held) (P : Opening → List (List ℕ) → Type 0) : T
 
 pub record IsOfSteps (h : Held) (P : List (List ℕ) → Type 0) : Type 0 where
   pub bytes : List ℕ
-  pub held : IsHeld h bytes
+  pub held : MayHold h bytes
   pub holds : P (lines bytes)
 
-abbrev pub Answers : (List ℕ → Held) → Opening → List (List ℕ) → Task → List ℕ → Type 0
-Answers held o names (Rehearse file steps) text = IsOfSteps (held steps.now) (λ all. IsPrinted o names all text)
-Answers held o names (Judge file) text = IsJudgement o names text
-Answers held o names (Rank test) text = IsRankAnswer o test.degree names text
-Answers held o names (RiemannRoch file) text = IsRiemannRoch o text
-Answers held o names (Greedy play) text = IsGreedyAnswer o play.turns names text
+abbrev pub AnswersTask : (List ℕ → Held) → Opening → List (List ℕ) → Task → List ℕ → Type 0
+AnswersTask held o names (Rehearse file steps) text = IsOfSteps (held steps.now) (λ all. IsPrinted o names all text)
+AnswersTask held o names (Judge file) text = IsJudgement o names text
+AnswersTask held o names (Rank test) text = IsRankAnswer o test.degree names text
+AnswersTask held o names (RiemannRoch file) text = IsRiemannRoch o text
+AnswersTask held o names (Greedy play) text = IsGreedyAnswer o play.turns names text
 
 abbrev pub IsAnswer : (List ℕ → Held) → Task → List ℕ → Type 0
-IsAnswer held task text = IsOnTable (held (file_of task)) (λ o names. Answers held o names task text)
+IsAnswer held task text = IsOnTable (held (file_of task)) (λ o names. AnswersTask held o names task text)
 
-pub record RefusesTable (h : Held) (fault : FileFault) : Type 0 where
+pub record RefusesContents (h : Held) (fault : FileFault) : Type 0 where
   pub bytes : List ℕ
-  pub held : IsHeld h bytes
+  pub held : MayHold h bytes
   pub refused : RefusesFile bytes fault
 
 abbrev pub RefusesOn : (List ℕ → Held) → Opening → List (List ℕ) → Task → Fault → Type 0
@@ -69,7 +69,7 @@ RefusesOn held o names (Greedy play) fault = RefusesTurns fault
 
 abbrev pub RefusesItsTable : Held → Fault → Type 0
 RefusesItsTable h (Source fault) = RefusesHeld h fault
-RefusesItsTable h (File fault) = RefusesTable h fault
+RefusesItsTable h (File fault) = RefusesContents h fault
 RefusesItsTable h fault = ⊥
 
 abbrev pub RefusesTask : (List ℕ → Held) → Task → Fault → Type 0

@@ -3,13 +3,13 @@
 
 mod fault;
 mod games;
-mod gathering;
+mod parties;
 mod printed;
 mod program;
 mod ranks;
 mod rehearsing;
 mod running;
-mod service;
+mod sessions;
 mod sources;
 mod table_source;
 

@@ -1,15 +1,15 @@
 //! What is asked for is done.
 ghost use Rattle.std.specs.Prelude.{◌≡◌, ◌≢◌, Err, true, IfOk, IfErr, OnOk};
-ghost use Rattle.dg_server.specs.Tasks.{IsAnswer, Answers, RefusesOn, RefusesTask};
+ghost use Rattle.dg_server.specs.Tasks.{IsAnswer, AnswersTask, RefusesOn, RefusesTask};
 ghost use Rattle.dg_server.specs.Performed.{Performs, Refuses};
 
 use crate::fault::Fault;
 use crate::games::greedy_history;
-use crate::gathering::play_scripts;
+use crate::parties::play_party;
 use crate::printed::judgement;
 use crate::ranks::{rank_answer, riemann_roch};
 use crate::rehearsing::rehearsal;
-use crate::service::serve_input;
+use crate::sessions::serve_input;
 use crate::sources::Sources;
 use crate::table_source::table_in;
 use dg_asked::{Asked, Task};
@@ -49,11 +49,11 @@ where
             Ok(text) => Ok(output.write_whole(text.as_slice())?),
             Err(fault) => Err(fault),
         },
-        Asked::Serve(service) => match serve_input(rt, &service, sources, input, output) {
+        Asked::Serve(task) => match serve_input(rt, &task, sources, input, output) {
             Ok(()) => Ok(()),
             Err(fault) => Err(fault),
         },
-        Asked::Party(gathering) => match play_scripts(rt, &gathering, sources, output) {
+        Asked::Party(task) => match play_party(rt, &task, sources, output) {
             Ok(()) => Ok(()),
             Err(fault) => Err(fault),
         },
@@ -89,7 +89,7 @@ where
     R: Files + AllocGlobal + Threads + Wait,
     S: Sources,
     ensures done { IfOk result (λ text.
-        Answers (S.held sources.now) table.now.start table.now.names task.now text.items) }
+        AnswersTask (S.held sources.now) table.now.start table.now.names task.now text.items) }
     ensures refused { IfErr result (RefusesOn (S.held sources.now) table.now.start table.now.names task.now) }
 {
     match task {

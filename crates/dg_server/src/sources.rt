@@ -1,6 +1,6 @@
 //! Where the bytes of files come from.
 ghost use Rattle.std.specs.Prelude.{◌≡◌, ◌≢◌, ◌<◌, ◌≤◌, ℕ, List, length, map, vec_len, IfOk, IfErr, IfSome};
-ghost use Rattle.dg_server.specs.Held.{Held, IsHeld, RefusesHeld, held_among, held_by};
+ghost use Rattle.dg_server.specs.Held.{Held, MayHold, RefusesHeld, held_among, held_by};
 ghost use Rattle.std.specs.Option.{option_copied};
 
 use std::alloc::Global;
@@ -49,7 +49,7 @@ pub trait Sources {
     /// Refused with `Unreadable` where there is no such file or a read fails, with `TooLong` where one more byte can be
     /// read, and with `OutOfMemory` at the growth that was refused.
     fn bytes<R: Files + AllocGlobal>(&self, rt: &R, name: &str) -> Result<Vec<u8>, SourceFault>
-        ensures read { IfOk result (λ bytes. IsHeld (held self.now name.now) bytes.items) }
+        ensures read { IfOk result (λ bytes. MayHold (held self.now name.now) bytes.items) }
         ensures refused { IfErr result (RefusesHeld (held self.now name.now)) };
 }
 

@@ -18,7 +18,7 @@ use Rattle.dg_table.specs.Faults.{RefusesCall}
 use Rattle.dg_table.specs.Turns.{request_for}
 use Rattle.dg_table.specs.Seats.{SeatView, Keeps}
 use Rattle.dg_table.specs.declared.fault.Fault.{Fault}
-use Rattle.dg_strategy.specs.Choices.{Answers}
+use Rattle.dg_strategy.specs.Choices.{Choosing}
 use Rattle.dg_strategy.specs.Plays.{IsTurnBy, IsMove, AreMoves, Gains, IsPlayedOut, IsClaimed, IsPlayed, IsStopped}
 use Rattle.dg_strategy.specs.declared.playing.Ended.{Ended}
 use Rattle.dg_strategy.specs.declared.playing.Ended.TheVariants.{Settled, Turns}
@@ -29,7 +29,7 @@ pub record Left (x : SeatView) (es : List (ℕ × Entry)) (y : SeatView) : Type 
   pub mine : y.mine ≡ x.mine ++ es
   pub told : y.told ≡ x.told
 
-pub left_by : (A : Answers) (o : Opening) (x : SeatView) (es : List (ℕ × Entry)) (y : SeatView) →
+pub left_by : (A : Choosing) (o : Opening) (x : SeatView) (es : List (ℕ × Entry)) (y : SeatView) →
     FoldsTo (IsTurnBy A o) x es y → Left x es y
 left_by A o x [] y same =
     subst (Left x []) same (record { number = refl; mine = sym (append-nil x.mine); told = refl })
@@ -41,7 +41,7 @@ left_by A o x (r ∷ es) y (z, turn, rest) =
       told = left.told ∙ turn.answered.told;
     }
 
-pub gained_by : (A : Answers) (o : Opening) (x : SeatView) (es : List (ℕ × Entry)) (y z : SeatView) →
+pub gained_by : (A : Choosing) (o : Opening) (x : SeatView) (es : List (ℕ × Entry)) (y z : SeatView) →
     FoldsTo (IsTurnBy A o) x es y → Keeps y z → Gains (IsTurnBy A o) x es z
 gained_by A o x es y z steps kept =
     let left = left_by A o x es y steps in
@@ -61,7 +61,7 @@ moves_more (p ∷ es) r moves move = (moves.0, moves_more es r moves.1 move)
 keeps_itself : (x : SeatView) → Keeps x x
 keeps_itself x = record { number = refl; mine = refl; told = refl }
 
-module _ (A : Answers) (o : Opening) where
+module _ (A : Choosing) (o : Opening) where
   pub a_move : (x : SeatView) (r : ℕ × Entry) (y : SeatView) → IsTurnBy A o x r y → ¬ (r.1.request ≡ Claim) → IsMove r.1.request
   a_move x r y turn other = asks turn.answer turn.answered.request'
     where

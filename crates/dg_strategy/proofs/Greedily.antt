@@ -18,14 +18,14 @@ use Rattle.dg_table.specs.Turns.{request_for}
 use Rattle.dg_table.specs.Opened.{AreFresh}
 use Rattle.dg_table.specs.Closing.{IsClosed}
 use Rattle.dg_table.specs.Seats.{SeatView, AreSeated, Holds, entries_of}
-use Rattle.dg_strategy.specs.Choices.{Answers, BorrowsAtLeast}
+use Rattle.dg_strategy.specs.Choices.{Choosing, BorrowsAtLeast}
 use Rattle.dg_strategy.specs.Greedy.{IsGreedyCall, AreGreedy, AllMoves, IsGreedyGame}
 use Rattle.dg_strategy.specs.Plays.{IsSettlerTurn, IsMove, AreMoves, Gains, IsPlayed, is_settled}
 use Rattle.dg_strategy.specs.declared.playing.Ended.{Ended}
 use Rattle.dg_strategy.specs.declared.playing.Ended.TheVariants.{Settled, Turns}
 
 -- what the greedy settler may answer
-abbrev pub greedily : Answers
+abbrev pub greedily : Choosing
 greedily g d m = BorrowsAtLeast d m
 
 abbrev entries : List (ℕ × Entry) → List Entry

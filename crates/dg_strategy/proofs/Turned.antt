@@ -22,7 +22,7 @@ use Rattle.dg_game.specs.declared.entry.Request.TheVariants as request
 use Rattle.dg_game.proofs.HistoryLaws.{gifts_in-more}
 use Rattle.dg_table.specs.Seats.{SeatView}
 use Rattle.dg_table.specs.Turns.{request_for}
-use Rattle.dg_strategy.specs.Choices.{Answers, GivesMoves, SettlesDebts, BorrowsInDebt}
+use Rattle.dg_strategy.specs.Choices.{Choosing, GivesMoves, SettlesDebts, BorrowsInDebt}
 use Rattle.dg_strategy.specs.Plays.{IsTurnBy, IsMove, IsMadeOrPastRange, IsStrategyTurn, IsSettlerTurn}
 
 -- a move that can be made is refused for the range alone
@@ -57,14 +57,14 @@ claim_won p Won effective replies = refl
 claim_won p NotWon effective replies = absurd (replies effective)
 claim_won p reply effective replies = absurd replies
 
-pub settler_moves : (A : Answers) → SettlesDebts A → GivesMoves A
+pub settler_moves : (A : Choosing) → SettlesDebts A → GivesMoves A
 settler_moves A settles g d m graph size may = borrows m (settles.moves g d m graph size may)
   where
     borrows : (m : Move) → BorrowsInDebt d m → IsPlayable g.size m
     borrows (Borrow v) debt = subst (λ n. v < n) size debt.0
     borrows m debt = absurd debt
 
-module _ (A : Answers) (o : Opening) (graph : IsGraph o.graph) (x : SeatView) (r : ℕ × Entry) (y : SeatView) where
+module _ (A : Choosing) (o : Opening) (graph : IsGraph o.graph) (x : SeatView) (r : ℕ × Entry) (y : SeatView) where
   -- the reply to what was answered, and what is known of it where the answer is a move that can be made
   answered : (gives : GivesMoves A) (turn : IsTurnBy A o x r y) (m : Option Move) → turn.answer ≡ m →
       (IsMove r.1.request → IsMadeOrPastRange r.1.reply) × (gift_counted r.1.reply ≡ 0)

@@ -1,5 +1,5 @@
 -- What may be chosen at a position.
---   Answers              == what a choice may answer at a graph and amounts: a move, or none, which is to claim
+--   Choosing             == what a choice may answer at a graph and amounts: a move, or none, which is to claim
 --   GivesMoves A         == each move that A has can be made there: it names vertices alone, fires no empty set, and is no
 --                           script of another size
 --   IsInDebt d v         == the vertex v is in debt
@@ -17,10 +17,10 @@ use Rattle.dg_chips.specs.Moves.{IsPlayable}
 use Rattle.dg_chips.specs.declared.moves.Move.{Move}
 use Rattle.dg_chips.specs.declared.moves.Move.TheVariants.{Borrow}
 
-abbrev pub Answers : Type 1
-Answers = Multigraph → Vector → Option Move → Type 0
+abbrev pub Choosing : Type 1
+Choosing = Multigraph → Vector → Option Move → Type 0
 
-abbrev pub GivesMoves : Answers → Type 0
+abbrev pub GivesMoves : Choosing → Type 0
 GivesMoves A = (g : Multigraph) (d : Vector) (m : Move) → IsGraph g → d.size ≡ g.size → A g d (Some m) → IsPlayable g.size m
 
 abbrev pub IsInDebt : Vector → ℕ → Type 0
@@ -34,7 +34,7 @@ abbrev pub BorrowsInDebt : Vector → Move → Type 0
 BorrowsInDebt d (Borrow v) = IsInDebt d v
 BorrowsInDebt d m = ⊥
 
-pub record SettlesDebts (A : Answers) : Type 0 where
+pub record SettlesDebts (A : Choosing) : Type 0 where
   pub moves : (g : Multigraph) (d : Vector) (m : Move) → IsGraph g → d.size ≡ g.size → A g d (Some m) → BorrowsInDebt d m
   pub claims : (g : Multigraph) (d : Vector) → IsGraph g → d.size ≡ g.size → A g d None → IsEffective g.size (at d)
 

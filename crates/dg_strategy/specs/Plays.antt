@@ -30,7 +30,7 @@ use Rattle.dg_table.specs.Faults.{RefusesCall}
 use Rattle.dg_table.specs.Seats.{SeatView, Keeps}
 use Rattle.dg_table.specs.Turns.{request_for}
 use Rattle.dg_table.specs.declared.fault.Fault.{Fault}
-use Rattle.dg_strategy.specs.Choices.{Answers, BorrowsInDebt}
+use Rattle.dg_strategy.specs.Choices.{Choosing, BorrowsInDebt}
 use Rattle.dg_strategy.specs.declared.playing.Ended.{Ended}
 use Rattle.dg_strategy.specs.declared.playing.Ended.TheVariants.{Settled, Turns}
 
@@ -42,7 +42,7 @@ abbrev pub AreMoves : List (ℕ × Entry) → Type 0
 AreMoves [] = ⊤
 AreMoves (p ∷ es) = IsMove p.1.request × AreMoves es
 
-pub record IsTurnBy (A : Answers) (o : Opening) (x : SeatView) (r : ℕ × Entry) (y : SeatView) : Type 0 where
+pub record IsTurnBy (A : Choosing) (o : Opening) (x : SeatView) (r : ℕ × Entry) (y : SeatView) : Type 0 where
   pub history : List Entry
   pub amounts : Vector
   pub answer : Option Move
@@ -55,12 +55,12 @@ IsMadeOrPastRange (Moved d) = ⊤
 IsMadeOrPastRange (Refused Range) = ⊤
 IsMadeOrPastRange reply = ⊥
 
-pub record IsStrategyTurn (A : Answers) (o : Opening) (x : SeatView) (r : ℕ × Entry) (y : SeatView) : Type 0 where
+pub record IsStrategyTurn (A : Choosing) (o : Opening) (x : SeatView) (r : ℕ × Entry) (y : SeatView) : Type 0 where
   pub turn : IsTurnBy A o x r y
   pub gifts : gifts_in (turn.history ++ r.1 ∷ []) ≡ gifts_in turn.history
   pub moved : IsMove r.1.request → IsMadeOrPastRange r.1.reply
 
-pub record IsSettlerTurn (A : Answers) (o : Opening) (x : SeatView) (r : ℕ × Entry) (y : SeatView) : Type 0 where
+pub record IsSettlerTurn (A : Choosing) (o : Opening) (x : SeatView) (r : ℕ × Entry) (y : SeatView) : Type 0 where
   pub strategy : IsStrategyTurn A o x r y
   pub borrows : (m : Move) → strategy.turn.answer ≡ Some m → BorrowsInDebt strategy.turn.amounts m
   pub won : strategy.turn.answer ≡ None → r.1.reply ≡ Won

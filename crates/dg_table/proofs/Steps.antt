@@ -25,7 +25,7 @@ use Rattle.dg_table.specs.Answered.{IsAnsweredAfter}
 use Rattle.dg_table.specs.Faults.{RefusesStep, RefusesSettling}
 use Rattle.dg_table.specs.declared.fault.Fault.{Fault}
 use Rattle.dg_table.specs.declared.fault.Fault.TheVariants.{OutOfMemory, Full, Log}
-use Rattle.dg_table.specs.Lock.{IsHeld, IsKept, IsSeated}
+use Rattle.dg_table.specs.Lock.{IsUnderLock, IsKept, IsSeated}
 use Rattle.dg_log.specs.Numbered.{AreBelow}
 use Rattle.dg_table.specs.Looks.{IsLookOf}
 use Rattle.dg_table.specs.Seats.{SeatView, Holds, IsAdmissible, entries_of}
@@ -116,7 +116,7 @@ settling_refused o cap H i x b c Log admissible read (room, refused) = (
 
 pub held_none : {o : Opening} {game : State} (seats : ℕ) (counts : List ℕ) → LeadsTo o [] game →
     length counts ≡ MAX_SEATS → ((s : ℕ) → s < MAX_SEATS → get_or counts s 0 ≡ 0) → seats ≤ MAX_SEATS →
-    IsHeld o seats [] game counts
+    IsUnderLock o seats [] game counts
 held_none {o} {game} seats counts leads places zeros few = record {
   legal = legal_none o;
   game' = leads;
@@ -127,8 +127,8 @@ held_none {o} {game} seats counts leads places zeros few = record {
 }
 
 pub held_more : {o : Opening} {seats : ℕ} {H : List Entry} {game next : State} {counts : List ℕ} (e : Entry) (s c : ℕ) →
-    IsHeld o seats H game counts → IsLegal o (H ++ e ∷ []) → LeadsTo o (H ++ e ∷ []) next → e.seat ≡ s + 1 →
-    e.seat ≤ seats → c ≡ get_or counts s 0 + 1 → IsHeld o seats (H ++ e ∷ []) next (set counts s c)
+    IsUnderLock o seats H game counts → IsLegal o (H ++ e ∷ []) → LeadsTo o (H ++ e ∷ []) next → e.seat ≡ s + 1 →
+    e.seat ≤ seats → c ≡ get_or counts s 0 + 1 → IsUnderLock o seats (H ++ e ∷ []) next (set counts s c)
 held_more {o} {seats} {H} {game} {next} {counts} e s c held legal leads own few more = record {
   legal = legal;
   game' = leads;

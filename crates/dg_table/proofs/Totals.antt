@@ -9,12 +9,12 @@ use Rattle.dg_game.specs.State.{State}
 use Rattle.dg_game.specs.declared.entry.Entry.{Entry}
 use Rattle.dg_game.specs.declared.entry.TheConstants.{MAX_SEATS}
 use Rattle.dg_table.specs.Closing.{AllHeld, AreTotals, IsHistoryOf}
-use Rattle.dg_table.specs.Lock.{IsHeld}
+use Rattle.dg_table.specs.Lock.{IsUnderLock}
 use Rattle.dg_table.specs.Seats.{SeatView, entries_of}
 use Rattle.dg_table.proofs.Counts.{none_past, all_counted}
 
 counted_at : {o : Opening} {seats : ℕ} {H : List Entry} {game : State} {counts : List ℕ} (s : ℕ) →
-    IsHeld o seats H game counts → get_or counts s 0 ≡ length (entries_of (s + 1) H)
+    IsUnderLock o seats H game counts → get_or counts s 0 ≡ length (entries_of (s + 1) H)
 counted_at {o} {seats} {H} {game} {counts} s held = elim (cases_lt s MAX_SEATS) [
   | inl inside ↦ held.counted s inside
   | inr past ↦
@@ -23,7 +23,7 @@ counted_at {o} {seats} {H} {game} {counts} s held = elim (cases_lt s MAX_SEATS) 
 ]
 
 pub totals : {o : Opening} {seats : ℕ} {H : List Entry} {game : State} {counts : List ℕ} (xs : List SeatView) →
-    IsHeld o seats H game counts → AllHeld H xs → AreTotals o seats xs H game.entries game.gifts game.amounts counts
+    IsUnderLock o seats H game counts → AllHeld H xs → AreTotals o seats xs H game.entries game.gifts game.amounts counts
 totals {o} {seats} {H} {game} {counts} xs held all =
     record {
       entries' = held.game'.entries;
@@ -38,5 +38,5 @@ totals {o} {seats} {H} {game} {counts} xs held all =
     }
 
 pub history_of : {o : Opening} {seats : ℕ} {H : List Entry} {game : State} {counts : List ℕ} (cap : ℕ) →
-    IsHeld o seats H game counts → length H ≤ cap → IsHistoryOf o seats cap H
+    IsUnderLock o seats H game counts → length H ≤ cap → IsHistoryOf o seats cap H
 history_of cap held few = record { legal = held.legal; few = few; seated = held.seated }

@@ -2,7 +2,7 @@
 --   AreCounted counts H        == the place of each seat, from 0, has the number of its entries in H
 --   AreRising n ps             == the numbers of the entries ps rise, the first being at least n
 --   AreOwn s ps                == the entries ps are of the seat s
---   IsHeld o n H game counts   == the game and the counts are those of the legal history H, whose entries are of the
+--   IsUnderLock o n H game counts   == the game and the counts are those of the legal history H, whose entries are of the
 --                                 seats 1 to n
 --   IsReady cap H x            == the history H has room for an entry of the seat x, which is admissible, and holds what
 --                                 it knows
@@ -33,7 +33,7 @@ abbrev pub AreOwn : ℕ → List (ℕ × Entry) → Type 0
 AreOwn s [] = ⊤
 AreOwn s (p ∷ ps) = (p.1.seat ≡ s) × AreOwn s ps
 
-pub record IsHeld (o : Opening) (n : ℕ) (H : List Entry) (game : State) (counts : List ℕ) : Type 0 where
+pub record IsUnderLock (o : Opening) (n : ℕ) (H : List Entry) (game : State) (counts : List ℕ) : Type 0 where
   pub legal : IsLegal o H
   pub game' : LeadsTo o H game
   pub seated : AreSeated n H

@@ -1,7 +1,7 @@
 -- Opening a table.
 --   MayHaveSeats n         == a table may have n seats
 --   AreFresh n xs          == xs are the seats 1 to n, in order, which know of no entry
---   RefusesTable n fault   == a table with n seats is refused with the fault
+--   RefusesOpening n fault   == a table with n seats is refused with the fault
 use Rattle.std.specs.Prelude.{◌≡◌, ℕ, ◌+◌, ◌≤◌, List, [], length, slice_get, Some}
 use Rattle.dg_game.specs.declared.entry.TheConstants.{MAX_SEATS}
 use Rattle.dg_table.specs.Seats.{SeatView}
@@ -18,6 +18,6 @@ pub record AreFresh (n : ℕ) (xs : List SeatView) : Type 0 where
   pub mine : (i : ℕ) (x : SeatView) → slice_get xs i ≡ Some x → x.mine ≡ []
   pub told : (i : ℕ) (x : SeatView) → slice_get xs i ≡ Some x → x.told ≡ []
 
-abbrev pub RefusesTable : ℕ → TableFault → Type 0
-RefusesTable n Seats = ¬ MayHaveSeats n
-RefusesTable n OutOfMemory = MayHaveSeats n
+abbrev pub RefusesOpening : ℕ → TableFault → Type 0
+RefusesOpening n Seats = ¬ MayHaveSeats n
+RefusesOpening n OutOfMemory = MayHaveSeats n

@@ -40,13 +40,13 @@ pub struct Held<N: Name> {
 impl<N: Name> Model for Held<N> {
     ghost use Rattle.std.specs.Prelude.{◌≡◌};
     ghost use Rattle.dg_log.specs.Written.{Written};
-    ghost use Rattle.dg_table.specs.Lock.{IsHeld};
+    ghost use Rattle.dg_table.specs.Lock.{IsUnderLock};
 
     ghost Value = { Written };
 
     ghost view = { λ h. h.pen };
 
-    ghost invariant = { λ h. IsHeld N.start N.seats h.pen.entries h.game h.counts × (h.seats ≡ N.seats) };
+    ghost invariant = { λ h. IsUnderLock N.start N.seats h.pen.entries h.game h.counts × (h.seats ≡ N.seats) };
 }
 
 impl<N: Name> Held<N> {

@@ -6,7 +6,7 @@ ghost use Rattle.dg_table.specs.Answered.{IsAnswered};
 ghost use Rattle.dg_table.specs.Closing.{IsClosed, AreTotals, IsRefused};
 ghost use Rattle.dg_table.specs.Faults.{RefusesCall};
 ghost use Rattle.dg_table.specs.Looks.{IsLookOf};
-ghost use Rattle.dg_table.specs.Opened.{AreFresh, RefusesTable};
+ghost use Rattle.dg_table.specs.Opened.{AreFresh, RefusesOpening};
 ghost use Rattle.dg_table.specs.Seats.{Keeps};
 ghost use Rattle.dg_table.specs.Settled.{IsSettled};
 ghost use Rattle.dg_table.specs.Turns.{MayBeAsked, IsTurn, RefusesTurn};
@@ -60,7 +60,7 @@ impl<N: Name> Table<N> {
         requires seats { seats ≡ N.seats }
         ensures { MatchResult result
             (λ r. AreFresh seats r.1.items)
-            (λ e. (e.0 ≡ row) × RefusesTable seats e.1) }
+            (λ e. (e.0 ≡ row) × RefusesOpening seats e.1) }
     {
         if seats < 1 || seats > MAX_SEATS {
             return Err((row, TableFault::Seats));

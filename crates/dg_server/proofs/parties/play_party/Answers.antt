@@ -2,21 +2,21 @@ use Rattle.std.proofs.Common.{rules, ◌≡◌, ◌≤◌, length, sym, subst, i
 use Rattle.dg_chips.specs.Opening.{Opening}
 use Rattle.dg_party.specs.Sessions.{contents}
 use Rattle.dg_party.specs.Parties.{IsParty}
-use Rattle.dg_server.specs.Gatherings.{IsGathering}
-use Rattle.dg_server.proofs.Serving.{may_play, gathered}
-use Rattle.dg_server.proofs.gathering.play_scripts.Goals as goal
+use Rattle.dg_server.specs.Parties.{IsPartyOn}
+use Rattle.dg_server.proofs.Serving.{may_play, party_on}
+use Rattle.dg_server.proofs.parties.play_party.Goals as goal
 
 pub party-requires-clause-scripts : goal.party-requires-clause-scripts
 party-requires-clause-scripts g c κs outlives =
     rw c.as_slice.ensures.value
-    (may_play (g.S.Sources.held c.args.sources.now) c.len.result c.args.gathering.now.scripts.items c.in-Ok.read.1.items c.in-Ok.ensures.read.1 (search rules) (search rules) (search rules))
+    (may_play (g.S.Sources.held c.args.sources.now) c.len.result c.args.task.now.scripts.items c.in-Ok.read.1.items c.in-Ok.ensures.read.1 (search rules) (search rules) (search rules))
 
 pub returns-in-Ok-print_played-clause-done : goal.returns-in-Ok-print_played-clause-done
 returns-in-Ok-print_played-clause-done g c =
     record {
       ends = c.in-Ok-party.played.ends.items;
       text = c.in-Ok-party.played.text.items;
-      party = gathered (g.S.Sources.held c.args.sources.now) c.args.gathering.now _ _ c.in-Ok.read.1.items _ _ c.in-Ok.ensures.read.0 c.in-Ok.ensures.read.1
+      party = party_on (g.S.Sources.held c.args.sources.now) c.args.task.now _ _ c.in-Ok.read.1.items _ _ c.in-Ok.ensures.read.0 c.in-Ok.ensures.read.1
           (rw (← c.start.ensures, ← c.names.ensures.value, ← c.as_slice.ensures.value) c.in-Ok-party.ensures);
       whole = c.in-Ok-print_played.ensures.whole.0;
       printed = c.in-Ok-print_played.ensures.whole.1;
@@ -27,7 +27,7 @@ returns-clause-refused g c differ =
     inr (inr (inr (record {
       ends = c.in-Ok-party.played.ends.items;
       text = c.in-Ok-party.played.text.items;
-      party = gathered (g.S.Sources.held c.args.sources.now) c.args.gathering.now _ _ c.in-Ok.read.1.items _ _ c.in-Ok.ensures.read.0 c.in-Ok.ensures.read.1
+      party = party_on (g.S.Sources.held c.args.sources.now) c.args.task.now _ _ c.in-Ok.read.1.items _ _ c.in-Ok.ensures.read.0 c.in-Ok.ensures.read.1
           (rw (← c.start.ensures, ← c.names.ensures.value, ← c.as_slice.ensures.value) c.in-Ok-party.ensures);
       printed = c.in-Err-print_played.ensures.refused differ;
     })))

@@ -1,7 +1,7 @@
 -- The ends that came early among those that were looked at.
 use Rattle.std.proofs.Common.{◌≡◌, take}
-use Rattle.dg_server.specs.Gatherings.{early}
-use Rattle.dg_server.proofs.gathering.early_ends.Given as goal
+use Rattle.dg_server.specs.Parties.{early}
+use Rattle.dg_server.proofs.parties.early_ends.Given as goal
 
 abbrev pub invariant-ends : goal.invariant-ends
 invariant-ends l = l.all.items ≡ early 1 (take l.place l.ends)

@@ -1,18 +1,18 @@
 -- Parties: a session over each of the scripts that are named, on one table.
---   names_in gathering     == the names of the scripts, in their order
---   AreHeld held names all == these may be the bytes of the files of these names, one after another
+--   names_in task     == the names of the scripts, in their order
+--   MayHoldAll held names all == these may be the bytes of the files of these names, one after another
 --   early s ends           == the ends, from seat s on, that came early, each with its seat
---   IsGathering held gathering ends text == on the table of the file that is named, sessions over the scripts came to these ends,
+--   IsPartyOn held task ends text == on the table of the file that is named, sessions over the scripts came to these ends,
 --                             and the text is that of the table's history and totals
---   Gathers held gathering old new == all sessions came to the ends of their scripts, and the output has grown by that text
+--   PlaysParty held task old new == all sessions came to the ends of their scripts, and the output has grown by that text
 --   IsFirstUnread held names fault == the files of the names before one that is refused so are held
 --   RefusesReading held file names fault == the table file is not read, or it is held, and a script is the first that is not
 --   RefusesFiles held file names fault == a file is not read; or all are, and the table file is refused
 --   IsPrintedWith ends text fault old new == the output has grown by the text, and the fault tells of the sessions that ended early, of
 --                             which there is one, least being the end of the first; or memory was refused before
---   EndsSome held gathering fault old new == so did a party
+--   EndsSome held task fault old new == so did a party
 --   IsWanting fault        == memory is wanting, or a thread, or the table is not closed
---   RefusesGathering held gathering fault old new == so is the party: there are too many scripts; or a file is not read; or the table
+--   RefusesParty held task fault old new == so is the party: there are too many scripts; or a file is not read; or the table
 --                             file is refused, where all are; or memory, a thread or the history is refused. The output is as it
 --                             was, unless sessions ended early
 use Rattle.std.specs.Prelude.{◌≡◌, ℕ, ◌+◌, ◌<◌, ◌≤◌, List, [], ◌∷◌, ◌++◌, length, map, Option, ⊤, ◌⊎◌}
@@ -22,34 +22,34 @@ use Rattle.std.specs.Io.KnownBytes.{Appends, Keeps}
 use Rattle.dg_game.specs.declared.entry.TheConstants.{MAX_SEATS}
 use Rattle.dg_session.specs.declared.ends.SessionEnd.{SessionEnd}
 use Rattle.dg_party.specs.Parties.{IsParty}
-use Rattle.dg_server.specs.Held.{Held, IsHeld, RefusesHeld}
-use Rattle.dg_server.specs.Tasks.{IsOnTable, RefusesTable}
+use Rattle.dg_server.specs.Held.{Held, MayHold, RefusesHeld}
+use Rattle.dg_server.specs.Tasks.{IsOnTable, RefusesContents}
 use Rattle.dg_server.specs.declared.sources.SourceFault.{SourceFault}
-use Rattle.dg_asked.specs.declared.asked.Gathering.{Gathering}
+use Rattle.dg_asked.specs.declared.asked.PartyTask.{PartyTask}
 use Rattle.dg_server.specs.declared.fault.Fault.{Fault}
 use Rattle.dg_server.specs.declared.fault.Fault.TheVariants.{Sessions, Seats, Source, File, OutOfMemory, NoThread, History}
 
-abbrev pub names_in : Gathering → List (List ℕ)
-names_in gathering = map (λ name. name.now) gathering.scripts.items
+abbrev pub names_in : PartyTask → List (List ℕ)
+names_in task = map (λ name. name.now) task.scripts.items
 
-abbrev pub AreHeld : (List ℕ → Held) → List (List ℕ) → List (List ℕ) → Type 0
-AreHeld held [] [] = ⊤
-AreHeld held (name ∷ names) (bytes ∷ all) = IsHeld (held name) bytes × AreHeld held names all
-AreHeld held names all = ⊥
+abbrev pub MayHoldAll : (List ℕ → Held) → List (List ℕ) → List (List ℕ) → Type 0
+MayHoldAll held [] [] = ⊤
+MayHoldAll held (name ∷ names) (bytes ∷ all) = MayHold (held name) bytes × MayHoldAll held names all
+MayHoldAll held names all = ⊥
 
 abbrev pub early : ℕ → List (Result ℕ SessionEnd) → List (ℕ × SessionEnd)
 early s [] = []
 early s (Ok count ∷ ends) = early (s + 1) ends
 early s (Err end ∷ ends) = (s, end) ∷ early (s + 1) ends
 
-abbrev pub IsGathering : (List ℕ → Held) → Gathering → List (Result ℕ SessionEnd) → List ℕ → Type 0
-IsGathering held gathering ends text = IsOnTable (held gathering.file.now) (λ o names.
-    (scripts : List (List ℕ)) × AreHeld held (names_in gathering) scripts × IsParty o gathering.capacity names scripts ends text)
+abbrev pub IsPartyOn : (List ℕ → Held) → PartyTask → List (Result ℕ SessionEnd) → List ℕ → Type 0
+IsPartyOn held task ends text = IsOnTable (held task.file.now) (λ o names.
+    (scripts : List (List ℕ)) × MayHoldAll held (names_in task) scripts × IsParty o task.capacity names scripts ends text)
 
-pub record Gathers (held : List ℕ → Held) (gathering : Gathering) (old new : Option (List ℕ)) : Type 0 where
+pub record PlaysParty (held : List ℕ → Held) (task : PartyTask) (old new : Option (List ℕ)) : Type 0 where
   pub ends : List (Result ℕ SessionEnd)
   pub text : List ℕ
-  pub party : IsGathering held gathering ends text
+  pub party : IsPartyOn held task ends text
   pub whole : early 1 ends ≡ []
   pub printed : Appends old new text
 
@@ -59,17 +59,17 @@ pub record IsFirstUnread (held : List ℕ → Held) (names : List (List ℕ)) (f
   pub back : List (List ℕ)
   pub whole : names ≡ front ++ name ∷ back
   pub all : List (List ℕ)
-  pub before : AreHeld held front all
+  pub before : MayHoldAll held front all
   pub refused : RefusesHeld (held name) fault
 
 abbrev pub RefusesReading : (List ℕ → Held) → List ℕ → List (List ℕ) → SourceFault → Type 0
 RefusesReading held file names fault =
-    RefusesHeld (held file) fault ⊎ (((table : List ℕ) × IsHeld (held file) table) × IsFirstUnread held names fault)
+    RefusesHeld (held file) fault ⊎ (((table : List ℕ) × MayHold (held file) table) × IsFirstUnread held names fault)
 
 abbrev pub RefusesFiles : (List ℕ → Held) → List ℕ → List (List ℕ) → Fault → Type 0
 RefusesFiles held file names (Source fault) = RefusesReading held file names fault
 RefusesFiles held file names (File fault) =
-    ((all : List (List ℕ)) × AreHeld held names all) × RefusesTable (held file) fault
+    ((all : List (List ℕ)) × MayHoldAll held names all) × RefusesContents (held file) fault
 RefusesFiles held file names fault = ⊥
 
 abbrev pub IsPrintedWith : List (Result ℕ SessionEnd) → List ℕ → Fault → Option (List ℕ) → Option (List ℕ) → Type 0
@@ -77,10 +77,10 @@ IsPrintedWith ends text (Sessions least all) old new = (early 1 ends ≡ all.ite
     × ((seat : ℕ) × (others : List (ℕ × SessionEnd)) × (all.items ≡ (seat, least) ∷ others)) × Appends old new text
 IsPrintedWith ends text fault old new = (fault ≡ OutOfMemory) × Keeps old new
 
-pub record EndsSome (held : List ℕ → Held) (gathering : Gathering) (fault : Fault) (old new : Option (List ℕ)) : Type 0 where
+pub record EndsSome (held : List ℕ → Held) (task : PartyTask) (fault : Fault) (old new : Option (List ℕ)) : Type 0 where
   pub ends : List (Result ℕ SessionEnd)
   pub text : List ℕ
-  pub party : IsGathering held gathering ends text
+  pub party : IsPartyOn held task ends text
   pub printed : IsPrintedWith ends text fault old new
 
 abbrev pub IsWanting : Fault → Type 0
@@ -89,9 +89,9 @@ IsWanting NoThread = ⊤
 IsWanting History = ⊤
 IsWanting fault = ⊥
 
-abbrev pub RefusesGathering : (List ℕ → Held) → Gathering → Fault → Option (List ℕ) → Option (List ℕ) → Type 0
-RefusesGathering held gathering fault old new =
-    ((fault ≡ Seats) × (MAX_SEATS < length gathering.scripts.items) × Keeps old new)
-    ⊎ ((length gathering.scripts.items ≤ MAX_SEATS) × RefusesFiles held gathering.file.now (names_in gathering) fault × Keeps old new)
-    ⊎ ((length gathering.scripts.items ≤ MAX_SEATS) × IsWanting fault × Keeps old new)
-    ⊎ EndsSome held gathering fault old new
+abbrev pub RefusesParty : (List ℕ → Held) → PartyTask → Fault → Option (List ℕ) → Option (List ℕ) → Type 0
+RefusesParty held task fault old new =
+    ((fault ≡ Seats) × (MAX_SEATS < length task.scripts.items) × Keeps old new)
+    ⊎ ((length task.scripts.items ≤ MAX_SEATS) × RefusesFiles held task.file.now (names_in task) fault × Keeps old new)
+    ⊎ ((length task.scripts.items ≤ MAX_SEATS) × IsWanting fault × Keeps old new)
+    ⊎ EndsSome held task fault old new

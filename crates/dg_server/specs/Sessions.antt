@@ -1,10 +1,10 @@
 -- Sessions over the input.
 --   IsServed o cap names input old new end == a session over the input, of a seat that knows of no entry, on a table of its own with
 --                            cap cells, came to this end; the output has grown by what it said
---   Serves held input service old new == such a session came to the end of the input, on the table of the file that is named
+--   Serves held input task old new == such a session came to the end of the input, on the table of the file that is named
 --   EndsEarly o cap names input fault old new == such a session ended early, for that fault; or memory was refused before it
 --                            began, and the output is as it was
---   RefusesService held input service fault old new == the table file is refused so, and the output is as it was; or the session
+--   RefusesServing held input task fault old new == the table file is refused so, and the output is as it was; or the session
 --                            on its table ended so
 use Rattle.std.specs.Prelude.{◌≡◌, ℕ, List, [], Option, ◌⊎◌}
 use Rattle.std.specs.declared.result.Result.{Result}
@@ -16,7 +16,7 @@ use Rattle.dg_session.specs.Ends.{IsSession}
 use Rattle.dg_session.specs.declared.ends.SessionEnd.{SessionEnd}
 use Rattle.dg_server.specs.Held.{Held}
 use Rattle.dg_server.specs.Tasks.{IsOnTable, RefusesItsTable}
-use Rattle.dg_asked.specs.declared.asked.Service.{Service}
+use Rattle.dg_asked.specs.declared.asked.ServeTask.{ServeTask}
 use Rattle.dg_server.specs.declared.fault.Fault.{Fault}
 use Rattle.dg_server.specs.declared.fault.Fault.TheVariants.{Session, OutOfMemory}
 
@@ -30,15 +30,15 @@ pub record IsServed (o : Opening) (cap : ℕ) (names : List (List ℕ)) (input o
   pub told : seat.told ≡ []
   pub session : IsSession o cap names input rest old new seat after end
 
-abbrev pub Serves : (List ℕ → Held) → Option (List ℕ) → Service → Option (List ℕ) → Option (List ℕ) → Type 0
-Serves held input service old new =
-    IsOnTable (held service.file.now) (λ o names. (count : ℕ) × IsServed o service.capacity names input old new (Ok count))
+abbrev pub Serves : (List ℕ → Held) → Option (List ℕ) → ServeTask → Option (List ℕ) → Option (List ℕ) → Type 0
+Serves held input task old new =
+    IsOnTable (held task.file.now) (λ o names. (count : ℕ) × IsServed o task.capacity names input old new (Ok count))
 
 abbrev pub EndsEarly : Opening → ℕ → List (List ℕ) → Option (List ℕ) → Fault → Option (List ℕ) → Option (List ℕ) → Type 0
 EndsEarly o cap names input (Session end) old new = IsServed o cap names input old new (Err end)
 EndsEarly o cap names input fault old new = (fault ≡ OutOfMemory) × Keeps old new
 
-abbrev pub RefusesService : (List ℕ → Held) → Option (List ℕ) → Service → Fault → Option (List ℕ) → Option (List ℕ) → Type 0
-RefusesService held input service fault old new =
-    (RefusesItsTable (held service.file.now) fault × Keeps old new)
-    ⊎ IsOnTable (held service.file.now) (λ o names. EndsEarly o service.capacity names input fault old new)
+abbrev pub RefusesServing : (List ℕ → Held) → Option (List ℕ) → ServeTask → Fault → Option (List ℕ) → Option (List ℕ) → Type 0
+RefusesServing held input task fault old new =
+    (RefusesItsTable (held task.file.now) fault × Keeps old new)
+    ⊎ IsOnTable (held task.file.now) (λ o names. EndsEarly o task.capacity names input fault old new)

@@ -1,12 +1,12 @@
 //! Sessions over the input of the program.
 ghost use Rattle.std.specs.Prelude.{◌≡◌, ◌≢◌, ℕ, length, Ok, Err, true, IfErr, OnOk};
 ghost use Rattle.dg_rank.specs.Ranks.{MayHaveWorkers};
-ghost use Rattle.dg_server.specs.Services.{Serves, EndsEarly, IsServed, RefusesService};
+ghost use Rattle.dg_server.specs.Sessions.{Serves, EndsEarly, IsServed, RefusesServing};
 
 use crate::fault::Fault;
 use crate::sources::Sources;
 use crate::table_source::table_in;
-use dg_asked::Service;
+use dg_asked::ServeTask;
 use dg_file::TableFile;
 use dg_log::{Name, Row};
 use dg_session::{SessionEnd, serve};
@@ -21,7 +21,7 @@ use std::thread::Threads;
 /// Answers the lines of the input, on the table of the file that is named.
 pub(crate) fn serve_input<R, S, I, O>(
     rt: &R,
-    service: &Service<'_>,
+    task: &ServeTask<'_>,
     sources: &S,
     input: I,
     output: &mut Output<O>,
@@ -32,21 +32,21 @@ where
     I: Read + Drop,
     O: Write,
     ensures done { OnOk result
-        (Serves (S.held sources.now) (I.remaining input) service.now output.old.contents output.new.contents) }
+        (Serves (S.held sources.now) (I.remaining input) task.now output.old.contents output.new.contents) }
     ensures no_write { IfErr result (λ fault. fault ≢ Fault.Write) }
     ensures failed { result ≡ Err (Fault.Session SessionEnd.Write) → output.new.has_failed ≡ true }
-    ensures refused { IfErr result (λ fault. RefusesService (S.held sources.now) (I.remaining input) service.now fault
+    ensures refused { IfErr result (λ fault. RefusesServing (S.held sources.now) (I.remaining input) task.now fault
         output.old.contents output.new.contents) }
 {
-    let table = match table_in(rt, sources, service.file) {
+    let table = match table_in(rt, sources, task.file) {
         Ok(table) => table,
         Err(fault) => return Err(fault),
     };
-    let row = match Row::new(rt.alloc(), service.capacity) {
+    let row = match Row::new(rt.alloc(), task.capacity) {
         Ok(row) => row,
         Err(_) => return Err(Fault::OutOfMemory),
     };
-    match serve_on::<Brand, R, I, O>(rt, row, &table, 1, service.workers, input, output) {
+    match serve_on::<Brand, R, I, O>(rt, row, &table, 1, task.workers, input, output) {
         Ok(()) => Ok(()),
         Err(fault) => Err(fault),
     }

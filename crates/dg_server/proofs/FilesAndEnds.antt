@@ -10,13 +10,13 @@ use Rattle.std.proofs.lemmas.List.{take_more, length-take-le, map-append, take-a
 use Rattle.std.specs.declared.result.Result.{Result}
 use Rattle.std.specs.declared.result.Result.TheVariants.{Ok, Err}
 use Rattle.dg_session.specs.declared.ends.SessionEnd.{SessionEnd}
-use Rattle.dg_server.specs.Held.{Held, IsHeld, RefusesHeld}
+use Rattle.dg_server.specs.Held.{Held, MayHold, RefusesHeld}
 use Rattle.dg_server.specs.declared.sources.SourceFault.{SourceFault}
 use Rattle.dg_server.specs.declared.sources.SourceFault.TheVariants.{OutOfMemory}
-use Rattle.dg_server.specs.Gatherings.{AreHeld, early, IsFirstUnread}
+use Rattle.dg_server.specs.Parties.{MayHoldAll, early, IsFirstUnread}
 
-pub held_more : (held : List ℕ → Held) (names all : List (List ℕ)) (name bytes : List ℕ) → AreHeld held names all
-    → IsHeld (held name) bytes → AreHeld held (names ++ name ∷ []) (all ++ bytes ∷ [])
+pub held_more : (held : List ℕ → Held) (names all : List (List ℕ)) (name bytes : List ℕ) → MayHoldAll held names all
+    → MayHold (held name) bytes → MayHoldAll held (names ++ name ∷ []) (all ++ bytes ∷ [])
 held_more held [] [] name bytes known one = (one, tt)
 held_more held [] (b ∷ all) name bytes known one = absurd known
 held_more held (n ∷ names) [] name bytes known one = absurd known
@@ -41,16 +41,16 @@ early_taken place ends end within longer =
     ap (early 1) longer ∙ early_more 1 (take place ends) end ∙ ap (λ (t : ℕ). early 1 (take place ends) ++ early t (end ∷ [])) number
 
 pub held_taken : (held : List ℕ → Held) (names : List (Bor (List ℕ))) (place : ℕ) (name : Bor (List ℕ)) (all : List (List ℕ)) (bytes : List ℕ) →
-    take (place + 1) names ≡ take place names ++ name ∷ [] → AreHeld held (map (λ n. n.now) (take place names)) all → IsHeld (held name.now) bytes →
-    AreHeld held (map (λ n. n.now) (take (place + 1) names)) (all ++ bytes ∷ [])
+    take (place + 1) names ≡ take place names ++ name ∷ [] → MayHoldAll held (map (λ n. n.now) (take place names)) all → MayHold (held name.now) bytes →
+    MayHoldAll held (map (λ n. n.now) (take (place + 1) names)) (all ++ bytes ∷ [])
 held_taken held names place name all bytes longer known one =
     let front : List (List ℕ) = map (λ (n : Bor (List ℕ)). n.now) (take place names) in
     let same : front ++ name.now ∷ [] ≡ map (λ (n : Bor (List ℕ)). n.now) (take (place + 1) names) =
     sym (ap (map (λ (n : Bor (List ℕ)). n.now)) longer ∙ map-append (λ (n : Bor (List ℕ)). n.now) (take place names) (name ∷ [])) in
-    subst (λ (xs : List (List ℕ)). AreHeld held xs (all ++ bytes ∷ [])) same (held_more held front all name.now bytes known one)
+    subst (λ (xs : List (List ℕ)). MayHoldAll held xs (all ++ bytes ∷ [])) same (held_more held front all name.now bytes known one)
 
 pub unread_taken : (held : List ℕ → Held) (names : List (Bor (List ℕ))) (place : ℕ) (name : Bor (List ℕ)) (all : List (List ℕ)) (fault : SourceFault) →
-    take (place + 1) names ≡ take place names ++ name ∷ [] → AreHeld held (map (λ n. n.now) (take place names)) all → RefusesHeld (held name.now) fault →
+    take (place + 1) names ≡ take place names ++ name ∷ [] → MayHoldAll held (map (λ n. n.now) (take place names)) all → RefusesHeld (held name.now) fault →
     IsFirstUnread held (map (λ n. n.now) names) fault
 unread_taken held names place name all fault longer known refused =
     let back : List (Bor (List ℕ)) = drop (place + 1) names in
@@ -67,6 +67,6 @@ unread_taken held names place name all fault longer known refused =
     }
 
 pub short_of : (held : List ℕ → Held) (names : List (Bor (List ℕ))) (place : ℕ) (name : Bor (List ℕ)) (all : List (List ℕ)) (bytes : List ℕ) →
-    take (place + 1) names ≡ take place names ++ name ∷ [] → AreHeld held (map (λ n. n.now) (take place names)) all → IsHeld (held name.now) bytes →
+    take (place + 1) names ≡ take place names ++ name ∷ [] → MayHoldAll held (map (λ n. n.now) (take place names)) all → MayHold (held name.now) bytes →
     IsFirstUnread held (map (λ n. n.now) names) OutOfMemory
 short_of held names place name all bytes longer known one = unread_taken held names place name all OutOfMemory longer known tt

@@ -2,11 +2,11 @@
 ghost use Rattle.std.specs.Prelude.{◌≡◌, ◌≢◌, [], map, Err, true, IfOk, IfErr, OnOk};
 ghost use Rattle.std.specs.Io.KnownBytes.{Appends};
 ghost use Rattle.dg_server.specs.Tasks.{DescribesTable};
-ghost use Rattle.dg_server.specs.Gatherings.{AreHeld, early, Gathers, names_in, IsFirstUnread, RefusesFiles, IsPrintedWith, RefusesGathering};
+ghost use Rattle.dg_server.specs.Parties.{MayHoldAll, early, PlaysParty, names_in, IsFirstUnread, RefusesFiles, IsPrintedWith, RefusesParty};
 
 use crate::fault::Fault;
 use crate::sources::{SourceFault, Sources};
-use dg_asked::Gathering;
+use dg_asked::PartyTask;
 use dg_file::{TableFile, read_table};
 use dg_game::MAX_SEATS;
 use dg_party::{PartyRefusal, Played, party};
@@ -20,9 +20,9 @@ use std::sync::Wait;
 use std::thread::Threads;
 
 /// Plays the scripts that are named on the table of the file that is named, and prints the history and the totals.
-pub(crate) fn play_scripts<R, S, O>(
+pub(crate) fn play_party<R, S, O>(
     rt: &R,
-    gathering: &Gathering<'_>,
+    task: &PartyTask<'_>,
     sources: &S,
     output: &mut Output<O>,
 ) -> Result<(), Fault>
@@ -31,22 +31,22 @@ where
     S: Sources,
     O: Write,
     ensures done { OnOk result
-        (Gathers (S.held sources.now) gathering.now output.old.contents output.new.contents) }
+        (PlaysParty (S.held sources.now) task.now output.old.contents output.new.contents) }
     ensures refused { IfErr result (λ fault. fault ≢ Fault.Write →
-        RefusesGathering (S.held sources.now) gathering.now fault output.old.contents output.new.contents) }
+        RefusesParty (S.held sources.now) task.now fault output.old.contents output.new.contents) }
     ensures failed { result ≡ Err Fault.Write → output.new.has_failed ≡ true }
 {
-    if gathering.scripts.len() > usize::from(MAX_SEATS) {
+    if task.scripts.len() > usize::from(MAX_SEATS) {
         return Err(Fault::Seats);
     }
-    let (table, scripts) = match read_all(rt, gathering, sources) {
+    let (table, scripts) = match read_all(rt, task, sources) {
         Ok(read) => read,
         Err(fault) => return Err(fault),
     };
     let played = match party(
         rt,
         rt.alloc(),
-        gathering.capacity,
+        task.capacity,
         table.start(),
         table.names(),
         scripts.as_slice(),
@@ -66,21 +66,21 @@ where
 /// The table of the file that is named, and the bytes of the scripts. All files are read before the table's is judged.
 fn read_all<R, S>(
     rt: &R,
-    gathering: &Gathering<'_>,
+    task: &PartyTask<'_>,
     sources: &S,
 ) -> Result<(TableFile, Vec<Vec<u8>>), Fault>
 where
     R: Files + AllocGlobal,
     S: Sources,
-    ensures read { IfOk result (λ r. DescribesTable (S.held sources.now gathering.now.file.now) r.0.start r.0.names ×
-        AreHeld (S.held sources.now) (names_in gathering.now) (map (λ script. script.items) r.1.items)) }
-    ensures refused { IfErr result (RefusesFiles (S.held sources.now) gathering.now.file.now (names_in gathering.now)) }
+    ensures read { IfOk result (λ r. DescribesTable (S.held sources.now task.now.file.now) r.0.start r.0.names ×
+        MayHoldAll (S.held sources.now) (names_in task.now) (map (λ script. script.items) r.1.items)) }
+    ensures refused { IfErr result (RefusesFiles (S.held sources.now) task.now.file.now (names_in task.now)) }
 {
-    let file = match sources.bytes(rt, gathering.file) {
+    let file = match sources.bytes(rt, task.file) {
         Ok(file) => file,
         Err(fault) => return Err(Fault::Source(fault)),
     };
-    let scripts = match read_scripts(rt, gathering.scripts.as_slice(), sources) {
+    let scripts = match read_scripts(rt, task.scripts.as_slice(), sources) {
         Ok(scripts) => scripts,
         Err(fault) => return Err(Fault::Source(fault)),
     };
@@ -95,7 +95,7 @@ fn read_scripts<R, S>(rt: &R, names: &[&str], sources: &S) -> Result<Vec<Vec<u8>
 where
     R: Files + AllocGlobal,
     S: Sources,
-    ensures read { IfOk result (λ all. AreHeld (S.held sources.now) (map (λ name. name.now) names.now) (map (λ script. script.items) all.items)) }
+    ensures read { IfOk result (λ all. MayHoldAll (S.held sources.now) (map (λ name. name.now) names.now) (map (λ script. script.items) all.items)) }
     ensures refused { IfErr result (IsFirstUnread (S.held sources.now) (map (λ name. name.now) names.now)) }
 {
     let mut all = Vec::new(rt.alloc());

@@ -1,6 +1,6 @@
 use Rattle.std.proofs.Common.{◌≡◌}
 use Rattle.dg_server.proofs.Serving.{fresh_seat}
-use Rattle.dg_server.proofs.service.serve_on.Goals as goal
+use Rattle.dg_server.proofs.sessions.serve_on.Goals as goal
 
 pub returns-in-Ok-ended-clause-done : goal.returns-in-Ok-ended-clause-done
 returns-in-Ok-ended-clause-done g c =

@@ -3,10 +3,10 @@ use Rattle.std.proofs.lemmas.List.{take_more}
 use Rattle.std.specs.declared.result.Result.{Result}
 use Rattle.std.specs.declared.result.Result.TheVariants.{Ok, Err}
 use Rattle.dg_session.specs.declared.ends.SessionEnd.{SessionEnd}
-use Rattle.dg_server.specs.Gatherings.{early}
-use Rattle.dg_server.proofs.Gathered.{early_taken}
-use Rattle.dg_server.proofs.gathering.early_ends.Goals.{in-Err+in_ok-push, in_default}
-use Rattle.dg_server.proofs.gathering.early_ends.Goals as goal
+use Rattle.dg_server.specs.Parties.{early}
+use Rattle.dg_server.proofs.FilesAndEnds.{early_taken}
+use Rattle.dg_server.proofs.parties.early_ends.Goals.{in-Err+in_ok-push, in_default}
+use Rattle.dg_server.proofs.parties.early_ends.Goals as goal
 
 longer : (ends : List (Result ℕ SessionEnd)) (place : ℕ) (default end : Result ℕ SessionEnd) → place < length ends →
     take (place + 1) ends ≡ take place ends ++ default ∷ [] → default ≡ end →

@@ -1,4 +1,4 @@
-use Rattle.dg_server.proofs.service.serve_input.Given as goal
+use Rattle.dg_server.proofs.sessions.serve_input.Given as goal
 
 -- A table is named by its row, its start and its number of seats.
 abbrev pub ghosts-serve_on : goal.ghosts-serve_on
