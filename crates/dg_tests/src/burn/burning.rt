@@ -1,25 +1,13 @@
 //! What burns, by hand and as the reference has it.
 
-ghost use Rattle.std.specs.Prelude.{◌≡◌, ◌≢◌, ℕ, ◌<◌, pos, ◌≤ℤ◌};
-ghost use Rattle.std.specs.Bool.{OnTrue};
-ghost use Rattle.dg_chips.specs.Vector.{at};
+ghost use Rattle.std.specs.Prelude.{◌<◌};
 
-use crate::reference::burn_anew;
-use crate::{burn, burn_counted, held_at};
+use crate::burn::reference::burn_anew;
+use dg_burn::{burn, burn_counted, held_at};
 use dg_chips::Wide;
 use dg_graph::Graph;
+use dg_reduce::is_solvent_off;
 use std::test::Fail;
-
-fn is_free_off(q: usize, chips: &Wide) -> bool
-    ensures { OnTrue result ((v : ℕ) → v < chips.now.size → v ≢ q → pos 0 ≤ℤ at chips.now v) }
-{
-    for v in 0..chips.size() {
-        if v != q && chips.get(v) < 0 {
-            return false;
-        }
-    }
-    true
-}
 
 #[test]
 fn what_burns(rt: HostRuntime) -> Result<(), Fail> {
@@ -44,7 +32,7 @@ fn what_burns(rt: HostRuntime) -> Result<(), Fail> {
     ];
     for (graph, q, amounts, order, unburnt) in cases {
         let chips = Wide::new(&graph, amounts)?;
-        assert!(rt; q < graph.size() && is_free_off(q, &chips));
+        assert!(rt; q < graph.size() && is_solvent_off(&graph, q, &chips));
         let burnt = burn(&graph, q, &chips);
         assert_eq!(rt; usize::from(burnt.burnt), order.len());
         assert!(rt; burnt.order.starts_with(order), "{order:?}");
@@ -96,7 +84,7 @@ fn as_counted_anew(rt: HostRuntime) -> Result<(), Fail> {
             let amounts = digits(apart.wrapping_mul(place), base);
             let chips = Wide::new(&graph, &amounts[..graph.size()])?;
             for q in 0..graph.size() {
-                assert!(rt; is_free_off(q, &chips));
+                assert!(rt; is_solvent_off(&graph, q, &chips));
                 let burnt = burn(&graph, q, &chips);
                 assert_eq!(rt; burnt, burn_anew(&graph, q, &chips));
                 let counted = burn_counted(&graph, q, &held_at(&chips));

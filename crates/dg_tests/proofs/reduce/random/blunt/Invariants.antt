@@ -1,7 +1,7 @@
 use Rattle.std.proofs.Common.{◌≡◌, ℕ, ◌≤◌}
 use Rattle.std.specs.Int.RustNames.{unsigned_abs}
 use Rattle.dg_chips.specs.Vector.{at}
-use Rattle.dg_reduce.proofs.tests.random.blunt.Given as goal
+use Rattle.dg_tests.proofs.reduce.random.blunt.Given as goal
 
 abbrev pub invariant-loop-v : goal.invariant-loop-v
 invariant-loop-v l = record {

@@ -2,11 +2,10 @@
 
 ghost use Rattle.std.specs.Prelude.{◌≡◌, ◌≤◌};
 
-use crate::reducing::is_within_start;
-use crate::tests::reference::{Single, reduce_singly};
-use crate::{Reduced, reduce, reduce_wide};
+use crate::reduce::reference::{Single, reduce_singly};
 use dg_chips::{Divisor, Script, Wide};
 use dg_graph::Graph;
+use dg_reduce::{Reduced, is_within_start, reduce, reduce_wide};
 use std::test::Fail;
 
 #[test]

@@ -1,9 +1,9 @@
-//! The reduction by single firings, on plain numbers: what the tests compare the reduction with.
-ghost use Rattle.std.specs.Prelude.{◌≡◌, ◌<◌, ◌≤◌};
+//! The reduction by single lendings and borrowings, on plain numbers: what the tests compare the reduction with.
 
-use crate::levels::{levels_from, nearer_set};
+ghost use Rattle.std.specs.Prelude.{◌≡◌, ◌<◌, ◌≤◌, IfSome};
+
 use dg_chips::Divisor;
-use dg_graph::{Graph, contains, with_vertex};
+use dg_graph::{Graph, complement, contains, with_vertex};
 
 /// Amounts, and how often each vertex has lent to come to them.
 #[derive(Clone, Copy)]
@@ -19,12 +19,8 @@ pub fn reduce_singly(graph: &Graph, q: usize, divisor: &Divisor) -> Single
     requires size { divisor.now.size ≡ graph.now.size }
     requires vertex { q < graph.now.size }
 {
-    let levels = levels_from(graph, q);
-    let mut now = start(divisor);
-    for nearer in 0..15 {
-        now = cleared(graph, &levels, 15 - nearer, &now);
-    }
-    relative(graph, q, &burnt_down(graph, q, &now))
+    let paid = paid_back(graph, q, &start(divisor));
+    relative(graph, q, &burnt_down(graph, q, &paid))
 }
 
 /// The amounts of a divisor.
@@ -39,30 +35,30 @@ fn start(divisor: &Divisor) -> Single {
     }
 }
 
-/// All nearer vertices lend once, again and again, until nobody of the level is in debt.
-fn cleared(graph: &Graph, levels: &[usize; 16], level: usize, before: &Single) -> Single {
+/// Each time somebody off q owes, all others lend once, so that it has borrowed once; again and again, until nobody does.
+fn paid_back(graph: &Graph, q: usize, before: &Single) -> Single {
     let size = graph.size();
-    let set = nearer_set(size, levels, level);
     let mut now = *before;
     for _ in 0..1000 {
-        if !has_debt(size, levels, level, &now.chips) {
+        let Some(v) = debtor(size, q, &now.chips) else {
             return now;
-        }
-        now = lent(graph, set, &now);
+        };
+        now = lent(graph, complement(size, with_vertex(0, v)), &now);
     }
     now
 }
 
-/// Whether a vertex of the level is in debt.
-fn has_debt(size: usize, levels: &[usize; 16], level: usize, chips: &[i64; 16]) -> bool
+/// The first vertex off q that owes.
+fn debtor(size: usize, q: usize, chips: &[i64; 16]) -> Option<usize>
     requires { size ≤ 16 }
+    ensures { IfSome result (λ v. v < size) }
 {
     for v in 0..size {
-        if levels[v] == level && chips[v] < 0 {
-            return true;
+        if v != q && chips[v] < 0 {
+            return Some(v);
         }
     }
-    false
+    None
 }
 
 /// The vertices that do not burn lend once, again and again, until all burn.

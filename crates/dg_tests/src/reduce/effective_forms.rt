@@ -1,8 +1,8 @@
 //! Amounts without debts that amounts can be fired to.
 
-use crate::effective;
 use dg_chips::{Divisor, Wide};
 use dg_graph::Graph;
+use dg_reduce::effective;
 use std::test::Fail;
 
 // By hand. On the triangle and the square, the sum of each vertex's number times its amount, up to threes and fours,

@@ -4,12 +4,13 @@ ghost use Rattle.std.specs.Prelude.{◌≡◌, ◌<◌, ◌≤◌, pos};
 ghost use Rattle.std.specs.Int.RustNames.{unsigned_abs};
 ghost use Rattle.dg_chips.specs.Vector.{at};
 
-use crate::guess::{Guessed, guess};
-use crate::reducing::{is_within_start, reduce_after, reduce_by_levels};
-use crate::{Aim, order_if_reduced, reduce_certified};
 use dg_burn::held_at;
 use dg_chips::{Script, Wide};
 use dg_graph::Graph;
+use dg_reduce::{
+    Aim, Guessed, guess, is_within_start, order_if_reduced, reduce_after, reduce_by_levels,
+    reduce_certified,
+};
 use std::test::Fail;
 
 /// Numbers that look random.

@@ -1,5 +1,4 @@
-//! The tests, by topic.
-
+//! Reductions, guesses, and what the guesses leave.
 mod effective_forms;
 mod guesses;
 mod random;

@@ -2,13 +2,12 @@
 
 ghost use Rattle.std.specs.Prelude.{◌≡◌};
 
-use crate::guess::guess;
-use crate::reducing::{certified_by, is_within_start};
-use crate::{
-    Aim, Certified, Reduced, is_solvent_off, order_if_reduced, reduce_certified, reduce_wide,
-};
 use dg_chips::{Script, Wide};
 use dg_graph::Graph;
+use dg_reduce::{
+    Aim, Certified, Reduced, certified_by, guess, is_solvent_off, is_within_start,
+    order_if_reduced, reduce_certified, reduce_wide,
+};
 use std::test::Fail;
 
 /// Edges, q, amounts, the reduced amounts, the script that leads to them, and guesses.

@@ -1,6 +1,6 @@
 use Rattle.std.proofs.Common.{◌<◌, arith, pos, length-take-le}
 use Rattle.std.proofs.lemmas.List.{get_or-take}
-use Rattle.dg_reduce.proofs.guess.script_of.Goals as goal
+use Rattle.dg_reduce.proofs.guessing.script_of.Goals as goal
 
 pub sized-requires-clause-limit : goal.sized-requires-clause-limit
 sized-requires-clause-limit c = λ v below.

@@ -3,7 +3,7 @@
 
 ghost use Rattle.std.specs.Prelude.{◌≡◌, ◌<◌, IfSome};
 
-use crate::burning::Burnt;
+use dg_burn::Burnt;
 use dg_chips::Wide;
 use dg_graph::{Graph, complement, contains, with_vertex};
 

@@ -42,7 +42,8 @@ pub struct Guessed {
     pub burning: Option<Burning>,
 }
 
-/// A script that is 0 at q and that may lead to reduced amounts.
+/// A script that is 0 at q and that may lead from the amounts, which are within 2,000,000, to those that are reduced for q:
+/// each entry is at most a thousand million, lendings or borrowings. What is aimed by makes the guess good or bad.
 pub fn guess(graph: &Graph, aim: &Aim, q: usize, chips: &Wide) -> Guessed
     requires size { chips.now.size ≡ graph.now.size }
     requires vertex { q < graph.now.size }
