@@ -1,12 +1,11 @@
 //! The divisor that is reduced for a vertex q and can be reached by firing, and the script that leads to it; and amounts
-//! without debts that can be reached.
+//! without debts, kept so while dollars are taken.
 #![tactic(auto)]
 
 mod aim;
 mod burning_down;
 mod certificate;
 mod clearing;
-mod effective_form;
 mod form;
 mod guessing;
 mod levels;
@@ -14,12 +13,10 @@ mod limits;
 mod most_firings;
 mod next_firing;
 mod reducing;
-mod repaying;
 mod walk;
 
 pub use aim::Aim;
 pub use certificate::{Burning, is_solvent_off, order_if_reduced};
-pub use effective_form::effective;
 pub use form::Form;
 pub use guessing::{Guessed, guess};
 pub use limits::MAX_START;
