@@ -19,4 +19,4 @@ pub use line::{LineFault, parse_line, parse_step};
 pub use lines::Lines;
 pub use number::{degree, natural};
 pub use steps_file::{StepsFault, parse_steps};
-pub use text::{entry_line, push_amounts, push_entry, push_reply, reply_text};
+pub use text::{push_amounts, push_entry, push_reply, reply_text};
