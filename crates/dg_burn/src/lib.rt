@@ -3,9 +3,5 @@
 
 mod burning;
 mod fire;
-#[cfg(test)]
-mod reference;
-#[cfg(test)]
-mod tests;
 
 pub use burning::{Burnt, Counted, burn, burn_counted, held_at};

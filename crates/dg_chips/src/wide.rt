@@ -155,21 +155,6 @@ impl Wide {
         Wide { size, amounts }
     }
 
-    /// The amounts and those of a divisor.
-    pub fn plus(&self, divisor: &Divisor) -> Wide
-        requires size { divisor.now.size ≡ self.now.size }
-        requires range { (v : ℕ) → v < self.now.size → unsigned_abs (at self.now v) ≤ 2 ^ 126 }
-        ensures size { result.size ≡ self.now.size }
-        ensures amounts { (v : ℕ) → v < self.now.size → at result v ≡ at self.now v +ℤ at divisor.now v }
-    {
-        let size = self.size();
-        let mut amounts = [0; 16];
-        for v in 0..size {
-            amounts[v] = self.get(v) + i128::from(divisor.get(v));
-        }
-        Wide { size, amounts }
-    }
-
     /// The number of vertices.
     pub fn size(&self) -> usize
         ensures size { result ≡ self.now.size }

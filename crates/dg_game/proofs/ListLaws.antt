@@ -2,9 +2,8 @@
 --   slice_get-append   before its end a longer list holds what the shorter one held
 --   slice_get-seam     a list with a new element at its end holds it there
 --   slice_get_taken    what the first elements of a list hold, the list holds
---   get_or-inside      inside a list the element read does not depend on what stands for a missing one
 --   more_holds         in a list with one more element each is an old one at its place, or the new one at the end
-use Rattle.std.proofs.Common.{◌≡◌, ℕ, zero, suc, ◌<◌, List, [], ◌∷◌, ◌++◌, length, take, slice_get, get_or, Some, ◌⊎◌, arith, refl, sym, ap, ◌∙◌, inl, inr, length-append}
+use Rattle.std.proofs.Common.{◌≡◌, ℕ, zero, suc, ◌<◌, List, [], ◌∷◌, ◌++◌, length, take, slice_get, Some, ◌⊎◌, arith, refl, sym, ap, ◌∙◌, inl, inr, length-append}
 use Rattle.std.proofs.lemmas.Bool.{cases_lt}
 use Rattle.std.proofs.lemmas.Option.{slice_get_within}
 
@@ -22,11 +21,6 @@ slice_get_taken zero xs i x at = absurd (cc)
 slice_get_taken (suc k) [] i x at = at
 slice_get_taken (suc k) (y ∷ xs) zero x at = at
 slice_get_taken (suc k) (y ∷ xs) (suc i) x at = slice_get_taken k xs i x at
-
-pub get_or-inside : {X : Type 0} (xs : List X) (k : ℕ) (d e : X) → k < length xs → get_or xs k d ≡ get_or xs k e
-get_or-inside [] k d e below = absurd (omega arith)
-get_or-inside (x ∷ xs) zero d e below = refl
-get_or-inside (x ∷ xs) (suc k) d e below = get_or-inside xs k d e (omega arith)
 
 pub more_holds : {X : Type 0} (xs : List X) (y : X) (k : ℕ) (x : X) → slice_get (xs ++ y ∷ []) k ≡ Some x →
     ((k < length xs) × (slice_get xs k ≡ Some x)) ⊎ ((k ≡ length xs) × (x ≡ y))

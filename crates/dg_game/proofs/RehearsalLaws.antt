@@ -8,7 +8,6 @@
 --   looks_left     the looks kept after a call that is no look
 --   called         a call plays the schedule on
 --   entered        a finding that was reckoned on the seat's look plays the schedule on when it is entered
---   kept_there     what is read at the place of a seat is the look that it keeps, if it keeps one
 --   lookless       a step that wants a look that the seat does not keep is the first fault
 --   past_limits    a rank test past the limits is the first fault, where the seat keeps a look
 --   told_ok_or     what an option tells, its `ok_or` tells as well
@@ -42,7 +41,6 @@ use Rattle.dg_game.specs.declared.step.Step.{Step}
 use Rattle.dg_game.proofs.LegalLaws.{legal_none, entries_more}
 use Rattle.dg_game.proofs.KeptLaws.{keeps_more, keeps_new, keeps_none}
 use Rattle.dg_game.proofs.LookLaws.{look_new}
-use Rattle.dg_game.proofs.ListLaws.{get_or-inside}
 
 good_more : (size : ℕ) (steps : List Step) (n : ℕ) (step : Step) → slice_get steps n ≡ Some step → IsGood size steps n step →
     AreGoodBefore size steps n → AreGoodBefore size steps (n + 1)
@@ -153,14 +151,6 @@ playing_none o steps r leads empty = record {
   places = ap length empty ∙ length-replicate {A = Option LookData} 65 None;
   looks = λ seat is. rw (empty, get_or-replicate {A = Option LookData} 65 seat None None (omega (arith, is.1))) (λ i kept. absurd (omega (arith, kept.before)));
 }
-
-pub kept_there : (o : Opening) (H : List Entry) (steps : List Step) (r : Rehearsal) (seat i : ℕ) (d : Option LookData) →
-    IsPlaying o steps H r → IsSeat seat → i ≡ seat → KeepsLook o H steps seat (slice_index_or r.looks i d)
-kept_there o H steps r seat i d playing is place =
-    let inside : i < length r.looks = omega (arith, playing.places, is.1) in
-    let here : slice_index_or r.looks seat None ≡ slice_index_or r.looks i d =
-    ap (λ k. slice_index_or r.looks k None) (sym place) ∙ get_or-inside r.looks i None d inside in
-    rw here at (playing.looks seat is)
 
 pub lookless : (o : Opening) (H : List Entry) (steps : List Step) (r : Rehearsal) (step : Step) (i : ℕ) → IsPlaying o steps H r →
     slice_get steps (length H) ≡ Some step → i ≡ length H → i < MAX_ENTRIES → IsSeat step.seat →

@@ -81,7 +81,7 @@ pub enum Reply {
 }
 
 /// Why a move or a gift is refused.
-#[derive(Clone, Copy, Debug, PartialEq, Eq)]
+#[derive(Clone, Copy, PartialEq, Eq)]
 pub enum Refusal {
     /// It names a vertex that is not there.
     NoVertex,

@@ -2,16 +2,14 @@
 --   in_set_below      a member of such a set is below sixteen
 --   in_set-none       no vertex is in the set 0
 --   no_set            a number that stands for a set without members is 0
---   least_set         the place of the lowest bit that is set is the least member
 --   with_bit          to set a bit adds its place to the set
---   without_bit       to clear a bit takes its place away
 --   complement_bits   the bits below n that are not set, as a mask of n ones picks them
 use Rattle.std.proofs.Common.{◌≡◌, ◌≢◌, ℕ, zero, suc, ◌-◌, ◌*◌, ◌/◌, ◌%◌, ◌^◌, ◌<◌, ◌≤◌, true, false, not, ◌&&◌, nat_eq, min, arith, refl, ap, sym, ◌∙◌, inl, inr, bit_and, bit_or, w16}
 use Rattle.std.specs.Prelude.{nat_lt}
-use Rattle.std.specs.Int.{bit_at, bit_not, trailing_zeros}
+use Rattle.std.specs.Int.{bit_at, bit_not}
 use Rattle.std.proofs.lemmas.Bool.{cases_lt, lt-ltb, le-ltb, eqb-false}
-use Rattle.std.proofs.lemmas.Nat.Bits.{bit_at-zero, bit_at-lt, same_from_bits, bit_at-trailing_zeros, bit_at_set_same, bit_at_set_other, bit_at_clear_same, bit_at_clear_other, bit_at_and, bit_at_not, bit_at_above, bit_at_ones, bit_at_ones_above, ones_shr}
-use Rattle.dg_graph.specs.Sets.{in_set, IsWith, IsWithout, IsLeastOf}
+use Rattle.std.proofs.lemmas.Nat.Bits.{bit_at-zero, bit_at-lt, same_from_bits, bit_at_set_same, bit_at_set_other, bit_at_and, bit_at_not, bit_at_above, bit_at_ones, bit_at_ones_above, ones_shr}
+use Rattle.dg_graph.specs.Sets.{in_set, IsWith}
 
 pub in_set_below : (set v : ℕ) → set < 2 ^ 16 → in_set set v ≡ true → v < 16
 unfolding in_set
@@ -31,38 +29,11 @@ no_set m none = same_from_bits m 0 (λ v.
     let other : bit_at m v ≢ 1 = eqb-false (bit_at m v) 1 (none v) in
     omega (arith, bit_at-lt m v, bit_at-zero v))
 
-pub least_set : (set : ℕ) → 0 < set → set < 2 ^ 16 → IsLeastOf (in_set set) (trailing_zeros w16 set)
-unfolding in_set
-least_set set some few = let lowest = bit_at-trailing_zeros w16 set some few in record {
-  member = ap (λ bit. nat_eq bit 1) lowest.1;
-  least = λ w before. ap (λ bit. nat_eq bit 1) (lowest.2 w before);
-}
-
 pub with_bit : (set v : ℕ) → v < 16 → IsWith (in_set set) v (in_set (bit_or set (1 * 2 ^ v % 2 ^ 16)))
 unfolding in_set
 with_bit set v few = record {
   here = ap (λ bit. nat_eq bit 1) (bit_at_set_same w16 set v few);
   others = λ w other. ap (λ bit. nat_eq bit 1) (bit_at_set_other w16 set v few w other);
-}
-
-clear_other : (set v w : ℕ) → set < 2 ^ 16 → v < 16 → w ≢ v →
-    in_set (bit_and set (bit_not w16 (1 * 2 ^ v % 2 ^ 16))) w ≡ in_set set w
-unfolding in_set
-clear_other set v w small few other = ap (λ bit. nat_eq bit 1) (elim (cases_lt w 16) [
-  | inl below ↦ bit_at_clear_other w16 set v few w below other
-  | inr above ↦
-      let none : bit_at set w ≡ 0 = bit_at_above set 16 w small above in
-      let both : bit_at (bit_and set (bit_not w16 (1 * 2 ^ v % 2 ^ 16))) w ≡ min (bit_at set w) (bit_at (bit_not w16 (1 * 2 ^ v % 2 ^ 16)) w) =
-      bit_at_and set (bit_not w16 (1 * 2 ^ v % 2 ^ 16)) w in
-      omega arith
-])
-
-pub without_bit : (set v : ℕ) → set < 2 ^ 16 → v < 16 →
-    IsWithout (in_set set) v (in_set (bit_and set (bit_not w16 (1 * 2 ^ v % 2 ^ 16))))
-unfolding in_set
-without_bit set v small few = record {
-  gone = ap (λ bit. nat_eq bit 1) (bit_at_clear_same w16 set v few);
-  others = λ w other. clear_other set v w small few other;
 }
 
 -- the test of a bit that is the opposite of another

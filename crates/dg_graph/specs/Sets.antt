@@ -1,11 +1,9 @@
 -- Sets of vertices. A set is a test of a number, as in the theory of the game; a number stands for the set of the
 -- places at which its bits are set.
---   in_set m v      == v is in the set that the number m stands for: bit v of m is set
---   IsWithin n S    == each member of the set S is below n
---   IsWith S v T    == T is the set S with v
---   IsWithout S v T == T is the set S without v
---   IsLeastOf S v   == v is the least member of the set S
-use Rattle.std.specs.Prelude.{◌≡◌, ◌≢◌, ℕ, ◌<◌, ◌==◌, Bool, true, false}
+--   in_set m v   == v is in the set that the number m stands for: bit v of m is set
+--   IsWithin n S == each member of the set S is below n
+--   IsWith S v T == T is the set S with v
+use Rattle.std.specs.Prelude.{◌≡◌, ◌≢◌, ℕ, ◌<◌, ◌==◌, Bool, true}
 use Rattle.std.specs.Int.{bit_at}
 
 unfoldable pub in_set : ℕ → ℕ → Bool
@@ -17,11 +15,3 @@ IsWithin n S = (v : ℕ) → S v ≡ true → v < n
 pub record IsWith (S : ℕ → Bool) (v : ℕ) (T : ℕ → Bool) : Type 0 where
   pub here : T v ≡ true
   pub others : (w : ℕ) → w ≢ v → T w ≡ S w
-
-pub record IsWithout (S : ℕ → Bool) (v : ℕ) (T : ℕ → Bool) : Type 0 where
-  pub gone : T v ≡ false
-  pub others : (w : ℕ) → w ≢ v → T w ≡ S w
-
-pub record IsLeastOf (S : ℕ → Bool) (v : ℕ) : Type 0 where
-  pub member : S v ≡ true
-  pub least : (w : ℕ) → w < v → S w ≡ false

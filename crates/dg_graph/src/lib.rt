@@ -13,4 +13,4 @@ mod table;
 pub use fault::GraphFault;
 pub use graph::Graph;
 pub use limits::{MAX_VALENCE, MAX_VERTICES};
-pub use sets::{complement, contains, is_within, least_of, with_vertex, without_vertex};
+pub use sets::{complement, contains, is_within, with_vertex};

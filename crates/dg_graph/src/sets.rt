@@ -1,8 +1,8 @@
 //! Sets of vertices: bit v of a number stands for vertex v.
 
-ghost use Rattle.std.specs.Prelude.{◌≡◌, ℕ, ◌<◌, ◌≤◌, ◌&&◌, not, nat_lt, true, false, MatchOption};
+ghost use Rattle.std.specs.Prelude.{◌≡◌, ℕ, ◌<◌, ◌≤◌, ◌&&◌, not, nat_lt, true, false};
 ghost use Rattle.std.specs.Bool.{OnTrue, OnFalse};
-ghost use Rattle.dg_graph.specs.Sets.{in_set, IsWithin, IsWith, IsWithout, IsLeastOf};
+ghost use Rattle.dg_graph.specs.Sets.{in_set, IsWithin, IsWith};
 
 use crate::limits::MAX_VERTICES;
 
@@ -20,24 +20,6 @@ pub fn with_vertex(set: u16, v: usize) -> u16
     ensures { IsWith (in_set set) v (in_set result) }
 {
     set | 1 << v
-}
-
-/// The set without a vertex, 0 to 15.
-pub fn without_vertex(set: u16, v: usize) -> u16
-    requires { v < MAX_VERTICES }
-    ensures { IsWithout (in_set set) v (in_set result) }
-{
-    set & !(1 << v)
-}
-
-/// The least vertex of a set; `None` where the set is empty.
-pub fn least_of(set: u16) -> Option<usize>
-    ensures { MatchOption result ((v : ℕ) → in_set set v ≡ false) (IsLeastOf (in_set set)) }
-{
-    if set == 0 {
-        return None;
-    }
-    Some(set.trailing_zeros() as usize)
 }
 
 /// The vertices of a graph of 1 to 16 vertices that are not in a set.

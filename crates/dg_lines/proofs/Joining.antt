@@ -23,13 +23,6 @@ cut_joined b (x ∷ xs) rest e =
       | false ↦ λ other found. ap (λ back. x ∷ back) (cut_joined b xs rest found)
     ]) refl e
 
-pub cut_whole : (b : ℕ) (xs : List ℕ) → after b xs ≡ None → before b xs ≡ xs
-unfolding before after
-cut_whole b [] e = refl
-cut_whole b (x ∷ xs) e =
-    let P : Bool → Type 0 = λ t. cond t (Some xs) (after b xs) ≡ None → cond t [] (x ∷ before b xs) ≡ x ∷ xs in
-    (elim (x == b) as P [ true ↦ λ found. cc | false ↦ λ found. ap (λ back. x ∷ back) (cut_whole b xs found) ]) e
-
 pub before_joined : (b : ℕ) (front back : List ℕ) → after b front ≡ None → before b (front ++ b ∷ back) ≡ front
 unfolding before after
 before_joined b [] back e = ap (λ t. cond t [] (b ∷ before b back)) (same_byte b)

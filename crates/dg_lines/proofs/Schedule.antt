@@ -2,14 +2,12 @@
 -- are left are all the lines.
 --   AreRead names all left steps == the lines before those that are left spell the steps
 --   none_read, one_more, all_read   at first, with one more line, and at the end
---   first_refused                   the next line is the first that is refused
 --   steps_seated                    steps that lines spell have seats
 use Rattle.std.proofs.Common.{◌≡◌, ℕ, zero, suc, ◌+◌, length, List, [], ◌∷◌, ◌++◌, Some, refl, ap, sym, ◌∙◌, subst, append_assoc, slice_get, arith}
 use Rattle.std.proofs.lemmas.List.{append-nil, length-append}
 use Rattle.dg_game.specs.declared.step.Step.{Step}
-use Rattle.dg_lines.specs.declared.line.LineFault.{LineFault}
-use Rattle.dg_lines.specs.Steps.{IsStepLine, IsStepFault}
-use Rattle.dg_lines.specs.Schedules.{AreStepsOf, AreSeated, IsFirstRefused}
+use Rattle.dg_lines.specs.Steps.{IsStepLine}
+use Rattle.dg_lines.specs.Schedules.{AreStepsOf, AreSeated}
 
 pub record AreRead (names : List (List ℕ)) (all left : List (List ℕ)) (steps : List Step) : Type 0 where
   pub front : List (List ℕ)
@@ -47,20 +45,6 @@ one_more names all left back line steps step next accepted known = record {
     count = length-append steps (step ∷ []) ∙ ap (λ n. n + 1) known.accepted.count ∙ sym (length-append known.front (line ∷ []));
     each = last_more names steps known.front step line known.accepted.count known.accepted.each accepted;
   };
-}
-
-pub first_refused : (names all left back : List (List ℕ)) (line : List ℕ) (steps : List Step) (fault : LineFault) (number : ℕ)
-    → left ≡ line ∷ back → IsStepFault names fault line → number ≡ length steps + 1
-    → AreRead names all left steps → IsFirstRefused names all number fault
-first_refused names all left back line steps fault number next refused counted known = record {
-  front = known.front;
-  refused = line;
-  back = back;
-  whole = known.whole ∙ ap (λ more. known.front ++ more) next;
-  place = counted ∙ ap (λ n. n + 1) known.accepted.count;
-  steps = steps;
-  accepted = known.accepted;
-  refusal = refused;
 }
 
 some_line : (steps : List Step) (lines : List (List ℕ)) (k : ℕ) (step : Step) → length steps ≡ length lines → slice_get steps k ≡ Some step

@@ -30,22 +30,7 @@ pub fn reply_text<A: Allocator + Drop>(
     Ok(text)
 }
 
-/// The line of an entry of the history: its number, a space, the text of its reply and a newline.
-pub fn entry_line<A: Allocator + Drop>(
-    alloc: A,
-    number: usize,
-    reply: &Reply,
-    names: &Names,
-) -> Result<Vec<u8, A>, AllocError>
-    requires { HasNames names.now reply.now }
-    ensures { IfOk result (λ line. line.items ≡ entry_text names.now number reply.now) }
-{
-    let mut line = Vec::new(alloc);
-    push_entry(&mut line, number, reply, names)?;
-    Ok(line)
-}
-
-/// The line of an entry, after the text.
+/// The line of an entry of the history, after the text: its number, a space, the text of its reply and a newline.
 pub fn push_entry<A: Allocator>(
     text: &mut Vec<u8, A>,
     number: usize,

@@ -1,16 +1,14 @@
 -- Pieces of the trials, one after another.
 --   piece_within   no piece starts past all trials
---   piece_first    the first piece starts with the first trial
---   piece_last     the number past all pieces is past all trials
 --   piece_ends     a piece ends where the next one starts, and not before its own start
 --   wins_both      trials that follow one another and all win
 --   loss_before    the first loss of trials is that of them and later ones
 --   loss_after     after trials that all win, the first loss of later ones is that of all
 --   outcome_after  so it is with what later ones come to
-use Rattle.std.proofs.Common.{◌≡◌, ℕ, ◌+◌, ◌*◌, ◌/◌, ◌<◌, ◌≤◌, List, arith, ⊎_elim, mul-le-mul_right, zero-mul}
+use Rattle.std.proofs.Common.{ℕ, ◌+◌, ◌*◌, ◌/◌, ◌<◌, ◌≤◌, List, arith, ⊎_elim, mul-le-mul_right}
 use Rattle.std.proofs.lemmas.Bool.{cases_lt}
 use Rattle.std.proofs.lemmas.Nat.{le-div}
-use Rattle.std.proofs.Math.Nat.{div-mul-le_self, div-le_of_le-mul, zero-div}
+use Rattle.std.proofs.Math.Nat.{div-mul-le_self, div-le_of_le-mul}
 use Rattle.dg_theory.specs.Multigraph.{Multigraph}
 use Rattle.dg_theory.specs.Firing.{Amounts}
 use Rattle.dg_chips.specs.Vector.{at}
@@ -24,15 +22,6 @@ pub piece_within : (c w j : ℕ) → j ≤ w → piece_start c w j ≤ c
 piece_within c w j few =
     let most : j * c ≤ w * c = mul-le-mul_right c few in
     div-le_of_le-mul w most
-
-pub piece_first : (c w : ℕ) → piece_start c w 0 ≡ 0
-piece_first c w = rw (zero-mul c) (zero-div w)
-
-pub piece_last : (c w : ℕ) → 0 < w → piece_start c w w ≡ c
-piece_last c w some =
-    let least : c ≤ w * c / w = le-div c (w * c) w some (omega arith) in
-    let most : w * c / w ≤ c = piece_within c w w (omega arith) in
-    omega arith
 
 pub piece_ends : (c w j : ℕ) → 0 < w → piece_start c w j ≤ piece_start c w (j + 1)
 piece_ends c w j some =

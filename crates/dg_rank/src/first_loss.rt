@@ -16,7 +16,7 @@ ghost use Rattle.dg_rank.specs.Losses.{WinsWithout, IsFound};
 use crate::enumeration::{Moved, Trial};
 use dg_chips::Wide;
 use dg_graph::Graph;
-use dg_reduce::{Form, effective};
+use dg_reduce::{Form, reduce_wide};
 
 /// The first trial of degree k, of those from one number up to another, whose loss leaves what can't be won; `None`
 /// where there is none. What is left of one trial is not far from what is left of the next, so each starts from it.
@@ -54,7 +54,10 @@ fn left_without(graph: &Graph, chips: &Wide, trial: &Trial) -> Option<Form>
         (IsEffectiveForm graph.now (less (at chips.now) (amounts_of trial.now))) }
 {
     let lost = trial.to_divisor();
-    let left = effective(graph, &chips.less(&lost))?;
+    let left = reduce_wide(graph, 0, &chips.less(&lost)).divisor;
+    if left.get(0) < 0 {
+        return None;
+    }
     Some(Form::of(&left))
 }
 

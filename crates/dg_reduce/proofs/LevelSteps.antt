@@ -1,14 +1,13 @@
 -- How the debts of a level are cleared.
 --   chips_small      while levels are cleared, amounts are within the limit of a firing
 --   script_small     and so is the script
---   debt_start       of no vertices the largest debt is 0
 --   debt_more        it is the debt of the next vertex of the level, if that owes more
 --   debt_same        otherwise it stays the same
 --   debt_within      the largest debt is within the bound of the amounts
 --   debt_small       so as many firings are within their limit
 --   cleared_free     where nobody of the next level is in debt, it is cleared
 --   cleared_paid     and so it is once the nearer vertices have lent as often as its largest debt
-use Rattle.std.proofs.Common.{◌≡◌, ℕ, ◌+◌, ◌-◌, ◌*◌, ◌^◌, ◌<◌, ◌≤◌, Bool, arith, ap, sym, refl, ◌∙◌, inl, inr, ⊎_elim}
+use Rattle.std.proofs.Common.{◌≡◌, ℕ, ◌+◌, ◌-◌, ◌*◌, ◌^◌, ◌<◌, ◌≤◌, Bool, arith, ap, sym, ◌∙◌, inl, inr, ⊎_elim}
 use Rattle.std.proofs.lemmas.Bool.{cases_eq}
 use Rattle.std.proofs.lemmas.Int.{ints}
 use Rattle.std.proofs.Math.IntN.{ℤ, pos, negsuc, ◌+ℤ◌, ◌*ℤ◌}
@@ -41,13 +40,6 @@ script_small g level j x cleared v inside =
     let most : unsigned_abs (at x.script v) ≤ limit_at (j - 1) = cleared.script v inside in
     let small : limit_at (j - 1) < 2 ^ 111 = limit_at-small (j - 1) in
     omega arith
-
-pub debt_start : (level : ℕ → ℕ) (j : ℕ) (D : Amounts) → IsLargestDebt 0 level j D (pos 0)
-debt_start level j D = record {
-  some = omega (arith, ints);
-  enough = λ v below on. absurd (omega arith);
-  owed = inl refl;
-}
 
 pub debt_more : (n : ℕ) (level : ℕ → ℕ) (j : ℕ) (D : Amounts) (m t : ℤ) → IsLargestDebt n level j D m → level n ≡ j →
     (D n +ℤ m) <ℤ pos 0 → D n +ℤ t ≡ pos 0 → IsLargestDebt (n + 1) level j D t

@@ -15,5 +15,4 @@ pub mod Burnings
 pub mod Joined
 -- Debts that are paid back.
 pub mod DebtSteps
-pub mod EffectiveForms
 pub mod FormSteps

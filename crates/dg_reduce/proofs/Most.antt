@@ -2,13 +2,12 @@
 --   off_q           a set that fires freely does not hold q
 --   member_holds    its members hold a dollar for each edge that leaves the set
 --   IsLeast ..      m is the least of the numbers of firings for which the first n vertices have dollars
---   least_start     it holds at first of the largest number
 --   least_lower     where the next vertex has dollars for fewer, it holds of that number
 --   least_kept      otherwise it holds of the same
 --   some_leaves     a set without q that has a member has an edge that leaves it
 --   least_is_most   over all vertices, the least is how often the set can fire
 --   most_within     and it is at most what a vertex holds
-use Rattle.std.proofs.Common.{◌≡◌, ◌≢◌, ℕ, ◌+◌, ◌<◌, ◌≤◌, Bool, true, false, arith, refl, ap, sym, ◌∙◌, ◌⊎◌, inl, inr, ⊎_elim}
+use Rattle.std.proofs.Common.{◌≡◌, ◌≢◌, ℕ, ◌+◌, ◌<◌, ◌≤◌, Bool, true, false, arith, ap, sym, ◌∙◌, ◌⊎◌, inl, inr, ⊎_elim}
 use Rattle.std.proofs.lemmas.Bool.{cases_eq, cases_Bool}
 use Rattle.std.proofs.lemmas.Int.{ints}
 use Rattle.std.proofs.Math.IntN.{ℤ, pos, ◌+ℤ◌, ◌*ℤ◌, *ℤ_comm}
@@ -40,14 +39,6 @@ pub record IsLeast (g : Multigraph) (D : Amounts) (S : ℕ → Bool) (n : ℕ) (
   pub few : m ≤ℤ largest
   pub enough : (u : ℕ) → u < n → S u ≡ true → (pos (edges_out g S u) *ℤ m) ≤ℤ D u
   pub last : ((u : ℕ) × (u < g.size) × Lacks g D S u (m +ℤ pos 1)) ⊎ ((m ≡ largest) × ((u : ℕ) → u < n → SendsNothing g S u))
-
-pub least_start : (g : Multigraph) (D : Amounts) (S : ℕ → Bool) → IsLeast g D S 0 largest
-least_start g D S = record {
-  some = omega (arith, ints);
-  few = omega (arith, ints);
-  enough = λ u below member. absurd (omega arith);
-  last = inr (refl, λ u below member. absurd (omega arith));
-}
 
 pub least_lower : (g : Multigraph) (D : Amounts) (S : ℕ → Bool) (n : ℕ) (m t : ℤ) → n < g.size → IsLeast g D S n m →
     LastsAt g D S n t → t <ℤ m → IsLeast g D S (n + 1) t

@@ -1,8 +1,7 @@
 -- The effective divisors that a divisor can be fired to: its complete linear system (Baker and Norine 2007, section 1;
 -- Corry and Perkinson, chapter 2).
 --   IsEffectiveForm g D x == x is in the complete linear system of D: nobody is in debt, and x is equivalent to D
---   without_debt z        == the amount z, and 0 in place of a debt
-use Rattle.std.specs.Prelude.{◌≡◌, ℤ, pos, negsuc}
+use Rattle.std.specs.Prelude.{◌≡◌}
 use Rattle.dg_theory.specs.Multigraph.{Multigraph}
 use Rattle.dg_theory.specs.Firing.{Amounts, IsEffective, AreEquivalent}
 use Rattle.dg_chips.specs.Vector.{Vector, at}
@@ -11,7 +10,3 @@ pub record IsEffectiveForm (g : Multigraph) (D : Amounts) (x : Vector) : Type 0 
   pub size : x.size ≡ g.size
   pub effective : IsEffective g.size (at x)
   pub led : AreEquivalent g D (at x)
-
-abbrev pub without_debt : ℤ → ℤ
-without_debt (pos n) = pos n
-without_debt (negsuc n) = pos 0

@@ -11,10 +11,10 @@ use dg_burn::{burn, held_at};
 use dg_chips::Wide;
 use dg_graph::Graph;
 
-/// A burning in which all vertices burn.
+/// A burning from a vertex q in which all vertices burn.
 #[derive(Clone, Copy)]
 pub struct Burning {
-    /// The amounts as far as burning looks at them.
+    /// The amounts as far as burning looks at them: 0 for a debt, and 64 for more than 64.
     pub held: [u8; 16],
     /// The order in which all vertices burn, the least first; zeros past the last.
     pub order: [u8; 16],

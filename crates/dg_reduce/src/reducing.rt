@@ -11,7 +11,7 @@ use crate::aim::Aim;
 use crate::burning_down::burn_down;
 use crate::certificate::{Burning, order_by};
 use crate::clearing::clear_levels;
-use crate::guess::guess;
+use crate::guessing::guess;
 use crate::levels::levels_from;
 use crate::limits::MAX_START;
 use dg_burn::burn;
@@ -71,9 +71,10 @@ pub fn reduce_certified(graph: &Graph, aim: &Aim, q: usize, chips: &Wide) -> Cer
     certified_by(graph, q, chips, &guess.script, &guess.burning)
 }
 
-/// The reduction that begins with a script, any that is 0 at q: where the script leads to amounts from which all vertices
-/// burn, these are the reduced ones. A burning of these amounts may be known before.
-pub(crate) fn certified_by(
+/// The reduction of amounts within 2,000,000 that begins with a script, any that is 0 at q: where the script leads to
+/// amounts from which all vertices burn, these are the reduced ones. A burning of these amounts may be known before; one of
+/// others changes no answer.
+pub fn certified_by(
     graph: &Graph,
     q: usize,
     chips: &Wide,
@@ -104,12 +105,12 @@ pub(crate) fn certified_by(
     Certified { reduced, order }
 }
 
-/// The reduction that begins with a script, any that is 0 at q. What the script leaves is reduced, if it is within the
-/// range of a reduction, and the sum of both scripts leads from the amounts to the reduced ones.
+/// The reduction of amounts within 2,000,000 that begins with a script, any that is 0 at q. What the script leaves is reduced,
+/// if it is within the range of a reduction, and the sum of both scripts leads from the amounts to the reduced ones.
 ///
 /// Whether amounts are reduced for q does not depend on that of q, which may leave the range when the others send their
 /// dollars there. So it is taken for 0 in between, and of the inner reduction only the script is used.
-pub(crate) fn reduce_after(graph: &Graph, q: usize, chips: &Wide, script: &Script) -> Reduced
+pub fn reduce_after(graph: &Graph, q: usize, chips: &Wide, script: &Script) -> Reduced
     requires size { chips.now.size ≡ graph.now.size }
     requires vertex { q < graph.now.size }
     requires script { script.now.size ≡ graph.now.size }
@@ -130,7 +131,7 @@ pub(crate) fn reduce_after(graph: &Graph, q: usize, chips: &Wide, script: &Scrip
 }
 
 /// Whether a reduction may start from these amounts: all are within 2,000,000.
-pub(crate) fn is_within_start(chips: &Wide) -> bool
+pub fn is_within_start(chips: &Wide) -> bool
     ensures small { OnTrue result
         ((v : ℕ) → v < chips.now.size → unsigned_abs (at chips.now v) ≤ MAX_START) }
     ensures large { OnFalse result
@@ -144,9 +145,9 @@ pub(crate) fn is_within_start(chips: &Wide) -> bool
     true
 }
 
-/// The reduction from the amounts as they are: first the debts off q are cleared, level by level of the distance from q,
-/// then the vertices that do not burn lend until all burn.
-pub(crate) fn reduce_by_levels(graph: &Graph, q: usize, chips: &Wide) -> Reduced
+/// The reduction of amounts within 2,000,000 without a guess: first the debts off q are cleared, level by level of the
+/// distance from q, then the vertices that do not burn lend until all burn.
+pub fn reduce_by_levels(graph: &Graph, q: usize, chips: &Wide) -> Reduced
     requires size { chips.now.size ≡ graph.now.size }
     requires vertex { q < graph.now.size }
     requires range { (v : ℕ) → v < graph.now.size → unsigned_abs (at chips.now v) ≤ MAX_START }

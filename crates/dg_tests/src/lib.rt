@@ -2,6 +2,8 @@
 #![tactic(auto)]
 
 #[cfg(test)]
+mod burn;
+#[cfg(test)]
 mod chips;
 #[cfg(test)]
 mod file;
@@ -13,5 +15,7 @@ mod graph;
 mod lines;
 #[cfg(test)]
 mod rank;
+#[cfg(test)]
+mod reduce;
 #[cfg(test)]
 mod verdict;

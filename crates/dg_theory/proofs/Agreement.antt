@@ -6,16 +6,13 @@
 --   played-cong     divisors that agree do so after a list of plays
 --   winnable-cong   divisors that agree are winnable together
 --   reduced-cong    divisors that agree are reduced together
---   less-cong       divisors that agree do so after the same loss
---   rank-cong       a rank test passes for both of two divisors that agree
---   loss-cong       divisors that agree have the same first loss
 use Rattle.std.proofs.Common.{ℕ, List, [], ◌∷◌, arith, sym, ◌∙◌}
 use Rattle.std.proofs.lemmas.Int.{ints}
 use Rattle.dg_theory.specs.Multigraph.{Multigraph}
 use Rattle.dg_theory.specs.Firing.{Amounts, IsEffective, AgreeOn, fired}
 use Rattle.dg_theory.specs.Play.{Play, script_of_play, played, IsWinnable}
 use Rattle.dg_theory.specs.Reduced.{IsReduced}
-use Rattle.dg_theory.specs.Rank.{less, HasRankAtLeast, IsFirstLoss}
+use Rattle.dg_theory.specs.Rank.{less}
 
 pub agree-sym : (n : ℕ) (D E : Amounts) → AgreeOn n D E → AgreeOn n E D
 agree-sym n D E same v below = sym (same v below)
@@ -44,21 +41,4 @@ reduced-cong g q D E same reduced = record {
   none_fires = λ S without u below member.
       let (v, inside, in_v, less) = reduced.none_fires S without u below member in
       (v, inside, in_v, omega (arith, ints, same v inside));
-}
-
-pub less-cong : (n : ℕ) (D E F : Amounts) → AgreeOn n D E → AgreeOn n (less D F) (less E F)
-less-cong n D E F same v below = omega (arith, ints, same v below)
-
-pub rank-cong : (g : Multigraph) (D E : Amounts) (k : ℕ) → AgreeOn g.size D E → HasRankAtLeast g D k → HasRankAtLeast g E k
-rank-cong g D E k same rank F effective of_degree =
-    winnable-cong g (less D F) (less E F) (less-cong g.size D E F same) (rank F effective of_degree)
-
-pub loss-cong : (g : Multigraph) (D E : Amounts) (k : ℕ) (F : Amounts) → AgreeOn g.size D E → IsFirstLoss g D k F → IsFirstLoss g E k F
-loss-cong g D E k F same loss = record {
-  effective = loss.effective;
-  of_degree = loss.of_degree;
-  loses = λ win.
-      loss.loses (winnable-cong g (less E F) (less D F) (less-cong g.size E D F (agree-sym g.size D E same)) win);
-  first = λ G effective of_degree before.
-      winnable-cong g (less D G) (less E G) (less-cong g.size D E G same) (loss.first G effective of_degree before);
 }

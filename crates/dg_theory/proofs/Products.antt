@@ -2,13 +2,11 @@
 --   mulz-add x a b   x (a + b) = x a + x b
 --   mul-change k ..  k (a - c) + k (b - d) = k ((a + b) - (c + d))
 --   mulz-sub x a b   x (a - b) = x a - x b
---   addz-mul a b x   (a + b) x = a x + b x
---   subz-mul a b x   (a - b) x = a x - b x
 --   mul-swap x k a   x (k a) = k (x a)
 --   one-mul a        1 a = a
 use Rattle.std.proofs.Common.{◌≡◌, ℕ, zero, suc, arith, refl}
 use Rattle.std.proofs.lemmas.Int.{ints}
-use Rattle.std.proofs.Math.IntN.{ℤ, pos, negsuc, ◌+ℤ◌, ◌-ℤ◌, ◌*ℤ◌, suc_ℤ-*ℤ, pred_ℤ-*ℤ, zero-*ℤ, *ℤ-zero, *ℤ_comm}
+use Rattle.std.proofs.Math.IntN.{ℤ, pos, negsuc, ◌+ℤ◌, ◌-ℤ◌, ◌*ℤ◌, suc_ℤ-*ℤ, pred_ℤ-*ℤ, zero-*ℤ, *ℤ-zero}
 
 pub mulz-add : (x a b : ℤ) → x *ℤ (a +ℤ b) ≡ x *ℤ a +ℤ x *ℤ b
 mulz-add (pos zero) a b = omega (arith, ints, zero-*ℤ (a +ℤ b), zero-*ℤ a, zero-*ℤ b)
@@ -29,12 +27,6 @@ mulz-sub x a b =
     let whole : (a -ℤ b) +ℤ b ≡ a = omega (arith, ints) in
     let parts = rw whole at (mulz-add x (a -ℤ b) b) in
     omega (arith, ints)
-
-pub addz-mul : (a b x : ℤ) → (a +ℤ b) *ℤ x ≡ a *ℤ x +ℤ b *ℤ x
-addz-mul a b x = omega (arith, ints, *ℤ_comm (a +ℤ b) x, *ℤ_comm a x, *ℤ_comm b x, mulz-add x a b)
-
-pub subz-mul : (a b x : ℤ) → (a -ℤ b) *ℤ x ≡ a *ℤ x -ℤ b *ℤ x
-subz-mul a b x = omega (arith, ints, *ℤ_comm (a -ℤ b) x, *ℤ_comm a x, *ℤ_comm b x, mulz-sub x a b)
 
 pub mul-swap : (x : ℤ) (k : ℕ) (a : ℤ) → x *ℤ (pos k *ℤ a) ≡ pos k *ℤ (x *ℤ a)
 mul-swap x zero a = rw (zero-*ℤ a, zero-*ℤ (x *ℤ a)) (*ℤ-zero x)

@@ -28,7 +28,7 @@ reduced_once g q D E vertex (s, leads) first second v inside =
     sym (leads v inside
     ∙ fired-constant_script g D s (s q) (λ w below. omega (arith, ints, ahead w below, behind w below)) v inside)
 
-effective_from : (g : Multigraph) (q : ℕ) (R : Amounts) → IsReduced g q R → pos 0 ≤ℤ R q → IsEffective g.size R
+pub effective_from : (g : Multigraph) (q : ℕ) (R : Amounts) → IsReduced g q R → pos 0 ≤ℤ R q → IsEffective g.size R
 effective_from g q R reduced paid v inside =
     ⊎_elim
     (λ (same : v ≡ q). let at : R v ≡ R q = ap R same in omega (arith, ints))

@@ -1,11 +1,10 @@
 -- Sums of whole numbers over the numbers below n: multiples, differences, and the order of two sums.
 --   sum_below-scale   a multiple of a sum is the sum of the multiples
 --   sum_below-sub     a sum of differences is the difference of the sums
---   sum_below-neg     the sum of the negated terms is the negated sum
 --   sum_below-swap    a sum over rows of sums over columns is the sum over columns of sums over rows
 use Rattle.std.proofs.Common.{◌≡◌, ℕ, zero, suc, arith, refl, sym}
 use Rattle.std.proofs.lemmas.Int.{ints}
-use Rattle.std.proofs.Math.IntN.{ℤ, pos, ◌-ℤ◌, ◌*ℤ◌, neg_ℤ, *ℤ-zero}
+use Rattle.std.proofs.Math.IntN.{ℤ, pos, ◌-ℤ◌, ◌*ℤ◌, *ℤ-zero}
 use Rattle.dg_theory.specs.Sums.{sum_below}
 use Rattle.dg_theory.proofs.Products.{mulz-add}
 use Rattle.dg_theory.proofs.SumLaws.{sum_below-add, sum_below-zero}
@@ -17,10 +16,6 @@ sum_below-scale (suc n) x f = omega (arith, ints, mulz-add x (sum_below n f) (f 
 pub sum_below-sub : (n : ℕ) (f h : ℕ → ℤ) → sum_below n (λ w. f w -ℤ h w) ≡ sum_below n f -ℤ sum_below n h
 sum_below-sub zero f h = refl
 sum_below-sub (suc n) f h = omega (arith, ints, sum_below-sub n f h)
-
-pub sum_below-neg : (n : ℕ) (f : ℕ → ℤ) → sum_below n (λ w. neg_ℤ (f w)) ≡ neg_ℤ (sum_below n f)
-sum_below-neg zero f = refl
-sum_below-neg (suc n) f = omega (arith, ints, sum_below-neg n f)
 
 pub sum_below-swap : (m n : ℕ) (f : ℕ → ℕ → ℤ) →
     sum_below m (λ v. sum_below n (λ w. f v w)) ≡ sum_below n (λ w. sum_below m (λ v. f v w))

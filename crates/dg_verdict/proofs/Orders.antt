@@ -4,13 +4,12 @@
 --   order-first   the first place, where q stands, is an order so far
 --   order-more    an order so far with one more vertex that may burn is one
 --   order-done    an order so far of as many vertices as there are burns them all
---   order-start   where another vertex than q stands first, not all burn
 --   order-fails   where a vertex stands that may not burn after those before it, not all burn
-use Rattle.std.proofs.Common.{◌≡◌, ◌≢◌, ℕ, zero, suc, ◌+◌, ◌<◌, ◌≤◌, Bool, false, List, [], ◌∷◌, length, take, arith, sym, ap, subst, ◌∙◌}
+use Rattle.std.proofs.Common.{◌≡◌, ℕ, zero, suc, ◌+◌, ◌<◌, ◌≤◌, Bool, false, List, [], ◌∷◌, length, take, arith, sym, ap, subst, ◌∙◌}
 use Rattle.std.specs.Prelude.{slice_get, Some}
 use Rattle.std.specs.List.{slice_index_or}
 use Rattle.std.proofs.lemmas.List.{take_more, take-take, get_or-take, length-take}
-use Rattle.std.proofs.lemmas.Option.{get_or_from_slice_get, slice_get-get_or}
+use Rattle.std.proofs.lemmas.Option.{slice_get-get_or}
 use Rattle.dg_theory.specs.Multigraph.{Multigraph}
 use Rattle.dg_theory.specs.Firing.{Amounts}
 use Rattle.dg_theory.specs.Burning.{among, MayBurn, BurnsAll}
@@ -62,11 +61,6 @@ order-done g q D order n S state whole = subst (λ (k : ℕ). BurnsAll g q D (ta
   next = state.next;
   all = λ v below. sym (state.same v) ∙ none_unreached g.size S v below (omega (arith, state.left));
 })
-
-pub order-start : (g : Multigraph) (q : ℕ) (D : Amounts) (order : List ℕ) → q < g.size → slice_index_or order 0 0 ≢ q →
-    ¬ BurnsAll g q D (take g.size order)
-order-start g q D order vertex other burns =
-    other (sym (get_or-take g.size order 0 0 (omega arith)) ∙ get_or_from_slice_get (take g.size order) 0 q 0 burns.first)
 
 pub order-fails : (g : Multigraph) (q : ℕ) (D : Amounts) (order : List ℕ) (i : ℕ) (S : ℕ → Bool) →
     IsOrderSoFar g q D (take i order) i S → 1 ≤ i → i < g.size → g.size ≤ length order →

@@ -4,7 +4,7 @@ use crate::lines::triangle;
 use dg_chips::{Divisor, Script, Wide};
 use dg_game::{Refusal, Reply};
 use dg_graph::Graph;
-use dg_lines::{entry_line, reply_text};
+use dg_lines::{push_entry, reply_text};
 use dg_rank::RankVerdict;
 use dg_verdict::Verdict;
 use std::test::Fail;
@@ -40,7 +40,8 @@ fn replies_are_written(rt: HostRuntime) -> Result<(), Fail> {
         let text = reply_text(rt.alloc(), &reply, &names)?;
         assert!(rt; text.as_slice() == want.as_bytes(), "at {want}");
     }
-    let line = entry_line(rt.alloc(), 7, &Reply::Won, &names)?;
+    let mut line = Vec::new(rt.alloc());
+    push_entry(&mut line, 7, &Reply::Won, &names)?;
     assert!(rt; line.as_slice() == b"7 won\n".as_slice());
     Ok(())
 }

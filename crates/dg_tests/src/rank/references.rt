@@ -1,10 +1,10 @@
-//! Rank tests beside the plain way, which pays the debts of each divisor less each trial anew.
+//! Rank tests beside the plain way, which reduces each divisor less each trial anew.
 ghost use Rattle.std.specs.Prelude.{◌≡◌, ◌<◌, ◌^◌, IfOk};
 
-use dg_chips::{ChipFault, Divisor, Wide};
+use dg_chips::{ChipFault, Divisor};
 use dg_graph::{Graph, GraphFault};
 use dg_rank::{RankVerdict, rank_at_least, trial, trials};
-use dg_reduce::effective;
+use dg_reduce::reduce;
 use std::test::Fail;
 
 // Numbers that look random, each from the one before.
@@ -81,7 +81,7 @@ fn plainly(graph: &Graph, divisor: &Divisor, degree: u32) -> Option<RankVerdict>
         let lost = trial(size, degree, number);
         let left = divisor.minus(&lost).ok()?;
         let _amounts = left.size();
-        if effective(graph, &Wide::of(&left)).is_none() {
+        if reduce(graph, 0, &left).divisor.get(0) < 0 {
             return Some(RankVerdict::Below(degree, lost));
         }
     }

@@ -1,57 +1,74 @@
-use Rattle.std.proofs.Common.{◌≡◌, ◌<◌, ◌≤◌, ◌*◌, arith, ◌∙◌}
+use Rattle.std.proofs.Common.{◌≤◌, arith, refl, ◌∙◌}
 use Rattle.std.specs.Prelude.{◌≤ℤ◌}
 use Rattle.std.specs.Int.RustNames.{unsigned_abs}
 use Rattle.std.proofs.Math.IntN.{pos}
 use Rattle.std.proofs.lemmas.Int.{ints}
+use Rattle.dg_theory.specs.Firing.{AgreeOn, AreEquivalent}
 use Rattle.dg_theory.specs.Rank.{less}
-use Rattle.dg_theory.proofs.Absolute.{within_abs, abs_within}
-use Rattle.dg_theory.proofs.Giving.{win_more}
+use Rattle.dg_theory.proofs.Equivalence.{equivalent-refl, equivalent-trans}
+use Rattle.dg_theory.proofs.ReducedLaws.{effective_from, reduced_decides}
 use Rattle.dg_chips.specs.Vector.{at}
-use Rattle.dg_reduce.proofs.EffectiveForms.{form_limit}
+use Rattle.dg_reduce.specs.Effective.{IsEffectiveForm}
 use Rattle.dg_rank.specs.Divisors.{amounts_of}
-use Rattle.dg_rank.proofs.Elsewhere.{left_small, form_kept}
+use Rattle.dg_rank.proofs.Elsewhere.{left_degree, left_small, form_kept, rich_small}
 use Rattle.dg_rank.proofs.first_loss.left_without.Goals as goal
+use Rattle.dg_rank.proofs.first_loss.left_without.Goals.{After-less, After-reduce_wide-left}
 
-pub effective-requires-clause-range : goal.effective-requires-clause-range
-effective-requires-clause-range c v inside =
+-- the amounts without the trial's
+left : (c : After-less) → AgreeOn c.args.graph.now.size (less (at c.args.chips.now) (amounts_of c.args.trial.now)) (at c.less.result)
+left c v inside =
     let (k, count, within, trial) = c.requires.trial in
-    let left : at c.less.result v ≡ less (at c.args.chips.now) (amounts_of c.args.trial.now) v =
-    omega (arith, ints, c.less.ensures.amounts v (omega arith), c.to_divisor-lost.ensures.amounts v (omega (arith, trial.places))) in
-    let small : unsigned_abs (at c.less.result v) ≤ 2000000 =
+    omega (arith, ints, c.less.ensures.amounts v (omega arith), c.to_divisor-lost.ensures.amounts v (omega (arith, trial.places)))
+
+-- they are fired to the reduced ones
+led : (c : After-reduce_wide-left) →
+    AgreeOn c.args.graph.now.size (less (at c.args.chips.now) (amounts_of c.args.trial.now)) (at c.less.result) →
+    AreEquivalent c.args.graph.now (less (at c.args.chips.now) (amounts_of c.args.trial.now)) (at c.reduce_wide-left.result.divisor)
+led c same = equivalent-trans c.args.graph.now _ (at c.less.result) _
+    (equivalent-refl c.args.graph.now _ (at c.less.result) same)
+    (at c.reduce_wide-left.result.script, c.reduce_wide-left.ensures.led)
+
+-- so the reduced ones, where q owes nothing, are a form of them
+form : (c : After-reduce_wide-left) →
+    AgreeOn c.args.graph.now.size (less (at c.args.chips.now) (amounts_of c.args.trial.now)) (at c.less.result) →
+    pos 0 ≤ℤ at c.reduce_wide-left.result.divisor 0 →
+    IsEffectiveForm c.args.graph.now (less (at c.args.chips.now) (amounts_of c.args.trial.now)) c.reduce_wide-left.result.divisor
+form c same paid = record {
+  size = c.reduce_wide-left.ensures.sizes.0;
+  effective = effective_from c.args.graph.now 0 (at c.reduce_wide-left.result.divisor) c.reduce_wide-left.ensures.reduced paid;
+  led = led c same;
+}
+
+pub reduce_wide-left-requires-clause-range : goal.reduce_wide-left-requires-clause-range
+reduce_wide-left-requires-clause-range c v inside =
+    let (k, count, within, trial) = c.requires.trial in
     left_small c.args.graph.now.size k count c.args.trial.now (at c.args.chips.now) (at c.less.result) v within trial inside
-    (c.requires.range v inside) left in
-    omega arith
+    (c.requires.range v inside)
+    (omega (arith, ints, left (goal.at.reduce_wide-left-requires-clause-range c).After-less v inside))
 
-pub returns-in_err-left : goal.returns-in_err-left
-returns-in_err-left c =
-    let (k, count, within, trial) = c.requires.trial in
-    rw c.from_residual.ensures (λ win. c.in_err-left.ensures
-    (win_more c.args.graph.now (less (at c.args.chips.now) (amounts_of c.args.trial.now)) (at c.less.result)
-    (λ v inside.
-    omega (arith, ints, c.less.ensures.amounts v (omega arith), c.to_divisor-lost.ensures.amounts v (omega (arith, trial.places)))) win))
+pub returns-then-get-lt0 : goal.returns-then-get-lt0
+returns-then-get-lt0 c = λ win.
+    let paid : pos 0 ≤ℤ at c.reduce_wide-left.result.divisor 0 =
+    (reduced_decides c.args.graph.now 0 (less (at c.args.chips.now) (amounts_of c.args.trial.now)) (at c.reduce_wide-left.result.divisor)
+    (omega (arith, c.requires.graph.some))
+    (led (goal.at.returns-then-get-lt0 c).After-reduce_wide-left (left (goal.at.returns-then-get-lt0 c).After-less))
+    c.reduce_wide-left.ensures.reduced).0 win in
+    absurd (omega (arith, ints))
 
 pub of-requires : goal.of-requires
 of-requires c = record {
   range = λ v inside.
-      let (k, count, within, trial) = c.requires.trial in
-      let vertex : v < c.args.graph.now.size = omega (arith, c.in_ok-left.ensures.size) in
-      let high : at c.in_ok-left.left v ≤ℤ pos (16 * 2000000) =
-      form_limit c.args.graph.now (at c.less.result) c.in_ok-left.left 2000000 v c.requires.graph
-      (λ w below.
-      let left : at c.less.result w ≡ less (at c.args.chips.now) (amounts_of c.args.trial.now) w =
-      omega (arith, ints, c.less.ensures.amounts w (omega arith), c.to_divisor-lost.ensures.amounts w (omega (arith, trial.places))) in
-      (within_abs (at c.less.result w) 2000000
-      (left_small c.args.graph.now.size k count c.args.trial.now (at c.args.chips.now) (at c.less.result) w within trial below
-      (c.requires.range w below) left)).1) c.in_ok-left.ensures vertex in
-      let low : pos 0 ≤ℤ at c.in_ok-left.left v = c.in_ok-left.ensures.effective v vertex in
-      abs_within (at c.in_ok-left.left v) 1073741824 (omega (arith, ints)) (omega (arith, ints));
+      let good : IsEffectiveForm c.args.graph.now (less (at c.args.chips.now) (amounts_of c.args.trial.now)) c.reduce_wide-left.result.divisor =
+      form (goal.at.of-requires c).After-reduce_wide-left (left (goal.at.of-requires c).After-less) (omega (arith, ints)) in
+      let small : unsigned_abs (at c.reduce_wide-left.result.divisor v) ≤ 32000000 =
+      rich_small c.args.graph.now.size (at c.reduce_wide-left.result.divisor) 32000000 v good.effective
+      (left_degree c.args.graph.now (at c.args.chips.now) c.args.trial.now c.reduce_wide-left.result.divisor c.requires.graph
+      c.requires.range good) (omega (arith, c.reduce_wide-left.ensures.sizes.0)) in
+      omega arith;
 }
 
 pub returns : goal.returns
-returns c =
-    let (k, count, within, trial) = c.requires.trial in
-    form_kept c.args.graph.now (less (at c.args.chips.now) (amounts_of c.args.trial.now)) (at c.less.result) c.in_ok-left.left c.of.result
-    (λ v inside.
-    omega (arith, ints, c.less.ensures.amounts v (omega arith), c.to_divisor-lost.ensures.amounts v (omega (arith, trial.places))))
-    c.in_ok-left.ensures (c.of.ensures.size ∙ c.in_ok-left.ensures.size)
-    (λ v inside. c.of.ensures.amounts v (omega (arith, c.in_ok-left.ensures.size)))
+returns c = form_kept c.args.graph.now _ _ c.reduce_wide-left.result.divisor c.of.result (λ v inside. refl)
+    (form (goal.at.returns c).After-reduce_wide-left (left (goal.at.returns c).After-less) (omega (arith, ints)))
+    (c.of.ensures.size ∙ c.reduce_wide-left.ensures.sizes.0)
+    (λ v inside. c.of.ensures.amounts v (omega (arith, c.reduce_wide-left.ensures.sizes.0)))

@@ -1,0 +1,200 @@
+//! The guess of the script of a reduction.
+//!
+//! Nothing is promised of where a guess leads: whoever fires by it tests that. So its numbers are small, and its sums may
+//! wrap where they are not.
+
+ghost use Rattle.std.specs.Prelude.{◌≡◌, ℕ, ◌<◌, ◌≤◌, pos, IfSome};
+ghost use Rattle.std.specs.Int.RustNames.{unsigned_abs};
+ghost use Rattle.dg_chips.specs.Vector.{at};
+ghost use Rattle.dg_reduce.specs.declared.limits.TheConstants.{MAX_START};
+ghost use Rattle.dg_reduce.specs.Burnings.{IsWhole};
+
+use crate::aim::Aim;
+use crate::certificate::Burning;
+use dg_burn::burn_counted;
+use dg_chips::{Script, Wide};
+use dg_graph::{Graph, contains};
+use std::num::saturating_f64_to_i32;
+
+/// The most lendings, and the most borrowings, that are guessed.
+const MOST: i64 = 1_000_000_000;
+
+/// How often those who owe borrow in turn: more than was ever seen to be needed.
+const PAYING_ROUNDS: usize = 16;
+
+/// How often those who do not burn lend together: more than was ever seen to be needed, but on graphs with heavy edges
+/// and few of them between two parts.
+const BURNING_ROUNDS: usize = 200;
+
+/// Amounts and lendings near to those of a reduction.
+#[derive(Clone, Copy)]
+struct Near {
+    chips: [i32; 16],
+    script: [i32; 16],
+}
+
+/// A script, and what was seen where it leads.
+#[derive(Clone, Copy)]
+pub struct Guessed {
+    /// The script: 0 at q.
+    pub script: Script,
+    /// The burning of the amounts that it seems to lead to, where all vertices burn.
+    pub burning: Option<Burning>,
+}
+
+/// A script that is 0 at q and that may lead from the amounts, which are within 2,000,000, to those that are reduced for q:
+/// each entry is at most a thousand million, lendings or borrowings. What is aimed by makes the guess good or bad.
+pub fn guess(graph: &Graph, aim: &Aim, q: usize, chips: &Wide) -> Guessed
+    requires size { chips.now.size ≡ graph.now.size }
+    requires vertex { q < graph.now.size }
+    requires range { (v : ℕ) → v < graph.now.size → unsigned_abs (at chips.now v) ≤ MAX_START }
+    ensures size { result.script.size ≡ graph.now.size }
+    ensures at_q { at result.script q ≡ pos 0 }
+    ensures burning { IfSome result.burning (λ x. IsWhole graph.now q x) }
+{
+    let _size = graph.size();
+    let mut near = aimed(aim, &amounts_off(q, chips));
+    // No step looks at what q holds, but the burning is to tell it.
+    near.chips[q] = near.chips[q].wrapping_add(chips.get(q) as i32);
+    pay(aim, q, &mut near);
+    let burning = burn_down(graph, aim, q, &mut near);
+    Guessed {
+        script: script_of(graph, q, &near.script),
+        burning,
+    }
+}
+
+/// The amounts, but 0 at q.
+fn amounts_off(q: usize, chips: &Wide) -> [i32; 16]
+    requires { (v : ℕ) → v < chips.now.size → unsigned_abs (at chips.now v) ≤ MAX_START }
+{
+    let mut amounts = [0; 16];
+    for v in 0..chips.size() {
+        if v != q {
+            amounts[v] = chips.get(v) as i32;
+        }
+    }
+    amounts
+}
+
+/// The whole lendings nearest to those that leave what is aimed at, and where they lead.
+fn aimed(aim: &Aim, amounts: &[i32; 16]) -> Near {
+    let mut near = Near {
+        chips: *amounts,
+        script: rounded(&aim.lendings(amounts)),
+    };
+    for v in 0..16 {
+        let times = near.script[v];
+        lend(&mut near.chips, &aim.rows[v], times);
+    }
+    near
+}
+
+/// The whole numbers nearest to some that are not far past a thousand million.
+fn rounded(lendings: &[f64; 16]) -> [i32; 16] {
+    let mut whole = [0; 16];
+    for v in 0..16 {
+        let above = saturating_f64_to_i32(lendings[v] + 1_000_000_000.5);
+        whole[v] = above.wrapping_sub(1_000_000_000);
+    }
+    whole
+}
+
+/// Lets the vertex that this row is of lend so often.
+fn lend(chips: &mut [i32; 16], row: &[i32; 16], times: i32) {
+    for w in 0..16 {
+        chips[w] = chips[w].wrapping_add(row[w].wrapping_mul(times));
+    }
+}
+
+/// Lets each who owes, off q, borrow until it owes no more, again and again.
+fn pay(aim: &Aim, q: usize, near: &mut Near) {
+    for _ in 0..PAYING_ROUNDS {
+        if !owes(q, &near.chips) {
+            return;
+        }
+        pay_once(aim, q, near);
+    }
+}
+
+/// Whether somebody off q owes.
+fn owes(q: usize, chips: &[i32; 16]) -> bool {
+    for v in 0..16 {
+        if v != q && chips[v] < 0 {
+            return true;
+        }
+    }
+    false
+}
+
+/// Lets each who owes, off q, borrow in turn until it owes no more.
+fn pay_once(aim: &Aim, q: usize, near: &mut Near) {
+    for v in 0..16 {
+        if v != q && near.chips[v] < 0 {
+            let times = times_to_pay(near.chips[v], aim.valences[v]);
+            lend(&mut near.chips, &aim.rows[v], times);
+            near.script[v] = near.script[v].wrapping_add(times);
+        }
+    }
+}
+
+/// How often, below 0, a vertex that owes lends until it owes no more. A vertex without edges never does.
+fn times_to_pay(chips: i32, valence: i32) -> i32 {
+    if valence <= 0 {
+        return 0;
+    }
+    chips.saturating_sub(valence - 1) / valence
+}
+
+/// Lets those who do not burn lend together, once and again, until all burn: that burning is the result.
+fn burn_down(graph: &Graph, aim: &Aim, q: usize, near: &mut Near) -> Option<Burning>
+    requires { q < graph.now.size }
+    ensures { IfSome result (λ x. IsWhole graph.now q x) }
+{
+    for _ in 0..BURNING_ROUNDS {
+        let held = held_by(&near.chips);
+        let counted = burn_counted(graph, q, &held);
+        if counted.burnt.unburnt == 0 {
+            let order = counted.burnt.order;
+            return Some(Burning { held, order });
+        }
+        fire(aim, counted.burnt.unburnt, &counted.joined, near);
+    }
+    None
+}
+
+/// The amounts as far as burning looks at them.
+fn held_by(chips: &[i32; 16]) -> [u8; 16] {
+    let mut held = [0; 16];
+    for v in 0..16 {
+        held[v] = chips[v].clamp(0, 64) as u8;
+    }
+    held
+}
+
+/// Lets each vertex of a set lend once more; `joined` are the edges of each vertex to those that are not in it.
+fn fire(aim: &Aim, set: u16, joined: &[u8; 16], near: &mut Near) {
+    for v in 0..16 {
+        let lends = i32::from(contains(set, v));
+        let out = i32::from(joined[v]);
+        let got = (1i32.wrapping_sub(lends)).wrapping_mul(aim.valences[v]);
+        near.chips[v] = near.chips[v].wrapping_sub(out).wrapping_add(got);
+        near.script[v] = near.script[v].wrapping_add(lends);
+    }
+}
+
+/// The lendings as a script, 0 at q and cut off at the most that are guessed.
+fn script_of(graph: &Graph, q: usize, lendings: &[i32; 16]) -> Script
+    requires { q < graph.now.size }
+    ensures size { result.size ≡ graph.now.size }
+    ensures at_q { at result q ≡ pos 0 }
+{
+    let size = graph.size();
+    let mut entries = [0; 16];
+    for v in 0..size {
+        if v != q {
+            entries[v] = i64::from(lendings[v]).clamp(-MOST, MOST);
+        }
+    }
+    Script::sized(&entries[..size])
+}

@@ -1,7 +1,0 @@
-//! The tests, by topic.
-
-mod effective_forms;
-mod guesses;
-mod random;
-mod reductions;
-mod reference;

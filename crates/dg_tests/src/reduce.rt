@@ -1,0 +1,5 @@
+//! Reductions, guesses, and what the guesses leave.
+mod guesses;
+mod random;
+mod reductions;
+mod reference;

@@ -1,0 +1,284 @@
+//! Reductions that begin with a guess, right or wrong, and what a guess leaves.
+
+ghost use Rattle.std.specs.Prelude.{◌≡◌};
+
+use dg_chips::{Script, Wide};
+use dg_graph::Graph;
+use dg_reduce::{
+    Aim, Certified, Reduced, certified_by, guess, is_solvent_off, is_within_start,
+    order_if_reduced, reduce_certified, reduce_wide,
+};
+use std::test::Fail;
+
+/// Edges, q, amounts, the reduced amounts, the script that leads to them, and guesses.
+type Case = (
+    &'static [(u8, u8, u8)],
+    usize,
+    &'static [i128],
+    &'static [i128],
+    &'static [i64],
+    [&'static [i64]; 7],
+);
+
+const TRIANGLE: &[(u8, u8, u8)] = &[(0, 1, 1), (1, 2, 1), (0, 2, 1)];
+
+const SQUARE: &[(u8, u8, u8)] = &[(0, 1, 1), (1, 2, 1), (2, 3, 1), (3, 0, 1)];
+
+const PATH: &[(u8, u8, u8)] = &[(0, 1, 1), (1, 2, 1), (2, 3, 1)];
+
+const HOUSE: &[(u8, u8, u8)] = &[
+    (0, 1, 2),
+    (1, 2, 1),
+    (2, 3, 3),
+    (3, 4, 1),
+    (4, 0, 1),
+    (1, 3, 5),
+];
+
+// The answers come from a program that borrows and burns vertex by vertex, without any guess. The guesses: none, the
+// script itself, one lending more, some lendings, alternating ones, and the most that a script holds.
+static CASES: [Case; 5] = [
+    (
+        TRIANGLE,
+        2,
+        &[40, -70, 25],
+        &[0, 1, -6],
+        &[3, -34, 0],
+        [
+            &[0, 0, 0],
+            &[3, -34, 0],
+            &[4, -34, 0],
+            &[1, -5, 0],
+            &[21, -28, 0],
+            &[1_000_000_000, -1_000_000_000, 0],
+            &[1_000_000_000, 1_000_000_000, 0],
+        ],
+    ),
+    (
+        SQUARE,
+        0,
+        &[-300, 100, 90, 80],
+        &[-30, 0, 0, 0],
+        &[0, 140, 180, 130],
+        [
+            &[0, 0, 0, 0],
+            &[0, 140, 180, 130],
+            &[0, 141, 180, 130],
+            &[0, 3, -8, -7],
+            &[0, -28, 35, -42],
+            &[0, -1_000_000_000, 1_000_000_000, -1_000_000_000],
+            &[0, 1_000_000_000, 1_000_000_000, 1_000_000_000],
+        ],
+    ),
+    (
+        HOUSE,
+        1,
+        &[17, -3, -90, 100, -6],
+        &[1, 15, 1, 0, 1],
+        &[6, 0, -19, 5, 2],
+        [
+            &[0, 0, 0, 0, 0],
+            &[6, 0, -19, 5, 2],
+            &[6, 0, -18, 5, 2],
+            &[8, 0, -6, 2, 9],
+            &[21, 0, 35, -42, 49],
+            &[
+                1_000_000_000,
+                0,
+                1_000_000_000,
+                -1_000_000_000,
+                1_000_000_000,
+            ],
+            &[
+                1_000_000_000,
+                0,
+                1_000_000_000,
+                1_000_000_000,
+                1_000_000_000,
+            ],
+        ],
+    ),
+    (
+        HOUSE,
+        4,
+        &[17, -3, -90, 100, -6],
+        &[1, 5, 2, 0, 10],
+        &[8, 4, -16, 8, 0],
+        [
+            &[0, 0, 0, 0, 0],
+            &[8, 4, -16, 8, 0],
+            &[9, 4, -16, 8, 0],
+            &[-8, 7, -3, -8, 0],
+            &[21, -28, 35, -42, 0],
+            &[
+                1_000_000_000,
+                -1_000_000_000,
+                1_000_000_000,
+                -1_000_000_000,
+                0,
+            ],
+            &[
+                1_000_000_000,
+                1_000_000_000,
+                1_000_000_000,
+                1_000_000_000,
+                0,
+            ],
+        ],
+    ),
+    (
+        PATH,
+        3,
+        &[500, -400, 300, -200],
+        &[0, 0, 0, 200],
+        &[1_000, 500, 400, 0],
+        [
+            &[0, 0, 0, 0],
+            &[1_000, 500, 400, 0],
+            &[1_001, 500, 400, 0],
+            &[-7, 4, 4, 0],
+            &[21, -28, 35, 0],
+            &[1_000_000_000, -1_000_000_000, 1_000_000_000, 0],
+            &[1_000_000_000, 1_000_000_000, 1_000_000_000, 0],
+        ],
+    ),
+];
+
+/// The reduction that begins with a script, where it may be asked for.
+fn certified_after(graph: &Graph, q: usize, chips: &Wide, script: &Script) -> Option<Certified>
+    requires size { chips.now.size ≡ graph.now.size }
+    requires script { script.now.size ≡ graph.now.size }
+{
+    if q >= graph.size() || !is_within_start(chips) || script.get(q) != 0 {
+        return None;
+    }
+    Some(certified_by(graph, q, chips, script, &None))
+}
+
+/// The same, where the burning that a guess for other amounts ends with is at hand.
+fn certified_beside(
+    graph: &Graph,
+    q: usize,
+    chips: &Wide,
+    script: &Script,
+    other: &Wide,
+) -> Option<Certified>
+    requires size { chips.now.size ≡ graph.now.size }
+    requires script { script.now.size ≡ graph.now.size }
+    requires other { other.now.size ≡ graph.now.size }
+{
+    if q >= graph.size() || !is_within_start(chips) || script.get(q) != 0 {
+        return None;
+    }
+    if !is_within_start(other) {
+        return None;
+    }
+    let known = guess(graph, &Aim::new(graph, q), q, other).burning;
+    if known.is_none() {
+        return None;
+    }
+    Some(certified_by(graph, q, chips, script, &known))
+}
+
+#[test]
+fn wrong_guesses(rt: HostRuntime) -> Result<(), Fail> {
+    for (items, q, amounts, chips, script, guesses) in CASES {
+        let graph = Graph::new(amounts.len(), items)?;
+        let start = Wide::new(&graph, amounts)?;
+        let divisor = Wide::new(&graph, chips)?;
+        let script = Script::new(&graph, script)?;
+        assert!(rt; q < graph.size());
+        let order = order_if_reduced(&graph, q, &divisor);
+        assert!(rt; order.is_some(), "{chips:?}");
+        let wanted = Reduced { divisor, script };
+        for guess in guesses {
+            let guessed = Script::new(&graph, guess)?;
+            let Some(found) = certified_after(&graph, q, &start, &guessed) else {
+                panic!(rt; "{guess:?}");
+            };
+            assert!(rt; found.reduced == wanted, "{guess:?}");
+            assert!(rt; Some(found.order) == order, "{guess:?}");
+        }
+    }
+    Ok(())
+}
+
+// A burning of other amounts changes no answer: those where some vertex has a dollar less. One that burns in another order
+// is among them. Triangle from 2, by hand: with a dollar less at 0, what is left off q is 1 0, so that 1 burns before 0.
+#[test]
+fn burnings_of_others(rt: HostRuntime) -> Result<(), Fail> {
+    for (items, q, amounts, chips, script, _) in CASES {
+        let graph = Graph::new(amounts.len(), items)?;
+        let start = Wide::new(&graph, amounts)?;
+        let divisor = Wide::new(&graph, chips)?;
+        let script = Script::new(&graph, script)?;
+        assert!(rt; q < graph.size());
+        let order = order_if_reduced(&graph, q, &divisor);
+        for v in 0..graph.size() {
+            let other = start.with_amount(v, start.get(v).wrapping_sub(1));
+            let Some(found) = certified_beside(&graph, q, &start, &script, &other) else {
+                panic!(rt; "{amounts:?} but at {v}");
+            };
+            assert!(rt; found.reduced == Reduced { divisor, script }, "at {v}");
+            assert!(rt; Some(found.order) == order, "at {v}");
+        }
+    }
+    Ok(())
+}
+
+// What a guess leads to is the reduced divisor itself: here, and wherever else it was tried. One amount off the guess's
+// path, and it is not.
+#[test]
+fn guesses_are_right(rt: HostRuntime) -> Result<(), Fail> {
+    let mut items = [(0, 0, 1); 15];
+    for v in 0..15u8 {
+        items[usize::from(v)] = (v, v + 1, 1);
+    }
+    let path = Graph::new(16, &items)?;
+    let cases: [(usize, &[i128]); 5] = [
+        (0, &[0; 16]),
+        (0, &[1_000_000; 16]),
+        (15, &[-2_000_000; 16]),
+        (7, &[1_999_999; 16]),
+        (
+            3,
+            &[
+                -1_000_000, 900_000, -1, 0, 8, 2_000_000, -65, 70_000, -7, 0, 0, -999_999, 5, 5,
+                123_456, -1_000_000,
+            ],
+        ),
+    ];
+    for (q, amounts) in cases {
+        let chips = Wide::new(&path, amounts)?;
+        assert!(rt; q < path.size() && is_within_start(&chips));
+        let script = guess(&path, &Aim::new(&path, q), q, &chips).script;
+        let left = chips.fired_by(&path, &script);
+        assert!(rt; order_if_reduced(&path, q, &left).is_some(), "for {q}");
+        assert!(rt; left.get(3) < 1 || q == 3);
+        let other = left.with_amount(if q == 3 { 5 } else { 3 }, 2);
+        assert!(rt; order_if_reduced(&path, q, &other).is_none(), "for {q}");
+        assert!(rt; is_solvent_off(&path, q, &other));
+    }
+    Ok(())
+}
+
+// An aim of another graph or vertex makes bad guesses, and changes no answer.
+#[test]
+fn aims_of_others(rt: HostRuntime) -> Result<(), Fail> {
+    let square = Graph::new(4, SQUARE)?;
+    let path = Graph::new(4, PATH)?;
+    let chips = Wide::new(&square, &[-300, 100, 90, 80])?;
+    assert!(rt; is_within_start(&chips));
+    let wanted = reduce_wide(&square, 0, &chips);
+    assert!(rt; wanted.divisor == Wide::new(&square, &[-30, 0, 0, 0])?);
+    for aim in [
+        Aim::new(&square, 0),
+        Aim::new(&square, 2),
+        Aim::new(&path, 3),
+    ] {
+        let found = reduce_certified(&square, &aim, 0, &chips);
+        assert!(rt; found.reduced == wanted);
+        assert!(rt; found.order.starts_with(&[0, 1, 2, 3]));
+    }
+    Ok(())
+}

@@ -1,0 +1,183 @@
+//! Random graphs and amounts: the reductions that begin with a guess are those by levels.
+
+ghost use Rattle.std.specs.Prelude.{◌≡◌, ◌<◌, ◌≤◌, pos};
+ghost use Rattle.std.specs.Int.RustNames.{unsigned_abs};
+ghost use Rattle.dg_chips.specs.Vector.{at};
+
+use dg_burn::held_at;
+use dg_chips::{Script, Wide};
+use dg_graph::Graph;
+use dg_reduce::{
+    Aim, Guessed, guess, is_within_start, order_if_reduced, reduce_after, reduce_by_levels,
+    reduce_certified,
+};
+use std::test::Fail;
+
+/// Numbers that look random.
+#[derive(Drop)]
+struct Dice {
+    state: u64,
+}
+
+impl Dice {
+    /// A number below some other.
+    fn below(&mut self, limit: u64) -> u64
+        requires { 0 < limit }
+        ensures { result < limit }
+    {
+        self.state = self.state.wrapping_mul(6_364_136_223_846_793_005);
+        self.state = self.state.wrapping_add(1_442_695_040_888_963_407);
+        (self.state >> 33) % limit
+    }
+
+    /// The same of bytes.
+    fn byte(&mut self, limit: u8) -> u8
+        requires { 0 < limit }
+        ensures { result < limit }
+    {
+        self.below(u64::from(limit)) as u8
+    }
+
+    /// An amount, debt or not, up to some limit.
+    fn amount(&mut self, most: u64) -> i128
+        requires { most ≤ 1000000 }
+    {
+        i128::from(self.below(2 * most + 1)) - i128::from(most)
+    }
+}
+
+/// How the edges of a random graph lie.
+#[derive(Clone, Copy)]
+enum Shape {
+    /// A tree of single edges.
+    Tree,
+    /// A tree and as many single edges more as there are vertices.
+    Light,
+    /// Heavy edges between all vertices.
+    Heavy,
+    /// Two parts with heavy edges, and one single edge between them.
+    Bridge,
+}
+
+/// A random connected graph; none where some vertex has got too many edges.
+fn graph_of(dice: &mut Dice, shape: Shape, size: u8) -> Option<Graph>
+    requires some { 1 ≤ size }
+    requires few { size ≤ 16 }
+{
+    let mut items = [(0, 0, 1); 152];
+    let mut count = 0;
+    let half = size / 2 + 1;
+    let single = (60 / size).max(1);
+    let double = (120 / size).clamp(1, 60);
+    for v in 1..size {
+        for u in 0..v {
+            let across = u < half && v >= half;
+            let edges = match shape {
+                Shape::Tree | Shape::Light => 0,
+                Shape::Heavy => 1 + dice.byte(single),
+                Shape::Bridge if across => u8::from(u == 0 && v == half),
+                Shape::Bridge => 1 + dice.byte(double),
+            };
+            if edges > 0 && count < 152 {
+                items[count] = (u, v, edges);
+                count += 1;
+            }
+        }
+        if matches!(shape, Shape::Tree | Shape::Light) && count < 152 {
+            items[count] = (dice.byte(v), v, 1);
+            count += 1;
+        }
+        let u = dice.byte(size);
+        if matches!(shape, Shape::Light) && u != v && count < 152 {
+            items[count] = (u, v, 1);
+            count += 1;
+        }
+    }
+    Graph::new(usize::from(size), &items[..count.min(152)]).ok()
+}
+
+/// A number of lendings near to another.
+fn blunted(times: i64) -> i64
+    ensures { unsigned_abs result ≤ 500000000 }
+{
+    (times ^ 13).clamp(-500_000_000, 500_000_000)
+}
+
+/// A script that is 0 at q and near to another, but off by some lendings at each vertex.
+fn blunt(graph: &Graph, q: usize, script: &Script) -> Script
+    requires size { script.now.size ≡ graph.now.size }
+    requires vertex { q < graph.now.size }
+    ensures size { result.size ≡ graph.now.size }
+    ensures at_q { at result q ≡ pos 0 }
+{
+    let mut blunt = Wide::zero(graph);
+    for v in 0..graph.size() {
+        blunt = blunt.with_amount(v, i128::from(blunted(script.get(v))));
+    }
+    Script::relative(&blunt, q)
+}
+
+/// Whether a random reduction is the same with a guess and by levels, which begin with a blunt script where amounts are
+/// large; and whether the guess was right, and its burning was that of the reduced amounts.
+fn agrees(dice: &mut Dice, graph: &Graph, q: usize, most: u64) -> Option<(bool, bool)>
+    requires vertex { q < graph.now.size }
+    requires most { most ≤ 1000000 }
+{
+    let size = graph.size();
+    let mut amounts = [0; 16];
+    for v in 0..size {
+        amounts[v] = dice.amount(most);
+    }
+    let chips = Wide::new(graph, &amounts[..size]).ok()?;
+    if !is_within_start(&chips) {
+        return None;
+    }
+    let aim = Aim::new(graph, q);
+    let found = reduce_certified(graph, &aim, q, &chips);
+    let Guessed { script, burning } = guess(graph, &aim, q, &chips);
+    let wanted = if most <= 10 {
+        reduce_by_levels(graph, q, &chips)
+    } else {
+        reduce_after(graph, q, &chips, &blunt(graph, q, &script))
+    };
+    let order = order_if_reduced(graph, q, &wanted.divisor);
+    let left = chips.fired_by(graph, &script);
+    let known = match burning {
+        Some(burning) => burning.held == held_at(&left),
+        None => false,
+    };
+    Some((
+        found.reduced == wanted && order == Some(found.order),
+        known && order_if_reduced(graph, q, &left).is_some(),
+    ))
+}
+
+#[test]
+fn as_by_levels(rt: HostRuntime) -> Result<(), Fail> {
+    let shapes = [Shape::Tree, Shape::Light, Shape::Heavy, Shape::Bridge];
+    let limits = [3, 10, 1000, 1_000_000];
+    let mut dice = Dice { state: 1 };
+    let mut graphs = 0u32;
+    let mut wrong = 0u32;
+    for _ in 0..1500 {
+        for shape in shapes {
+            for most in limits {
+                let size = 1 + dice.byte(16);
+                if let Some(graph) = graph_of(&mut dice, shape, size) {
+                    let q = usize::from(dice.byte(size));
+                    assert!(rt; q < graph.size() && most <= 1_000_000);
+                    let Some((same, right)) = agrees(&mut dice, &graph, q, most) else {
+                        panic!(rt; "out of range");
+                    };
+                    assert!(rt; same, "graph {graphs} with {most}");
+                    graphs = graphs.wrapping_add(1);
+                    wrong = wrong.wrapping_add(u32::from(!right));
+                }
+            }
+        }
+    }
+    assert!(rt; graphs > 20_000, "{graphs} graphs");
+    // None of these 24,000 guesses is wrong; nothing promises that.
+    assert!(rt; wrong < 24, "{wrong} wrong guesses");
+    Ok(())
+}
