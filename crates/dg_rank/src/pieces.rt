@@ -18,8 +18,9 @@ use std::sync::atomic::{AtomicU32, Ordering};
 use std::thread;
 use std::thread::{Promise, Scope, Threads};
 
-// How many trials a piece makes before it looks whether an earlier piece has lost.
-const LOOK_EVERY: u32 = 256;
+// How many trials a piece makes before it looks whether an earlier piece has lost. So many begin with a reduction, which
+// costs as much as forty of them.
+const LOOK_EVERY: u32 = 1024;
 
 /// What is searched for a first loss: the trials below a number, in so many pieces. Piece j of w holds those from the
 /// j-th of w parts of their number, rounded down, up to and without the next one's first.
