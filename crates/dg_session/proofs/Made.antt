@@ -141,28 +141,6 @@ pub call_unsaid : (o : Opening) (cap : ℕ) (names : List (List ℕ)) (kept : Op
 call_unsaid o cap names kept call r x y end stands memory =
     subst (RefusesCommand o cap names (kept_number kept) (Call call) x y) (sym memory) (at_most o names (kept_number kept) (asked call) r x y stands)
 
-kept_call : (kept : Option ℕ) (number : ℕ) (call : Plain) → call ≢ plain.Look → look_after kept number (asked call) ≡ kept
-kept_call kept number (plain.Move m) other = refl
-kept_call kept number (plain.Gift v x) other = refl
-kept_call kept number plain.Look other = absurd (other refl)
-kept_call kept number plain.Claim other = refl
-
-pub call_said : (o : Opening) (names : List (List ℕ)) (kept : Option LookView) (call : Plain) (r : ℕ × Entry) (x y : SeatView) (old new : List ℕ)
-    → call ≢ plain.Look → Stands o (asked call) r x y → new ≡ old ++ entry_text names r.0 r.1.reply
-    → IsDone (AnswersCommand o names (kept_number kept) (Call call)) x y (kept_number kept) old new
-call_said o names kept call r x y old new other stands said =
-    let after : kept_after (kept_number kept) r ≡ kept_number kept =
-    ap (look_after (kept_number kept) r.0) stands.0.request' ∙ kept_call (kept_number kept) r.0 call other in
-    subst (λ k. IsDone (Enters o names (kept_number kept) (asked call)) x y k old new) after
-    (entered o names (kept_number kept) (asked call) r x y old new stands said)
-
-pub look_said : (o : Opening) (names : List (List ℕ)) (kept : Option LookView) (r : ℕ × Entry) (x y : SeatView) (old new : List ℕ)
-    → Stands o Look r x y → new ≡ old ++ entry_text names r.0 r.1.reply
-    → IsDone (AnswersCommand o names (kept_number kept) (Call plain.Look)) x y (Some r.0) old new
-look_said o names kept r x y old new stands said =
-    subst (λ k. IsDone (Enters o names (kept_number kept) Look) x y k old new) (ap (look_after (kept_number kept) r.0) stands.0.request')
-    (entered o names (kept_number kept) Look r x y old new stands said)
-
 nothing : (A : List (ℕ × Entry) → Option ℕ → List ℕ → Type 0) (x : SeatView) (after : Option ℕ) (old new words : List ℕ) → A [] after words
     → new ≡ old ++ words → IsDone A x x after old new
 nothing A x after old new words answers said = record { made = []; text = words; answers = answers; gained = gains_same x; said = said }
@@ -179,33 +157,12 @@ rank_none o names None None k x old new p q said = nothing _ x None old new (cod
 rank_none o names (Some look) after k x old new p q said = absurd cc
 rank_none o names None (Some look) k x old new p q said = absurd cc
 
-pub verdict_said : (o : Opening) (names : List (List ℕ)) (kept after : Option LookView) (look : LookView) (r : ℕ × Entry) (x y : SeatView) (old new : List ℕ)
-    → kept ≡ Some look → after ≡ None → Stands o (Judge look.receipt.0) r x y → new ≡ old ++ entry_text names r.0 r.1.reply
-    → IsDone (AnswersCommand o names (kept_number kept) Commit) x y (kept_number after) old new
-verdict_said o names kept after look r x y old new p q stands said =
-    subst (λ (k : Option LookView). IsDone (AnswersCommand o names (kept_number k) Commit) x y (kept_number after) old new) (sym p)
-    (subst (λ (k : Option LookView). IsDone (AnswersCommand o names (Some look.receipt.0) Commit) x y (kept_number k) old new) (sym q)
-    (subst (λ k. IsDone (Enters o names (Some look.receipt.0) (Judge look.receipt.0)) x y k old new)
-    (ap (look_after (Some look.receipt.0) r.0) stands.0.request')
-    (entered o names (Some look.receipt.0) (Judge look.receipt.0) r x y old new stands said)))
-
 pub verdict_unsaid : (o : Opening) (cap : ℕ) (names : List (List ℕ)) (kept : Option LookView) (look : LookView) (r : ℕ × Entry) (x y : SeatView) (end : SessionEnd)
     → kept ≡ Some look → Stands o (Judge look.receipt.0) r x y → end ≡ Memory → RefusesCommand o cap names (kept_number kept) Commit x y end
 verdict_unsaid o cap names kept look r x y end p stands memory =
     subst (λ (k : Option LookView). RefusesCommand o cap names (kept_number k) Commit x y end) (sym p)
     (subst (RefusesCommand o cap names (Some look.receipt.0) Commit x y) (sym memory)
     (at_most o names (Some look.receipt.0) (Judge look.receipt.0) r x y stands))
-
-pub rank_said : (o : Opening) (names : List (List ℕ)) (kept after : Option LookView) (k : ℕ) (look : LookView) (r : ℕ × Entry) (x y : SeatView) (old new : List ℕ)
-    → kept ≡ Some look → after ≡ None → IsWithin o.graph.size k → Stands o (RankRequest look.receipt.0 k) r x y
-    → new ≡ old ++ entry_text names r.0 r.1.reply → IsDone (AnswersCommand o names (kept_number kept) (Rank k)) x y (kept_number after) old new
-rank_said o names kept after k look r x y old new p q within stands said =
-    let done = subst (λ k'. IsDone (Enters o names (Some look.receipt.0) (RankRequest look.receipt.0 k)) x y k' old new)
-    (ap (look_after (Some look.receipt.0) r.0) stands.0.request')
-    (entered o names (Some look.receipt.0) (RankRequest look.receipt.0 k) r x y old new stands said) in
-    subst (λ (k' : Option LookView). IsDone (AnswersCommand o names (kept_number k') (Rank k)) x y (kept_number after) old new) (sym p)
-    (subst (λ (k' : Option LookView). IsDone (AnswersCommand o names (Some look.receipt.0) (Rank k)) x y (kept_number k') old new) (sym q)
-    (record { made = done.made; text = done.text; answers = inr (within, done.answers); gained = done.gained; said = done.said }))
 
 pub rank_unsaid : (o : Opening) (cap : ℕ) (names : List (List ℕ)) (kept : Option LookView) (k : ℕ) (look : LookView) (r : ℕ × Entry) (x y : SeatView) (end : SessionEnd)
     → kept ≡ Some look → IsWithin o.graph.size k → Stands o (RankRequest look.receipt.0 k) r x y → end ≡ Memory

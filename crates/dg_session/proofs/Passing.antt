@@ -2,8 +2,6 @@
 --   end_none, end_line   the end, where nothing is pending, and where a line is
 --   end_halts       where that line is refused
 --   tells_taken     what was said is the front of the answers to lines that came
---   halts_written   a session that halts, and all that was said is written
---   halts_no_write  it does not halt for the writer
 use Rattle.std.proofs.Common.{◌≡◌, ℕ, ◌+◌, ◌≤◌, inl, inr, List, [], ◌∷◌, ◌++◌, length, Option, Result, Ok, Err, OnOk, IfErr, refl, sym, ap, subst, ◌∙◌, arith, append_assoc, append-nil, length-append, All, flat_map}
 use Rattle.std.proofs.lemmas.Grind.{flat_map-append}
 use Rattle.std.proofs.lemmas.List.Elements.{All-take}
@@ -74,21 +72,6 @@ tells_taken C D D' o cap names n n' k k' x y rest text (Ok a) fewer whole whole'
 }
 tells_taken C D D' o cap names n n' k k' x y rest text (Err end) fewer whole whole' passes halts =
     tells_halt C D o cap names n k x y text end fewer whole halts
-
-pub halts_written : (C : List (List ℕ) → Type 0) (D : List (List ℕ) → List ℕ → Type 0) (o : Opening) (cap : ℕ) (names : List (List ℕ)) (n : ℕ) (k : Option ℕ)
-    (x y : SeatView) (old new : Option (List ℕ)) (text : List ℕ) (end : SessionEnd) → Halts C D o cap names n k x y text end → Appends old new text
-    → HaltsWritten C D o cap names n k x y old new end
-halts_written C D o cap names n k x y old new text Read h written = absurd h
-halts_written C D o cap names n k x y old new text Write h written = absurd h
-halts_written C D o cap names n k x y old new text LongLine h written = (text, h, written)
-halts_written C D o cap names n k x y old new text Turns h written = (text, h, written)
-halts_written C D o cap names n k x y old new text (Table fault) h written = (text, h, written)
-halts_written C D o cap names n k x y old new text Memory h written = (text, h, written)
-halts_written C D o cap names n k x y old new text Spawn h written = (text, h, written)
-
-pub halts_no_write : (C : List (List ℕ) → Type 0) (D : List (List ℕ) → List ℕ → Type 0) (o : Opening) (cap : ℕ) (names : List (List ℕ)) (n : ℕ) (k : Option ℕ)
-    (x y : SeatView) (text : List ℕ) (end : SessionEnd) → Halts C D o cap names n k x y text end → end ≡ Write → ⊥
-halts_no_write C D o cap names n k x y text end h e = subst (Halts C D o cap names n k x y text) e h
 
 -- lines that begin bytes, and the pending line
 pub begins_fewer : (bytes : List ℕ) (ls : List (List ℕ)) (line : List ℕ) → BeginsWith bytes (ls ++ line ∷ []) → BeginsWith bytes ls

@@ -6,7 +6,7 @@
 --   session_ends     it ends where its input does
 --   session_unsaid   it ends before it reads, for want of memory
 --   session_halts_in, session_halts_last   it halts in what was read, or at the last line
---   seat_passed, seat_halted   the seat is the same
+--   seat_halted      the seat is the same
 --   no_read_end      what halts is no failed read
 --   fewer_left       fewer bytes can still be read
 --   chunk_size, read_chunk, read_nothing   a read filled the front of the buffer
@@ -326,11 +326,6 @@ session_halts_last o cap names input rest rest' old mid new x y z pending count 
       ])
       end halts;
 }
-
--- the seat is the same
-pub seat_passed : (D : List (List ℕ) → List ℕ → Type 0) (o : Opening) (names : List (List ℕ)) (n n' : ℕ) (k k' : Option ℕ) (x y z : SeatView) (rest : List ℕ)
-    (mid new : Option (List ℕ)) → y.number ≡ x.number → PassesWritten D o names n k y rest n' k' z mid new → z.number ≡ x.number
-seat_passed D o names n n' k k' x y z rest mid new same passed = passed.1.gained.number ∙ same
 
 pub seat_halted : (C : List (List ℕ) → Type 0) (D : List (List ℕ) → List ℕ → Type 0) (o : Opening) (cap : ℕ) (names : List (List ℕ)) (n : ℕ) (k : Option ℕ)
     (x y z : SeatView) (mid new : Option (List ℕ)) (end : SessionEnd) → y.number ≡ x.number → HaltsWritten C D o cap names n k y z mid new end → z.number ≡ x.number
