@@ -111,16 +111,6 @@ past_within n k past (c, within) = elim past [
 pub rank_past : (o : Opening) (look : LookView) (k : ℕ) → IsTaken o look → IsPastLimits look.shown.graph.size k → IsWithin o.graph.size k → ⊥
 rank_past o look k taken past = past_within o.graph.size k (subst (λ (g : Multigraph). IsPastLimits g.size k) taken.look.graph past)
 
-pub entered : (o : Opening) (names : List (List ℕ)) (kept : Option ℕ) (request : Request) (r : ℕ × Entry) (x y : SeatView) (old new : List ℕ)
-    → Stands o request r x y → new ≡ old ++ entry_text names r.0 r.1.reply → IsDone (Enters o names kept request) x y (kept_after kept r) old new
-entered o names kept request r x y old new stands said = record {
-  made = r ∷ [];
-  text = entry_text names r.0 r.1.reply;
-  answers = (r, stands.0, refl, refl, refl);
-  gained = stands.1;
-  said = said;
-}
-
 pub at_most : (o : Opening) (names : List (List ℕ)) (kept : Option ℕ) (request : Request) (r : ℕ × Entry) (x y : SeatView)
     → Stands o request r x y → MadeAtMost (Enters o names kept request) x y
 at_most o names kept request r x y stands = record {
