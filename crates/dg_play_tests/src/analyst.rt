@@ -1,0 +1,2 @@
+//! Analysts on small tables, reckoned by hand.
+pub(crate) mod looks;

@@ -1,0 +1,2 @@
+//! Observers of small tables.
+pub(crate) mod watching;

@@ -1,0 +1,94 @@
+//! Observers of a triangle.
+ghost use Rattle.std.specs.Prelude.{◌≡◌};
+
+use crate::openings::{Scene, on_a_table};
+use crate::tables::{amounts, triangle};
+use dg_chips::{Divisor, Move};
+use dg_game::{Entry, Plain};
+use dg_log::{Log, Name};
+use dg_observer::{Gifts, Observer, Positions, RefusedMoves, Watch};
+use dg_table::{Seat, Table};
+use std::alloc::{AllocError, Global};
+use std::process::Abort;
+use std::sync::Wait;
+use std::test::Fail;
+
+// Counts entries, as docs/TABLE.md has it.
+#[derive(Clone, Copy)]
+struct Entries;
+
+impl Watch for Entries {
+    ghost use Rattle.std.specs.Prelude.{◌≡◌, ◌+◌, ◌-◌, ◌^◌, min};
+
+    type State = u64;
+
+    ghost begins = { λ n. n ≡ 0 };
+
+    ghost goes_on = { λ n e m. m ≡ min (n + 1) (2 ^ 64 - 1) };
+
+    fn step(&self, count: &u64, _entry: &Entry) -> Result<u64, AllocError> {
+        Ok(count.saturating_add(1))
+    }
+}
+
+#[test]
+fn entries_are_counted(rt: HostRuntime) -> Result<(), Fail> {
+    on_a_table(
+        &rt,
+        rt.alloc(),
+        8,
+        &triangle(&[0, 0, 0])?,
+        2,
+        Scene::Watched,
+    )
+}
+
+// Seat 1 lends a, seat 2 gives b a dollar and names a vertex that is not there.
+pub(crate) fn watched<N: Name, R: Wait + Abort>(
+    rt: &R,
+    alloc: Global,
+    table: &Table<N>,
+    first: &mut Seat<N>,
+    second: &mut Seat<N>,
+) -> Result<(), Fail> {
+    let log = table.log();
+    table.call(rt, alloc, first, Plain::Move(Move::Lend(0)))?;
+    table.call(rt, alloc, second, Plain::Gift(1, 1))?;
+    counts_gifts(rt, alloc, log)?;
+    table.call(rt, alloc, second, Plain::Move(Move::Lend(3)))?;
+    counts_entries(rt, alloc, log)?;
+    follows_the_position(rt, alloc, log, table.start().divisor())
+}
+
+// Of two entries the second is a gift.
+fn counts_gifts<N: Name>(rt: &impl Abort, alloc: Global, log: &Log<N>) -> Result<(), Fail> {
+    let mut gifts = Observer::<N, Gifts>::new(alloc, Gifts, 0);
+    assert_eq!(rt; (gifts.catch_up(log)?, *gifts.state()), (2, 1));
+    assert_eq!(rt; (gifts.catch_up(log)?, gifts.count()), (0, 2));
+    assert_eq!(rt; gifts.receipt(1).number(), 1);
+    Ok(())
+}
+
+// The third entry is the only refused move, of seat 2.
+fn counts_entries<N: Name>(rt: &impl Abort, alloc: Global, log: &Log<N>) -> Result<(), Fail> {
+    let mut entries = Observer::<N, Entries>::new(alloc, Entries, 0);
+    assert_eq!(rt; (entries.catch_up(log)?, *entries.state()), (3, 3));
+    let mut refused = Observer::<N, RefusedMoves>::new(alloc, RefusedMoves, [0; 64]);
+    assert_eq!(rt; refused.catch_up(log)?, 3);
+    assert!(rt; refused.state()[0] == 0 && refused.state()[1] == 1);
+    Ok(())
+}
+
+fn follows_the_position<N: Name>(
+    rt: &impl Abort,
+    alloc: Global,
+    log: &Log<N>,
+    opening: &Divisor,
+) -> Result<(), Fail>
+    requires { opening.now ≡ N.start.divisor }
+{
+    let mut position = Observer::<N, Positions<N>>::new(alloc, Positions::new(), *opening);
+    assert_eq!(rt; position.catch_up(log)?, 3);
+    assert!(rt; *position.state() == amounts(&[-2, 2, 1])?);
+    Ok(())
+}

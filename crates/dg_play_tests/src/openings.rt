@@ -1,0 +1,150 @@
+//! Tables are opened, and a scene is played on each.
+ghost use Rattle.std.specs.Prelude.{◌≡◌};
+
+use crate::analyst::looks::{asks_too_much, judged, ranked};
+use crate::observer::watching::watched;
+use crate::session::streams::{Flow, Sip, serves};
+use crate::strategy::plays::{played, settled};
+use crate::table::meetings::{Meeting, meet};
+use crate::table::pens::writes;
+use crate::table::seats::{Calls, calls_are_entries};
+use crate::table::settles::settles;
+use crate::table::turns::turns;
+use dg_chips::Start;
+use dg_game::{Plain, Reply};
+use dg_log::{Name, Row};
+use dg_session::SessionEnd;
+use dg_table::{Seat, Table, TableFault};
+use std::alloc::Global;
+use std::marker::Brand;
+use std::process::Abort;
+use std::sync::Wait;
+use std::test::Fail;
+use std::thread::Threads;
+
+// What is done at a table.
+#[derive(Drop)]
+pub(crate) enum Scene<'a> {
+    // A pen writes the row's log, and no table is opened.
+    Pen,
+    // No table is opened, since there can't be so many seats.
+    NoSeats,
+    // Calls are made until the row is full.
+    Calls(&'a Calls<'a>),
+    // Calls are chosen at the position that they find.
+    Turns,
+    // A finding is entered with a drift that leads nowhere.
+    Drift,
+    // A verdict is entered, with this call between the look and it, and this reply.
+    Judged(Plain, Reply),
+    // A rank test is entered.
+    Ranked,
+    // A rank test is past the limits.
+    TooMuch,
+    // Observers read what two seats have entered.
+    Watched,
+    // The greedy settler has five turns, in which these vertices borrow, or it claims.
+    Settler(Option<[u8; 5]>),
+    // Strategies are played.
+    Strategies,
+    // Seats play in threads.
+    Meeting(&'a Meeting<'a>),
+    // A session over the stream leaves the writer with this answer, and ends so.
+    Session(Flow<'a>, Sip, &'a [u8], Result<u32, SessionEnd>),
+}
+
+// Plays the scene on a table whose history has so many cells, with this start and so many seats.
+pub(crate) fn on_a_table<R: Threads + Wait + Abort + Sync>(
+    rt: &R,
+    alloc: Global,
+    cells: u32,
+    start: &Start,
+    seats: u8,
+    scene: Scene<'_>,
+) -> Result<(), Fail> {
+    opened::<Brand, R>(rt, alloc, Row::new(alloc, cells)?, start, seats, scene)
+}
+
+// The same where N names the row, the start and the number of seats.
+fn opened<N: Name + Send + Sync, R: Threads + Wait + Abort + Sync>(
+    rt: &R,
+    alloc: Global,
+    row: Row,
+    start: &Start,
+    count: u8,
+    scene: Scene<'_>,
+) -> Result<(), Fail>
+    requires row { row ≡ N.cells }
+    requires start { start.now ≡ N.start }
+    requires seats { count ≡ N.seats }
+{
+    if let Scene::Pen = scene {
+        return writes::<N>(rt, alloc, row);
+    }
+    let cells = row.len();
+    match Table::<N>::open(alloc, row, start, count) {
+        Ok((table, seats)) => shown(rt, alloc, table, seats, scene),
+        Err((row, fault)) => {
+            assert!(rt; matches!(&scene, Scene::NoSeats));
+            assert_eq!(rt; fault, TableFault::Seats);
+            assert_eq!(rt; row.len(), cells);
+            Ok(())
+        }
+    }
+}
+
+fn shown<N: Name + Send + Sync, R: Threads + Wait + Abort + Sync>(
+    rt: &R,
+    alloc: Global,
+    table: Table<N>,
+    seats: Vec<Seat<N>>,
+    scene: Scene<'_>,
+) -> Result<(), Fail> {
+    let mut seats = seats;
+    match scene {
+        Scene::Pen | Scene::NoSeats => Err(Fail::from("a table that is not wanted")),
+        Scene::Calls(calls) => calls_are_entries(rt, alloc, table, seats, calls),
+        Scene::Meeting(meeting) => meet(rt, alloc, table, seats, meeting),
+        scene => match seats.as_mut_slice() {
+            [seat] => shown_to_one(rt, alloc, &table, seat, scene),
+            [first, second] => shown_to_two(rt, alloc, &table, first, second, scene),
+            _ => Err(Fail::from("another number of seats")),
+        },
+    }
+}
+
+fn shown_to_one<N: Name, R: Threads + Wait + Abort>(
+    rt: &R,
+    alloc: Global,
+    table: &Table<N>,
+    seat: &mut Seat<N>,
+    scene: Scene<'_>,
+) -> Result<(), Fail> {
+    match scene {
+        Scene::Turns => turns(rt, alloc, table, seat),
+        Scene::Settler(borrowers) => settled(rt, alloc, table, seat, borrowers),
+        Scene::Strategies => played(rt, alloc, table, seat),
+        Scene::Session(reader, writer, answer, end) => {
+            serves(rt, alloc, table, seat, reader, writer, answer, end)
+        }
+        _ => Err(Fail::from("a scene for more seats")),
+    }
+}
+
+fn shown_to_two<N: Name, R: Threads + Wait + Abort>(
+    rt: &R,
+    alloc: Global,
+    table: &Table<N>,
+    first: &mut Seat<N>,
+    second: &mut Seat<N>,
+    scene: Scene<'_>,
+) -> Result<(), Fail> {
+    match &scene {
+        Scene::Drift => settles(rt, alloc, table, first, second),
+        Scene::Judged(between, reply) => judged(rt, alloc, table, first, second, *between, *reply),
+        Scene::Ranked => ranked(rt, alloc, table, first, second),
+        Scene::TooMuch => asks_too_much(rt, alloc, table, first, second),
+        Scene::Watched => watched(rt, alloc, table, first, second),
+        _ => Err(Fail::from("a scene for one seat")),
+    }
+}

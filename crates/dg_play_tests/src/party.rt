@@ -1,0 +1,2 @@
+//! Parties on the triangle.
+mod meetings;

@@ -1,0 +1,120 @@
+//! Sessions that go on at once.
+
+use crate::tables::TRIANGLE;
+use dg_file::read_table;
+use dg_party::{Played, party};
+use dg_rank::Gate;
+use dg_session::SessionEnd;
+use std::alloc::Global;
+use std::process::Abort;
+use std::sync::Wait;
+use std::sync::atomic::{AtomicBool, AtomicU64, Ordering};
+use std::test::Fail;
+use std::thread::Threads;
+use std::time::{Clock, Duration};
+use std::{str, thread};
+
+// A gate that holds each seat until all have entered, but for no more than a million turns.
+#[derive(Drop)]
+struct Meeting<'a, R> {
+    rt: &'a R,
+    seats: u64,
+    entered: AtomicU64,
+    numbers: AtomicU64,
+    has_missed: AtomicBool,
+}
+
+impl<'a, R: Clock + Sync> Gate for Meeting<'a, R> {
+    fn enter(&self, piece: u32) {
+        self.numbers.fetch_add(u64::from(piece), Ordering::SeqCst);
+        self.entered.fetch_add(1, Ordering::SeqCst);
+        for _ in 0..1_000_000 {
+            if self.entered.load(Ordering::SeqCst) >= self.seats {
+                return;
+            }
+            thread::sleep(self.rt, Duration::from_micros(10));
+        }
+        self.has_missed.store(true, Ordering::SeqCst);
+    }
+}
+
+const SCRIPT: &str = "lend a\nnothing\nlook\ngift b 1\ncommit\ncommit\nborrow a\n";
+
+const TOTALS: &str =
+    "entries 40\ngifts 8\nposition a=2 b=7 c=-1\nseat 1 calls 5\nseat 2 calls 5\nseat 3 calls 5\nseat 4 calls 5\nseat 5 calls 5\nseat 6 calls 5\nseat 7 calls 5\nseat 8 calls 5\n";
+
+// Scripts, how each session ends, the sum of their seats' numbers, how many lines are printed, and the last of them.
+type Row = (
+    &'static [&'static str],
+    &'static [Result<u32, SessionEnd>],
+    u64,
+    usize,
+    &'static str,
+);
+
+static ROWS: [Row; 3] = [
+    (
+        &["lend a\n", "borrow a\n"],
+        &[Ok(1), Ok(1)],
+        3,
+        7,
+        "entries 2\ngifts 0\nposition a=2 b=-1 c=-1\nseat 1 calls 1\nseat 2 calls 1\n",
+    ),
+    (&[SCRIPT; 8], &[Ok(7); 8], 36, 51, TOTALS),
+    (
+        &["bad", "", ""],
+        &[Ok(1), Ok(0), Ok(0)],
+        6,
+        6,
+        "entries 0\ngifts 0\nposition a=2 b=-1 c=-1\nseat 1 calls 0\nseat 2 calls 0\nseat 3 calls 0\n",
+    ),
+];
+
+#[test]
+fn sessions_go_on_at_once(rt: HostRuntime) -> Result<(), Fail> {
+    for row in &ROWS {
+        go_on(&rt, rt.alloc(), row)?;
+    }
+    Ok(())
+}
+
+fn go_on<R: Threads + Wait + Clock + Abort + Sync>(
+    rt: &R,
+    alloc: Global,
+    row: &Row,
+) -> Result<(), Fail> {
+    let (texts, ends, numbers, lines, last) = *row;
+    let meeting = Meeting {
+        rt,
+        seats: texts.len() as u64,
+        entered: AtomicU64::new(0),
+        numbers: AtomicU64::new(0),
+        has_missed: AtomicBool::new(false),
+    };
+    let found = played(rt, alloc, texts, &meeting)?;
+    assert!(rt; !meeting.has_missed.load(Ordering::SeqCst));
+    assert_eq!(rt; meeting.entered.load(Ordering::SeqCst), meeting.seats);
+    assert_eq!(rt; meeting.numbers.load(Ordering::SeqCst), numbers);
+    assert!(rt; found.ends.as_slice() == ends);
+    assert_eq!(rt; str::from_utf8(&found.text)?.lines().count(), lines);
+    assert!(rt; found.text.ends_with(last.as_bytes()));
+    Ok(())
+}
+
+// A party on the triangle, of a session over each of the texts.
+fn played<R: Threads + Wait + Sync, G: Gate>(
+    rt: &R,
+    alloc: Global,
+    texts: &[&str],
+    gate: &G,
+) -> Result<Played, Fail> {
+    let file = read_table(alloc, TRIANGLE.as_bytes())?;
+    let mut scripts = Vec::new(alloc);
+    for text in texts {
+        scripts.push(Vec::from_slice(alloc, text.as_bytes())?)?;
+    }
+    if scripts.is_empty() || scripts.len() > 64 {
+        return Err(Fail::new("1 to 64 scripts"));
+    }
+    Ok(party(rt, alloc, 100, file.start(), file.names(), &scripts, gate)?)
+}

@@ -1,0 +1,10 @@
+//! What each command does, against the formats' own examples.
+mod asked;
+mod faults;
+mod judge;
+mod ranks;
+mod rehearse;
+mod runs;
+mod sessions;
+mod streams;
+mod words;

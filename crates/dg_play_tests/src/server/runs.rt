@@ -1,0 +1,100 @@
+//! Runs over files in memory, and tables that several of them are played on.
+
+use crate::server::asked::{Command, asked};
+pub(super) use crate::tables::TRIANGLE;
+use dg_server::{Shelf, perform, report};
+use dg_streams::Output;
+use std::process::Abort;
+use std::rt::Files;
+use std::sync::Wait;
+use std::test::Fail;
+use std::thread::Threads;
+
+// The table file, what is asked of it, the steps or the input, what is printed, what is said of a fault, and the status.
+pub(super) type Run = (
+    &'static str,
+    Command,
+    &'static str,
+    &'static str,
+    &'static str,
+    u8,
+);
+
+// A file that is not there.
+pub(super) const ABSENT: &str = "absent";
+
+// The scripts of parties.
+static SCRIPTS: [(&str, &[u8]); 7] = [
+    ("lend", b"lend a"),
+    ("lends", b"lend a\nlend b"),
+    ("gift", b"gift b 1\nnothing\ncommit\nlook\nclaim\n"),
+    ("look", b"look\ncommit\n"),
+    ("claims", b"claim\nclaim\nclaim\n"),
+    ("nothing", b""),
+    ("long", &[b'x'; 1025]),
+];
+
+// Whether each of the runs comes out so.
+pub(super) fn all_run<R>(rt: &R, runs: &[Run]) -> Result<(), Fail>
+where
+    R: Files + AllocGlobal + Threads + Wait + Abort + Sync,
+{
+    for (table, command, input, printed, told, status) in runs {
+        let (output, faults, got) = left_by(rt, *table, *command, *input)?;
+        assert!(rt; got == *status, "{table}, {input}: the status");
+        assert!(rt;
+            output.as_slice() == printed.as_bytes(),
+            "{table}, {input}: the output"
+        );
+        assert!(rt;
+            faults.as_slice() == told.as_bytes(),
+            "{table}, {input}: the fault"
+        );
+    }
+    Ok(())
+}
+
+// What a run prints, what it says of a fault, and its status.
+fn left_by<R>(
+    rt: &R,
+    table: &'static str,
+    command: Command,
+    input: &'static str,
+) -> Result<(Vec<u8>, Vec<u8>, u8), Fail>
+where
+    R: Files + AllocGlobal + Threads + Wait + Sync,
+{
+    let alloc = rt.alloc();
+    let asked = asked(alloc, command)?;
+    let mut files = Vec::from_slice(alloc, &SCRIPTS)?;
+    files.push(named("table.json", table))?;
+    files.push(named("steps.txt", input))?;
+    let shelf = Shelf { files: &files };
+    let mut output = Output::new(Vec::new(alloc));
+    let mut faults = Vec::new(alloc);
+    let status = match perform(rt, asked, &shelf, input.as_bytes(), &mut output) {
+        Ok(()) => 0,
+        Err(fault) => report(&fault, &mut faults),
+    };
+    Ok((output.into_inner(), faults, status))
+}
+
+// A file that is not there has a name that nobody asks for.
+fn named<'a>(name: &'a str, text: &'a str) -> (&'a str, &'a [u8]) {
+    if text == ABSENT {
+        ("", b"".as_slice())
+    } else {
+        (name, text.as_bytes())
+    }
+}
+
+pub(super) const ONE_ON_THREE: &str =
+    r#"{"vertices":["a","b","c"],"edges":[["a","b",1],["b","c",1],["a","c",1]],"amounts":[1,0,0],"q":"a"}"#;
+
+pub(super) const ONE_VERTEX: &str = r#"{"vertices":["a"],"edges":[],"amounts":[-1],"q":"a"}"#;
+
+pub(super) const TWICE_JOINED: &str =
+    r#"{"vertices":["a","b"],"edges":[["a","b",1],["b","a",2]],"amounts":[1,1],"q":"a"}"#;
+
+pub(super) const SECOND_OF_THREE: &str =
+    r#"{"vertices":["a","b","c"],"edges":[["a","b",1],["b","c",1],["a","c",1]],"amounts":[2,-1,-1],"q":"b"}"#;

@@ -1,0 +1,2 @@
+//! Sessions over streams.
+pub(crate) mod streams;

@@ -1,0 +1,198 @@
+//! Readers and writers that fail, and a million lines.
+
+use crate::openings::{Scene, on_a_table};
+use crate::tables::{TRIANGLE, triangle};
+use dg_file::read_table;
+use dg_log::Name;
+use dg_session::{MAX_LINES, SessionEnd, serve, streams_are_cut_in_one_way};
+use dg_streams::{Input, Output};
+use dg_table::{Seat, Table};
+use std::alloc::Global;
+use std::io;
+use std::io::{ErrorKind, Read, Write};
+use std::process::Abort;
+use std::sync::Wait;
+use std::test::Fail;
+use std::thread::Threads;
+
+const TEXT: &[u8] = b"look\nlend a\ncommit\ncommit\nlend z\ngift a 0\nclaim\n";
+
+const ANSWER: &[u8] =
+    b"0 looked 0 a=2 b=-1 c=-1\n1 moved a=0 b=0 c=0\n2 winnable by a=0 b=0 c=0 to a=0 b=0 c=0\nbad look\nbad name\n3 refused gift\n4 won\n";
+
+// Gives the text, so many bytes a read at most; then it fails so, or ends.
+#[derive(Drop)]
+pub(crate) struct Flow<'a> {
+    pub(crate) text: &'a [u8],
+    pub(crate) most: usize,
+    pub(crate) fault: Option<ErrorKind>,
+}
+
+impl<'a> Read for Flow<'a> {
+    fn read(&mut self, buffer: &mut [u8]) -> io::Result<usize> {
+        if let (true, Some(kind)) = (self.text.is_empty(), self.fault) {
+            return Err(io::Error::from(kind));
+        }
+        let size = buffer.len().min(self.most).min(self.text.len());
+        let (given, left) = self.text.split_at(size);
+        buffer[..size].copy_from_slice(given);
+        self.text = left;
+        Ok(size)
+    }
+}
+
+// Takes so many bytes a write, and fails where it holds so many; or takes none from there on.
+#[derive(Drop)]
+pub(crate) struct Sip {
+    pub(crate) held: Vec<u8>,
+    pub(crate) most: usize,
+    pub(crate) fails_at: usize,
+    pub(crate) refuses: bool,
+}
+
+impl Write for Sip {
+    fn write(&mut self, text: &[u8]) -> io::Result<usize> {
+        if self.held.len() >= self.fails_at {
+            if self.refuses {
+                return Ok(0);
+            }
+            return Err(io::Error::from(ErrorKind::Other));
+        }
+        let size = text.len().min(self.most);
+        match self.held.extend_from_slice(&text[..size]) {
+            Ok(()) => Ok(size),
+            Err(_) => Err(io::Error::from(ErrorKind::OutOfMemory)),
+        }
+    }
+
+    fn flush(&mut self) -> io::Result<()> {
+        Ok(())
+    }
+}
+
+// One byte a read and a write: the reader fails at each byte in turn, or ends after the last.
+#[test]
+fn sessions_end_where_reads_fail(rt: HostRuntime) -> Result<(), Fail> {
+    streams_are_cut_in_one_way();
+    let alloc = rt.alloc();
+    let owing = triangle(&[2, -1, -1])?;
+    let mut lines = 0usize;
+    for j in 0..TEXT.len() + 2 {
+        let (at, fault, end) = if j <= TEXT.len() {
+            (j, Some(ErrorKind::Other), Err(SessionEnd::Read))
+        } else {
+            (TEXT.len(), None, Ok(7))
+        };
+        let text = &TEXT[..at];
+        let reader = Flow {
+            text,
+            most: 1,
+            fault,
+        };
+        let writer = Sip {
+            held: Vec::new(alloc),
+            most: 1,
+            fails_at: 1_000,
+            refuses: false,
+        };
+        let scene = Scene::Session(reader, writer, front(lines), end);
+        on_a_table(&rt, alloc, 9, &owing, 1, scene)?;
+        if TEXT.get(j) == Some(&b'\n') {
+            lines = lines.wrapping_add(1);
+        }
+    }
+    Ok(())
+}
+
+// The first lines of the answer.
+fn front(lines: usize) -> &'static [u8] {
+    let mut left = lines;
+    for (at, byte) in ANSWER.iter().enumerate() {
+        if left == 0 {
+            return &ANSWER[..at];
+        }
+        if *byte == b'\n' {
+            left -= 1;
+        }
+    }
+    ANSWER
+}
+
+// The writer fails at each byte in turn, or takes none there.
+#[test]
+fn sessions_end_where_writes_fail(rt: HostRuntime) -> Result<(), Fail> {
+    let alloc = rt.alloc();
+    let owing = triangle(&[2, -1, -1])?;
+    for fails_at in 0..ANSWER.len() {
+        let reader = Flow {
+            text: TEXT,
+            most: 1,
+            fault: None,
+        };
+        let writer = Sip {
+            held: Vec::new(alloc),
+            most: 1,
+            fails_at,
+            refuses: fails_at % 2 == 1,
+        };
+        let end = Err(SessionEnd::Write);
+        let scene = Scene::Session(reader, writer, &ANSWER[..fails_at], end);
+        on_a_table(&rt, alloc, 9, &owing, 1, scene)?;
+    }
+    Ok(())
+}
+
+#[test]
+fn a_million_lines_are_answered(rt: HostRuntime) -> Result<(), Fail> {
+    let alloc = rt.alloc();
+    let zero = triangle(&[0, 0, 0])?;
+    let (mut text, mut answer) = (Vec::new(alloc), Vec::new(alloc));
+    for _ in 0..MAX_LINES {
+        text.extend_from_slice(b"x\n")?;
+        answer.extend_from_slice(b"bad word\n")?;
+    }
+    for (more, end) in [
+        (b"".as_slice(), Ok(MAX_LINES)),
+        (b"x".as_slice(), Err(SessionEnd::Turns)),
+    ] {
+        text.extend_from_slice(more)?;
+        let reader = Flow {
+            text: &text,
+            most: 100_000,
+            fault: None,
+        };
+        let writer = Sip {
+            held: Vec::new(alloc),
+            most: 100_000,
+            fails_at: 10_000_000,
+            refuses: false,
+        };
+        let scene = Scene::Session(reader, writer, &answer, end);
+        on_a_table(&rt, alloc, 1, &zero, 1, scene)?;
+    }
+    Ok(())
+}
+
+// The session over the reader leaves the writer with the answer, and ends so.
+pub(crate) fn serves<N: Name, R: Threads + Wait + Abort>(
+    rt: &R,
+    alloc: Global,
+    table: &Table<N>,
+    seat: &mut Seat<N>,
+    reader: Flow<'_>,
+    writer: Sip,
+    answer: &[u8],
+    end: Result<u32, SessionEnd>,
+) -> Result<(), Fail> {
+    let file = read_table(alloc, TRIANGLE.as_bytes())?;
+    let names = file.names();
+    assert_eq!(rt; names.len(), table.start().graph().size());
+    let mut reader = Input::new(reader);
+    let mut writer = Output::new(writer);
+    let result = serve(rt, alloc, table, seat, names, &mut reader, &mut writer, 1);
+    assert!(rt; result == end);
+    assert!(rt; reader.has_failed() == (end == Err(SessionEnd::Read)));
+    assert!(rt; writer.has_failed() == (end == Err(SessionEnd::Write)));
+    assert!(rt; writer.into_inner().held.as_slice() == answer);
+    Ok(())
+}

@@ -1,0 +1,3 @@
+//! Strategies on small tables, reckoned by hand.
+pub(crate) mod choices;
+pub(crate) mod plays;

@@ -1,0 +1,379 @@
+//! Many seats in threads of their own on one table, and an observer beside them.
+ghost use Rattle.std.specs.Prelude.{◌≡◌};
+
+use crate::openings::{Scene, on_a_table};
+use crate::strategy::choices::{BorrowFirst, LendFirst};
+use crate::tables::{petersen, triangle};
+use dg_analyst::{commit, look, reckon};
+use dg_chips::{Divisor, Move, Start};
+use dg_game::{Entry, Game, Plain, Reply, Request};
+use dg_log::Name;
+use dg_observer::{Observer, ObserverFault, Positions};
+use dg_strategy::{Strategy, greedy_settler, play, settle_out};
+use dg_table::{Audit, Seat, Table};
+use dg_verdict::check;
+use std::alloc::Global;
+use std::process::Abort;
+use std::sync::Wait;
+use std::test::Fail;
+use std::thread;
+use std::thread::{Threads, join};
+
+// What a seat does, so many times.
+#[derive(Clone, Copy)]
+enum Player {
+    // Lends and borrows at a vertex, in turn.
+    Lends(u8),
+    // Gives a vertex a dollar.
+    Gives(u8),
+    // Makes calls that are drawn, on a graph of so many vertices.
+    Draws(u8),
+    // Looks, reckons and commits.
+    Analyses,
+    // Plays a strategy.
+    LendsFirst,
+    BorrowsFirst,
+    // Settles, in so many turns at most.
+    Settles,
+}
+
+// What a meeting comes to.
+#[derive(Clone, Copy)]
+enum End {
+    // So many gifts, and these amounts.
+    At(u32, Divisor),
+    // So many claims, all won, and nobody in debt.
+    Settled(u32),
+    // Nobody can tell.
+    Open,
+}
+
+// The players, in the order of their seats and from the first on again: how often each plays, and how many entries it
+// has, or 0 where nobody can tell.
+#[derive(Drop)]
+pub(crate) struct Meeting<'a> {
+    seats: u8,
+    players: &'a [(Player, u32, u64)],
+    end: End,
+}
+
+#[test]
+fn many_seats_make_one_history(rt: HostRuntime) -> Result<(), Fail> {
+    let even = triangle(&[0, 0, 0])?;
+    let owing = triangle(&[2, -1, -1])?;
+    let analyst = (Player::Analyses, 500, 1_000);
+    let lender = (Player::Lends(1), 1_000, 1_000);
+    let still = End::At(0, *even.divisor());
+    let given = End::At(1, *triangle(&[0, 0, 1])?.divisor());
+    for (cells, start, seats, players, end) in [
+        (
+            4_000,
+            &even,
+            2,
+            [
+                (Player::Lends(0), 2_000, 2_000),
+                (Player::Lends(1), 2_000, 2_000),
+            ]
+            .as_slice(),
+            still,
+        ),
+        (
+            65_536,
+            &owing,
+            64,
+            [(Player::Draws(3), 1_024, 1_024)].as_slice(),
+            End::Open,
+        ),
+        (2_000, &even, 2, [analyst, lender].as_slice(), still),
+        (
+            2_001,
+            &even,
+            3,
+            [analyst, lender, (Player::Gives(2), 1, 1)].as_slice(),
+            given,
+        ),
+        (
+            1_400,
+            &even,
+            3,
+            [
+                (Player::LendsFirst, 500, 500),
+                (Player::BorrowsFirst, 500, 500),
+                (Player::Analyses, 200, 400),
+            ]
+            .as_slice(),
+            still,
+        ),
+    ] {
+        let meeting = Meeting {
+            seats,
+            players,
+            end,
+        };
+        on_a_table(
+            &rt,
+            rt.alloc(),
+            cells,
+            start,
+            seats,
+            Scene::Meeting(&meeting),
+        )?;
+    }
+    Ok(())
+}
+
+#[test]
+fn many_seats_play_on_ten_vertices(rt: HostRuntime) -> Result<(), Fail> {
+    let graph = petersen()?;
+    let drawn = Start::new(
+        graph,
+        Divisor::new(&graph, &[3, -1, 4, -1, 5, -9, 2, -6, 5, -3])?,
+        0,
+    )?;
+    // Six dollars in all, as many as the genus: it can be won.
+    let owing = Start::new(
+        graph,
+        Divisor::new(&graph, &[-5, 3, 0, 0, 3, 2, 1, 1, 1, 0])?,
+        0,
+    )?;
+    for (cells, start, seats, players, end) in [
+        (
+            4_096,
+            &drawn,
+            32,
+            [(Player::Analyses, 64, 128), (Player::Draws(10), 128, 128)].as_slice(),
+            End::Open,
+        ),
+        (
+            65_536,
+            &owing,
+            8,
+            [(Player::Settles, 8_000, 0)].as_slice(),
+            End::Settled(8),
+        ),
+    ] {
+        let meeting = Meeting {
+            seats,
+            players,
+            end,
+        };
+        on_a_table(
+            &rt,
+            rt.alloc(),
+            cells,
+            start,
+            seats,
+            Scene::Meeting(&meeting),
+        )?;
+    }
+    Ok(())
+}
+
+// The seats play, each in a thread of its own, while an observer reads; then the table is closed, and its history played
+// again.
+pub(crate) fn meet<N: Name + Send + Sync, R: Threads + Wait + Abort + Sync>(
+    rt: &R,
+    alloc: Global,
+    table: Table<N>,
+    seats: Vec<Seat<N>>,
+    meeting: &Meeting<'_>,
+) -> Result<(), Fail> {
+    let mut seats = seats;
+    let (shared, players) = (&table, meeting.players);
+    let (_, watched) = join(
+        rt,
+        || thread::for_each_mut(
+            rt,
+            seats.as_mut_slice(),
+            64,
+            &|i, seat| take_part(rt, alloc, shared, seat, players, i),
+        ),
+        || read_a_hundred_times(alloc, shared),
+    );
+    let mut observer = watched?;
+    observer.catch_up(table.log())?;
+    let start = *table.start();
+    let audit = table.close(seats).ok().ok_or("an audit")?;
+    assert_eq!(rt; observer.count(), audit.entries);
+    assert!(rt; *observer.state() == audit.position);
+    let history = audit.history(alloc)?;
+    let claims = is_replayed(rt, &start, &history, &audit)?;
+    is_ended(rt, claims, &audit, meeting)
+}
+
+// Keeps the position while others play.
+fn read_a_hundred_times<N: Name>(
+    alloc: Global,
+    table: &Table<N>,
+) -> Result<Observer<N, Positions<N>>, ObserverFault> {
+    let opening = *table.start().divisor();
+    let mut observer = Observer::<N, Positions<N>>::new(alloc, Positions::new(), opening);
+    for _ in 0..100 {
+        observer.catch_up(table.log())?;
+    }
+    Ok(observer)
+}
+
+// What the player at a place does; it stops where a call is refused.
+fn take_part<N: Name>(
+    rt: &impl Wait,
+    alloc: Global,
+    table: &Table<N>,
+    seat: &mut Seat<N>,
+    players: &[(Player, u32, u64)],
+    place: usize,
+) {
+    let Some(&(player, times, _)) = players.iter().cycle().nth(place) else {
+        return;
+    };
+    match player {
+        Player::Lends(_) | Player::Gives(_) | Player::Draws(_) => {
+            call_often(rt, alloc, table, seat, player, times);
+        }
+        Player::Analyses => analyse(rt, alloc, table, seat, times),
+        Player::LendsFirst => {
+            let _ = play(rt, alloc, table, seat, &Strategy::new(LendFirst), times);
+        }
+        Player::BorrowsFirst => {
+            let _ = play(rt, alloc, table, seat, &Strategy::new(BorrowFirst), times);
+        }
+        Player::Settles => {
+            let _ = settle_out(rt, alloc, table, seat, &greedy_settler(), times);
+        }
+    }
+}
+
+// Looks, reckons and commits so many times.
+fn analyse<N: Name>(
+    rt: &impl Wait,
+    alloc: Global,
+    table: &Table<N>,
+    seat: &mut Seat<N>,
+    times: u32,
+) {
+    for _ in 0..times {
+        let Ok(taken) = look(table, rt, alloc, seat) else {
+            return;
+        };
+        if commit(table, rt, alloc, seat, reckon(taken)).is_err() {
+            return;
+        }
+    }
+}
+
+// Makes so many calls; those that are drawn are drawn by a xorshift of the seat's number.
+fn call_often<N: Name>(
+    rt: &impl Wait,
+    alloc: Global,
+    table: &Table<N>,
+    seat: &mut Seat<N>,
+    player: Player,
+    times: u32,
+) {
+    let mut drawn = 88_172_645_463_325_252u64 ^ (u64::from(seat.number()) << 7);
+    for i in 0..times {
+        drawn ^= drawn << 13;
+        drawn ^= drawn >> 7;
+        drawn ^= drawn << 17;
+        let plain = match player {
+            Player::Lends(v) if i % 2 == 0 => Plain::Move(Move::Lend(v)),
+            Player::Lends(v) => Plain::Move(Move::Borrow(v)),
+            Player::Draws(size) => drawn_call(drawn, size),
+            Player::Gives(v) => Plain::Gift(v, 1),
+            _ => return,
+        };
+        if table.call(rt, alloc, seat, plain).is_err() {
+            return;
+        }
+    }
+}
+
+// A call on a graph of so many vertices; some name a vertex that is not there. About one in sixteen is a gift.
+fn drawn_call(drawn: u64, size: u8) -> Plain {
+    let v = (drawn / 16 % (u64::from(size) + 1)) as u8;
+    match drawn % 16 {
+        0 => Plain::Gift(v, (drawn / 512 % 4) as i64),
+        1..=5 => Plain::Move(Move::Lend(v)),
+        6..=10 => Plain::Move(Move::Borrow(v)),
+        11 | 12 => Plain::Move(Move::Fire((drawn / 512 % 16) as u16)),
+        13 | 14 => Plain::Look,
+        _ => Plain::Claim,
+    }
+}
+
+// Each reply is that of a game which makes the calls of the history in their order, and each finding is right. Gives how
+// many claims there are, and how many are won.
+fn is_replayed<N: Name>(
+    rt: &impl Abort,
+    start: &Start,
+    history: &[Entry],
+    audit: &Audit<N>,
+) -> Result<(u32, u32), Fail> {
+    let mut game = Game::new(start);
+    let mut claims = (0u32, 0u32);
+    for (i, entry) in history.iter().enumerate() {
+        if game.entries() == 65_536 {
+            return Err(Fail::from("an entry too many"));
+        }
+        let right = match entry.request {
+            Request::Move(play) => game.act(Plain::Move(play)) == entry.reply,
+            Request::Gift(v, dollars) => game.act(Plain::Gift(v, dollars)) == entry.reply,
+            Request::Look => game.act(Plain::Look) == entry.reply,
+            Request::Claim => game.act(Plain::Claim) == entry.reply,
+            Request::Judge(look) => is_right(&game, history, look as usize, &entry.reply),
+            Request::Rank(_, _) => false,
+        };
+        assert!(rt; right, "entry {i}");
+        if entry.request == Request::Claim {
+            claims.0 = claims.0.wrapping_add(1);
+        }
+        if entry.reply == Reply::Won {
+            claims.1 = claims.1.wrapping_add(1);
+        }
+    }
+    assert!(rt; *game.position() == audit.position && game.gifts() == audit.gifts);
+    Ok(claims)
+}
+
+// Whether a finding on a look is stale just where a gift was accepted since, and otherwise right where it is entered.
+fn is_right(game: &Game, history: &[Entry], look: usize, reply: &Reply) -> bool {
+    let Some(entry) = history.get(look) else {
+        return false;
+    };
+    let Reply::Looked(gifts, _) = entry.reply else {
+        return false;
+    };
+    match reply {
+        Reply::Stale(now) => gifts < game.gifts() && *now == game.gifts(),
+        Reply::Verdict(verdict) => {
+            gifts == game.gifts() && check(game.graph(), 0, game.position(), verdict)
+        }
+        _ => false,
+    }
+}
+
+// Whether the meeting has come to its end.
+fn is_ended<N: Name>(
+    rt: &impl Abort,
+    claims: (u32, u32),
+    audit: &Audit<N>,
+    meeting: &Meeting<'_>,
+) -> Result<(), Fail> {
+    let players = meeting.players.iter().cycle();
+    let counts = audit.calls.iter().take(usize::from(meeting.seats));
+    for (calls, player) in counts.zip(players) {
+        assert!(rt; player.2 == 0 || *calls == player.2);
+    }
+    match meeting.end {
+        End::At(gifts, position) => {
+            assert_eq!(rt; audit.gifts, gifts);
+            assert!(rt; audit.position == position);
+        }
+        End::Settled(count) => {
+            assert_eq!(rt; claims, (count, count));
+            assert!(rt; audit.position.is_effective());
+        }
+        End::Open => (),
+    }
+    Ok(())
+}

@@ -1,0 +1,39 @@
+//! A log that its pen alone writes.
+ghost use Rattle.std.specs.Prelude.{◌≡◌};
+
+use dg_game::{Entry, Reply, Request};
+use dg_log::{Digest, Log, Name, Row};
+use std::alloc::Global;
+use std::process::Abort;
+use std::test::Fail;
+
+// A pen writes a claim that is won into the first cell of the row.
+pub(crate) fn writes<N: Name>(rt: &impl Abort, alloc: Global, row: Row) -> Result<(), Fail>
+    requires { row ≡ N.cells }
+{
+    let (log, mut pen) = Log::<N>::new(row);
+    assert_eq!(rt; pen.len(), 0);
+    assert!(rt; !pen.stuck());
+    let claim = Entry {
+        seat: 1,
+        request: Request::Claim,
+        reply: Reply::Won,
+    };
+    if pen.len() == log.len() {
+        return Err(Fail::from("a row with no cell"));
+    }
+    let receipt = pen
+        .put(&log, Box::new(alloc, claim)?)
+        .ok()
+        .ok_or("an entry")?;
+    assert_eq!(rt; (pen.len(), receipt.number()), (1, 0));
+    assert!(rt; !pen.stuck());
+    assert!(rt; *log.entry(&pen.receipt(0)) == claim);
+    let digest = Digest::new().and(&receipt);
+    assert!(rt; !digest.below(0));
+    if digest.below(1) {
+        pen.holds(&digest);
+        return Ok(());
+    }
+    Err(Fail::from("a digest that ends too late"))
+}

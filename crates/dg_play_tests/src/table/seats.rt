@@ -1,0 +1,161 @@
+//! Seats of small tables, one call after another.
+
+use crate::openings::{Scene, on_a_table};
+use crate::tables::{amounts, triangle};
+use dg_chips::{Divisor, Move, Start};
+use dg_game::{Plain, Reply};
+use dg_log::{Log, LogFault, Name, Receipt, Row};
+use dg_table::{Fault, Seat, Table};
+use std::alloc::Global;
+use std::process::Abort;
+use std::sync::Wait;
+use std::test::Fail;
+
+const LEND: Plain = Plain::Move(Move::Lend(0));
+
+const BORROW: Plain = Plain::Move(Move::Borrow(0));
+
+// Calls, each of the seat at a place, with its reply, and what they come to.
+#[derive(Drop)]
+pub(crate) struct Calls<'a> {
+    made: &'a [(usize, Plain, Reply)],
+    gifts: u32,
+    position: Divisor,
+    counts: &'a [u64],
+}
+
+#[test]
+fn calls_are_entries_of_one_history(rt: HostRuntime) -> Result<(), Fail> {
+    let alloc = rt.alloc();
+    let even = triangle(&[0, 0, 0])?;
+    let owing = triangle(&[2, -1, -1])?;
+    let zero = amounts(&[0, 0, 0])?;
+    let lent = Reply::Moved(amounts(&[-2, 1, 1])?);
+    let given = amounts(&[-2, 2, 1])?;
+    let rows: [(&Start, &[(usize, Plain, Reply)], u32, Divisor, &[u64]); 4] = [
+        (&owing, &[(0, LEND, Reply::Moved(zero))], 0, zero, &[1]),
+        (
+            &even,
+            &[(0, LEND, lent), (0, BORROW, Reply::Moved(zero))],
+            0,
+            zero,
+            &[2],
+        ),
+        (
+            &even,
+            &[
+                (0, LEND, lent),
+                (1, Plain::Gift(1, 1), Reply::Given(1, given)),
+            ],
+            1,
+            given,
+            &[1, 1],
+        ),
+        (&even, &[(1, Plain::Claim, Reply::Won)], 0, zero, &[0, 1, 0]),
+    ];
+    for (start, made, gifts, position, counts) in rows {
+        let calls = Calls {
+            made,
+            gifts,
+            position,
+            counts,
+        };
+        on_a_table(
+            &rt,
+            alloc,
+            made.len() as u32,
+            start,
+            counts.len() as u8,
+            Scene::Calls(&calls),
+        )?;
+    }
+    Ok(())
+}
+
+// The calls fill the row, after the table was not closed without all seats.
+pub(crate) fn calls_are_entries<N: Name, R: Wait + Abort>(
+    rt: &R,
+    alloc: Global,
+    table: Table<N>,
+    seats: Vec<Seat<N>>,
+    calls: &Calls<'_>,
+) -> Result<(), Fail> {
+    let (table, mut seats) = is_closed_with_all(rt, table, seats)?;
+    fill_the_row(rt, alloc, &table, seats.as_mut_slice(), calls.made)?;
+    let count = calls.made.len();
+    let audit = table.close(seats).ok().ok_or("an audit")?;
+    assert_eq!(rt; (audit.entries as usize, audit.gifts), (count, calls.gifts));
+    assert!(rt; audit.position == calls.position && audit.calls.starts_with(calls.counts));
+    assert_eq!(rt; audit.history(alloc)?.len(), count);
+    Ok(())
+}
+
+// The last seat is told of each entry, and has no room for one more.
+fn fill_the_row<N: Name, R: Wait + Abort>(
+    rt: &R,
+    alloc: Global,
+    table: &Table<N>,
+    seats: &mut [Seat<N>],
+    made: &[(usize, Plain, Reply)],
+) -> Result<(), Fail> {
+    let log = table.log();
+    assert_eq!(rt; log.len() as usize, made.len());
+    for (i, (place, plain, reply)) in made.iter().enumerate() {
+        assert!(rt; log.read(i as u32).is_none());
+        let seat = seats.get_mut(*place).ok_or("a seat")?;
+        let receipt = table.call(rt, alloc, seat, *plain)?;
+        is_found(rt, log, &receipt, i as u32, seat.number(), reply)?;
+        seats.last_mut().ok_or("a last seat")?.learn(&receipt)?;
+    }
+    let last = seats.last_mut().ok_or("a last seat")?;
+    assert!(rt; table.call(rt, alloc, last, Plain::Claim).err() == Some(Fault::Full));
+    assert!(rt; log.read(70_000).is_none());
+    Ok(())
+}
+
+// The entry with this number and receipt is the seat's, with this reply.
+fn is_found<N: Name>(
+    rt: &impl Abort,
+    log: &Log<N>,
+    receipt: &Receipt<N>,
+    number: u32,
+    seat: u8,
+    reply: &Reply,
+) -> Result<(), Fail> {
+    assert_eq!(rt; receipt.number(), number);
+    let (found, entry) = log.read(number).ok_or("an entry that was set")?;
+    found.again().compare(receipt);
+    assert!(rt; entry.seat == seat && entry.reply == *reply);
+    assert!(rt; *log.entry(receipt) == *entry);
+    Ok(())
+}
+
+// Without any one of the seats the table is not closed, and comes back with the others.
+fn is_closed_with_all<N: Name>(
+    rt: &impl Abort,
+    table: Table<N>,
+    seats: Vec<Seat<N>>,
+) -> Result<(Table<N>, Vec<Seat<N>>), Fail> {
+    let (mut table, mut seats) = (table, seats);
+    for _ in 0..seats.len() {
+        let seat = seats.pop().ok_or("a seat")?;
+        let fault = table.close(seats).err().ok_or("a seat that is missing")?;
+        assert_eq!(rt; fault.missing, seat.number());
+        table = fault.table;
+        seats = fault.seats;
+        seats.insert(0, seat)?;
+    }
+    Ok((table, seats))
+}
+
+#[test]
+fn rows_and_tables_have_limits(rt: HostRuntime) -> Result<(), Fail> {
+    let alloc = rt.alloc();
+    for capacity in [0, 65_537] {
+        assert!(&rt; Row::new(alloc, capacity).err() == Some(LogFault::Capacity));
+    }
+    let even = triangle(&[0, 0, 0])?;
+    on_a_table(&rt, alloc, 2, &even, 0, Scene::NoSeats)?;
+    on_a_table(&rt, alloc, 2, &even, 65, Scene::NoSeats)?;
+    on_a_table(&rt, alloc, 2, &even, 0, Scene::Pen)
+}

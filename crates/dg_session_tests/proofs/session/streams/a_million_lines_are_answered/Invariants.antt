@@ -1,5 +1,0 @@
-use Rattle.dg_session_tests.proofs.session.streams.a_million_lines_are_answered.Given as goal
-
--- A table is named by its row, its start and its number of seats.
-abbrev pub ghosts-ends : goal.ghosts-ends
-ghosts-ends g a = record { cells = a.row; start = a.start.now; seats = a.count }

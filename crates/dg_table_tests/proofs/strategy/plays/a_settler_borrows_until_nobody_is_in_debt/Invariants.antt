@@ -1,5 +1,0 @@
-use Rattle.dg_table_tests.proofs.strategy.plays.a_settler_borrows_until_nobody_is_in_debt.Given as goal
-
--- A table is named by its row, its start and its number of seats.
-abbrev pub ghosts-settled : goal.ghosts-settled
-ghosts-settled g a = record { cells = a.row; start = a.start.now; seats = a.count }

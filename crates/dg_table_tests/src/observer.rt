@@ -1,2 +1,0 @@
-//! Observers of small tables.
-mod watching;

@@ -1,4 +1,0 @@
-//! Strategies on small tables, reckoned by hand, and on threads.
-mod choices;
-mod plays;
-mod threads;
