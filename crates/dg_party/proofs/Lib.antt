@@ -1,4 +1,3 @@
 -- The lemmas that the proofs cite, over plain variables.
 mod Begun
-mod Printing
 mod Whole

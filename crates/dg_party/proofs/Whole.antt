@@ -25,7 +25,7 @@ use Rattle.dg_table.specs.Opened.{AreFresh}
 use Rattle.dg_table.specs.Closing.{IsClosed, AreTotals}
 use Rattle.dg_session.specs.declared.ends.SessionEnd.{SessionEnd}
 use Rattle.dg_party.specs.Sessions.{IsSessionOver, AreSessions, contents}
-use Rattle.dg_party.specs.Printed.{entries_text, seat_text, seats_text, calls_text, totals_text}
+use Rattle.dg_totals.specs.Printed.{entries_text, seat_text, seats_text, calls_text, totals_text}
 use Rattle.dg_party.specs.Parties.{IsParty}
 
 record IsSessionAt (o : Opening) (cap : ℕ) (names : List (List ℕ)) (xs ys : List SeatView) (i : ℕ) (script : List ℕ)

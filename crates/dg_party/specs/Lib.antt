@@ -1,4 +1,3 @@
--- Parties: sessions side by side on one table, and what is printed of its history.
+-- Parties: sessions side by side on one table.
 pub mod Sessions
-pub mod Printed
 pub mod Parties

@@ -14,7 +14,7 @@ use Rattle.dg_game.specs.declared.entry.Entry.{Entry}
 use Rattle.dg_table.specs.Seats.{SeatView, AreSeated, entries_of}
 use Rattle.dg_session.specs.declared.ends.SessionEnd.{SessionEnd}
 use Rattle.dg_party.specs.Sessions.{IsSessionOver}
-use Rattle.dg_party.specs.Printed.{entries_text, audit_text}
+use Rattle.dg_totals.specs.Printed.{entries_text, audit_text}
 
 pub record IsSessionIn (o : Opening) (cap : ℕ) (names : List (List ℕ)) (H : List Entry) (s : ℕ) (script : List ℕ)
     (end : Result ℕ SessionEnd) : Type 0 where

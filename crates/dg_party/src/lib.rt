@@ -1,11 +1,9 @@
 //! Parties: sessions side by side on one table, and what is printed of its history.
 #![tactic(auto)]
 
-mod beside;
 mod ending;
 mod fault;
 mod parties;
-mod printed;
 mod threads;
 
 pub use ending::{PartyRefusal, Played};

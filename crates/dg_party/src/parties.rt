@@ -6,13 +6,13 @@ ghost use Rattle.dg_party.specs.Sessions.{contents};
 ghost use Rattle.dg_party.specs.Parties.{IsParty};
 
 use crate::ending::{PartyRefusal, Played};
-use crate::printed::closing_text;
 use crate::threads::sessions;
 use dg_chips::Start;
 use dg_file::Names;
 use dg_log::{Name, Row};
 use dg_rank::Gate;
 use dg_table::Table;
+use dg_totals::closing_text;
 use std::alloc::Global;
 use std::marker::Brand;
 use std::sync::Wait;

@@ -2,8 +2,8 @@
 ghost use Rattle.std.specs.Prelude.{◌≡◌, ℕ, ◌∷◌, length, IfOk, IfErr};
 ghost use Rattle.dg_party.specs.Sessions.{IsSessionOver, AreSessions, HaveBegun, contents};
 
-use crate::beside::{NotStarted, beside};
 use crate::fault::PartyFault;
+use dg_beside::{NotStarted, beside};
 use dg_file::Names;
 use dg_log::Name;
 use dg_rank::Gate;

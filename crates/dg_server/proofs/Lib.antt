@@ -1,5 +1,3 @@
--- The lemmas that the proofs cite, each file over plain variables.
-mod Limited
-pub mod FilesAndEnds
+-- The lemmas that the proofs cite, over plain variables.
+pub mod Ends
 pub mod Serving
-pub mod UnderWay

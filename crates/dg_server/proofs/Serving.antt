@@ -3,20 +3,21 @@
 --   held_count     files that are held are as many as their names
 --   may_play       scripts that are held are as many as may have seats
 --   party_on       a party over files that are held is that of the table that one of them describes
-use Rattle.std.proofs.Common.{◌≡◌, ℕ, suc, ◌+◌, ◌≤◌, List, [], ◌∷◌, ◌++◌, length, map, arith, refl, sym, ap, ◌∙◌, slice_get, Some, Bor, Vec, Global}
+use Rattle.std.proofs.Common.{◌≡◌, ℕ, suc, ◌≤◌, List, [], ◌∷◌, ◌++◌, length, map, arith, refl, sym, ap, ◌∙◌, slice_get, Some, Bor, Vec, Global}
 use Rattle.std.proofs.lemmas.List.{length-map}
 use Rattle.dg_game.specs.declared.entry.TheConstants.{MAX_SEATS}
 use Rattle.dg_table.specs.Opened.{AreFresh, MayHaveSeats}
 use Rattle.dg_table.specs.Seats.{SeatView}
-use Rattle.dg_server.specs.Held.{Held}
+use Rattle.dg_sources.specs.Held.{Held}
 use Rattle.dg_chips.specs.Opening.{Opening}
 use Rattle.std.specs.Prelude.{Result}
 use Rattle.dg_session.specs.declared.ends.SessionEnd.{SessionEnd}
 use Rattle.dg_party.specs.Sessions.{contents}
 use Rattle.dg_party.specs.Parties.{IsParty}
 use Rattle.dg_asked.specs.declared.asked.PartyTask.{PartyTask}
-use Rattle.dg_server.specs.Tasks.{DescribesTable}
-use Rattle.dg_server.specs.Parties.{MayHoldAll, names_in, IsPartyOn}
+use Rattle.dg_tasks.specs.Tasks.{DescribesTable}
+use Rattle.dg_sources.specs.AllHeld.{MayHoldAll}
+use Rattle.dg_server.specs.Parties.{names_in, IsPartyOn}
 
 pub fresh_seat : (n : ℕ) (xs ys : List SeatView) (x : SeatView) → n ≡ 1 → AreFresh n xs → xs ≡ ys ++ x ∷ [] →
     (x.number ≡ 1) × (x.mine ≡ []) × (x.told ≡ [])

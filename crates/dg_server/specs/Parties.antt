@@ -1,11 +1,9 @@
 -- Parties: a session over each of the scripts that are named, on one table.
 --   names_in task     == the names of the scripts, in their order
---   MayHoldAll held names all == these may be the bytes of the files of these names, one after another
 --   early s ends           == the ends, from seat s on, that came early, each with its seat
 --   IsPartyOn held task ends text == on the table of the file that is named, sessions over the scripts came to these ends,
 --                             and the text is that of the table's history and totals
 --   PlaysParty held task old new == all sessions came to the ends of their scripts, and the output has grown by that text
---   IsFirstUnread held names fault == the files of the names before one that is refused so are held
 --   RefusesReading held file names fault == the table file is not read, or it is held, and a script is the first that is not
 --   RefusesFiles held file names fault == a file is not read; or all are, and the table file is refused
 --   IsPrintedWith ends text fault old new == the output has grown by the text, and the fault tells of the sessions that ended early, of
@@ -15,27 +13,26 @@
 --   RefusesParty held task fault old new == so is the party: there are too many scripts; or a file is not read; or the table
 --                             file is refused, where all are; or memory, a thread or the history is refused. The output is as it
 --                             was, unless sessions ended early
-use Rattle.std.specs.Prelude.{◌≡◌, ℕ, ◌+◌, ◌<◌, ◌≤◌, List, [], ◌∷◌, ◌++◌, length, map, Option, ⊤, ◌⊎◌}
+use Rattle.std.specs.Prelude.{◌≡◌, ℕ, ◌+◌, ◌<◌, ◌≤◌, List, [], ◌∷◌, length, map, Option, ⊤, ◌⊎◌}
 use Rattle.std.specs.declared.result.Result.{Result}
 use Rattle.std.specs.declared.result.Result.TheVariants.{Ok, Err}
 use Rattle.std.specs.Io.KnownBytes.{Appends, Keeps}
 use Rattle.dg_game.specs.declared.entry.TheConstants.{MAX_SEATS}
 use Rattle.dg_session.specs.declared.ends.SessionEnd.{SessionEnd}
 use Rattle.dg_party.specs.Parties.{IsParty}
-use Rattle.dg_server.specs.Held.{Held, MayHold, RefusesHeld}
-use Rattle.dg_server.specs.Tasks.{IsOnTable, RefusesContents}
-use Rattle.dg_server.specs.declared.sources.SourceFault.{SourceFault}
+use Rattle.dg_sources.specs.Held.{Held, MayHold, RefusesHeld}
+use Rattle.dg_sources.specs.AllHeld.{MayHoldAll, IsFirstUnread}
+use Rattle.dg_tasks.specs.declared.fault.TaskFault.{TaskFault}
+use Rattle.dg_tasks.specs.declared.fault.TaskFault.TheVariants.{Source, File}
+use Rattle.dg_server.specs.OfTasks.{IsOfTask}
+use Rattle.dg_tasks.specs.Tasks.{IsOnTable, RefusesContents}
+use Rattle.dg_sources.specs.declared.sources.SourceFault.{SourceFault}
 use Rattle.dg_asked.specs.declared.asked.PartyTask.{PartyTask}
 use Rattle.dg_server.specs.declared.fault.Fault.{Fault}
-use Rattle.dg_server.specs.declared.fault.Fault.TheVariants.{Sessions, Seats, Source, File, OutOfMemory, NoThread, History}
+use Rattle.dg_server.specs.declared.fault.Fault.TheVariants.{Sessions, Seats, OutOfMemory, NoThread, History}
 
 abbrev pub names_in : PartyTask → List (List ℕ)
 names_in task = map (λ name. name.now) task.scripts.items
-
-abbrev pub MayHoldAll : (List ℕ → Held) → List (List ℕ) → List (List ℕ) → Type 0
-MayHoldAll held [] [] = ⊤
-MayHoldAll held (name ∷ names) (bytes ∷ all) = MayHold (held name) bytes × MayHoldAll held names all
-MayHoldAll held names all = ⊥
 
 abbrev pub early : ℕ → List (Result ℕ SessionEnd) → List (ℕ × SessionEnd)
 early s [] = []
@@ -53,20 +50,11 @@ pub record PlaysParty (held : List ℕ → Held) (task : PartyTask) (old new : O
   pub whole : early 1 ends ≡ []
   pub printed : Appends old new text
 
-pub record IsFirstUnread (held : List ℕ → Held) (names : List (List ℕ)) (fault : SourceFault) : Type 0 where
-  pub front : List (List ℕ)
-  pub name : List ℕ
-  pub back : List (List ℕ)
-  pub whole : names ≡ front ++ name ∷ back
-  pub all : List (List ℕ)
-  pub before : MayHoldAll held front all
-  pub refused : RefusesHeld (held name) fault
-
 abbrev pub RefusesReading : (List ℕ → Held) → List ℕ → List (List ℕ) → SourceFault → Type 0
 RefusesReading held file names fault =
     RefusesHeld (held file) fault ⊎ (((table : List ℕ) × MayHold (held file) table) × IsFirstUnread held names fault)
 
-abbrev pub RefusesFiles : (List ℕ → Held) → List ℕ → List (List ℕ) → Fault → Type 0
+abbrev pub RefusesFiles : (List ℕ → Held) → List ℕ → List (List ℕ) → TaskFault → Type 0
 RefusesFiles held file names (Source fault) = RefusesReading held file names fault
 RefusesFiles held file names (File fault) =
     ((all : List (List ℕ)) × MayHoldAll held names all) × RefusesContents (held file) fault
@@ -92,6 +80,6 @@ IsWanting fault = ⊥
 abbrev pub RefusesParty : (List ℕ → Held) → PartyTask → Fault → Option (List ℕ) → Option (List ℕ) → Type 0
 RefusesParty held task fault old new =
     ((fault ≡ Seats) × (MAX_SEATS < length task.scripts.items) × Keeps old new)
-    ⊎ ((length task.scripts.items ≤ MAX_SEATS) × RefusesFiles held task.file.now (names_in task) fault × Keeps old new)
+    ⊎ ((length task.scripts.items ≤ MAX_SEATS) × IsOfTask (RefusesFiles held task.file.now (names_in task)) fault × Keeps old new)
     ⊎ ((length task.scripts.items ≤ MAX_SEATS) × IsWanting fault × Keeps old new)
     ⊎ EndsSome held task fault old new

@@ -5,8 +5,9 @@
 --   Refuses held input asked fault old new == what is asked for is refused so, or ended so; a call for help never is
 use Rattle.std.specs.Prelude.{ℕ, List, Option, string_bytes}
 use Rattle.std.specs.Io.KnownBytes.{Appends, Keeps}
-use Rattle.dg_server.specs.Held.{Held}
-use Rattle.dg_server.specs.Tasks.{IsAnswer, RefusesTask}
+use Rattle.dg_sources.specs.Held.{Held}
+use Rattle.dg_tasks.specs.Tasks.{IsAnswer, RefusesTask}
+use Rattle.dg_server.specs.OfTasks.{IsOfTask}
 use Rattle.dg_server.specs.Sessions.{Serves, RefusesServing}
 use Rattle.dg_server.specs.Parties.{PlaysParty, RefusesParty}
 use Rattle.dg_asked.specs.declared.asked.Asked.{Asked}
@@ -20,7 +21,7 @@ Performs held input (Party task) old new = PlaysParty held task old new
 Performs held input (Text help) old new = Appends old new (string_bytes help)
 
 abbrev pub Refuses : (List ℕ → Held) → Option (List ℕ) → Asked → Fault → Option (List ℕ) → Option (List ℕ) → Type 0
-Refuses held input (Task task) fault old new = RefusesTask held task fault × Keeps old new
+Refuses held input (Task task) fault old new = IsOfTask (RefusesTask held task) fault × Keeps old new
 Refuses held input (Serve task) fault old new = RefusesServing held input task fault old new
 Refuses held input (Party task) fault old new = RefusesParty held task fault old new
 Refuses held input (Text help) fault old new = ⊥

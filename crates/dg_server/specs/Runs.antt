@@ -10,7 +10,7 @@ use Rattle.std.specs.Io.KnownBytes.{Keeps}
 use Rattle.dg_asked.specs.declared.asked.Asked.{Asked}
 use Rattle.dg_asked.specs.declared.words.WordsFault.{WordsFault}
 use Rattle.dg_streams.specs.Streams.{Writing}
-use Rattle.dg_server.specs.Held.{Held}
+use Rattle.dg_sources.specs.Held.{Held}
 use Rattle.dg_server.specs.Performed.{Performs, Refuses}
 use Rattle.dg_server.specs.Status.{status}
 use Rattle.dg_server.specs.declared.fault.Fault.{Fault}

@@ -14,8 +14,9 @@ use Rattle.dg_chips.specs.Opening.{Opening}
 use Rattle.dg_table.specs.Seats.{SeatView}
 use Rattle.dg_session.specs.Ends.{IsSession}
 use Rattle.dg_session.specs.declared.ends.SessionEnd.{SessionEnd}
-use Rattle.dg_server.specs.Held.{Held}
-use Rattle.dg_server.specs.Tasks.{IsOnTable, RefusesItsTable}
+use Rattle.dg_sources.specs.Held.{Held}
+use Rattle.dg_tasks.specs.Tasks.{IsOnTable, RefusesItsTable}
+use Rattle.dg_server.specs.OfTasks.{IsOfTask}
 use Rattle.dg_asked.specs.declared.asked.ServeTask.{ServeTask}
 use Rattle.dg_server.specs.declared.fault.Fault.{Fault}
 use Rattle.dg_server.specs.declared.fault.Fault.TheVariants.{Session, OutOfMemory}
@@ -40,5 +41,5 @@ EndsEarly o cap names input fault old new = (fault ≡ OutOfMemory) × Keeps old
 
 abbrev pub RefusesServing : (List ℕ → Held) → Option (List ℕ) → ServeTask → Fault → Option (List ℕ) → Option (List ℕ) → Type 0
 RefusesServing held input task fault old new =
-    (RefusesItsTable (held task.file.now) fault × Keeps old new)
+    (IsOfTask (RefusesItsTable (held task.file.now)) fault × Keeps old new)
     ⊎ IsOnTable (held task.file.now) (λ o names. EndsEarly o task.capacity names input fault old new)

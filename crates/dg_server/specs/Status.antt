@@ -4,19 +4,22 @@
 --   status_of_source fault == the status where a file is not read
 --   status_of_file fault   == the status where a table file is refused
 --   status_of_table fault  == the status where a call of a table is refused so
+--   status_of_task fault   == the status where a task is not done so
 --   status_of_end end      == the status where a session ends so
 --   status fault           == 2 for a refused command line, 3 for refused input, 4 for want of memory, 5 for reading and writing
 use Rattle.std.specs.Prelude.{◌≡◌, ℕ, ◌≤◌, ◌⊎◌}
 use Rattle.dg_asked.specs.declared.words.WordsFault.{WordsFault}
 use Rattle.dg_asked.specs.declared.words.WordsFault.TheVariants.{OutOfMemory as NoMemoryForWords}
 use Rattle.dg_server.specs.declared.fault.Fault.{Fault}
-use Rattle.dg_server.specs.declared.fault.Fault.TheVariants.{Words, Source, File, Line, Full, NoLook, StepTrials, TooMany, Chip, Turn, OutOfMemory, Session, Sessions, Seats, NoThread, History, Write}
+use Rattle.dg_server.specs.declared.fault.Fault.TheVariants.{Words, Task, OutOfMemory, Session, Sessions, Seats, NoThread, History, Write}
+use Rattle.dg_tasks.specs.declared.fault.TaskFault.{TaskFault}
+use Rattle.dg_tasks.specs.declared.fault.TaskFault.TheVariants as task
 use Rattle.dg_session.specs.declared.ends.SessionEnd.{SessionEnd}
 use Rattle.dg_session.specs.declared.ends.SessionEnd.TheVariants as end
 use Rattle.dg_table.specs.declared.fault.Fault.{Fault as TableFault}
 use Rattle.dg_table.specs.declared.fault.Fault.TheVariants.{OutOfMemory as NoMemoryForCall, Full as FullHistory, Log}
-use Rattle.dg_server.specs.declared.sources.SourceFault.{SourceFault}
-use Rattle.dg_server.specs.declared.sources.SourceFault.TheVariants.{Unreadable, TooLong, OutOfMemory as NoMemoryToRead}
+use Rattle.dg_sources.specs.declared.sources.SourceFault.{SourceFault}
+use Rattle.dg_sources.specs.declared.sources.SourceFault.TheVariants.{Unreadable, TooLong, OutOfMemory as NoMemoryToRead}
 use Rattle.dg_file.specs.declared.fault.FileFault.{FileFault}
 use Rattle.dg_file.specs.declared.fault.FileFault.TheVariants.{OutOfMemory as NoMemoryForTable}
 
@@ -47,17 +50,22 @@ status_of_end (end.Table fault) = status_of_table fault
 status_of_end end.Memory = 4
 status_of_end end.Spawn = 4
 
+abbrev pub status_of_task : TaskFault → ℕ
+status_of_task (task.Source fault) = status_of_source fault
+status_of_task (task.File fault) = status_of_file fault
+status_of_task (task.Line _ _) = 3
+status_of_task (task.Full _) = 3
+status_of_task (task.NoLook _) = 3
+status_of_task (task.StepTrials _) = 3
+status_of_task task.TooMany = 3
+status_of_task (task.Chip _) = 3
+status_of_task (task.Turn fault) = status_of_table fault
+status_of_task task.OutOfMemory = 4
+status_of_task task.NoThread = 4
+
 abbrev pub status : Fault → ℕ
 status (Words fault) = status_of_words fault
-status (Source fault) = status_of_source fault
-status (File fault) = status_of_file fault
-status (Line _ _) = 3
-status (Full _) = 3
-status (NoLook _) = 3
-status (StepTrials _) = 3
-status TooMany = 3
-status (Chip _) = 3
-status (Turn fault) = status_of_table fault
+status (Task fault) = status_of_task fault
 status OutOfMemory = 4
 status (Session end) = status_of_end end
 status (Sessions least all) = status_of_end least

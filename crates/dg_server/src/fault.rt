@@ -2,13 +2,12 @@
 ghost use Rattle.std.specs.Prelude.{◌≡◌};
 ghost use Rattle.dg_server.specs.Status.{status};
 
-use crate::sources::SourceFault;
 use dg_asked::WordsFault;
-use dg_chips::ChipFault;
 use dg_file::FileFault;
-use dg_lines::LineFault;
 use dg_session::SessionEnd;
+use dg_sources::SourceFault;
 use dg_streams::WriteFailed;
+use dg_tasks::{TaskFault, call_text};
 use std::alloc::{AllocError, AllocFailed};
 use std::io::{self, Write};
 use thiserror::Error;
@@ -19,38 +18,9 @@ pub enum Fault {
     /// The words of the command line ask for nothing.
     #[error(transparent)]
     Words(#[from] WordsFault),
-    /// A file is not read.
+    /// A task is not done, or a table is not there.
     #[error(transparent)]
-    Source(#[from] SourceFault),
-    /// The table file is refused.
-    #[error(transparent)]
-    File(#[from] FileFault),
-    /// A line of the steps, counted from 1, is refused.
-    #[error("line {line}: {fault}")]
-    Line {
-        /// The line, counted from 1.
-        line: usize,
-        /// Why it is refused.
-        fault: LineFault,
-    },
-    /// A step, counted from 0, finds the history full. The text counts from 1.
-    #[error("step {}: full", .0.saturating_add(1))]
-    Full(usize),
-    /// A step, counted from 0, commits while its seat keeps no look. The text counts from 1.
-    #[error("step {}: no look", .0.saturating_add(1))]
-    NoLook(usize),
-    /// A step, counted from 0, asks for a rank test past the limits. The text counts from 1.
-    #[error("step {}: too many trials", .0.saturating_add(1))]
-    StepTrials(usize),
-    /// A rank test is past the limits.
-    #[error("too many trials")]
-    TooMany,
-    /// The canonical divisor less that of the table is none.
-    #[error(transparent)]
-    Chip(#[from] ChipFault),
-    /// A turn is refused by the table, or the table is not closed.
-    #[error("{}", table_text(*.0))]
-    Turn(dg_table::Fault),
+    Task(#[from] TaskFault),
     /// There is not enough memory.
     #[error("out of memory")]
     OutOfMemory,
@@ -120,18 +90,31 @@ pub fn status_of(fault: &Fault) -> u8
     match fault {
         Fault::Words(WordsFault::OutOfMemory) => 4,
         Fault::Words(_) => 2,
-        Fault::Source(SourceFault::TooLong) => 3,
-        Fault::Source(SourceFault::OutOfMemory) => 4,
-        Fault::Source(SourceFault::Unreadable) => 5,
-        Fault::File(FileFault::OutOfMemory) => 4,
-        Fault::File(_) => 3,
-        Fault::Line { .. } | Fault::Full(_) | Fault::NoLook(_) | Fault::StepTrials(_) => 3,
-        Fault::TooMany | Fault::Chip(_) => 3,
-        Fault::Turn(fault) => status_of_table(*fault),
+        Fault::Task(fault) => status_of_task(fault),
         Fault::Session(end) | Fault::Sessions { least: end, .. } => status_of_end(*end),
         Fault::Seats => 3,
         Fault::OutOfMemory | Fault::NoThread | Fault::History => 4,
         Fault::Write => 5,
+    }
+}
+
+/// The exit status where a task is not done so.
+fn status_of_task(fault: &TaskFault) -> u8
+    ensures { result ≡ Rattle.dg_server.specs.Status.status_of_task fault.now }
+{
+    match fault {
+        TaskFault::Source(SourceFault::TooLong) => 3,
+        TaskFault::Source(SourceFault::OutOfMemory) => 4,
+        TaskFault::Source(SourceFault::Unreadable) => 5,
+        TaskFault::File(FileFault::OutOfMemory) => 4,
+        TaskFault::File(_) => 3,
+        TaskFault::Line { .. }
+        | TaskFault::Full(_)
+        | TaskFault::NoLook(_)
+        | TaskFault::StepTrials(_) => 3,
+        TaskFault::TooMany | TaskFault::Chip(_) => 3,
+        TaskFault::Turn(fault) => status_of_table(*fault),
+        TaskFault::OutOfMemory | TaskFault::NoThread => 4,
     }
 }
 
@@ -164,18 +147,9 @@ fn end_text(end: SessionEnd) -> &'static str {
         SessionEnd::Write => "write fault",
         SessionEnd::LongLine => "long line",
         SessionEnd::Turns => "too many lines",
-        SessionEnd::Table(fault) => table_text(fault),
+        SessionEnd::Table(fault) => call_text(fault),
         SessionEnd::Memory => "out of memory",
         SessionEnd::Spawn => "no thread",
-    }
-}
-
-/// What is said where a call of a table is refused so.
-fn table_text(fault: dg_table::Fault) -> &'static str {
-    match fault {
-        dg_table::Fault::Full => "the history is full",
-        dg_table::Fault::Log => "history cell refused",
-        dg_table::Fault::OutOfMemory => "out of memory",
     }
 }
 

@@ -1,18 +1,21 @@
 //! Parties: scripts that are played side by side, and what is printed of them.
 ghost use Rattle.std.specs.Prelude.{◌≡◌, ◌≢◌, [], map, Err, true, IfOk, IfErr, OnOk};
 ghost use Rattle.std.specs.Io.KnownBytes.{Appends};
-ghost use Rattle.dg_server.specs.Tasks.{DescribesTable};
-ghost use Rattle.dg_server.specs.Parties.{MayHoldAll, early, PlaysParty, names_in, IsFirstUnread, RefusesFiles, IsPrintedWith, RefusesParty};
+ghost use Rattle.dg_tasks.specs.Tasks.{DescribesTable};
+ghost use Rattle.dg_sources.specs.AllHeld.{MayHoldAll};
+ghost use Rattle.dg_server.specs.OfTasks.{IsOfTask};
+ghost use Rattle.dg_server.specs.Parties.{early, PlaysParty, names_in, RefusesFiles, IsPrintedWith, RefusesParty};
 
 use crate::fault::Fault;
-use crate::sources::{SourceFault, Sources};
 use dg_asked::PartyTask;
 use dg_file::{TableFile, read_table};
 use dg_game::MAX_SEATS;
 use dg_party::{PartyRefusal, Played, party};
 use dg_rank::OpenGate;
 use dg_session::SessionEnd;
+use dg_sources::{Sources, read_all};
 use dg_streams::Output;
+use dg_tasks::TaskFault;
 use std::alloc::{AllocError, Global};
 use std::io::Write;
 use std::rt::Files;
@@ -39,7 +42,7 @@ where
     if task.scripts.len() > usize::from(MAX_SEATS) {
         return Err(Fault::Seats);
     }
-    let (table, scripts) = match read_all(rt, task, sources) {
+    let (table, scripts) = match read_files(rt, task, sources) {
         Ok(read) => read,
         Err(fault) => return Err(fault),
     };
@@ -64,7 +67,7 @@ where
 }
 
 /// The table of the file that is named, and the bytes of the scripts. All files are read before the table's is judged.
-fn read_all<R, S>(
+fn read_files<R, S>(
     rt: &R,
     task: &PartyTask<'_>,
     sources: &S,
@@ -74,42 +77,20 @@ where
     S: Sources,
     ensures read { IfOk result (λ r. DescribesTable (S.held sources.now task.now.file.now) r.0.start r.0.names ×
         MayHoldAll (S.held sources.now) (names_in task.now) (map (λ script. script.items) r.1.items)) }
-    ensures refused { IfErr result (RefusesFiles (S.held sources.now) task.now.file.now (names_in task.now)) }
+    ensures refused { IfErr result (IsOfTask (RefusesFiles (S.held sources.now) task.now.file.now (names_in task.now))) }
 {
     let file = match sources.bytes(rt, task.file) {
         Ok(file) => file,
-        Err(fault) => return Err(Fault::Source(fault)),
+        Err(fault) => return Err(Fault::Task(TaskFault::Source(fault))),
     };
-    let scripts = match read_scripts(rt, task.scripts.as_slice(), sources) {
+    let scripts = match read_all(rt, task.scripts.as_slice(), sources) {
         Ok(scripts) => scripts,
-        Err(fault) => return Err(Fault::Source(fault)),
+        Err(fault) => return Err(Fault::Task(TaskFault::Source(fault))),
     };
     match read_table(rt.alloc(), file.as_slice()) {
         Ok(table) => Ok((table, scripts)),
-        Err(fault) => Err(Fault::File(fault)),
+        Err(fault) => Err(Fault::Task(TaskFault::File(fault))),
     }
-}
-
-/// The bytes of the files of these names, in their order.
-fn read_scripts<R, S>(rt: &R, names: &[&str], sources: &S) -> Result<Vec<Vec<u8>>, SourceFault>
-where
-    R: Files + AllocGlobal,
-    S: Sources,
-    ensures read { IfOk result (λ all. MayHoldAll (S.held sources.now) (map (λ name. name.now) names.now) (map (λ script. script.items) all.items)) }
-    ensures refused { IfErr result (IsFirstUnread (S.held sources.now) (map (λ name. name.now) names.now)) }
-{
-    let mut all = Vec::new(rt.alloc());
-    'names: for name in names {
-        let script = match sources.bytes(rt, name) {
-            Ok(script) => script,
-            Err(fault) => return Err(fault),
-        };
-        match all.push(script) {
-            Ok(()) => {}
-            Err(_) => return Err(SourceFault::OutOfMemory),
-        }
-    }
-    Ok(all)
 }
 
 /// Prints what came of a party, and tells of the sessions that ended early.

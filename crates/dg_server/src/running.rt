@@ -5,8 +5,8 @@ ghost use Rattle.dg_server.specs.Status.{IsStatus};
 
 use crate::fault::{Fault, report};
 use crate::program::perform;
-use crate::sources::Sources;
 use dg_asked::Words;
+use dg_sources::Sources;
 use dg_streams::Output;
 use std::io::{BufRead, Write};
 use std::rt::Files;

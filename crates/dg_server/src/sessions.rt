@@ -4,14 +4,14 @@ ghost use Rattle.dg_rank.specs.Ranks.{MayHaveWorkers};
 ghost use Rattle.dg_server.specs.Sessions.{Serves, EndsEarly, IsServed, RefusesServing};
 
 use crate::fault::Fault;
-use crate::sources::Sources;
-use crate::table_source::table_in;
 use dg_asked::ServeTask;
 use dg_file::TableFile;
 use dg_log::{Name, Row};
 use dg_session::{SessionEnd, serve};
+use dg_sources::Sources;
 use dg_streams::{Input, Output};
 use dg_table::Table;
+use dg_tasks::table_in;
 use std::io::{Read, Write};
 use std::marker::Brand;
 use std::rt::Files;
@@ -40,7 +40,7 @@ where
 {
     let table = match table_in(rt, sources, task.file) {
         Ok(table) => table,
-        Err(fault) => return Err(fault),
+        Err(fault) => return Err(Fault::Task(fault)),
     };
     let row = match Row::new(rt.alloc(), task.capacity) {
         Ok(row) => row,

@@ -1,4 +1,4 @@
-//! The tests of the libraries below the locked table, which call only what those make public.
+//! The tests of graphs, of divisors, of burning and of reductions, which call only what those crates make public.
 #![tactic(auto)]
 
 #[cfg(test)]
@@ -6,16 +6,6 @@ mod burn;
 #[cfg(test)]
 mod chips;
 #[cfg(test)]
-mod file;
-#[cfg(test)]
-mod game;
-#[cfg(test)]
 mod graph;
 #[cfg(test)]
-mod lines;
-#[cfg(test)]
-mod rank;
-#[cfg(test)]
 mod reduce;
-#[cfg(test)]
-mod verdict;

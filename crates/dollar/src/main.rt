@@ -2,7 +2,8 @@
 #![tactic(auto)]
 
 use dg_command::{CommandLine, words_of};
-use dg_server::{Disk, Fault, report, run};
+use dg_server::{Fault, report, run};
+use dg_sources::Disk;
 use dg_streams::Output;
 use std::process::ExitCode;
 

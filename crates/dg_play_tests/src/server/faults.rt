@@ -5,126 +5,160 @@ use dg_chips::ChipFault;
 use dg_file::{FileFault, Shape};
 use dg_graph::GraphFault;
 use dg_lines::LineFault;
-use dg_server::{Fault, SourceFault, report, status_of};
+use dg_server::{Fault, report, status_of};
 use dg_session::SessionEnd;
+use dg_sources::SourceFault;
 use dg_table::Fault as TableFault;
+use dg_tasks::TaskFault;
 use std::alloc::Global;
 use std::process::Abort;
 use std::test::Fail;
 
 // A fault, what is said of it after `dollar: `, and the status. Lines are counted from 1.
-const FAULTS: [(Fault, &str, u8); 39] = [
-    (Fault::Source(SourceFault::Unreadable), "read fault", 5),
-    (Fault::Source(SourceFault::TooLong), "file too long", 3),
-    (Fault::Source(SourceFault::OutOfMemory), "out of memory", 4),
-    (Fault::File(FileFault::Json), "not JSON", 3),
-    (Fault::File(FileFault::Shape(Shape::Top)), "shape of top", 3),
+const FAULTS: [(Fault, &str, u8); 41] = [
     (
-        Fault::File(FileFault::Shape(Shape::Vertices)),
+        Fault::Task(TaskFault::Source(SourceFault::Unreadable)),
+        "read fault",
+        5,
+    ),
+    (
+        Fault::Task(TaskFault::Source(SourceFault::TooLong)),
+        "file too long",
+        3,
+    ),
+    (
+        Fault::Task(TaskFault::Source(SourceFault::OutOfMemory)),
+        "out of memory",
+        4,
+    ),
+    (Fault::Task(TaskFault::File(FileFault::Json)), "not JSON", 3),
+    (
+        Fault::Task(TaskFault::File(FileFault::Shape(Shape::Top))),
+        "shape of top",
+        3,
+    ),
+    (
+        Fault::Task(TaskFault::File(FileFault::Shape(Shape::Vertices))),
         "shape of vertices",
         3,
     ),
     (
-        Fault::File(FileFault::Shape(Shape::Edges)),
+        Fault::Task(TaskFault::File(FileFault::Shape(Shape::Edges))),
         "shape of edges",
         3,
     ),
     (
-        Fault::File(FileFault::Shape(Shape::Edge(7))),
+        Fault::Task(TaskFault::File(FileFault::Shape(Shape::Edge(7)))),
         "shape of edge 7",
         3,
     ),
     (
-        Fault::File(FileFault::Shape(Shape::Amounts)),
+        Fault::Task(TaskFault::File(FileFault::Shape(Shape::Amounts))),
         "shape of amounts",
         3,
     ),
-    (Fault::File(FileFault::Shape(Shape::Q)), "shape of q", 3),
     (
-        Fault::File(FileFault::Graph(GraphFault::Size)),
+        Fault::Task(TaskFault::File(FileFault::Shape(Shape::Q))),
+        "shape of q",
+        3,
+    ),
+    (
+        Fault::Task(TaskFault::File(FileFault::Graph(GraphFault::Size))),
         "number of vertices",
         3,
     ),
-    (Fault::File(FileFault::Name(2)), "name of vertex 2", 3),
     (
-        Fault::File(FileFault::Twice(15)),
+        Fault::Task(TaskFault::File(FileFault::Name(2))),
+        "name of vertex 2",
+        3,
+    ),
+    (
+        Fault::Task(TaskFault::File(FileFault::Twice(15))),
         "vertex 15 named twice",
         3,
     ),
     (
-        Fault::File(FileFault::Graph(GraphFault::NoVertex(0))),
+        Fault::Task(TaskFault::File(FileFault::Graph(GraphFault::NoVertex(0)))),
         "edge 0 has no vertex",
         3,
     ),
     (
-        Fault::File(FileFault::Graph(GraphFault::Loop(1))),
+        Fault::Task(TaskFault::File(FileFault::Graph(GraphFault::Loop(1)))),
         "edge 1 is a loop",
         3,
     ),
     (
-        Fault::File(FileFault::Graph(GraphFault::Multiplicity(10))),
+        Fault::Task(TaskFault::File(FileFault::Graph(GraphFault::Multiplicity(10)))),
         "edge 10 is empty",
         3,
     ),
     (
-        Fault::File(FileFault::Graph(GraphFault::Valence(3))),
+        Fault::Task(TaskFault::File(FileFault::Graph(GraphFault::Valence(3)))),
         "valence of vertex 3",
         3,
     ),
     (
-        Fault::File(FileFault::Graph(GraphFault::NotConnected)),
+        Fault::Task(TaskFault::File(FileFault::Graph(GraphFault::NotConnected))),
         "not connected",
         3,
     ),
     (
-        Fault::File(FileFault::Chip(ChipFault::Length)),
+        Fault::Task(TaskFault::File(FileFault::Chip(ChipFault::Length))),
         "number of amounts",
         3,
     ),
     (
-        Fault::File(FileFault::Chip(ChipFault::Range(4))),
+        Fault::Task(TaskFault::File(FileFault::Chip(ChipFault::Range(4)))),
         "amount of vertex 4",
         3,
     ),
-    (Fault::File(FileFault::NoQ), "no vertex q", 3),
-    (Fault::File(FileFault::OutOfMemory), "out of memory", 4),
     (
-        Fault::Line {
+        Fault::Task(TaskFault::File(FileFault::NoQ)),
+        "no vertex q",
+        3,
+    ),
+    (
+        Fault::Task(TaskFault::File(FileFault::OutOfMemory)),
+        "out of memory",
+        4,
+    ),
+    (
+        Fault::Task(TaskFault::Line {
             line: 1,
             fault: LineFault::Seat,
-        },
+        }),
         "line 1: bad seat",
         3,
     ),
     (
-        Fault::Line {
+        Fault::Task(TaskFault::Line {
             line: 2,
             fault: LineFault::Word,
-        },
+        }),
         "line 2: bad word",
         3,
     ),
     (
-        Fault::Line {
+        Fault::Task(TaskFault::Line {
             line: 30,
             fault: LineFault::Form,
-        },
+        }),
         "line 30: bad form",
         3,
     ),
     (
-        Fault::Line {
+        Fault::Task(TaskFault::Line {
             line: 65_537,
             fault: LineFault::Name,
-        },
+        }),
         "line 65537: bad name",
         3,
     ),
     (
-        Fault::Line {
+        Fault::Task(TaskFault::Line {
             line: 4,
             fault: LineFault::Number,
-        },
+        }),
         "line 4: bad number",
         3,
     ),
@@ -134,11 +168,21 @@ const FAULTS: [(Fault, &str, u8); 39] = [
         2,
     ),
     (Fault::Words(WordsFault::OutOfMemory), "out of memory", 4),
-    (Fault::Full(65_536), "step 65537: full", 3),
-    (Fault::NoLook(0), "step 1: no look", 3),
-    (Fault::StepTrials(8), "step 9: too many trials", 3),
-    (Fault::TooMany, "too many trials", 3),
-    (Fault::Chip(ChipFault::Range(0)), "amount of vertex 0", 3),
+    (Fault::Task(TaskFault::Full(65_536)), "step 65537: full", 3),
+    (Fault::Task(TaskFault::NoLook(0)), "step 1: no look", 3),
+    (
+        Fault::Task(TaskFault::StepTrials(8)),
+        "step 9: too many trials",
+        3,
+    ),
+    (Fault::Task(TaskFault::TooMany), "too many trials", 3),
+    (Fault::Task(TaskFault::OutOfMemory), "out of memory", 4),
+    (Fault::Task(TaskFault::NoThread), "no thread", 4),
+    (
+        Fault::Task(TaskFault::Chip(ChipFault::Range(0))),
+        "amount of vertex 0",
+        3,
+    ),
     (Fault::OutOfMemory, "out of memory", 4),
     (Fault::Seats, "too many seats", 3),
     (Fault::NoThread, "no thread", 4),

@@ -2,7 +2,8 @@
 
 use crate::server::asked::{Command, asked};
 pub(super) use crate::tables::TRIANGLE;
-use dg_server::{Shelf, perform, report};
+use dg_server::{perform, report};
+use dg_sources::Shelf;
 use dg_streams::Output;
 use std::process::Abort;
 use std::rt::Files;

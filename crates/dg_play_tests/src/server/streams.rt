@@ -3,7 +3,8 @@
 use crate::server::asked::{Command, asked};
 use crate::server::runs::TRIANGLE;
 use crate::session::streams::{Flow, Sip};
-use dg_server::{Fault, Shelf, SourceFault, perform, read_within};
+use dg_server::{Fault, perform};
+use dg_sources::{Shelf, SourceFault, read_within};
 use dg_streams::Output;
 use std::io::ErrorKind;
 use std::test::Fail;

@@ -2,7 +2,8 @@
 
 use crate::tables::TRIANGLE;
 use dg_asked::{Asked, Task, Words, WordsFault};
-use dg_server::{Shelf, run};
+use dg_server::run;
+use dg_sources::Shelf;
 use dg_streams::Output;
 use std::alloc::Global;
 use std::test::Fail;

@@ -1,8 +1,4 @@
-use Rattle.std.proofs.Common.{rules, ◌≡◌, ◌≤◌, length, sym, subst, inr, List}
-use Rattle.dg_chips.specs.Opening.{Opening}
-use Rattle.dg_party.specs.Sessions.{contents}
-use Rattle.dg_party.specs.Parties.{IsParty}
-use Rattle.dg_server.specs.Parties.{IsPartyOn}
+use Rattle.std.proofs.Common.{rules, inr}
 use Rattle.dg_server.proofs.Serving.{may_play, party_on}
 use Rattle.dg_server.proofs.parties.play_party.Goals as goal
 

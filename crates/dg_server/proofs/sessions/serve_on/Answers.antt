@@ -1,4 +1,3 @@
-use Rattle.std.proofs.Common.{◌≡◌}
 use Rattle.dg_server.proofs.Serving.{fresh_seat}
 use Rattle.dg_server.proofs.sessions.serve_on.Goals as goal
 

@@ -1,0 +1,3 @@
+-- The lemmas that the proofs cite, over plain variables.
+mod Limited
+mod OneByOne

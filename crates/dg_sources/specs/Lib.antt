@@ -1,0 +1,3 @@
+-- What is known of files.
+pub mod Held
+pub mod AllHeld

@@ -1,0 +1,2 @@
+-- The lemmas that the proofs cite, over plain variables.
+pub mod UnderWay

@@ -1,0 +1,61 @@
+-- Rank tests of a table, printed, and both sides of Riemann-Roch (Baker and Norine 2007, theorem 1.12; Corry and Perkinson,
+-- chapter 5).
+--   IsRankAnswer o k names text == the text is that of a reply with a rank verdict of degree k which is right for the
+--                                  amounts of the opening o, and a newline
+--   RefusesRank n k fault       == a rank test of degree k on n vertices is past the limits, or memory was refused, or a
+--                                  thread
+--   number_line label z         == the label, the number and a newline
+--   riemann_roch_text o r s     == the lines of the opening divisor's degree, of the genus, and of the ranks r and s
+--   IsRiemannRoch o text        == the text is those lines, with the rank of the divisor and that of its dual
+--   RefusesRiemannRoch o fault  == the dual is out of range; else one of the two ranks needs a test past the limits; of
+--                                  want of memory nothing is said
+use Rattle.std.specs.Prelude.{◌≡◌, ℕ, ℤ, List, ◌++◌, codes, ⊤}
+use Rattle.std.specs.Fmt.{signed_decimal}
+use Rattle.dg_theory.specs.Multigraph.{genus}
+use Rattle.dg_theory.specs.Firing.{Amounts, degree}
+use Rattle.dg_theory.specs.Rank.{IsRank}
+use Rattle.dg_chips.specs.Dual.{DualOf, IsDualFault}
+use Rattle.dg_chips.specs.Opening.{Opening}
+use Rattle.dg_chips.specs.Vector.{at}
+use Rattle.dg_rank.specs.Limits.{IsPastLimits}
+use Rattle.dg_rank.specs.Ranks.{IsRankTest, DualNeedsTooMany}
+use Rattle.dg_rank.specs.declared.rank_verdict.RankVerdict.{RankVerdict}
+use Rattle.dg_game.specs.declared.entry.Reply.TheVariants.{Rank}
+use Rattle.dg_lines.specs.Texts.{text_of}
+use Rattle.dg_tasks.specs.declared.fault.TaskFault.{TaskFault}
+use Rattle.dg_tasks.specs.declared.fault.TaskFault.TheVariants.{TooMany, Chip, OutOfMemory, NoThread}
+
+pub record IsRankAnswer (o : Opening) (k : ℕ) (names : List (List ℕ)) (text : List ℕ) : Type 0 where
+  pub verdict : RankVerdict
+  pub right : IsRankTest o.graph (at o.divisor) k verdict
+  pub printed : text ≡ text_of names (Rank verdict) ++ codes "\n"
+
+abbrev pub RefusesRank : ℕ → ℕ → TaskFault → Type 0
+RefusesRank n k TooMany = IsPastLimits n k
+RefusesRank n k OutOfMemory = ⊤
+RefusesRank n k NoThread = ⊤
+RefusesRank n k fault = ⊥
+
+abbrev pub number_line : List ℕ → ℤ → List ℕ
+number_line label z = label ++ signed_decimal z ++ codes "\n"
+
+abbrev pub riemann_roch_text : Opening → ℤ → ℤ → List ℕ
+riemann_roch_text o rank dual_rank = number_line (codes "degree ") (degree o.graph.size (at o.divisor))
+    ++ number_line (codes "genus ") (genus o.graph)
+    ++ number_line (codes "rank ") rank
+    ++ number_line (codes "dual ") dual_rank
+
+pub record IsRiemannRoch (o : Opening) (text : List ℕ) : Type 0 where
+  pub rank : ℤ
+  pub of_divisor : IsRank o.graph (at o.divisor) rank
+  pub dual : Amounts
+  pub is_dual : DualOf o.graph (at o.divisor) dual
+  pub dual_rank : ℤ
+  pub of_dual : IsRank o.graph dual dual_rank
+  pub printed : text ≡ riemann_roch_text o rank dual_rank
+
+abbrev pub RefusesRiemannRoch : Opening → TaskFault → Type 0
+RefusesRiemannRoch o (Chip fault) = IsDualFault o.graph (at o.divisor) fault
+RefusesRiemannRoch o TooMany = DualNeedsTooMany o.graph (at o.divisor)
+RefusesRiemannRoch o OutOfMemory = ⊤
+RefusesRiemannRoch o fault = ⊥

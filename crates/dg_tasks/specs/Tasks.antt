@@ -1,0 +1,77 @@
+-- Answers to tasks on tables, and when there is none. `held` tells what is known of the file of each name.
+--   DescribesTable h o names      == bytes that the file h may hold are a table file, of the opening o with these names
+--   IsOnTable h P                 == the file h describes a table, and P holds of its opening and names
+--   IsOfSteps h P                 == P holds of the lines of bytes that the file h may hold
+--   AnswersTask held o names task text == the text is the answer to the task on the opening o with these names
+--   IsAnswer held task text       == the text is the answer to the task, for what the files hold that it names
+--   RefusesContents h fault          == bytes that the file h may hold are refused as a table file, with that fault
+--   RefusesItsTable h fault       == the table file h is not read, or it is refused
+--   RefusesOn held o names task fault == the task is refused so on the table o with these names: STEPS is not read, or it is
+--                                    refused; or the test is past the limits, or the dual is no divisor; or a turn is refused
+--   RefusesTask held task fault   == the table file is refused so, or it is good, and the task is refused so on its table
+use Rattle.std.specs.Prelude.{◌≡◌, ◌⊎◌, ℕ, List}
+use Rattle.dg_chips.specs.Opening.{Opening}
+use Rattle.dg_file.specs.TableFiles.{IsTableFile}
+use Rattle.dg_file.specs.FileFaults.{RefusesFile}
+use Rattle.dg_file.specs.declared.fault.FileFault.{FileFault}
+use Rattle.dg_lines.specs.Cuts.{lines}
+use Rattle.dg_sources.specs.Held.{Held, MayHold, RefusesHeld}
+use Rattle.dg_tasks.specs.Rehearsals.{IsPrinted}
+use Rattle.dg_tasks.specs.Judgements.{IsJudgement}
+use Rattle.dg_tasks.specs.RankTests.{IsRankAnswer, IsRiemannRoch, RefusesRank, RefusesRiemannRoch}
+use Rattle.dg_tasks.specs.Refusals.{RefusesSchedule}
+use Rattle.dg_tasks.specs.Games.{IsGreedyAnswer, RefusesTurns}
+use Rattle.dg_asked.specs.Files.{file_of}
+use Rattle.dg_asked.specs.declared.asked.Task.{Task}
+use Rattle.dg_asked.specs.declared.asked.Task.TheVariants.{Rehearse, Judge, Rank, RiemannRoch, Greedy}
+use Rattle.dg_tasks.specs.declared.fault.TaskFault.{TaskFault}
+use Rattle.dg_tasks.specs.declared.fault.TaskFault.TheVariants.{Source, File, OutOfMemory}
+
+pub record DescribesTable (h : Held) (o : Opening) (names : List (List ℕ)) : Type 0 where
+  pub bytes : List ℕ
+  pub held : MayHold h bytes
+  pub table : IsTableFile bytes o names
+
+pub record IsOnTable (h : Held) (P : Opening → List (List ℕ) → Type 0) : Type 0 where
+  pub opening : Opening
+  pub names : List (List ℕ)
+  pub table : DescribesTable h opening names
+  pub holds : P opening names
+
+pub record IsOfSteps (h : Held) (P : List (List ℕ) → Type 0) : Type 0 where
+  pub bytes : List ℕ
+  pub held : MayHold h bytes
+  pub holds : P (lines bytes)
+
+abbrev pub AnswersTask : (List ℕ → Held) → Opening → List (List ℕ) → Task → List ℕ → Type 0
+AnswersTask held o names (Rehearse file steps) text = IsOfSteps (held steps.now) (λ all. IsPrinted o names all text)
+AnswersTask held o names (Judge file) text = IsJudgement o names text
+AnswersTask held o names (Rank test) text = IsRankAnswer o test.degree names text
+AnswersTask held o names (RiemannRoch file) text = IsRiemannRoch o text
+AnswersTask held o names (Greedy play) text = IsGreedyAnswer o play.turns names text
+
+abbrev pub IsAnswer : (List ℕ → Held) → Task → List ℕ → Type 0
+IsAnswer held task text = IsOnTable (held (file_of task)) (λ o names. AnswersTask held o names task text)
+
+pub record RefusesContents (h : Held) (fault : FileFault) : Type 0 where
+  pub bytes : List ℕ
+  pub held : MayHold h bytes
+  pub refused : RefusesFile bytes fault
+
+abbrev pub RefusesOn : (List ℕ → Held) → Opening → List (List ℕ) → Task → TaskFault → Type 0
+RefusesOn held o names (Rehearse file steps) (Source fault) = RefusesHeld (held steps.now) fault
+RefusesOn held o names (Rehearse file steps) fault =
+    IsOfSteps (held steps.now) (λ all. RefusesSchedule o.graph.size names all fault)
+RefusesOn held o names (Judge file) fault = fault ≡ OutOfMemory
+RefusesOn held o names (Rank test) fault = RefusesRank o.graph.size test.degree fault
+RefusesOn held o names (RiemannRoch file) fault = RefusesRiemannRoch o fault
+RefusesOn held o names (Greedy play) fault = RefusesTurns fault
+
+abbrev pub RefusesItsTable : Held → TaskFault → Type 0
+RefusesItsTable h (Source fault) = RefusesHeld h fault
+RefusesItsTable h (File fault) = RefusesContents h fault
+RefusesItsTable h fault = ⊥
+
+abbrev pub RefusesTask : (List ℕ → Held) → Task → TaskFault → Type 0
+RefusesTask held task fault = RefusesItsTable (held (file_of task)) fault
+    ⊎ IsOnTable (held (file_of task)) (λ o names. RefusesOn held o names task fault)

@@ -1,0 +1,17 @@
+//! The tasks whose answer is a text: what each prints, and when it is refused.
+#![tactic(auto)]
+
+mod fault;
+mod games;
+mod printed;
+mod ranks;
+mod rehearsing;
+mod table_source;
+mod tasks;
+
+pub use fault::{TaskFault, call_text};
+pub use printed::judgement;
+pub use ranks::{rank_answer, riemann_roch};
+pub use rehearsing::rehearsal;
+pub use table_source::table_in;
+pub use tasks::answer;

@@ -1,0 +1,106 @@
+//! Rank tests that are printed, and both sides of Riemann-Roch.
+ghost use Rattle.std.specs.Prelude.{◌≡◌, ℤ, ◌++◌, IfOk, IfErr, OnOk};
+ghost use Rattle.dg_rank.specs.Ranks.{MayHaveWorkers};
+ghost use Rattle.dg_tasks.specs.RankTests.{IsRankAnswer, RefusesRank, number_line, riemann_roch_text, IsRiemannRoch, RefusesRiemannRoch};
+
+use crate::fault::TaskFault;
+use crate::printed::reply_line;
+use dg_chips::{Start, dual};
+use dg_file::TableFile;
+use dg_game::Reply;
+use dg_rank::{OpenGate, RankFault, rank, rank_with};
+use itoa::Buffer;
+use std::alloc::{AllocError, Allocator, Global};
+use std::sync::Wait;
+use std::thread::Threads;
+
+/// Whether the rank of a table's amounts is at least k, as text: the text of a reply, and a newline.
+///
+/// The trials are shared among so many workers; the condition is 1 to 16. Refused with `TooMany` where the test is past the
+/// limits, with `NoThread` where a thread could not be started, and with `OutOfMemory` at the growth that was refused.
+pub fn rank_answer<R: Threads + Wait>(
+    rt: &R,
+    alloc: Global,
+    table: &TableFile,
+    k: u32,
+    workers: u32,
+) -> Result<Vec<u8>, TaskFault>
+    requires { MayHaveWorkers workers }
+    ensures ranked { IfOk result (λ text. IsRankAnswer table.now.start k table.now.names text.items) }
+    ensures refused { IfErr result (RefusesRank table.now.start.graph.size k) }
+{
+    let start = table.start();
+    let q = usize::from(start.q());
+    let (graph, divisor) = (start.graph(), start.divisor());
+    let verdict = match rank_with(rt, graph, q, divisor, k, workers, &OpenGate) {
+        Ok(verdict) => verdict,
+        Err(RankFault::TooMany) => return Err(TaskFault::TooMany),
+        Err(RankFault::Workers) => unreachable!(),
+        Err(RankFault::OutOfMemory) => return Err(TaskFault::OutOfMemory),
+        Err(RankFault::Spawn) => return Err(TaskFault::NoThread),
+    };
+    match reply_line(alloc, &Reply::Rank(verdict), table.names()) {
+        Ok(text) => Ok(text),
+        Err(_) => Err(TaskFault::OutOfMemory),
+    }
+}
+
+/// Both sides of Riemann-Roch for a table's amounts, as text: the degree, the genus of the graph, the rank, and the rank
+/// of the canonical divisor less these amounts, each on a line. The rank is -1 where the amounts can't be won.
+///
+/// Refused with `Chip` where the canonical divisor less these amounts is out of range, then with `TooMany` where one of
+/// the two ranks needs a test past the limits. `OutOfMemory` comes at the growth that was refused.
+pub fn riemann_roch(alloc: Global, table: &TableFile) -> Result<Vec<u8>, TaskFault>
+    ensures told { IfOk result (λ text. IsRiemannRoch table.now.start text.items) }
+    ensures refused { IfErr result (RefusesRiemannRoch table.now.start) }
+{
+    let start = table.start();
+    let graph = start.graph();
+    let divisor = start.divisor();
+    let q = usize::from(start.q());
+    let other = match dual(graph, divisor) {
+        Ok(other) => other,
+        Err(fault) => return Err(TaskFault::Chip(fault)),
+    };
+    let Some(divisor_rank) = rank(graph, q, divisor) else {
+        return Err(TaskFault::TooMany);
+    };
+    let Some(dual_rank) = rank(graph, q, &other) else {
+        return Err(TaskFault::TooMany);
+    };
+    match riemann_roch_lines(alloc, start, divisor_rank, dual_rank) {
+        Ok(text) => Ok(text),
+        Err(_) => Err(TaskFault::OutOfMemory),
+    }
+}
+
+/// The four lines of a start with these two ranks.
+fn riemann_roch_lines(
+    alloc: Global,
+    start: &Start,
+    rank: i64,
+    dual_rank: i64,
+) -> Result<Vec<u8>, AllocError>
+    ensures { IfOk result (λ text. text.items ≡ riemann_roch_text start.now rank dual_rank) }
+{
+    let mut text = Vec::new(alloc);
+    push_number(&mut text, "degree ", start.divisor().degree())?;
+    push_number(&mut text, "genus ", i64::from(start.graph().genus()))?;
+    push_number(&mut text, "rank ", rank)?;
+    push_number(&mut text, "dual ", dual_rank)?;
+    Ok(text)
+}
+
+/// A label, a number and a newline.
+fn push_number<A: Allocator>(
+    text: &mut Vec<u8, A>,
+    label: &str,
+    number: i64,
+) -> Result<(), AllocError>
+    ensures { OnOk result (text.new.items ≡ text.old.items ++ number_line label.now number) }
+{
+    text.extend_from_slice(label.as_bytes())?;
+    text.extend_from_slice(Buffer::new().format(number).as_bytes())?;
+    text.extend_from_slice(b"\n")?;
+    Ok(())
+}

@@ -1,0 +1,80 @@
+//! Schedules that are read, played and printed line by line: neither the steps nor the history are kept.
+ghost use Rattle.std.specs.Prelude.{◌≡◌, ◌∷◌, ◌++◌, List, [], length, IfOk, IfErr, MatchResult};
+ghost use Rattle.dg_chips.specs.Opening.{Opening};
+ghost use Rattle.dg_game.specs.Legal.{IsSeat};
+ghost use Rattle.dg_game.specs.declared.step.Step.{Step};
+ghost use Rattle.dg_lines.specs.Cuts.{lines};
+ghost use Rattle.dg_tasks.specs.Rehearsals.{IsPrinted, IsPlayed, IsStopped};
+ghost use Rattle.dg_tasks.specs.Refusals.{RefusesSchedule};
+
+use crate::fault::TaskFault;
+use dg_file::{Names, TableFile};
+use dg_game::{Rehearsal, RehearseFault, Step};
+use dg_lines::{Lines, parse_step, push_entry};
+use std::alloc::Global;
+
+/// The history of a schedule as text: a line for each entry, with its number, from 0 on, and the text of its reply. The
+/// history is the legal one that the steps make from the table's start.
+///
+/// Refused with `Line` for the first line that spells no step; then for the first step that is refused, with `Full` where
+/// it is the step after 65,536 others, with `NoLook` where it wants a look while its seat keeps none, or with `StepTrials`
+/// where it asks for a rank test past the limits. `OutOfMemory` comes in the place of a step whose line did not fit.
+pub fn rehearsal(alloc: Global, table: &TableFile, steps: &[u8]) -> Result<Vec<u8>, TaskFault>
+    ensures printed { IfOk result (λ text. IsPrinted table.now.start table.now.names (lines steps.now) text.items) }
+    ensures refused { IfErr result (RefusesSchedule table.now.start.graph.size table.now.names (lines steps.now)) }
+{
+    let names = table.names();
+    let mut rehearsal = Rehearsal::new(table.start());
+    let mut text = Vec::new(alloc);
+    let mut stopped = None;
+    let mut line = 0;
+    'lines: for bytes in Lines::new(steps) {
+        line += 1;
+        let step = match parse_step(bytes, names) {
+            Ok(step) => step,
+            Err(fault) => return Err(TaskFault::Line { line, fault }),
+        };
+        if stopped.is_none() {
+            match play_on(&mut rehearsal, &mut text, names, &step) {
+                Ok(()) => {}
+                Err(fault) => stopped = Some(fault),
+            }
+        }
+    }
+    let Some(fault) = stopped else {
+        return Ok(text);
+    };
+    match fault {
+        RehearseFault::Seat(_) => unreachable!(),
+        RehearseFault::Full(i) => Err(TaskFault::Full(i)),
+        RehearseFault::NoLook(i) => Err(TaskFault::NoLook(i)),
+        RehearseFault::TooMany(i) => Err(TaskFault::StepTrials(i)),
+        RehearseFault::OutOfMemory => Err(TaskFault::OutOfMemory),
+    }
+}
+
+/// Plays the next step, and writes the line of its entry; or why it can't be played.
+fn play_on(
+    rehearsal: &mut Rehearsal,
+    text: &mut Vec<u8>,
+    names: &Names,
+    step: &Step,
+) -> Result<(), RehearseFault>
+    requires { (o : Opening) × (steps : List Step) × (length names.now ≡ o.graph.size)
+        × IsPlayed o names.now steps rehearsal.old text.old.items }
+    ensures { MatchResult result
+        (λ _. (o : Opening) (steps : List Step) → IsPlayed o names.now steps rehearsal.old text.old.items →
+        IsPlayed o names.now (steps ++ step.now ∷ []) rehearsal.new text.new.items)
+        (λ fault. (o : Opening) (steps : List Step) → IsPlayed o names.now steps rehearsal.old text.old.items →
+        IsStopped o (steps ++ step.now ∷ []) fault) }
+{
+    let number = rehearsal.game.entries() as usize;
+    let entry = match rehearsal.play(step) {
+        Ok(entry) => entry,
+        Err(fault) => return Err(fault),
+    };
+    match push_entry(text, number, &entry.reply, names) {
+        Ok(()) => Ok(()),
+        Err(_) => Err(RehearseFault::OutOfMemory),
+    }
+}

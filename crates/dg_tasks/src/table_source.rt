@@ -1,0 +1,28 @@
+//! Tables that are read from files.
+ghost use Rattle.std.specs.Prelude.{IfOk, IfErr};
+ghost use Rattle.dg_tasks.specs.Tasks.{RefusesItsTable, DescribesTable};
+
+use crate::fault::TaskFault;
+use dg_file::{TableFile, read_table};
+use dg_sources::Sources;
+use std::rt::Files;
+
+/// The table of the file with that name.
+///
+/// Refused with `Source` where the file is not read, and then with `File` where it is no table file.
+pub fn table_in<R, S>(rt: &R, sources: &S, file: &str) -> Result<TableFile, TaskFault>
+where
+    R: Files + AllocGlobal,
+    S: Sources,
+    ensures table { IfOk result (λ table. DescribesTable (S.held sources.now file.now) table.start table.names) }
+    ensures refused { IfErr result (RefusesItsTable (S.held sources.now file.now)) }
+{
+    let bytes = match sources.bytes(rt, file) {
+        Ok(bytes) => bytes,
+        Err(fault) => return Err(TaskFault::Source(fault)),
+    };
+    match read_table(rt.alloc(), bytes.as_slice()) {
+        Ok(table) => Ok(table),
+        Err(fault) => Err(TaskFault::File(fault)),
+    }
+}

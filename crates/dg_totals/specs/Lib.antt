@@ -1,0 +1,2 @@
+-- What is printed of a table that was closed.
+pub mod Printed
