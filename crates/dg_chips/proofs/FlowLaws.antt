@@ -4,8 +4,8 @@
 --   gain-products     a vertex gets what each other lends along each edge to it, less what it lends itself
 --   gain-row          the same from a longer row
 --   held              a machine's value of a number within 2^62 is that number, which fits
---   carried_held      a machine's value of what edges carry is that value, within the limit
 --   wide_held         the same of 128 bits, within 2^126
+--   carried_held      a machine's value of what edges carry is that value, within the limit
 --   held_sum          so a machine's sum of two numbers within 2^61 is their sum
 --   product_limit     edges that each carry a limited amount carry so many times the limit together
 use Rattle.std.proofs.Common.{◌≡◌, ℕ, zero, suc, ◌*◌, ◌^◌, ◌≤◌, arith, refl, sym, w64, FitsSigned, ◌∙◌, ap, ⊎_elim}
@@ -57,15 +57,15 @@ gain-row g s v n graph few =
 pub held : (z : ℤ) → unsigned_abs z ≤ 2 ^ 62 → FitsSigned w64 z × (to_z w64 (of_z w64 z) ≡ z)
 held z small = let (low, high) = within_abs z (2 ^ 62) small in (omega (arith, ints), omega (arith, ints))
 
+pub wide_held : (z : ℤ) → unsigned_abs z ≤ 2 ^ 126 → FitsSigned w128 z × (to_z w128 (of_z w128 z) ≡ z)
+wide_held z small = let (low, high) = within_abs z (2 ^ 126) small in (omega (arith, ints), omega (arith, ints))
+
 pub carried_held : (edges : ℕ) (each flow : ℤ) → unsigned_abs each ≤ 100000000000000 →
     flow ≡ pos edges *ℤ to_z w64 (of_z w64 each) → unsigned_abs flow ≤ 255 * unsigned_abs (to_z w64 (of_z w64 each)) →
     (flow ≡ pos edges *ℤ each) × (unsigned_abs flow ≤ 25500000000000000)
 carried_held edges each flow small value limit =
     let same = (held each (omega arith)).1 in
     (value ∙ ap (λ (z : ℤ). pos edges *ℤ z) same, omega (arith, ap unsigned_abs same))
-
-pub wide_held : (z : ℤ) → unsigned_abs z ≤ 2 ^ 126 → FitsSigned w128 z × (to_z w128 (of_z w128 z) ≡ z)
-wide_held z small = let (low, high) = within_abs z (2 ^ 126) small in (omega (arith, ints), omega (arith, ints))
 
 pub held_sum : (a b : ℤ) → unsigned_abs a ≤ 2 ^ 61 → unsigned_abs b ≤ 2 ^ 61 →
     FitsSigned w64 (to_z w64 (of_z w64 a) +ℤ to_z w64 (of_z w64 b)) × (to_z w64 (of_z w64 (to_z w64 (of_z w64 a) +ℤ to_z w64 (of_z w64 b))) ≡ a +ℤ b)

@@ -1,4 +1,4 @@
-use Rattle.std.proofs.Common.{◌≡◌, ◌≤◌, sym, arith, ap, ◌∙◌}
+use Rattle.std.proofs.Common.{◌≡◌, sym, arith, ap, ◌∙◌}
 use Rattle.std.specs.Int.RustNames.{unsigned_abs}
 use Rattle.std.proofs.Math.IntN.{◌+ℤ◌}
 use Rattle.dg_theory.specs.Firing.{only_at}
