@@ -3,19 +3,23 @@
 --   sum_below-past    a sum is that of fewer terms, where those past them are 0
 --   gain-products     a vertex gets what each other lends along each edge to it, less what it lends itself
 --   gain-row          the same from a longer row
+--   held              a machine's value of a number within 2^62 is that number, which fits
+--   wide_held         the same of 128 bits, within 2^126
 --   carried_held      a machine's value of what edges carry is that value, within the limit
---   times_held        a machine's value of a number within 2^120 is that number
-use Rattle.std.proofs.Common.{◌≡◌, ℕ, zero, suc, ◌*◌, ◌^◌, ◌≤◌, arith, refl, sym, w64, ◌∙◌, ap, ⊎_elim}
+--   held_sum          so a machine's sum of two numbers within 2^61 is their sum
+--   product_limit     edges that each carry a limited amount carry so many times the limit together
+use Rattle.std.proofs.Common.{◌≡◌, ℕ, zero, suc, ◌*◌, ◌^◌, ◌≤◌, arith, refl, sym, w64, FitsSigned, ◌∙◌, ap, ⊎_elim}
 use Rattle.std.proofs.lemmas.Bool.{cases_eq}
-use Rattle.std.proofs.lemmas.Int.{ints}
-use Rattle.std.proofs.Math.IntN.{ℤ, pos, ◌-ℤ◌, ◌*ℤ◌, zero-*ℤ, *ℤ_comm}
+use Rattle.std.proofs.lemmas.Int.{ints, unsigned_abs-mul}
+use Rattle.std.proofs.Math.Nat.{mul-le-mul}
+use Rattle.std.proofs.Math.IntN.{ℤ, pos, ◌+ℤ◌, ◌-ℤ◌, ◌*ℤ◌, zero-*ℤ, *ℤ_comm}
 use Rattle.std.specs.Int.RustNames.{unsigned_abs}
 use Rattle.std.specs.Int.{w128}
 use mir.Val.{to_z, of_z}
 use Rattle.dg_theory.specs.Sums.{sum_below, total_below}
 use Rattle.dg_theory.specs.Multigraph.{Multigraph, IsMultigraph, edges_between, valence}
 use Rattle.dg_theory.specs.Firing.{Amounts, gain}
-use Rattle.dg_theory.proofs.Absolute.{within_abs}
+use Rattle.dg_theory.proofs.Absolute.{within_abs, abs-add}
 use Rattle.dg_theory.proofs.Products.{mulz-sub}
 use Rattle.dg_theory.proofs.SumLaws.{sum_below-cong}
 use Rattle.dg_theory.proofs.SumSwap.{sum_below-scale, sum_below-sub}
@@ -50,13 +54,23 @@ gain-row g s v n graph few =
     sum_below-past g.size n (λ w. pos (edges_between g v w) *ℤ s w) few (λ w past. rw (graph.inside v w past) (zero-*ℤ (s w))) in
     gain-products g s v ∙ ap (λ (z : ℤ). z -ℤ pos (valence g v) *ℤ s v) (sym same)
 
+pub held : (z : ℤ) → unsigned_abs z ≤ 2 ^ 62 → FitsSigned w64 z × (to_z w64 (of_z w64 z) ≡ z)
+held z small = let (low, high) = within_abs z (2 ^ 62) small in (omega (arith, ints), omega (arith, ints))
+
+pub wide_held : (z : ℤ) → unsigned_abs z ≤ 2 ^ 126 → FitsSigned w128 z × (to_z w128 (of_z w128 z) ≡ z)
+wide_held z small = let (low, high) = within_abs z (2 ^ 126) small in (omega (arith, ints), omega (arith, ints))
+
 pub carried_held : (edges : ℕ) (each flow : ℤ) → unsigned_abs each ≤ 100000000000000 →
     flow ≡ pos edges *ℤ to_z w64 (of_z w64 each) → unsigned_abs flow ≤ 255 * unsigned_abs (to_z w64 (of_z w64 each)) →
     (flow ≡ pos edges *ℤ each) × (unsigned_abs flow ≤ 25500000000000000)
 carried_held edges each flow small value limit =
-    let (low, high) = within_abs each 100000000000000 small in
-    let held : to_z w64 (of_z w64 each) ≡ each = omega (arith, ints) in
-    (value ∙ ap (λ (z : ℤ). pos edges *ℤ z) held, omega (arith, ap unsigned_abs held))
+    let same = (held each (omega arith)).1 in
+    (value ∙ ap (λ (z : ℤ). pos edges *ℤ z) same, omega (arith, ap unsigned_abs same))
 
-pub times_held : (z : ℤ) → unsigned_abs z ≤ 2 ^ 120 → to_z w128 (of_z w128 z) ≡ z
-times_held z small = let (low, high) = within_abs z (2 ^ 120) small in omega (arith, ints)
+pub held_sum : (a b : ℤ) → unsigned_abs a ≤ 2 ^ 61 → unsigned_abs b ≤ 2 ^ 61 →
+    FitsSigned w64 (to_z w64 (of_z w64 a) +ℤ to_z w64 (of_z w64 b)) × (to_z w64 (of_z w64 (to_z w64 (of_z w64 a) +ℤ to_z w64 (of_z w64 b))) ≡ a +ℤ b)
+held_sum a b first second =
+    rw ((held a (omega arith)).1, (held b (omega arith)).1) (held (a +ℤ b) (abs-add a b (2 ^ 61) (2 ^ 61) first second))
+
+pub product_limit : (edges most : ℕ) (each : ℤ) (limit : ℕ) → edges ≤ most → unsigned_abs each ≤ limit → unsigned_abs (pos edges *ℤ each) ≤ most * limit
+product_limit edges most each limit few small = omega (arith, unsigned_abs-mul (pos edges) each, mul-le-mul few small)

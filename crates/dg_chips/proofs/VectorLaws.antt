@@ -6,17 +6,20 @@
 --   filled-set    the law of filled lists with 0 past the end
 --   rest-set      the law of the rest for 0
 --   single        zeros with x written at v are x at v and 0 elsewhere
+--   one_more      numbers of which one is replaced by so much more are so much more at that place
+--   one_written   a vector with another number within the limit at one place is within the limit
 --   only_at_small a script of one small entry is within the limit
 --   within_all    past the size too, the numbers of a vector are within its limit
-use Rattle.std.proofs.Common.{◌≡◌, ◌≢◌, ℕ, ◌+◌, ◌<◌, ◌≤◌, List, length, slice_set, arith, inl, inr, get_or-set_same, get_or-set_other, below_more, ◌∙◌, nat_eq, true, false, lit≤}
+use Rattle.std.proofs.Common.{◌≡◌, ◌≢◌, ℕ, ◌+◌, ◌<◌, ◌≤◌, List, length, slice_set, arith, inl, inr, get_or-set_same, get_or-set_other, below_more, sym, ◌∙◌, nat_eq, true, false, lit≤}
 use Rattle.std.specs.Int.RustNames.{unsigned_abs}
 use Rattle.std.specs.Prelude.{replicate, if◌then◌else◌}
 use Rattle.std.specs.List.{slice_index_or}
-use Rattle.std.proofs.Math.IntN.{ℤ, pos}
-use Rattle.std.proofs.lemmas.Bool.{cases_lt}
+use Rattle.std.proofs.Math.IntN.{ℤ, pos, ◌+ℤ◌, +ℤ_idr}
+use Rattle.std.proofs.lemmas.Bool.{cases_lt, cases_eq}
+use Rattle.std.proofs.lemmas.Int.{ints}
 use Rattle.std.proofs.lemmas.List.{get_or-replicate, get_or_past, length-replicate}
-use Rattle.std.proofs.lemmas.Bool.Decides.{nat_tests}
 use Rattle.dg_theory.specs.Firing.{only_at}
+use Rattle.dg_theory.proofs.Plays.{only_at-here, only_at-other}
 use Rattle.dg_chips.specs.Vector.{Vector, IsVector, at}
 
 pub at_same : {X : Type 0} (n v : ℕ) (x : X) → slice_index_or (replicate n x) v x ≡ x
@@ -49,19 +52,31 @@ pub rest-set : (xs : List ℤ) (v : ℕ) (x : ℤ) → ((u : ℕ) → v ≤ u �
     (u : ℕ) → v + 1 ≤ u → slice_index_or (slice_set xs v x) u (pos 0) ≡ pos 0
 rest-set = rest (pos 0)
 
-pub single : (n v : ℕ) (x : ℤ) → v < n → (w : ℕ) → slice_index_or (slice_set (replicate n (pos 0)) v x) w (pos 0) ≡ only_at v x w
-single n v x within w = elim (cases_lt w v) [
-  | inl below ↦ let other : w ≢ v = omega arith in elsewhere other
-  | inr above ↦ elim (cases_lt v w) [
-    | inl past ↦ let other : w ≢ v = omega arith in elsewhere other
-    | inr equal ↦
-        let same : w ≡ v = omega arith in
-        rw (same) (get_or-set_same (replicate n (pos 0)) v x (pos 0) (omega (arith, length-replicate n (pos 0))) ∙ grind (arith, nat_tests))
-  ]
+pub one_more : (xs : List ℤ) (v : ℕ) (x more : ℤ) → v < length xs → x ≡ slice_index_or xs v (pos 0) +ℤ more → (w : ℕ) →
+    slice_index_or (slice_set xs v x) w (pos 0) ≡ slice_index_or xs w (pos 0) +ℤ only_at v more w
+one_more xs v x more within sum w = elim (cases_eq w v) [
+  | inl same ↦ rw (same, only_at-here v more) (get_or-set_same xs v x (pos 0) within ∙ sum)
+  | inr other ↦ rw (only_at-other v more w other) (get_or-set_other xs v w x (pos 0) other ∙ sym (+ℤ_idr (slice_index_or xs w (pos 0))))
 ]
-  where
-    elsewhere : w ≢ v → slice_index_or (slice_set (replicate n (pos 0)) v x) w (pos 0) ≡ only_at v x w
-    elsewhere other = get_or-set_other (replicate n (pos 0)) v w x (pos 0) other ∙ at_zeros n w ∙ grind (arith, nat_tests)
+
+pub one_written : (limit : ℕ) (a : Vector) (v : ℕ) (x : ℤ) → v < a.size → v < length a.numbers → unsigned_abs x ≤ limit → IsVector limit a →
+    IsVector limit (record { size = a.size; numbers = slice_set a.numbers v x })
+one_written limit a v x below within small right = record {
+  few = right.few;
+  within = λ w here. elim (cases_eq w v) [
+    | inl same ↦ rw (same, get_or-set_same a.numbers v x (pos 0) within) small
+    | inr other ↦ rw (get_or-set_other a.numbers v w x (pos 0) other) (right.within w here)
+  ];
+  inside = λ w past. let other : w ≢ v = omega arith in get_or-set_other a.numbers v w x (pos 0) other ∙ right.inside w past;
+}
+
+pub single : (n v : ℕ) (x : ℤ) → v < n → (w : ℕ) → slice_index_or (slice_set (replicate n (pos 0)) v x) w (pos 0) ≡ only_at v x w
+single n v x within w =
+    let here : slice_index_or (replicate n (pos 0)) v (pos 0) ≡ pos 0 = at_zeros n v in
+    let there : slice_index_or (replicate n (pos 0)) w (pos 0) ≡ pos 0 = at_zeros n w in
+    let more : slice_index_or (slice_set (replicate n (pos 0)) v x) w (pos 0) ≡ slice_index_or (replicate n (pos 0)) w (pos 0) +ℤ only_at v x w =
+    one_more (replicate n (pos 0)) v x x (omega (arith, length-replicate n (pos 0))) (omega (arith, ints)) w in
+    omega (arith, ints)
 
 pub only_at_small : (v : ℕ) (x : ℤ) → unsigned_abs x ≤ 1 → (w : ℕ) → unsigned_abs (only_at v x w) ≤ 1000000000
 only_at_small v x small w = elim (nat_eq w v) as (λ same. unsigned_abs (if same then x else pos 0) ≤ 1000000000) [

@@ -143,3 +143,21 @@ returns-in-Err-pass_bytes-clause-read g c e =
 pub returns-in-Err-pass_bytes-clause-write : goal.returns-in-Err-pass_bytes-clause-write
 returns-in-Err-pass_bytes-clause-write g c e =
     c.in-Err-pass_bytes.ensures.write (ap Err (inner_end c.in-Err-pass_bytes.end Write e))
+
+pub returns-in_default-clause-read : goal.returns-in_default-clause-read
+returns-in_default-clause-read g c e = absurd cc
+
+pub returns-in_default-clause-write : goal.returns-in_default-clause-write
+returns-in_default-clause-write g c e = absurd cc
+
+pub returns-in_default-read_some-clause-read : goal.returns-in_default-read_some-clause-read
+returns-in_default-read_some-clause-read g c e = c.in_default-read_some.ensures.failed refl
+
+pub returns-in_default-read_some-clause-write : goal.returns-in_default-read_some-clause-write
+returns-in_default-read_some-clause-write g c e = absurd cc
+
+pub returns-in-Ok-pass_end-clause-read : goal.returns-in-Ok-pass_end-clause-read
+returns-in-Ok-pass_end-clause-read g c e = absurd cc
+
+pub returns-in-Ok-pass_end-clause-write : goal.returns-in-Ok-pass_end-clause-write
+returns-in-Ok-pass_end-clause-write g c e = absurd cc
