@@ -5,6 +5,7 @@
 --   gain-row          the same from a longer row
 --   held              a machine's value of a number within 2^62 is that number, which fits
 --   wide_held         the same of 128 bits, within 2^126
+--   times_held        so is its value within 2^120, as the crates above cite it
 --   carried_held      a machine's value of what edges carry is that value, within the limit
 --   held_sum          so a machine's sum of two numbers within 2^61 is their sum
 --   product_limit     edges that each carry a limited amount carry so many times the limit together
@@ -59,6 +60,9 @@ held z small = let (low, high) = within_abs z (2 ^ 62) small in (omega (arith, i
 
 pub wide_held : (z : ℤ) → unsigned_abs z ≤ 2 ^ 126 → FitsSigned w128 z × (to_z w128 (of_z w128 z) ≡ z)
 wide_held z small = let (low, high) = within_abs z (2 ^ 126) small in (omega (arith, ints), omega (arith, ints))
+
+pub times_held : (z : ℤ) → unsigned_abs z ≤ 2 ^ 120 → to_z w128 (of_z w128 z) ≡ z
+times_held z small = (wide_held z (omega arith)).1
 
 pub carried_held : (edges : ℕ) (each flow : ℤ) → unsigned_abs each ≤ 100000000000000 →
     flow ≡ pos edges *ℤ to_z w64 (of_z w64 each) → unsigned_abs flow ≤ 255 * unsigned_abs (to_z w64 (of_z w64 each)) →
