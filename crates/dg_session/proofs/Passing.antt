@@ -6,14 +6,12 @@ use Rattle.std.proofs.Common.{◌≡◌, ℕ, ◌+◌, ◌≤◌, inl, inr, List
 use Rattle.std.proofs.lemmas.Grind.{flat_map-append}
 use Rattle.std.proofs.lemmas.List.Elements.{All-take}
 use Rattle.std.proofs.Math.Seq.{take-append_seam}
-use Rattle.std.specs.Io.KnownBytes.{Appends}
 use Rattle.dg_chips.specs.Opening.{Opening}
 use Rattle.dg_table.specs.Seats.{SeatView}
 use Rattle.dg_session.specs.Streams.{IsLine, with_newline, last_line}
 use Rattle.dg_session.specs.Saying.{AnswersLine, Answers}
-use Rattle.dg_session.specs.Steps.{IsDone, BeginsWith, IsLast, IsEnded, Passes, Halts, HaltsWritten, Tells, RefusesLine}
+use Rattle.dg_session.specs.Steps.{IsDone, BeginsWith, IsLast, IsEnded, Passes, Halts, Tells, RefusesLine}
 use Rattle.dg_session.specs.declared.ends.SessionEnd.{SessionEnd}
-use Rattle.dg_session.specs.declared.ends.SessionEnd.TheVariants.{Read, Write, LongLine, Turns, Table, Memory, Spawn}
 use Rattle.dg_session.proofs.Made.{gains_same}
 use Rattle.dg_session.proofs.Halting.{answers_none, answers_one, halts_line, tells_halt}
 

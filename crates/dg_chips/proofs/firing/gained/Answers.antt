@@ -1,4 +1,4 @@
-use Rattle.std.proofs.Common.{◌≡◌, ℕ, ◌+◌, ◌*◌, arith, refl, ap, w64, ◌∙◌}
+use Rattle.std.proofs.Common.{◌≡◌, ℕ, ◌*◌, arith, refl, ap, w64, ◌∙◌}
 use mir.Val.{to_z}
 use Rattle.std.specs.List.{slice_index_or}
 use Rattle.std.proofs.lemmas.Int.{ints}
