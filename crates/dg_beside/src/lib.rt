@@ -1,4 +1,4 @@
-//! Two closures called side by side, each in a thread of its own.
+//! Two closures called side by side, one of them in a new thread.
 #![tactic(auto)]
 
 mod threads;

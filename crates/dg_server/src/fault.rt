@@ -8,7 +8,6 @@ use dg_session::SessionEnd;
 use dg_sources::SourceFault;
 use dg_streams::WriteFailed;
 use dg_tasks::{TaskFault, call_text};
-use std::alloc::{AllocError, AllocFailed};
 use std::io::{self, Write};
 use thiserror::Error;
 
@@ -18,7 +17,7 @@ pub enum Fault {
     /// The words of the command line ask for nothing.
     #[error(transparent)]
     Words(#[from] WordsFault),
-    /// A task is not done, or a table is not there.
+    /// A file is not read, a table file is refused, or a task is not done.
     #[error(transparent)]
     Task(#[from] TaskFault),
     /// There is not enough memory.
@@ -47,28 +46,6 @@ pub enum Fault {
     /// The output takes no more bytes.
     #[error("write fault")]
     Write,
-}
-
-impl From<AllocError> for Fault {
-    ghost use Rattle.dg_server.specs.declared.fault.Fault.TheVariants.{OutOfMemory};
-    ghost use Rattle.std.specs.Prelude.{◌≡◌};
-
-    ghost from_gives = { λ _ fault. fault ≡ OutOfMemory };
-
-    fn from(_error: AllocError) -> Fault {
-        Fault::OutOfMemory
-    }
-}
-
-impl<T: Drop> From<AllocFailed<T>> for Fault {
-    ghost use Rattle.dg_server.specs.declared.fault.Fault.TheVariants.{OutOfMemory};
-    ghost use Rattle.std.specs.Prelude.{◌≡◌};
-
-    ghost from_gives = { λ _ fault. fault ≡ OutOfMemory };
-
-    fn from(_error: AllocFailed<T>) -> Fault {
-        Fault::OutOfMemory
-    }
 }
 
 impl From<WriteFailed> for Fault {

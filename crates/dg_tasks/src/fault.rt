@@ -9,7 +9,7 @@ use dg_sources::SourceFault;
 use dg_table::Fault;
 use thiserror::Error;
 
-/// Why a task is not done, or the table that it is about is not there. Its text is what the fault line says.
+/// Why a task is not done, or a file or a table that it needs is not there. Its text is what the fault line says.
 #[derive(Debug, Drop, Error)]
 pub enum TaskFault {
     /// A file is not read.
