@@ -41,6 +41,15 @@ impl<T> Facts<T> {
         }
     }
 
+    /// The same once more.
+    pub fn again(&self) -> Facts<T>
+        ensures { result.items ≡ self.now.items }
+    {
+        Facts {
+            marker: PhantomData,
+        }
+    }
+
     /// The value of item i. The condition is that there are more than i.
     pub fn at(&self, i: u32) -> Known<T>
         requires { i < length self.now.items }

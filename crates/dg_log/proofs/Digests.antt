@@ -12,12 +12,13 @@
 --   take_more      the first elements of a list, and the next one
 --   cells_more     the cells of one item more
 --   stands         what a digest says stands in the history, where it agrees with what the pen knows
+--   began          a history that a pen wrote once is the beginning of a longer one, where they agree
 use Rattle.std.proofs.Common.{◌≡◌, ℕ, zero, suc, ◌+◌, ◌<◌, ◌≤◌, List, [], ◌∷◌, ◌++◌, length, map, take, slice_get, Some, arith, refl, sym, ap, ◌∙◌, length-append}
 use Rattle.std.proofs.lemmas.Option.{slice_get_within}
 use Rattle.std.proofs.lemmas.List.{length-map}
 use Rattle.dg_game.specs.declared.entry.Entry.{Entry}
 use Rattle.dg_known.specs.Facts.{AgreesWith, Agree}
-use Rattle.dg_log.specs.Numbered.{AreBelow, StandIn}
+use Rattle.dg_log.specs.Numbered.{AreBelow, StandIn, IsBeginning}
 use Rattle.dg_log.specs.Digests.{said_by, AreNamed, IsEnd}
 
 pub below_up : (m n : ℕ) (ps : List (ℕ × Entry)) → m ≤ n → AreBelow m ps → AreBelow n ps
@@ -97,3 +98,24 @@ stands row (x ∷ items) others agree named cells below =
       agreed x others x.0 agree.0 inside cell,
       stands row items others agree.1 named.1 cells below.1,
     )
+
+first_agrees : (x y : ℕ × ℕ × Entry) (others : List (ℕ × ℕ × Entry)) → AgreesWith x (y ∷ others) → x.1 ≡ y.1 → x.2 ≡ y.2
+first_agrees x y others agrees same = agrees.0 same
+
+agree_past : (items : List (ℕ × ℕ × Entry)) (y : ℕ × ℕ × Entry) (others : List (ℕ × ℕ × Entry)) → Agree items (y ∷ others) → Agree items others
+agree_past [] y others agree = tt
+agree_past (x ∷ items) y others agree = (agree.0.1, agree_past items y others agree.1)
+
+begins_more : (e f : Entry) (K H : List Entry) → e ≡ f → IsBeginning K H → IsBeginning (e ∷ K) (f ∷ H)
+begins_more e f K H same (rest, is) = (rest, ap (λ L. f ∷ L) is ∙ ap (λ d. d ∷ (K ++ rest)) (sym same))
+
+pub began : (row : List ℕ) (items others : List (ℕ × ℕ × Entry)) → Agree items others →
+    map (λ y. y.1) items ≡ take (length items) row → map (λ y. y.1) others ≡ take (length others) row → length items ≤ length others →
+    IsBeginning (map (λ y. y.2) items) (map (λ y. y.2) others)
+began row [] others agree cells more few = (map (λ y. y.2) others, refl)
+began row (x ∷ items) [] agree cells more few = absurd (omega arith)
+began [] (x ∷ items) (y ∷ others) agree cells more few = absurd (cc)
+began (c ∷ row) (x ∷ items) (y ∷ others) agree cells more few =
+    let same : x.1 ≡ y.1 = cc in
+    begins_more x.2 y.2 _ _ (first_agrees x y others agree.0 same)
+    (began row items others (agree_past items y others agree.1) (cc) (cc) (omega arith))

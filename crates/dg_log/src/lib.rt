@@ -4,6 +4,7 @@
 mod digest;
 mod log;
 mod name;
+mod past;
 mod pen;
 mod receipt;
 mod row;
@@ -11,6 +12,7 @@ mod row;
 pub use digest::Digest;
 pub use log::Log;
 pub use name::Name;
+pub use past::Past;
 pub use pen::Pen;
 pub use receipt::Receipt;
 pub use row::{LogFault, Row};

@@ -3,11 +3,12 @@ ghost use Rattle.std.specs.Prelude.{◌≡◌, ◌<◌, ◌≤◌, [], ◌∷◌
 ghost use Rattle.std.specs.List.{slice_get};
 ghost use Rattle.std.specs.declared.option.Option.TheVariants.{Some};
 ghost use Rattle.dg_game.specs.declared.game.TheConstants.{MAX_ENTRIES};
-ghost use Rattle.dg_log.specs.Numbered.{AreBelow, StandIn};
+ghost use Rattle.dg_log.specs.Numbered.{AreBelow, StandIn, IsBeginning};
 
 use crate::digest::Digest;
 use crate::log::Log;
 use crate::name::Name;
+use crate::past::Past;
 use crate::receipt::Receipt;
 use dg_game::Entry;
 use dg_known::{Facts, Known};
@@ -108,5 +109,21 @@ impl<N: Name> Pen<N> {
         ensures { StandIn self.now.entries digest.now }
     {
         digest.facts.agree(&self.facts);
+    }
+
+    /// The history as it stands.
+    pub fn past(&self) -> Past<N>
+        ensures { result ≡ self.now.entries }
+    {
+        Past::of(self.facts.again(), self.len)
+    }
+
+    /// The history that was written begins with what was written once. It does nothing. The condition is that it has as
+    /// many entries, or more.
+    pub fn began(&self, past: &Past<N>)
+        requires { length past.now ≤ length self.now.entries }
+        ensures { IsBeginning past.now self.now.entries }
+    {
+        past.facts.agree(&self.facts);
     }
 }
