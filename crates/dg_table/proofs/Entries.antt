@@ -6,20 +6,22 @@
 --   entries_from          the entries of a seat in what follows the first entries of a history
 --   stands_from           they stand in it
 --   entries_stand         the entries of a seat stand in the history
---   few_from              rising entries of the seat that stand in it are no more than all of the seat's, and are all
---                         where they are as many
---   all_own               rising entries of the seat that stand in the history, as many as all of the seat's, are all
-use Rattle.std.proofs.Common.{◌≡◌, ℕ, zero, suc, ◌+◌, ◌≤◌, ◌==◌, Bool, true, false, cond, List, [], ◌∷◌, ◌++◌, length, slice_get, Some, arith, refl, sym, ap, subst, ◌∙◌, eq-eqb}
+--   entries_both          the entries of a seat in a history are those in its beginning, and then those in the rest
+--   entries_enumerated    the entries of a history that is numbered
+--   own_alone             in a history of one seat its entries are all
+--   own_stand             the entries of the seat in the beginning of a history stand in it
+--   all_own               the entries of the seat in the beginning of a history are all, where they are as many as all
+use Rattle.std.proofs.Common.{◌≡◌, ℕ, suc, ◌+◌, ◌==◌, Bool, true, false, cond, List, [], ◌∷◌, ◌++◌, length, length-append, map, slice_get, Some, arith, refl, sym, ap, subst, ◌∙◌, eq-eqb}
 use Rattle.std.specs.Bool.{⊤}
 use Rattle.std.specs.List.{filter, enumerate_from}
 use Rattle.std.proofs.lemmas.List.{append-nil, nil_from_length}
 use Rattle.std.proofs.lemmas.List.Elements.{filter-append}
 use Rattle.std.proofs.lemmas.Bool.{ne_eqb}
 use Rattle.dg_game.specs.declared.entry.Entry.{Entry}
-use Rattle.dg_log.specs.Numbered.{StandIn}
-use Rattle.dg_table.specs.Seats.{entries_of}
-use Rattle.dg_table.specs.SeatLaws.{NoEntries, OwnEntry, OtherEntry, EntriesStand}
-use Rattle.dg_table.specs.Lock.{AreRising, AreOwn}
+use Rattle.dg_log.specs.Numbered.{StandIn, IsBeginning}
+use Rattle.dg_table.specs.Seats.{AreSeated, entries_of}
+use Rattle.dg_table.proofs.Numbered.{stand_longer}
+use Rattle.dg_table.specs.SeatLaws.{OneSeat, NoEntries, OwnEntry, OtherEntry, EntriesStand}
 
 pub enumerate_from-more : {X : Type 0} (n : ℕ) (xs : List X) (x : X) →
     enumerate_from n (xs ++ x ∷ []) ≡ enumerate_from n xs ++ (n + length xs, x) ∷ []
@@ -64,14 +66,6 @@ stands_after : (n : ℕ) (e : Entry) (H : List Entry) (ps : List (ℕ × Entry))
 stands_after n e H [] stand = tt
 stands_after n e H (p ∷ ps) ((k, number, at), stand) = ((suc k, omega arith, at), stands_after n e H ps stand)
 
--- what stands in a list, with numbers past its first, stands in the rest of it
-stands_past : (n m : ℕ) (e : Entry) (H : List Entry) (ps : List (ℕ × Entry)) → n + 1 ≤ m → AreRising m ps →
-    StandFrom n (e ∷ H) ps → StandFrom (n + 1) H ps
-stands_past n m e H [] past rising stand = tt
-stands_past n m e H (p ∷ ps) past (least, rising) ((zero, number, at), stand) = absurd (omega arith)
-stands_past n m e H (p ∷ ps) past (least, rising) ((suc k, number, at), stand) =
-    ((k, omega arith, at), stands_past n (p.0 + 1) e H ps (omega arith) rising stand)
-
 stands_kept : (n : ℕ) (H : List Entry) (b : Bool) (p : ℕ × Entry) (ps : List (ℕ × Entry)) → StandFrom n H (p ∷ []) →
     StandFrom n H ps → StandFrom n H (cond b (p ∷ ps) ps)
 stands_kept n H true p ps first stand = (first.0, stand)
@@ -93,47 +87,46 @@ stand_in H (p ∷ ps) ((k, number, at), stand) =
 pub entries_stand : EntriesStand
 entries_stand s H = stand_in H (entries_of s H) (stands_from s 0 H)
 
--- xs is no longer than ys, and is ys where it is as long
-abbrev Fills : List (ℕ × Entry) → List (ℕ × Entry) → Type 0
-Fills xs ys = (length xs ≤ length ys) × (length ys ≤ length xs → ys ≡ xs)
+enumerate_from-append : {X : Type 0} (n : ℕ) (xs ys : List X) →
+    enumerate_from n (xs ++ ys) ≡ enumerate_from n xs ++ enumerate_from (n + length xs) ys
+enumerate_from-append n [] ys = let same : n ≡ n + 0 = omega arith in ap (λ i. enumerate_from i ys) same
+enumerate_from-append {X} n (x ∷ xs) ys =
+    let same : (n + 1) + length xs ≡ n + suc (length xs) = omega arith in
+    ap (λ (ps : List (ℕ × X)). (n, x) ∷ ps)
+    (enumerate_from-append (n + 1) xs ys ∙ ap (λ i. enumerate_from (n + 1) xs ++ enumerate_from i ys) same)
 
-fills_both : (b : Bool) (x p : ℕ × Entry) (ps ys : List (ℕ × Entry)) → b ≡ true → x ≡ p → Fills ps ys →
-    Fills (p ∷ ps) (cond b (x ∷ ys) ys)
-fills_both true x p ps ys own same (few, all) = (omega arith, λ many. let rest : ys ≡ ps = all (omega arith) in (cc))
-fills_both false x p ps ys own same fills = absurd (cc)
+pub entries_both : (s : ℕ) (K rest : List Entry) → entries_of s (K ++ rest) ≡ entries_of s K ++ entries_from s (length K) rest
+entries_both s K rest =
+    let test : ℕ × Entry → Bool = λ p. p.1.seat == s in
+    let start : 0 + length K ≡ length K = omega arith in
+    ap (filter test) (enumerate_from-append 0 K rest ∙ ap (λ i. enumerate_from 0 K ++ enumerate_from i rest) start)
+    ∙ filter-append test (enumerate_from 0 K) (enumerate_from (length K) rest)
 
-fills_one : (b : Bool) (x : ℕ × Entry) (ps ys : List (ℕ × Entry)) → Fills ps ys → Fills ps (cond b (x ∷ ys) ys)
-fills_one true x ps ys (few, all) = (omega arith, λ many. absurd (omega arith))
-fills_one false x ps ys fills = fills
+pub own_stand : (s : ℕ) (K H : List Entry) (ps : List (ℕ × Entry)) → IsBeginning K H → entries_of s K ≡ ps → StandIn H ps
+own_stand s K H ps (rest, is) own =
+    subst (λ L. StandIn L ps) (sym is) (stand_longer K rest ps (subst (StandIn K) own (entries_stand s K)))
 
-few_from : (s n : ℕ) (H : List Entry) (ps : List (ℕ × Entry)) → AreRising n ps → AreOwn s ps → StandFrom n H ps →
-    Fills ps (entries_from s n H)
-few_from s n [] [] rising own stand = (omega arith, λ many. refl)
-few_from s n [] (p ∷ ps) rising own ((k, number, at), stand) = absurd (cc)
-few_from s n (e ∷ H) [] rising own stand = (omega arith, λ many. nil_from_length _ (omega arith))
-few_from s n (e ∷ H) (p ∷ ps) (least, rising) (mine, own) ((zero, number, at), stand) =
-    let first : p.0 ≡ n = omega arith in
-    let same : e ≡ p.1 = (cc) in
-    let test : (e.seat == s) ≡ true = eq-eqb e.seat s (ap (λ (x : Entry). x.seat) same ∙ mine) in
-    let head : (n, e) ≡ p = ap (λ i. (i, e)) (sym first) ∙ ap (λ x. (p.0, x)) same in
-    let on : AreRising (n + 1) ps = subst (λ i. AreRising (i + 1) ps) first rising in
-    let rest = stands_past n (n + 1) e H ps (omega arith) on stand in
-    fills_both (e.seat == s) (n, e) p ps (entries_from s (n + 1) H) test head (few_from s (n + 1) H ps on own rest)
-few_from s n (e ∷ H) (p ∷ ps) (least, rising) (mine, own) ((suc k, number, at), stand) =
-    let past : n + 1 ≤ p.0 = omega arith in
-    let there : p.0 ≡ (n + 1) + k = omega arith in
-    let rest = stands_past n (p.0 + 1) e H ps (omega arith) rising stand in
-    fills_one (e.seat == s) (n, e) (p ∷ ps) (entries_from s (n + 1) H)
-    (few_from s (n + 1) H (p ∷ ps) (past, rising) (mine, own) ((k, there, at), rest))
-
-stand_from : (H : List Entry) (ps : List (ℕ × Entry)) → StandIn H ps → StandFrom 0 H ps
-stand_from H [] stand = tt
-stand_from H (p ∷ ps) (at, stand) =
-    let number : p.0 ≡ 0 + p.0 = omega arith in
-    ((p.0, number, at), stand_from H ps stand)
-
-pub all_own : (s : ℕ) (H : List Entry) (ps : List (ℕ × Entry)) → AreRising 0 ps → AreOwn s ps → StandIn H ps →
+pub all_own : (s : ℕ) (K H : List Entry) (ps : List (ℕ × Entry)) → IsBeginning K H → entries_of s K ≡ ps →
     length ps ≡ length (entries_of s H) → entries_of s H ≡ ps
-all_own s H ps rising own stand count =
-    let fills = few_from s 0 H ps rising own (stand_from H ps stand) in
-    fills.1 (omega arith)
+all_own s K H ps (rest, is) own count =
+    let both : entries_of s H ≡ ps ++ entries_from s (length K) rest =
+    ap (entries_of s) is ∙ entries_both s K rest ∙ ap (λ qs. qs ++ entries_from s (length K) rest) own in
+    let size = length-append ps (entries_from s (length K) rest) in
+    let none : entries_from s (length K) rest ≡ [] = nil_from_length _ (omega (arith, size, ap length both, count)) in
+    both ∙ ap (λ qs. ps ++ qs) none ∙ append-nil ps
+
+pub entries_enumerated : (n : ℕ) (H : List Entry) → map (λ (p : ℕ × Entry). p.1) (enumerate_from n H) ≡ H
+entries_enumerated n [] = refl
+entries_enumerated n (e ∷ H) = ap (λ L. e ∷ L) (entries_enumerated (n + 1) H)
+
+alone_from : (n : ℕ) (H : List Entry) → AreSeated 1 H → entries_from 1 n H ≡ enumerate_from n H
+alone_from n [] seated = refl
+alone_from n (e ∷ H) seated =
+    let bounds = seated 0 e refl in
+    let one : e.seat ≡ 1 = omega (arith, bounds.0, bounds.1) in
+    let F = entries_from 1 (n + 1) H in
+    ap (λ b. cond b ((n, e) ∷ F) F) (eq-eqb e.seat 1 one)
+    ∙ ap (λ (ps : List (ℕ × Entry)). (n, e) ∷ ps) (alone_from (n + 1) H (λ k x at. seated (suc k) x at))
+
+pub own_alone : OneSeat
+own_alone H seated = alone_from 0 H seated

@@ -1,6 +1,7 @@
 -- One step of a table.
+--   history_more  a history of the table, with one more entry, is one
 --   holds_more    a history that holds what a seat knows, with one more entry of the seat, holds what it then knows
---   kept_more     what a seat keeps fits together after it kept one more entry of its own, past all that it kept
+--   kept_more     what a seat keeps fits together after one more call of its own
 --   answered      how a call is answered by the receipt of an entry that the game allows
 --   settled       how a finding is entered, where its call is answered, its look stands and the seat is told of the look
 --   settling_refused   how a finding is refused, where its seat is admissible, its look's number is in the history, and the step
@@ -8,7 +9,7 @@
 --   held_none     what the lock holds at the start
 --   held_more     what the lock holds after one more entry
 use Rattle.std.proofs.Common.{inl, inr, Bool, ◌≡◌, Option, ℕ, ◌+◌, ◌<◌, ◌≤◌, List, [], ◌∷◌, ◌++◌, length, get_or, set, slice_get, Some, arith, refl, sym, ap, subst, ◌∙◌}
-use Rattle.std.proofs.lemmas.List.{length-set}
+use Rattle.std.proofs.lemmas.List.{length-set, length_push, append-nil}
 use Rattle.std.proofs.lemmas.Option.{slice_get_within}
 use Rattle.dg_chips.specs.Opening.{Opening}
 use Rattle.dg_game.specs.Legal.{IsLegal}
@@ -26,56 +27,68 @@ use Rattle.dg_table.specs.Faults.{RefusesStep, RefusesSettling}
 use Rattle.dg_table.specs.declared.fault.Fault.{Fault}
 use Rattle.dg_table.specs.declared.fault.Fault.TheVariants.{OutOfMemory, Full, Log}
 use Rattle.dg_table.specs.Lock.{IsUnderLock, IsKept, IsSeated}
-use Rattle.dg_log.specs.Numbered.{AreBelow}
+use Rattle.dg_log.specs.Numbered.{IsBeginning}
+use Rattle.dg_table.specs.Histories.{IsHistoryOf}
 use Rattle.dg_table.specs.Looks.{IsLookOf}
-use Rattle.dg_table.specs.Seats.{SeatView, Holds, IsAdmissible, entries_of}
+use Rattle.dg_table.specs.Seats.{SeatView, Holds, IsAdmissible, AreSeated, entries_of}
 use Rattle.dg_table.specs.Settled.{IsSettledAfter}
 use Rattle.dg_table.proofs.Entries.{own_more}
 use Rattle.dg_table.proofs.Findings.{stale_both, carried_over}
-use Rattle.dg_table.proofs.Numbered.{stand_more, stand_longer, rising_more, owned_more}
+use Rattle.dg_table.proofs.Numbered.{stand_more, stand_longer}
 use Rattle.dg_table.proofs.Counts.{seated_more, counted_more, counted_none}
 
 pub holds_more : (H : List Entry) (e : Entry) (x y : SeatView) → Holds H x → e.seat ≡ x.number → y.number ≡ x.number →
-    y.mine ≡ x.mine ++ (length H, e) ∷ [] → y.told ≡ x.told → Holds (H ++ e ∷ []) y
-holds_more H e x y holds own number mine told = record {
+    y.mine ≡ x.mine ++ (length H, e) ∷ [] → y.told ≡ x.told → y.past ≡ H ++ e ∷ [] → Holds (H ++ e ∷ []) y
+holds_more H e x y holds own number mine told past = record {
+  past = ([], sym (append-nil (H ++ e ∷ [])) ∙ ap (λ K. K ++ []) (sym past));
   mine = ap (λ s. entries_of s (H ++ e ∷ [])) number ∙ own_more x.number H e own
       ∙ ap (λ ps. ps ++ (length H, e) ∷ []) holds.mine ∙ sym mine;
   told = rw told (stand_longer H (e ∷ []) x.told holds.told);
 }
 
-pub kept_more : {o : Opening} {seats s : ℕ} {mine told first second : List (ℕ × Entry)} {look : Option LookData} (n : ℕ)
-    (next : Option LookData) (p : ℕ × Entry) → IsSeated o seats s mine told first second look → AreBelow n mine → n ≤ p.0 →
-    p.1.seat ≡ s → IsKept o (mine ++ p ∷ []) next →
-    IsSeated o seats s (mine ++ p ∷ []) told (first ++ p ∷ []) second next
-kept_more {o} {seats} {s} {mine} {told} {first} {second} {look} n next p seated below past own last = record {
+pub history_more : (o : Opening) (n cap : ℕ) (H : List Entry) (e : Entry) → AreSeated n H → 1 ≤ e.seat → e.seat ≤ n →
+    length H < cap → IsLegal o (H ++ e ∷ []) → IsHistoryOf o n cap (H ++ e ∷ [])
+history_more o n cap H e seated least most room legal = record {
+  legal = legal;
+  few = omega (arith, length_push H e);
+  seated = seated_more n H e seated least most;
+}
+
+pub kept_more : {o : Opening} {n cap s : ℕ} {mine told second : List (ℕ × Entry)} {past : List Entry} {look : Option LookData}
+    (H : List Entry) (e : Entry) (next : Option LookData) → IsSeated o n cap s mine told past second look →
+    IsHistoryOf o n cap (H ++ e ∷ []) → entries_of s H ≡ mine → e.seat ≡ s → IsKept o (mine ++ (length H, e) ∷ []) next →
+    IsSeated o n cap s (mine ++ (length H, e) ∷ []) told (H ++ e ∷ []) second next
+kept_more {o} {n} {cap} {s} {mine} {told} {second} {past} {look} H e next seated found held own last = record {
   least = seated.least;
   most = seated.most;
-  rising = rising_more 0 n mine p (omega arith) seated.rising below past;
-  own = owned_more s mine p seated.own own;
-  own_said = ap (λ ps. ps ++ p ∷ []) seated.own_said;
+  found = found;
+  own = own_more s H e own ∙ ap (λ ps. ps ++ (length H, e) ∷ []) held;
   told_said = seated.told_said;
   look_kept = last;
 }
 
-pub answered : {o : Opening} {H : List Entry} {x : SeatView} (e : Entry) (y : SeatView) →
-    Replies o H e.request e.reply → IsLegal o (H ++ e ∷ []) → Holds H x → e.seat ≡ x.number → y.number ≡ x.number →
-    y.mine ≡ x.mine ++ (length H, e) ∷ [] → y.told ≡ x.told → IsAnsweredAfter o H e.request (length H, e) x y
-answered {o} {H} {x} e y replies legal holds own number mine told = record {
+pub answered : {o : Opening} {n cap : ℕ} {H : List Entry} {x : SeatView} (e : Entry) (y : SeatView) →
+    Replies o H e.request e.reply → IsHistoryOf o n cap (H ++ e ∷ []) → Holds H x → e.seat ≡ x.number → y.number ≡ x.number →
+    y.mine ≡ x.mine ++ (length H, e) ∷ [] → y.told ≡ x.told → y.past ≡ H ++ e ∷ [] →
+    IsAnsweredAfter o n cap H e.request (length H, e) x y
+answered {o} {n} {cap} {H} {x} e y replies history holds own number mine told past = record {
   place = refl;
   seat = own;
   request' = refl;
   reply = replies;
-  legal = legal;
-  holds = holds_more H e x y holds own number mine told;
+  before = holds;
+  history = history;
+  holds = holds_more H e x y holds own number mine told past;
   number = number;
   mine = mine;
   told = told;
+  past = past;
 }
 
-pub settled : (o : Opening) (H : List Entry) (look : ℕ × Entry) (x : LookData) (f : Finding) (r : ℕ × Entry) (s m t : SeatView) →
-    IsAnsweredAfter o H (asked_for x.number f) r s m → IsLookOf o look x → slice_get H look.0 ≡ Some look.1 → KeepsFinding f r.1.reply →
-    t.number ≡ m.number → t.mine ≡ m.mine → t.told ≡ m.told ++ look ∷ [] → IsSettledAfter o H look x f r s t
-settled o H look x f r s m t answered of stands kept number mine told =
+pub settled : (o : Opening) (n cap : ℕ) (H : List Entry) (look : ℕ × Entry) (x : LookData) (f : Finding) (r : ℕ × Entry) (s m t : SeatView) →
+    IsAnsweredAfter o n cap H (asked_for x.number f) r s m → IsLookOf o look x → slice_get H look.0 ≡ Some look.1 → KeepsFinding f r.1.reply →
+    t.number ≡ m.number → t.mine ≡ m.mine → t.told ≡ m.told ++ look ∷ [] → t.past ≡ m.past → IsSettledAfter o n cap H look x f r s t
+settled o n cap H look x f r s m t answered of stands kept number mine told past =
     let hears : t.told ≡ s.told ++ look ∷ [] = told ∙ ap (λ ps. ps ++ look ∷ []) answered.told in
     let there : slice_get (H ++ r.1 ∷ []) look.0 ≡ Some look.1 =
     slice_get-append H (r.1 ∷ []) look.0 (slice_get_within H look.0 look.1 stands) ∙ stands in
@@ -87,14 +100,17 @@ settled o H look x f r s m t answered of stands kept number mine told =
         seat = answered.seat;
         request' = answered.request';
         reply = answered.reply;
-        legal = answered.legal;
+        before = answered.before;
+        history = answered.history;
         holds = record {
+          past = subst (λ K. IsBeginning K (H ++ r.1 ∷ [])) (sym past) answered.holds.past;
           mine = ap (λ n. entries_of n (H ++ r.1 ∷ [])) number ∙ answered.holds.mine ∙ sym mine;
           told = rw told (stand_more (H ++ r.1 ∷ []) m.told look answered.holds.told there);
         };
         number = number ∙ answered.number;
         mine = mine ∙ answered.mine;
         told = hears;
+        past = past ∙ answered.past;
       };
       stands = stands;
       kept = kept;
@@ -102,11 +118,11 @@ settled o H look x f r s m t answered of stands kept number mine told =
       carried = carried_over o H look.0 f r.1.reply kept replies;
     }
 
-pub settling_refused : (o : Opening) (cap : ℕ) (H : List Entry) (i : ℕ) (x : SeatView) (b c : Bool) (f : Fault) → IsAdmissible H x →
-    i < length H → RefusesStep o cap H x b c f → RefusesSettling o cap H i x b c f
-settling_refused o cap H i x b c OutOfMemory admissible read refused = refused
-settling_refused o cap H i x b c Full admissible read refused = refused
-settling_refused o cap H i x b c Log admissible read (room, refused) = (
+pub settling_refused : (o : Opening) (n cap : ℕ) (H : List Entry) (i : ℕ) (x : SeatView) (b c : Bool) (f : Fault) → IsAdmissible H x →
+    i < length H → RefusesStep o n cap H x b c f → RefusesSettling o n cap H i x b c f
+settling_refused o n cap H i x b c OutOfMemory admissible read refused = refused
+settling_refused o n cap H i x b c Full admissible read refused = refused
+settling_refused o n cap H i x b c Log admissible read (room, refused) = (
   room,
   elim refused [
     | inl other ↦ absurd (other.0 admissible)

@@ -8,7 +8,8 @@ use Rattle.dg_chips.specs.Opening.{Opening}
 use Rattle.dg_game.specs.State.{State}
 use Rattle.dg_game.specs.declared.entry.Entry.{Entry}
 use Rattle.dg_game.specs.declared.entry.TheConstants.{MAX_SEATS}
-use Rattle.dg_table.specs.Closing.{AllHeld, AreTotals, IsHistoryOf}
+use Rattle.dg_table.specs.Closing.{AllHeld, AreTotals}
+use Rattle.dg_table.specs.Histories.{IsHistoryOf}
 use Rattle.dg_table.specs.Lock.{IsUnderLock}
 use Rattle.dg_table.specs.Seats.{SeatView, entries_of}
 use Rattle.dg_table.proofs.Counts.{none_past, all_counted}

@@ -14,8 +14,8 @@ use Rattle.dg_table.specs.declared.fault.Fault.{Fault}
 use Rattle.dg_table.specs.declared.fault.Fault.TheVariants.{OutOfMemory, Full, Log}
 
 pub barred_turn : {F : Type 0} (c : Mut F (Bor Multigraph × (Bor Vector × Unit {0})) (Option Move)) (f : F) (o : Opening)
-    (cap : ℕ) (H : List Entry) (x : SeatView) (b : Bool) (e : Fault) → RefusesStep o cap H x b b e →
-    (e ≡ Log → ¬ IsAdmissible H x) → RefusesTurnAfter c o cap H x b b f f e
-barred_turn c f o cap H x b OutOfMemory refused barred = refused
-barred_turn c f o cap H x b Full refused barred = (refused.0, refused.1, refl)
-barred_turn c f o cap H x b Log refused barred = (refused.0, inl (barred refl, refl, refl))
+    (n cap : ℕ) (H : List Entry) (x : SeatView) (b : Bool) (e : Fault) → RefusesStep o n cap H x b b e →
+    (e ≡ Log → ¬ IsAdmissible H x) → RefusesTurnAfter c o n cap H x b b f f e
+barred_turn c f o n cap H x b OutOfMemory refused barred = refused
+barred_turn c f o n cap H x b Full refused barred = (refused.0, refused.1, refl)
+barred_turn c f o n cap H x b Log refused barred = (refused.0, inl (barred refl, refl, refl))

@@ -2,8 +2,8 @@
 --   HasSeat xs s                 == the seat s is among the seats xs
 --   IsComplete n xs              == each of the seats 1 to n is among the seats xs
 --   AllHeld H xs                 == the history H holds what each of the seats xs knows
---   IsClosed o n xs H            == the history H is legal, has calls of the seats 1 to n alone, and holds what each of
---                                   the seats xs knows, among which are all n
+--   IsClosed o n cap xs H        == H is a history of the table, with at most cap entries, and holds what each of the seats xs
+--                                   knows, among which are all n
 --   AreTotals o n xs H e g d c   == e, g and d are the number of entries of H, its gift count and the amounts after it;
 --                                   c has at each seat's place, from 0, the number of its calls, and 0 past the n
 --                                   seats; together they are the number of entries
@@ -11,18 +11,17 @@
 --   SomeKeepsMore H xs           == one of the seats xs is not admissible after H
 --   RefusesClose H n xs s        == s is the least seat that is missing; or s is 0, none is missing, and one of the
 --                                   seats is not admissible after H
---   IsHistoryOf o n cap H        == the history H is legal, and has at most cap entries, of the seats 1 to n alone
---   IsRefused o n cap xs s       == after some such history the close with the seats xs is refused with s
+--   IsRefused o n cap xs s       == after some history of the table the close with the seats xs is refused with s
 use Rattle.std.specs.Prelude.{◌≡◌, ℕ, ◌+◌, ◌<◌, ◌≤◌, List, length, slice_get, Some, ◌⊎◌, sum}
 use Rattle.std.specs.List.{slice_index}
 use Rattle.dg_chips.specs.Opening.{Opening}
 use Rattle.dg_chips.specs.Vector.{Vector}
 use Rattle.dg_game.specs.Position.{Shows}
 use Rattle.dg_game.specs.History.{position_after, gifts_in}
-use Rattle.dg_game.specs.Legal.{IsLegal}
 use Rattle.dg_game.specs.declared.entry.Entry.{Entry}
 use Rattle.dg_game.specs.declared.entry.TheConstants.{MAX_SEATS}
-use Rattle.dg_table.specs.Seats.{SeatView, Holds, IsAdmissible, AreSeated}
+use Rattle.dg_table.specs.Histories.{IsHistoryOf}
+use Rattle.dg_table.specs.Seats.{SeatView, Holds, IsAdmissible}
 
 abbrev pub HasSeat : List SeatView → ℕ → Type 0
 HasSeat xs s = (i : ℕ) × (x : SeatView) × (slice_get xs i ≡ Some x) × (x.number ≡ s)
@@ -33,9 +32,8 @@ IsComplete n xs = (s : ℕ) → 1 ≤ s → s ≤ n → HasSeat xs s
 abbrev pub AllHeld : List Entry → List SeatView → Type 0
 AllHeld H xs = (i : ℕ) (x : SeatView) → slice_get xs i ≡ Some x → Holds H x
 
-pub record IsClosed (o : Opening) (n : ℕ) (xs : List SeatView) (H : List Entry) : Type 0 where
-  pub legal : IsLegal o H
-  pub seated : AreSeated n H
+pub record IsClosed (o : Opening) (n cap : ℕ) (xs : List SeatView) (H : List Entry) : Type 0 where
+  pub history : IsHistoryOf o n cap H
   pub complete : IsComplete n xs
   pub held : AllHeld H xs
 
@@ -59,11 +57,6 @@ SomeKeepsMore H xs = (i : ℕ) × (x : SeatView) × (slice_get xs i ≡ Some x) 
 
 abbrev pub RefusesClose : List Entry → ℕ → List SeatView → ℕ → Type 0
 RefusesClose H n xs s = IsMissing n xs s ⊎ ((s ≡ 0) × IsComplete n xs × SomeKeepsMore H xs)
-
-pub record IsHistoryOf (o : Opening) (n cap : ℕ) (H : List Entry) : Type 0 where
-  pub legal : IsLegal o H
-  pub few : length H ≤ cap
-  pub seated : AreSeated n H
 
 abbrev pub IsRefused : Opening → ℕ → ℕ → List SeatView → ℕ → Type 0
 IsRefused o n cap xs s = (H : List Entry) × IsHistoryOf o n cap H × RefusesClose H n xs s

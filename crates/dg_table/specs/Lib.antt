@@ -1,6 +1,7 @@
 -- The locked table: what seats know, how they are answered, and how the table is closed.
 pub mod Seats
 pub mod SeatLaws
+pub mod Histories
 pub mod Opened
 pub mod Answered
 pub mod Looks

@@ -1,16 +1,15 @@
 -- What the lock holds.
 --   AreCounted counts H        == the place of each seat, from 0, has the number of its entries in H
---   AreRising n ps             == the numbers of the entries ps rise, the first being at least n
---   AreOwn s ps                == the entries ps are of the seat s
 --   IsUnderLock o n H game counts   == the game and the counts are those of the legal history H, whose entries are of the
 --                                 seats 1 to n
 --   IsReady cap H x            == the history H has room for an entry of the seat x, which is admissible, and holds what
 --                                 it knows
 --   IsKept o ps look           == the look that is kept is the last of the entries ps, and shows an amount for each
 --                                 vertex of the opening o
---   IsSeated o n s ps qs d e look   == what the seat s of n keeps fits together: its own entries ps and those that it was
---                                      told of, qs; its two digests d and e are of these, and look is its last look
-use Rattle.std.specs.Prelude.{◌≡◌, ℕ, ◌+◌, ◌<◌, ◌≤◌, List, [], ◌∷◌, length, Option, IfSome, ⊤}
+--   IsSeated o n cap s ps qs H d look   == what the seat s of n keeps fits together: the history H that it found is one of the
+--                                      table, with the entries ps as its own; the digest d is of the entries qs that it was told
+--                                      of, and look is its last look
+use Rattle.std.specs.Prelude.{◌≡◌, ℕ, ◌+◌, ◌<◌, ◌≤◌, List, length, Option, IfSome}
 use Rattle.std.specs.List.{slice_index}
 use Rattle.dg_chips.specs.Opening.{Opening}
 use Rattle.dg_game.specs.Legal.{IsSeat, IsLegal}
@@ -19,19 +18,12 @@ use Rattle.dg_game.specs.declared.entry.Entry.{Entry}
 use Rattle.dg_game.specs.declared.entry.TheConstants.{MAX_SEATS}
 use Rattle.dg_game.specs.declared.game.TheConstants.{MAX_ENTRIES}
 use Rattle.dg_game.specs.declared.look.LookData.{LookData}
+use Rattle.dg_table.specs.Histories.{IsHistoryOf}
 use Rattle.dg_table.specs.Looks.{IsLastLook}
 use Rattle.dg_table.specs.Seats.{SeatView, Holds, IsAdmissible, AreSeated, entries_of}
 
 abbrev pub AreCounted : List ℕ → List Entry → Type 0
 AreCounted counts H = (s : ℕ) → s < MAX_SEATS → slice_index counts s ≡ length (entries_of (s + 1) H)
-
-abbrev pub AreRising : ℕ → List (ℕ × Entry) → Type 0
-AreRising n [] = ⊤
-AreRising n (p ∷ ps) = (n ≤ p.0) × AreRising (p.0 + 1) ps
-
-abbrev pub AreOwn : ℕ → List (ℕ × Entry) → Type 0
-AreOwn s [] = ⊤
-AreOwn s (p ∷ ps) = (p.1.seat ≡ s) × AreOwn s ps
 
 pub record IsUnderLock (o : Opening) (n : ℕ) (H : List Entry) (game : State) (counts : List ℕ) : Type 0 where
   pub legal : IsLegal o H
@@ -52,11 +44,11 @@ pub record IsKept (o : Opening) (ps : List (ℕ × Entry)) (look : Option LookDa
   pub last : IsLastLook o ps look
   pub size : IfSome look (λ x. x.position.size ≡ o.graph.size)
 
-pub record IsSeated (o : Opening) (n s : ℕ) (ps qs d e : List (ℕ × Entry)) (look : Option LookData) : Type 0 where
+pub record IsSeated (o : Opening) (n cap s : ℕ) (ps qs : List (ℕ × Entry)) (H : List Entry) (d : List (ℕ × Entry))
+    (look : Option LookData) : Type 0 where
   pub least : 1 ≤ s
   pub most : s ≤ n
-  pub rising : AreRising 0 ps
-  pub own : AreOwn s ps
-  pub own_said : d ≡ ps
-  pub told_said : e ≡ qs
+  pub found : IsHistoryOf o n cap H
+  pub own : entries_of s H ≡ ps
+  pub told_said : d ≡ qs
   pub look_kept : IsKept o ps look

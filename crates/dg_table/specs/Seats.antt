@@ -1,17 +1,19 @@
 -- What a seat knows of the history.
 --   entries_of s H     == the entries of the seat s in the history H, each with its number, in order
 --   AreSeated n H      == each entry of the history H is one of the seats 1 to n
---   SeatView           == a seat's number, the entries of its own calls, the entries that it was told of, whether it has
---                         space for one more call, and whether it has space to be told of one more entry
---   Holds H x          == the history H holds what the seat x knows: the seat's entries in H are just those of its own
---                         calls, each once and in order, and every entry that it was told of stands in H at its number
---   IsAdmissible H x   == H has an entry of each number that the seat x keeps, and as many of the seat's entries as it
---                         keeps
+--   SeatView           == a seat's number, the entries of its own calls, the entries that it was told of, the history as it
+--                         found it at its last call, whether it has space for one more call, and whether it has space to be
+--                         told of one more entry
+--   Holds H x          == the history H holds what the seat x knows: H begins with the history that it found; its entries in H
+--                         are just those of its own calls, each once and in order; and every entry that it was told of stands
+--                         in H at its number
+--   IsAdmissible H x   == H has as many entries as the seat x found, or more, an entry of each number that it was told of, and
+--                         as many of the seat's entries as it keeps
 --   Keeps x y          == the seat y is the seat x and knows the same
 use Rattle.std.specs.Prelude.{◌≡◌, ℕ, ◌==◌, ◌≤◌, List, Bool, Some, length, slice_get}
 use Rattle.std.specs.List.{filter, enumerate_from}
 use Rattle.dg_game.specs.declared.entry.Entry.{Entry}
-use Rattle.dg_log.specs.Numbered.{AreBelow, StandIn}
+use Rattle.dg_log.specs.Numbered.{AreBelow, StandIn, IsBeginning}
 
 abbrev pub entries_of : ℕ → List Entry → List (ℕ × Entry)
 entries_of s H = filter (λ p. p.1.seat == s) (enumerate_from 0 H)
@@ -23,15 +25,17 @@ pub record SeatView : Type 0 where
   pub number : ℕ
   pub mine : List (ℕ × Entry)
   pub told : List (ℕ × Entry)
+  pub past : List Entry
   pub space : Bool
   pub hears : Bool
 
 pub record Holds (H : List Entry) (x : SeatView) : Type 0 where
+  pub past : IsBeginning x.past H
   pub mine : entries_of x.number H ≡ x.mine
   pub told : StandIn H x.told
 
 pub record IsAdmissible (H : List Entry) (x : SeatView) : Type 0 where
-  pub mine : AreBelow (length H) x.mine
+  pub past : length x.past ≤ length H
   pub told : AreBelow (length H) x.told
   pub count : length x.mine ≡ length (entries_of x.number H)
 
@@ -39,3 +43,4 @@ pub record Keeps (x y : SeatView) : Type 0 where
   pub number : y.number ≡ x.number
   pub mine : y.mine ≡ x.mine
   pub told : y.told ≡ x.told
+  pub past : y.past ≡ x.past

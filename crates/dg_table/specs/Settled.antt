@@ -2,9 +2,9 @@
 --   IsCarriedTo p q f reply      == the finding f is entered for the position p: a verdict that is right there, reckoned
 --                                   from the vertex q, whose script leads from the amounts of p to the divisor that was
 --                                   found; or a rank test that is right there
---   IsSettledAfter o H look x f r s t   == the finding f on the look, of which x is kept, is entered by the seat s with
+--   IsSettledAfter o n cap H look x f r s t   == the finding f on the look, of which x is kept, is entered by the seat s with
 --                                   the receipt r after the history H, and leaves the seat t, which was told of the look
---   IsSettled o look x f r s t   == it is so entered after some history
+--   IsSettled o n cap look x f r s t   == it is so entered after some history
 use Rattle.std.specs.Prelude.{◌≡◌, ◌≢◌, ◌↔◌, ℕ, List, [], ◌∷◌, ◌++◌, take, slice_get, Some}
 use Rattle.dg_theory.specs.Firing.{FiresTo}
 use Rattle.dg_chips.specs.Opening.{Opening}
@@ -29,9 +29,9 @@ IsCarriedTo p q (Judged v) (Verdict w) =
 IsCarriedTo p q (Ranked v) (Rank w) = IsRankTest p.graph p.amounts (degree_of v) w
 IsCarriedTo p q f reply = ⊥
 
-pub record IsSettledAfter (o : Opening) (H : List Entry) (look : ℕ × Entry) (x : LookData) (f : Finding) (r : ℕ × Entry)
+pub record IsSettledAfter (o : Opening) (n cap : ℕ) (H : List Entry) (look : ℕ × Entry) (x : LookData) (f : Finding) (r : ℕ × Entry)
     (s t : SeatView) : Type 0 where
-  pub entered : IsEnteredAfter o H (asked_for x.number f) (s.told ++ look ∷ []) r s t
+  pub entered : IsEnteredAfter o n cap H (asked_for x.number f) (s.told ++ look ∷ []) r s t
   pub stands : slice_get H look.0 ≡ Some look.1
   pub kept : KeepsFinding f r.1.reply
   -- gifts were accepted since the look
@@ -39,5 +39,5 @@ pub record IsSettledAfter (o : Opening) (H : List Entry) (look : ℕ × Entry) (
   -- no gift was
   pub carried : gifts_in (take look.0 H) ≡ gifts_in H → IsCarriedTo (position_after o H) o.q f r.1.reply
 
-abbrev pub IsSettled : Opening → ℕ × Entry → LookData → Finding → ℕ × Entry → SeatView → SeatView → Type 0
-IsSettled o look x f r s t = (H : List Entry) × IsSettledAfter o H look x f r s t
+abbrev pub IsSettled : Opening → ℕ → ℕ → ℕ × Entry → LookData → Finding → ℕ × Entry → SeatView → SeatView → Type 0
+IsSettled o n cap look x f r s t = (H : List Entry) × IsSettledAfter o n cap H look x f r s t

@@ -4,14 +4,14 @@
 --   IsAsked c f g d m f'          == asked once, at the graph g and the amounts d, f answers m, and is then f'
 --   request_for m                 == what is asked of the game where the answer is m: that move, and a claim where it is none
 --   IsAskedAfter c o H f m f'     == f is so asked at the position after the history H from the opening o
---   IsTurnAfter c o H f f' r x y  == f is so asked, once, and what it answers is the call of the seat x that is entered with
+--   IsTurnAfter c o n cap H f f' r x y  == f is so asked, once, and what it answers is the call of the seat x that is entered with
 --                                    the receipt r after H, and leaves the seat y
---   IsTurn c o f f' r x y         == so it is, after some history
---   RefusesTurnAfter c o cap H x b s f f' e == the turn after H of a seat x that has the space for it is refused with e; b and s
+--   IsTurn c o n cap f f' r x y         == so it is, after some history
+--   RefusesTurnAfter c o n cap H x b s f f' e == the turn after H of a seat x that has the space for it is refused with e; b and s
 --                                    say whether the pen was stuck before it, and is after it. Only where the cell refuses the
 --                                    entry was f asked
---   RefusesTurn c o cap x f f' e  == what is known where the turn of the seat x was refused with e
-use Rattle.std.specs.Prelude.{◌≡◌, ℕ, ◌<◌, List, [], ◌∷◌, length, Bool, true, Option, Some, None, ◌⊎◌}
+--   RefusesTurn c o n cap x f f' e  == what is known where the turn of the seat x was refused with e
+use Rattle.std.specs.Prelude.{◌≡◌, ℕ, ◌<◌, List, length, Bool, true, Option, Some, None, ◌⊎◌}
 use Rattle.std.specs.Fn.{Mut, Called, Takes}
 use Rattle.std.specs.Borrow.{Bor}
 use Rattle.dg_theory.specs.Multigraph.{Multigraph}
@@ -49,21 +49,21 @@ module _ {F : Type 0} (c : Mut F (Bor Multigraph × (Bor Vector × Unit {0})) (O
     pub shown : Shows (position_after o H) amounts
     pub answers : IsAsked c f (position_after o H).graph amounts m f'
 
-  pub record IsTurnAfter (H : List Entry) (f f' : F) (r : ℕ × Entry) (x y : SeatView) : Type 0 where
+  pub record IsTurnAfter (n cap : ℕ) (H : List Entry) (f f' : F) (r : ℕ × Entry) (x y : SeatView) : Type 0 where
     pub answer : Option Move
     pub asked : IsAskedAfter H f answer f'
-    pub answered : IsAnsweredAfter o H (request_for answer) r x y
+    pub answered : IsAnsweredAfter o n cap H (request_for answer) r x y
 
-  abbrev pub IsTurn : F → F → ℕ × Entry → SeatView → SeatView → Type 0
-  IsTurn f f' r x y = (H : List Entry) × IsTurnAfter H f f' r x y
+  abbrev pub IsTurn : ℕ → ℕ → F → F → ℕ × Entry → SeatView → SeatView → Type 0
+  IsTurn n cap f f' r x y = (H : List Entry) × IsTurnAfter n cap H f f' r x y
 
-  abbrev pub RefusesTurnAfter : ℕ → List Entry → SeatView → Bool → Bool → F → F → Fault → Type 0
-  RefusesTurnAfter cap H x b s f f' OutOfMemory = ⊥
-  RefusesTurnAfter cap H x b s f f' Full = StandsFull o cap H x × (s ≡ b) × (f' ≡ f)
-  RefusesTurnAfter cap H x b s f f' Log = (length H < cap) × (((¬ IsAdmissible H x) × (s ≡ b) × (f' ≡ f))
+  abbrev pub RefusesTurnAfter : ℕ → ℕ → List Entry → SeatView → Bool → Bool → F → F → Fault → Type 0
+  RefusesTurnAfter n cap H x b s f f' OutOfMemory = ⊥
+  RefusesTurnAfter n cap H x b s f f' Full = StandsFull o n cap H x × (s ≡ b) × (f' ≡ f)
+  RefusesTurnAfter n cap H x b s f f' Log = (length H < cap) × (((¬ IsAdmissible H x) × (s ≡ b) × (f' ≡ f))
       ⊎ (IsAdmissible H x × (s ≡ true) × ((m : Option Move) × IsAskedAfter H f m f')))
 
-  abbrev pub RefusesTurn : ℕ → SeatView → F → F → Fault → Type 0
-  RefusesTurn cap x f f' OutOfMemory = f' ≡ f
-  RefusesTurn cap x f f' Full = (f' ≡ f) × ((H : List Entry) × StandsFull o cap H x)
-  RefusesTurn cap x f f' Log = (f' ≡ f) ⊎ ((H : List Entry) × (m : Option Move) × IsAskedAfter H f m f')
+  abbrev pub RefusesTurn : ℕ → ℕ → SeatView → F → F → Fault → Type 0
+  RefusesTurn n cap x f f' OutOfMemory = f' ≡ f
+  RefusesTurn n cap x f f' Full = (f' ≡ f) × ((H : List Entry) × StandsFull o n cap H x)
+  RefusesTurn n cap x f f' Log = (f' ≡ f) ⊎ ((H : List Entry) × (m : Option Move) × IsAskedAfter H f m f')

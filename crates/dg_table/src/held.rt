@@ -7,10 +7,11 @@ ghost use Rattle.dg_game.specs.Replies.{Replies};
 ghost use Rattle.dg_game.specs.Schedule.{asked};
 ghost use Rattle.dg_game.specs.State.{LeadsTo};
 ghost use Rattle.dg_table.specs.Answered.{IsAnsweredAfter};
-ghost use Rattle.dg_table.specs.Closing.{HasSeat, IsComplete, AllHeld, AreTotals, IsMissing, SomeKeepsMore, RefusesClose, IsHistoryOf};
+ghost use Rattle.dg_table.specs.Closing.{HasSeat, IsComplete, AllHeld, AreTotals, IsMissing, SomeKeepsMore, RefusesClose};
 ghost use Rattle.dg_table.specs.Faults.{RefusesStep, RefusesSettling};
 ghost use Rattle.dg_table.specs.declared.fault.Fault.TheVariants.{Log as LogFault};
 ghost use Rattle.dg_game.specs.declared.entry.Entry.{Entry as EntryData};
+ghost use Rattle.dg_table.specs.Histories.{IsHistoryOf};
 ghost use Rattle.dg_table.specs.Lock.{IsReady, IsKept};
 ghost use Rattle.dg_table.specs.Looks.{IsLookOf};
 ghost use Rattle.dg_table.specs.Opened.{MayHaveSeats};
@@ -66,8 +67,8 @@ impl<N: Name> Held<N> {
         }
     }
 
-    /// Whether the history has an entry of each number that the seat keeps, and as many entries of the seat as it
-    /// keeps. Then the history holds what the seat knows.
+    /// Whether the history has as many entries as the seat found at its last call, or more, an entry of each number that it was
+    /// told of, and as many entries of the seat as it keeps. Then the history holds what the seat knows.
     pub fn admits(&self, seat: &Seat<N>) -> bool
         ensures admits { IsTrue result ↔ IsAdmissible self.now.entries seat.now }
         ensures holds { IsTrue result → Holds self.now.entries seat.now }
@@ -76,12 +77,12 @@ impl<N: Name> Held<N> {
         let count = self.counts[usize::from(seat.number - 1)];
         let len = self.pen.len();
         if seat.mine.len() as u64 != count
-            || !seat.mine_digest.below(len)
+            || seat.past.len() > len
             || !seat.told_digest.below(len)
         {
             return false;
         }
-        self.pen.holds(&seat.mine_digest);
+        self.pen.began(&seat.past);
         self.pen.holds(&seat.told_digest);
         true
     }
@@ -90,14 +91,12 @@ impl<N: Name> Held<N> {
     fn ready(&self, log: &Log<N>, seat: &Seat<N>) -> Result<(), Fault>
         ensures stands { MatchResult result
             (λ _. IsReady (length N.cells) self.now.entries seat.now)
-            (RefusesStep N.start (length N.cells) self.now.entries seat.now self.now.stuck self.now.stuck) }
+            (RefusesStep N.start N.seats (length N.cells) self.now.entries seat.now self.now.stuck self.now.stuck) }
         ensures barred { IfErr result (λ f. f ≡ LogFault → ¬ IsAdmissible self.now.entries seat.now) }
     {
         let len = self.pen.len();
         if len == log.len() {
-            if seat.mine_digest.below(len) {
-                self.pen.holds(&seat.mine_digest);
-            }
+            self.pen.began(&seat.past);
             if seat.told_digest.below(len) {
                 self.pen.holds(&seat.told_digest);
             }
@@ -123,11 +122,10 @@ impl<N: Name> Held<N> {
         plain: Plain,
     ) -> Result<Receipt<N>, Fault>
         requires { seat.old.space ≡ true }
-        ensures entered { IfOk result (λ r. IsAnsweredAfter N.start self.old.entries (asked plain) r seat.old seat.new ×
-            (self.new ≡ record { entries = self.old.entries ++ r.1 ∷ []; stuck = false }) ×
-            (length self.old.entries < length N.cells) × IsAdmissible self.old.entries seat.old) }
+        ensures entered { IfOk result (λ r. IsAnsweredAfter N.start N.seats (length N.cells) self.old.entries (asked plain) r seat.old seat.new ×
+            (self.new ≡ record { entries = self.old.entries ++ r.1 ∷ []; stuck = false })) }
         ensures refused { IfErr result (λ f. (self.new.entries ≡ self.old.entries) × (seat.new ≡ seat.old) ×
-            RefusesStep N.start (length N.cells) self.old.entries seat.old self.old.stuck self.new.stuck f) }
+            RefusesStep N.start N.seats (length N.cells) self.old.entries seat.old self.old.stuck self.new.stuck f) }
     {
         self.ready(log, seat)?;
         let mut game = self.game;
@@ -154,11 +152,10 @@ impl<N: Name> Held<N> {
         requires space { seat.old.space ≡ true }
         requires asked { MayBeAsked F.FnMut choose.old }
         ensures entered { IfOk result (λ r.
-            IsTurnAfter F.FnMut N.start self.old.entries choose.old choose.new r seat.old seat.new ×
-            (self.new ≡ record { entries = self.old.entries ++ r.1 ∷ []; stuck = false }) ×
-            (length self.old.entries < length N.cells) × IsAdmissible self.old.entries seat.old) }
+            IsTurnAfter F.FnMut N.start N.seats (length N.cells) self.old.entries choose.old choose.new r seat.old seat.new ×
+            (self.new ≡ record { entries = self.old.entries ++ r.1 ∷ []; stuck = false })) }
         ensures refused { IfErr result (λ f. (self.new.entries ≡ self.old.entries) × (seat.new ≡ seat.old) ×
-            RefusesTurnAfter F.FnMut N.start (length N.cells) self.old.entries seat.old
+            RefusesTurnAfter F.FnMut N.start N.seats (length N.cells) self.old.entries seat.old
             self.old.stuck self.new.stuck choose.old choose.new f) }
     {
         self.ready(log, seat)?;
@@ -190,11 +187,10 @@ impl<N: Name> Held<N> {
         requires look { IsLookOf N.start look.now shown.now }
         requires found { IsFoundFor N.start.q shown.now finding.now }
         ensures settled { IfOk result (λ r.
-            IsSettledAfter N.start self.old.entries look.now shown.now finding.now r seat.old seat.new ×
-            (self.new ≡ record { entries = self.old.entries ++ r.1 ∷ []; stuck = false }) ×
-            (length self.old.entries < length N.cells) × IsAdmissible self.old.entries seat.old) }
+            IsSettledAfter N.start N.seats (length N.cells) self.old.entries look.now shown.now finding.now r seat.old seat.new ×
+            (self.new ≡ record { entries = self.old.entries ++ r.1 ∷ []; stuck = false })) }
         ensures refused { IfErr result (λ f. (self.new.entries ≡ self.old.entries) × (seat.new ≡ seat.old) ×
-            RefusesSettling N.start (length N.cells) self.old.entries look.now.0 seat.old
+            RefusesSettling N.start N.seats (length N.cells) self.old.entries look.now.0 seat.old
             self.old.stuck self.new.stuck f) }
     {
         self.ready_on(log, seat, look)?;
@@ -215,7 +211,7 @@ impl<N: Name> Held<N> {
         ensures { MatchResult result
             (λ _. IsReady (length N.cells) self.now.entries seat.now ×
             (slice_get self.now.entries look.now.0 ≡ Some look.now.1))
-            (RefusesSettling N.start (length N.cells) self.now.entries look.now.0 seat.now
+            (RefusesSettling N.start N.seats (length N.cells) self.now.entries look.now.0 seat.now
             self.now.stuck self.now.stuck) }
     {
         self.ready(log, seat)?;
@@ -244,13 +240,13 @@ impl<N: Name> Held<N> {
         requires legal { IsLegal N.start (self.old.entries ++ slot.value ∷ []) }
         requires leads { LeadsTo N.start (self.old.entries ++ slot.value ∷ []) game.now }
         ensures entered { IfOk result (λ r.
-            IsAnsweredAfter N.start self.old.entries slot.value.request r seat.old seat.new ×
+            IsAnsweredAfter N.start N.seats (length N.cells) self.old.entries slot.value.request r seat.old seat.new ×
             (self.new ≡ record { entries = self.old.entries ++ r.1 ∷ []; stuck = false })) }
         ensures reply { IfOk result (λ r. r.1.reply ≡ slot.value.reply) }
         ensures hears { IfOk result (λ _. seat.new.hears ≡ true) }
         ensures refused { IfErr result (λ f. (self.new ≡ record { entries = self.old.entries; stuck = true }) ×
             (seat.new ≡ seat.old) ×
-            RefusesStep N.start (length N.cells) self.old.entries seat.old self.old.stuck self.new.stuck f) }
+            RefusesStep N.start N.seats (length N.cells) self.old.entries seat.old self.old.stuck self.new.stuck f) }
     {
         let Ok(receipt) = self.pen.put(log, slot) else {
             return Err(Fault::Log);
@@ -259,7 +255,7 @@ impl<N: Name> Held<N> {
         keep_look(&mut seat.look, &self.game, log.entry(&receipt));
         self.game = *game;
         self.counts[place] += 1;
-        seat.mine_digest = seat.mine_digest.and(&receipt);
+        seat.past = self.pen.past();
         seat.mine.push(receipt.again()).unwrap();
         Ok(receipt)
     }

@@ -1,29 +1,30 @@
 //! Seats: who calls a table, and what they know of its history.
 ghost use Rattle.std.specs.Prelude.{◌≡◌, ◌≤◌, [], ◌∷◌, ◌++◌, length, true, None, IfOk, IfSome, MatchResult};
+ghost use Rattle.dg_table.specs.Histories.{HasPast};
 ghost use Rattle.dg_table.specs.Looks.{IsLastLook};
 ghost use Rattle.dg_table.specs.Opened.{MayHaveSeats, AreFresh};
 ghost use Rattle.dg_table.specs.Seats.{Keeps};
 
 use dg_game::{Entry, LookData, Reply, Request};
-use dg_log::{Digest, Name, Receipt};
+use dg_log::{Digest, Name, Past, Receipt};
 use std::alloc::{AllocError, Global};
 use std::marker::Model;
 
-/// A seat of the table N: the receipts of its own calls, and of the entries that it was told of. A contract sees its
-/// number, these entries with their numbers, whether it has space for one more call, and whether it has space to be told of
-/// one more entry.
+/// A seat of the table N: the receipts of its own calls, and of the entries that it was told of, and the history as it found
+/// it at its last call. A contract sees its number, these entries with their numbers, that history, whether it has space for one
+/// more call, and whether it has space to be told of one more entry.
 #[derive(Drop)]
 pub struct Seat<N: Name> {
     pub(crate) number: u8,
     pub(crate) mine: Vec<Receipt<N>>,
     pub(crate) told: Vec<Receipt<N>>,
-    pub(crate) mine_digest: Digest<N>,
+    pub(crate) past: Past<N>,
     pub(crate) told_digest: Digest<N>,
     pub(crate) look: Option<LookData>,
 }
 
 impl<N: Name> Model for Seat<N> {
-    ghost use Rattle.std.specs.Prelude.{◌&&◌, nat_lt};
+    ghost use Rattle.std.specs.Prelude.{◌&&◌, nat_lt, length};
     ghost use Rattle.std.specs.Vec.{vec_len, vec_capacity};
     ghost use Rattle.dg_table.specs.Seats.{SeatView};
     ghost use Rattle.dg_table.specs.Lock.{IsSeated};
@@ -34,11 +35,12 @@ impl<N: Name> Model for Seat<N> {
       number = x.number;
       mine = x.mine.items;
       told = x.told.items;
+      past = x.past;
       space = nat_lt (vec_len x.mine) (vec_capacity x.mine) && nat_lt (vec_len x.told) (vec_capacity x.told);
       hears = nat_lt (vec_len x.told) (vec_capacity x.told);
     } };
 
-    ghost invariant = { λ x. IsSeated N.start N.seats x.number x.mine.items x.told.items x.mine_digest x.told_digest x.look };
+    ghost invariant = { λ x. IsSeated N.start N.seats (length N.cells) x.number x.mine.items x.told.items x.past x.told_digest x.look };
 }
 
 impl<N: Name> Seat<N> {
@@ -61,12 +63,13 @@ impl<N: Name> Seat<N> {
         ensures number { result.number ≡ number }
         ensures mine { result.mine ≡ [] }
         ensures told { result.told ≡ [] }
+        ensures past { result.past ≡ [] }
     {
         Seat {
             number,
             mine: Vec::new(alloc),
             told: Vec::new(alloc),
-            mine_digest: Digest::new(),
+            past: Past::new(),
             told_digest: Digest::new(),
             look: None,
         }
@@ -84,6 +87,15 @@ impl<N: Name> Seat<N> {
         ensures { result ≡ length self.now.mine }
     {
         self.mine.len() as u64
+    }
+
+    /// The history as the seat found it at its last call, with that call at its end; it is empty before the first call. It is a
+    /// history of the table, and the seat's entries in it are just those of its own calls.
+    pub fn past(&self) -> &Past<N>
+        ensures past { result.now ≡ self.now.past }
+        ensures found { HasPast N.start N.seats (length N.cells) self.now }
+    {
+        &self.past
     }
 
     /// What the seat keeps of the last look that it took; `None` where it took none. The graph is the table's, and the amounts
@@ -104,6 +116,7 @@ impl<N: Name> Seat<N> {
         ensures told { MatchResult result
             (λ _. self.new.told ≡ self.old.told ++ receipt.now ∷ [])
             (λ _. self.new.told ≡ self.old.told) }
+        ensures past { self.new.past ≡ self.old.past }
     {
         self.told.push(receipt.again())?;
         self.told_digest = self.told_digest.and(receipt);
@@ -116,6 +129,7 @@ impl<N: Name> Seat<N> {
         ensures number { self.new.number ≡ self.old.number }
         ensures mine { self.new.mine ≡ self.old.mine }
         ensures told { self.new.told ≡ self.old.told ++ receipt.now ∷ [] }
+        ensures past { self.new.past ≡ self.old.past }
     {
         self.told_digest = self.told_digest.and(receipt);
         self.told.push(receipt.again()).unwrap();

@@ -36,7 +36,8 @@ pub struct Table<N: Name> {
 /// Why a table is not closed. It goes on, and all comes back.
 #[derive(Drop)]
 pub struct CloseFault<N: Name> {
-    /// The least seat that was not handed in, or 0 where all were, and one of them is not admitted.
+    /// The least seat that was not handed in, or 0 where all were. Then one of them is not admitted by the history under the
+    /// lock, which only `Held::missing` can say, since that history has no name here.
     pub missing: u8,
     /// The table.
     pub table: Table<N>,
@@ -92,9 +93,9 @@ impl<N: Name> Table<N> {
         seat: &mut Seat<N>,
         plain: Plain,
     ) -> Result<Receipt<N>, Fault>
-        ensures answered { IfOk result (λ r. IsAnswered N.start (asked plain) r seat.old seat.new) }
+        ensures answered { IfOk result (λ r. IsAnswered N.start N.seats (length N.cells) (asked plain) r seat.old seat.new) }
         ensures fault { IfErr result (λ f. Keeps seat.old seat.new ×
-            RefusesCall N.start (length N.cells) seat.new f) }
+            RefusesCall N.start N.seats (length N.cells) seat.new f) }
     {
         let Ok(slot) = seat.room(alloc) else {
             return Err(Fault::OutOfMemory);
@@ -115,9 +116,9 @@ impl<N: Name> Table<N> {
         choose: &mut F,
     ) -> Result<Receipt<N>, Fault>
         requires { MayBeAsked F.FnMut choose.old }
-        ensures turned { IfOk result (λ r. IsTurn F.FnMut N.start choose.old choose.new r seat.old seat.new) }
+        ensures turned { IfOk result (λ r. IsTurn F.FnMut N.start N.seats (length N.cells) choose.old choose.new r seat.old seat.new) }
         ensures fault { IfErr result (λ f. Keeps seat.old seat.new ×
-            RefusesTurn F.FnMut N.start (length N.cells) seat.new choose.old choose.new f) }
+            RefusesTurn F.FnMut N.start N.seats (length N.cells) seat.new choose.old choose.new f) }
     {
         let Ok(slot) = seat.room(alloc) else {
             return Err(Fault::OutOfMemory);
@@ -143,9 +144,9 @@ impl<N: Name> Table<N> {
     ) -> Result<Receipt<N>, Fault>
         requires look { IsLookOf N.start look.now shown.now }
         requires found { IsFoundFor N.start.q shown.now finding.now }
-        ensures settled { IfOk result (λ r. IsSettled N.start look.now shown.now finding.now r seat.old seat.new) }
+        ensures settled { IfOk result (λ r. IsSettled N.start N.seats (length N.cells) look.now shown.now finding.now r seat.old seat.new) }
         ensures fault { IfErr result (λ f. Keeps seat.old seat.new ×
-            RefusesCall N.start (length N.cells) seat.new f) }
+            RefusesCall N.start N.seats (length N.cells) seat.new f) }
     {
         let Ok(slot) = seat.room(alloc) else {
             return Err(Fault::OutOfMemory);
@@ -174,10 +175,11 @@ impl<N: Name> Table<N> {
 
     /// Ends the game, where all its seats are handed in: each seat's calls are just its entries of the one history.
     ///
-    /// Refused where a seat is missing, or one is not admitted.
+    /// Refused where a seat is missing, or one is not admitted: it knows what the history does not hold, or the history has
+    /// calls of it that it did not make.
     pub fn close(self, seats: Vec<Seat<N>>) -> Result<Audit<N>, CloseFault<N>>
         ensures { MatchResult result
-            (λ a. IsClosed N.start N.seats seats.items a.pen.entries ×
+            (λ a. IsClosed N.start N.seats (length N.cells) seats.items a.pen.entries ×
             AreTotals N.start N.seats seats.items a.pen.entries a.entries a.gifts a.position a.calls)
             (λ f. (f.seats.items ≡ seats.items) ×
             IsRefused N.start N.seats (length N.cells) seats.items f.missing) }

@@ -1,4 +1,4 @@
-use Rattle.dg_table.proofs.Entries.{none_of, own_more, other_more, entries_stand}
+use Rattle.dg_table.proofs.Entries.{none_of, own_more, other_more, entries_stand, own_alone}
 use Rattle.dg_table.proofs.laws.law_of_seats.Goals as goal
 
 pub returns-clause-none : goal.returns-clause-none
@@ -12,3 +12,6 @@ returns-clause-other c = other_more
 
 pub returns-clause-stand : goal.returns-clause-stand
 returns-clause-stand c = entries_stand
+
+pub returns-clause-alone : goal.returns-clause-alone
+returns-clause-alone c = own_alone

@@ -9,7 +9,8 @@ returns-clause-holds g c = λ is.
     let count = rw (← c.seat.view_is, ← c.self.view_is) at admissible.count in
     let seated = c.seat.invariant in
     rw (← c.seat.view_is, ← c.self.view_is) (record {
-      mine = all_own c.seat.inside.number c.self.inside.pen.entries c.seat.inside.mine.items seated.rising seated.own
-          (rw seated.own_said at c.holds.ensures) count;
-      told = rw seated.told_said at c.holds-2.ensures;
+      past = c.began.ensures;
+      mine = all_own c.seat.inside.number c.seat.inside.past c.self.inside.pen.entries c.seat.inside.mine.items c.began.ensures
+          seated.own count;
+      told = rw seated.told_said at c.holds.ensures;
     })

@@ -3,7 +3,7 @@ use Rattle.dg_game.specs.Replies.{Replies}
 use Rattle.dg_game.specs.declared.entry.Entry.{Entry}
 use Rattle.dg_log.specs.Written.{Written}
 use Rattle.dg_table.specs.Lock.{IsKept}
-use Rattle.dg_table.proofs.Steps.{held_more, kept_more, answered}
+use Rattle.dg_table.proofs.Steps.{held_more, history_more, kept_more, answered}
 use Rattle.dg_table.proofs.held.Held.enter.Goals as goal
 
 pub invariant_of-self-2 : goal.invariant_of-self-2
@@ -23,31 +23,43 @@ invariant_of-self-2 g c =
 pub invariant_of-seat : goal.invariant_of-seat
 invariant_of-seat g c =
     let e : Entry = c.args.slot.value in
-    let receipt : c.in-Ok.receipt ≡ (length c.self.inside.pen.entries, e) = c.in-Ok.ensures.0 in
+    let H = c.self.inside.pen.entries in
+    let receipt : c.in-Ok.receipt ≡ (length H, e) = c.in-Ok.ensures.0 in
     let items : c.push.new.self.items ≡ c.seat.inside.mine.items ++ c.in-Ok.receipt ∷ [] =
     (rw c.unwrap.ensures at c.push.ensures.items) ∙ ap (λ p. c.seat.inside.mine.items ++ p ∷ []) c.again.ensures in
-    let below = rw (← c.self.view_is, ← c.seat.view_is) at c.requires.ready.admissible.mine in
+    let holds = rw (← c.self.view_is, ← c.seat.view_is) at c.requires.ready.holds in
+    let room = rw (← c.self.view_is) at c.requires.ready.room in
+    let legal = rw (← c.self.view_is) at c.requires.legal in
     let replies = rw (← c.self.view_is) at c.requires.replies in
     let own : e.seat ≡ c.seat.inside.number = rw (← c.seat.view_is) at c.requires.seat in
     let entry : c.entry.result.now ≡ e = c.entry.ensures ∙ ap (λ (r : ℕ × Entry). r.1) receipt in
-    let last = length c.self.inside.pen.entries in
-    let shown = subst (λ (x : Entry). Replies g.N.Name.start c.self.inside.pen.entries x.request x.reply) (sym entry) replies in
+    let shown = subst (λ (x : Entry). Replies g.N.Name.start H x.request x.reply) (sym entry) replies in
     let seen =
-    subst (λ (x : Entry). IsKept g.N.Name.start (c.seat.inside.mine.items ++ (last, x) ∷ []) c.keep_look.new.look) entry
-    (c.keep_look.ensures g.N.Name.start c.self.inside.pen.entries c.seat.inside.mine.items c.self.invariant.0.game' shown
+    subst (λ (x : Entry). IsKept g.N.Name.start (c.seat.inside.mine.items ++ (length H, x) ∷ []) c.keep_look.new.look) entry
+    (c.keep_look.ensures g.N.Name.start H c.seat.inside.mine.items c.self.invariant.0.game' shown
     c.seat.invariant.look_kept) in
-    rw (items, c.and-seat-inside.ensures, receipt)
-    (kept_more last c.keep_look.new.look (last, e) c.seat.invariant below (omega arith) own seen)
+    let seated = c.seat.invariant in
+    let history : c.put.new.self.entries ≡ H ++ e ∷ [] = ap (λ (w : Written). w.entries) c.in-Ok.ensures.1 in
+    let found = history_more g.N.Name.start g.N.Name.seats (length g.N.Name.cells) H e c.self.invariant.0.seated
+    (omega (arith, seated.least, own)) (omega (arith, seated.most, own)) room legal in
+    rw (items, c.past-seat-inside.ensures, history, receipt)
+    (kept_more H e c.keep_look.new.look seated found holds.mine own seen)
 
 pub returns-clause-entered : goal.returns-clause-entered
 returns-clause-entered g c =
     let e : Entry = c.args.slot.value in
-    let receipt : c.in-Ok.receipt ≡ (length c.self.inside.pen.entries, e) = c.in-Ok.ensures.0 in
+    let H = c.self.inside.pen.entries in
+    let receipt : c.in-Ok.receipt ≡ (length H, e) = c.in-Ok.ensures.0 in
     let items : c.push.new.self.items ≡ c.seat.inside.mine.items ++ c.in-Ok.receipt ∷ [] =
     (rw c.unwrap.ensures at c.push.ensures.items) ∙ ap (λ p. c.seat.inside.mine.items ++ p ∷ []) c.again.ensures in
     let replies = rw (← c.self.view_is) at c.requires.replies in
     let legal = rw (← c.self.view_is) at c.requires.legal in
     let holds = rw (← c.self.view_is, ← c.seat.view_is) at c.requires.ready.holds in
+    let room = rw (← c.self.view_is) at c.requires.ready.room in
     let own : e.seat ≡ c.seat.inside.number = rw (← c.seat.view_is) at c.requires.seat in
+    let seated = c.seat.invariant in
+    let history : c.put.new.self.entries ≡ H ++ e ∷ [] = ap (λ (w : Written). w.entries) c.in-Ok.ensures.1 in
+    let found = history_more g.N.Name.start g.N.Name.seats (length g.N.Name.cells) H e c.self.invariant.0.seated
+    (omega (arith, seated.least, own)) (omega (arith, seated.most, own)) room legal in
     rw (← c.self.view_is, ← c.seat.view_is, receipt)
-    (answered e _ replies legal holds own refl (rw receipt at items) refl, c.in-Ok.ensures.1)
+    (answered e _ replies found holds own refl (rw receipt at items) refl (c.past-seat-inside.ensures ∙ history), c.in-Ok.ensures.1)

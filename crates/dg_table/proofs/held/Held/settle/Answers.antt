@@ -46,7 +46,7 @@ returns-in_err-receipt-clause-refused g c =
     let stands = c.in_ok-ready_on.ensures.1 in
     let read : c.args.look.now.0 < length H = slice_get_within H c.args.look.now.0 c.args.look.now.1 stands in
     let step = c.in_err-receipt.ensures.refused in
-    let refused = settling_refused g.N.Name.start (length g.N.Name.cells) H c.args.look.now.0 c.args.seat.now c.args.self.now.stuck
+    let refused = settling_refused g.N.Name.start g.N.Name.seats (length g.N.Name.cells) H c.args.look.now.0 c.args.seat.now c.args.self.now.stuck
     c.enter.new.self.stuck c.in_err-receipt.field-0.0 ready.admissible read step.2 in
     search rules
 
@@ -56,10 +56,8 @@ returns-clause-settled g c =
     let entered = c.in_ok-receipt.ensures.entered in
     let kept : KeepsFinding c.args.finding.now c.in_ok-receipt.receipt.1.reply =
     rw c.in_ok-receipt.ensures.reply c.settle-entry.ensures.kept in (
-      settled g.N.Name.start H c.args.look.now c.args.shown.now c.args.finding.now c.in_ok-receipt.receipt c.args.seat.now c.enter.new.seat
+      settled g.N.Name.start g.N.Name.seats (length g.N.Name.cells) H c.args.look.now c.args.shown.now c.args.finding.now c.in_ok-receipt.receipt c.args.seat.now c.enter.new.seat
           c.hear.new.self (rw c.request-entry.ensures at entered.0) c.requires.look c.in_ok-ready_on.ensures.1
-          kept c.hear.ensures.number c.hear.ensures.mine c.hear.ensures.told,
+          kept c.hear.ensures.number c.hear.ensures.mine c.hear.ensures.told c.hear.ensures.past,
       entered.1,
-      c.in_ok-ready_on.ensures.0.room,
-      c.in_ok-ready_on.ensures.0.admissible,
     )

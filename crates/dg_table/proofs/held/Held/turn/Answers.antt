@@ -4,7 +4,7 @@ use Rattle.dg_table.proofs.held.Held.turn.Goals as goal
 
 pub returns-in_err-ready-clause-refused : goal.returns-in_err-ready-clause-refused
 returns-in_err-ready-clause-refused g c =
-    let barred = barred_turn g.F.FnMut c.args.choose.now _ _ _ _ _ _ c.in_err-ready.ensures.stands c.in_err-ready.ensures.barred in
+    let barred = barred_turn g.F.FnMut c.args.choose.now _ _ _ _ _ _ _ c.in_err-ready.ensures.stands c.in_err-ready.ensures.barred in
     search rules
 
 pub enter-requires-clause-legal : goal.enter-requires-clause-legal

@@ -11,8 +11,7 @@ returns-in-None g c =
     let (complete, held) = rw c.deref.ensures.value at c.in-None.ensures.missing in
     let history = c.in-None.ensures.history in (
       rw c.audit.ensures.history (record {
-        legal = history.legal;
-        seated = history.seated;
+        history = history;
         complete = complete;
         held = held;
       }),
