@@ -28,44 +28,44 @@ use Rattle.dg_party.specs.Sessions.{IsSessionOver, AreSessions, contents}
 use Rattle.dg_totals.specs.Printed.{entries_text, seat_text, seats_text, calls_text, totals_text}
 use Rattle.dg_party.specs.Parties.{IsParty}
 
-record IsSessionAt (o : Opening) (cap : ℕ) (names : List (List ℕ)) (xs ys : List SeatView) (i : ℕ) (script : List ℕ)
+record IsSessionAt (o : Opening) (seats cap : ℕ) (names : List (List ℕ)) (xs ys : List SeatView) (i : ℕ) (script : List ℕ)
     (end : Result ℕ SessionEnd) : Type 0 where
   before : SeatView
   after : SeatView
   first : slice_get xs i ≡ Some before
   last : slice_get ys i ≡ Some after
-  session : IsSessionOver o cap names script before after end
+  session : IsSessionOver o seats cap names script before after end
 
-session_at : (o : Opening) (cap : ℕ) (names scripts : List (List ℕ)) (xs ys : List SeatView) (ends : List (Result ℕ SessionEnd))
-    → AreSessions o cap names scripts xs ys ends → (i : ℕ) (script : List ℕ) (end : Result ℕ SessionEnd)
-    → slice_get scripts i ≡ Some script → slice_get ends i ≡ Some end → IsSessionAt o cap names xs ys i script end
+session_at : (o : Opening) (seats cap : ℕ) (names scripts : List (List ℕ)) (xs ys : List SeatView) (ends : List (Result ℕ SessionEnd))
+    → AreSessions o seats cap names scripts xs ys ends → (i : ℕ) (script : List ℕ) (end : Result ℕ SessionEnd)
+    → slice_get scripts i ≡ Some script → slice_get ends i ≡ Some end → IsSessionAt o seats cap names xs ys i script end
 unfolding AreSessions
-session_at o cap names (c ∷ cs) (x ∷ xs) (y ∷ ys) (e ∷ es) are zero script end there told =
+session_at o seats cap names (c ∷ cs) (x ∷ xs) (y ∷ ys) (e ∷ es) are zero script end there told =
     let same : c ≡ script = ap (λ t. unwrap_or t c) there in
     let told_so : e ≡ end = ap (λ t. unwrap_or t e) told in
     record { before = x; after = y; first = refl; last = refl; session = rw (← same, ← told_so) are.0 }
-session_at o cap names (c ∷ cs) (x ∷ xs) (y ∷ ys) (e ∷ es) are (suc i) script end there told =
-    let s = session_at o cap names cs xs ys es are.1 i script end there told in
+session_at o seats cap names (c ∷ cs) (x ∷ xs) (y ∷ ys) (e ∷ es) are (suc i) script end there told =
+    let s = session_at o seats cap names cs xs ys es are.1 i script end there told in
     record { before = s.before; after = s.after; first = s.first; last = s.last; session = s.session }
-session_at o cap names [] [] [] [] are i script end there told = absurd (none-some script there)
-session_at o cap names [] [] [] (e ∷ es) are i script end there told = elim are [ ]
-session_at o cap names [] [] (y ∷ ys) ends are i script end there told = elim are [ ]
-session_at o cap names [] (x ∷ xs) ys ends are i script end there told = elim are [ ]
-session_at o cap names (c ∷ cs) [] ys ends are i script end there told = elim are [ ]
-session_at o cap names (c ∷ cs) (x ∷ xs) [] ends are i script end there told = elim are [ ]
-session_at o cap names (c ∷ cs) (x ∷ xs) (y ∷ ys) [] are i script end there told = elim are [ ]
+session_at o seats cap names [] [] [] [] are i script end there told = absurd (none-some script there)
+session_at o seats cap names [] [] [] (e ∷ es) are i script end there told = elim are [ ]
+session_at o seats cap names [] [] (y ∷ ys) ends are i script end there told = elim are [ ]
+session_at o seats cap names [] (x ∷ xs) ys ends are i script end there told = elim are [ ]
+session_at o seats cap names (c ∷ cs) [] ys ends are i script end there told = elim are [ ]
+session_at o seats cap names (c ∷ cs) (x ∷ xs) [] ends are i script end there told = elim are [ ]
+session_at o seats cap names (c ∷ cs) (x ∷ xs) (y ∷ ys) [] are i script end there told = elim are [ ]
 
-ends_count : (o : Opening) (cap : ℕ) (names scripts : List (List ℕ)) (xs ys : List SeatView) (ends : List (Result ℕ SessionEnd))
-    → AreSessions o cap names scripts xs ys ends → length ends ≡ length scripts
+ends_count : (o : Opening) (seats cap : ℕ) (names scripts : List (List ℕ)) (xs ys : List SeatView) (ends : List (Result ℕ SessionEnd))
+    → AreSessions o seats cap names scripts xs ys ends → length ends ≡ length scripts
 unfolding AreSessions
-ends_count o cap names (c ∷ cs) (x ∷ xs) (y ∷ ys) (e ∷ es) are = ap suc (ends_count o cap names cs xs ys es are.1)
-ends_count o cap names [] [] [] [] are = refl
-ends_count o cap names [] [] [] (e ∷ es) are = elim are [ ]
-ends_count o cap names [] [] (y ∷ ys) ends are = elim are [ ]
-ends_count o cap names [] (x ∷ xs) ys ends are = elim are [ ]
-ends_count o cap names (c ∷ cs) [] ys ends are = elim are [ ]
-ends_count o cap names (c ∷ cs) (x ∷ xs) [] ends are = elim are [ ]
-ends_count o cap names (c ∷ cs) (x ∷ xs) (y ∷ ys) [] are = elim are [ ]
+ends_count o seats cap names (c ∷ cs) (x ∷ xs) (y ∷ ys) (e ∷ es) are = ap suc (ends_count o seats cap names cs xs ys es are.1)
+ends_count o seats cap names [] [] [] [] are = refl
+ends_count o seats cap names [] [] [] (e ∷ es) are = elim are [ ]
+ends_count o seats cap names [] [] (y ∷ ys) ends are = elim are [ ]
+ends_count o seats cap names [] (x ∷ xs) ys ends are = elim are [ ]
+ends_count o seats cap names (c ∷ cs) [] ys ends are = elim are [ ]
+ends_count o seats cap names (c ∷ cs) (x ∷ xs) [] ends are = elim are [ ]
+ends_count o seats cap names (c ∷ cs) (x ∷ xs) (y ∷ ys) [] are = elim are [ ]
 
 calls_are : (H : List Entry) (s n : ℕ) (calls : List ℕ) → n ≤ length calls
     → ((k : ℕ) → k < n → slice_index calls k ≡ length (entries_of (s + k) H)) → calls_text s (take n calls) ≡ seats_text s n H
@@ -82,10 +82,10 @@ calls_are H s (suc n) (count ∷ calls) enough each =
     ap (λ c. seat_text s c ++ calls_text (s + 1) (take n calls)) first
     ∙ ap (λ t. seat_text s (length (entries_of s H)) ++ t) (calls_are H (s + 1) n calls (omega (arith, enough)) rest)
 
-call_counts : (o : Opening) (n : ℕ) (ys : List SeatView) (H : List Entry) (entries gifts : ℕ) (position : Vector) (calls : List ℕ)
-    → IsClosed o n ys H → AreTotals o n ys H entries gifts position calls
+call_counts : (o : Opening) (n cap : ℕ) (ys : List SeatView) (H : List Entry) (entries gifts : ℕ) (position : Vector) (calls : List ℕ)
+    → IsClosed o n cap ys H → AreTotals o n ys H entries gifts position calls
     → (k : ℕ) → k < n → slice_index calls k ≡ length (entries_of (1 + k) H)
-call_counts o n ys H entries gifts position calls closed totals k less =
+call_counts o n cap ys H entries gifts position calls closed totals k less =
     let has = closed.complete (k + 1) (omega arith) (omega (arith, less)) in
     let same : k + 1 ≡ 1 + k = omega arith in
     totals.calls' has.0 has.1 has.2 k has.3
@@ -112,26 +112,26 @@ audit_with names H position seats =
 
 whole : (o : Opening) (cap : ℕ) (names scripts : List (List ℕ)) (n : ℕ) (xs ys : List SeatView)
     (ends : List (Result ℕ SessionEnd)) (H : List Entry) (entries gifts : ℕ) (position : Vector) (calls text : List ℕ)
-    → length scripts ≡ n → AreFresh n xs → AreSessions o cap names scripts xs ys ends → IsClosed o n ys H
+    → length scripts ≡ n → AreFresh n xs → AreSessions o n cap names scripts xs ys ends → IsClosed o n cap ys H
     → AreTotals o n ys H entries gifts position calls → n ≤ length calls
     → text ≡ entries_text names 0 H ++ totals_text names entries gifts position (take n calls)
     → IsParty o cap names scripts ends text
 whole o cap names scripts n xs ys ends H entries gifts position calls text many fresh are closed totals enough printed =
     record {
       history = H;
-      legal = closed.legal;
-      seated = rw many closed.seated;
-      count = ends_count o cap names scripts xs ys ends are;
+      is = rw many closed.history;
+      count = ends_count o n cap names scripts xs ys ends are;
       sessions = λ i script end there told.
-          let s = session_at o cap names scripts xs ys ends are i script end there told in
+          let s = session_at o n cap names scripts xs ys ends are i script end there told in
           let number : s.after.number ≡ i + 1 = s.session.number ∙ fresh.number i s.before s.first in
           record {
             before = s.before;
             after = s.after;
             seat = fresh.number i s.before s.first;
             fresh = fresh.mine i s.before s.first;
+            begins = (closed.held i s.after s.last).past;
             own = ap (λ k. entries_of k H) (sym number) ∙ (closed.held i s.after s.last).mine;
-            session = s.session;
+            session = rw many s.session;
           };
       position = position;
       shown = totals.position';
@@ -140,32 +140,32 @@ whole o cap names scripts n xs ys ends H entries gifts position calls text many 
           ∙ ap (λ k. entries_text names 0 H ++ totals_text names k gifts position (take n calls)) totals.entries'
           ∙ ap (λ k. entries_text names 0 H ++ totals_text names (length H) k position (take n calls)) totals.gifts'
           ∙ ap (λ t. entries_text names 0 H ++ audit_with names H position t)
-          (calls_are H 1 n calls enough (call_counts o n ys H entries gifts position calls closed totals)
+          (calls_are H 1 n calls enough (call_counts o n cap ys H entries gifts position calls closed totals)
           ∙ ap (λ k. seats_text 1 k H) (sym many));
     }
 
-seats_kept : (o : Opening) (cap : ℕ) (names scripts : List (List ℕ)) (xs ys : List SeatView) (ends : List (Result ℕ SessionEnd))
-    → AreSessions o cap names scripts xs ys ends → length ys ≡ length xs
+seats_kept : (o : Opening) (seats cap : ℕ) (names scripts : List (List ℕ)) (xs ys : List SeatView) (ends : List (Result ℕ SessionEnd))
+    → AreSessions o seats cap names scripts xs ys ends → length ys ≡ length xs
 unfolding AreSessions
-seats_kept o cap names (c ∷ cs) (x ∷ xs) (y ∷ ys) (e ∷ es) are = ap suc (seats_kept o cap names cs xs ys es are.1)
-seats_kept o cap names [] [] [] [] are = refl
-seats_kept o cap names [] [] [] (e ∷ es) are = elim are [ ]
-seats_kept o cap names [] [] (y ∷ ys) ends are = elim are [ ]
-seats_kept o cap names [] (x ∷ xs) ys ends are = elim are [ ]
-seats_kept o cap names (c ∷ cs) [] ys ends are = elim are [ ]
-seats_kept o cap names (c ∷ cs) (x ∷ xs) [] ends are = elim are [ ]
-seats_kept o cap names (c ∷ cs) (x ∷ xs) (y ∷ ys) [] are = elim are [ ]
+seats_kept o seats cap names (c ∷ cs) (x ∷ xs) (y ∷ ys) (e ∷ es) are = ap suc (seats_kept o seats cap names cs xs ys es are.1)
+seats_kept o seats cap names [] [] [] [] are = refl
+seats_kept o seats cap names [] [] [] (e ∷ es) are = elim are [ ]
+seats_kept o seats cap names [] [] (y ∷ ys) ends are = elim are [ ]
+seats_kept o seats cap names [] (x ∷ xs) ys ends are = elim are [ ]
+seats_kept o seats cap names (c ∷ cs) [] ys ends are = elim are [ ]
+seats_kept o seats cap names (c ∷ cs) (x ∷ xs) [] ends are = elim are [ ]
+seats_kept o seats cap names (c ∷ cs) (x ∷ xs) (y ∷ ys) [] are = elim are [ ]
 
 pub whole_lent : (o : Opening) (cap : ℕ) (names scripts : List (List ℕ)) (n m len : ℕ) (opened xs ys rest : List SeatView)
     (ends : List (Result ℕ SessionEnd)) (H history : List Entry) (entries gifts : ℕ) (position : Vector) (calls text : List ℕ)
-    → length scripts ≡ n → n ≡ m → AreFresh n opened → xs ≡ opened → len ≡ length opened → AreSessions o cap names scripts xs ys ends
-    → IsClosed o m (take len (ys ++ rest)) H × AreTotals o m (take len (ys ++ rest)) H entries gifts position calls
+    → length scripts ≡ n → n ≡ m → AreFresh n opened → xs ≡ opened → len ≡ length opened → AreSessions o m cap names scripts xs ys ends
+    → IsClosed o m cap (take len (ys ++ rest)) H × AreTotals o m (take len (ys ++ rest)) H entries gifts position calls
     → n ≤ length calls → history ≡ H
     → text ≡ entries_text names 0 history ++ totals_text names entries gifts position (take n calls)
     → IsParty o cap names scripts ends text
 whole_lent o cap names scripts n m len opened xs ys rest ends H history entries gifts position calls text many same fresh lent counted are closed enough read printed =
-    let all : length ys ≡ len = seats_kept o cap names scripts xs ys ends are ∙ ap length lent ∙ sym counted in
+    let all : length ys ≡ len = seats_kept o m cap names scripts xs ys ends are ∙ ap length lent ∙ sym counted in
     let front : take len (ys ++ rest) ≡ ys = ap (λ k. take k (ys ++ rest)) (sym all) ∙ take-append_seam ys rest in
-    whole o cap names scripts n xs ys ends H entries gifts position calls text many (rw lent fresh) are
+    whole o cap names scripts n xs ys ends H entries gifts position calls text many (rw lent fresh) (rw same are)
     (rw (same, ← front) closed.0) (rw (same, ← front) closed.1) enough
     (printed ∙ ap (λ K. entries_text names 0 K ++ totals_text names entries gifts position (take n calls)) read)

@@ -1,7 +1,7 @@
 -- A party: one table, a seat and a thread for each script, and one history of all.
---   IsSessionIn o cap names H s script end == the entries of the seat s in the history H are those that a session over the script
---                        made for it, which came to this end
---   IsParty o cap names scripts ends text == there is one legal history from the opening o, of these seats alone;
+--   IsSessionIn o seats cap names H s script end == the entries of the seat s in the history H are those that a session over the
+--                        script made for it, which came to this end, and H begins with the history that it found
+--   IsParty o cap names scripts ends text == there is one history of the table, of at most cap entries;
 --                        for each script, in order, a session over it, which came to the end at its place, made just
 --                        the entries of its seat in that history; and the text is that of the history and of its totals
 use Rattle.std.specs.Prelude.{◌≡◌, ℕ, ◌+◌, List, [], ◌++◌, length, slice_get, Some, Result}
@@ -9,30 +9,31 @@ use Rattle.dg_chips.specs.Opening.{Opening}
 use Rattle.dg_chips.specs.Vector.{Vector}
 use Rattle.dg_game.specs.Position.{Shows}
 use Rattle.dg_game.specs.History.{position_after}
-use Rattle.dg_game.specs.Legal.{IsLegal}
 use Rattle.dg_game.specs.declared.entry.Entry.{Entry}
-use Rattle.dg_table.specs.Seats.{SeatView, AreSeated, entries_of}
+use Rattle.dg_log.specs.Numbered.{IsBeginning}
+use Rattle.dg_table.specs.Histories.{IsHistoryOf}
+use Rattle.dg_table.specs.Seats.{SeatView, entries_of}
 use Rattle.dg_session.specs.declared.ends.SessionEnd.{SessionEnd}
 use Rattle.dg_party.specs.Sessions.{IsSessionOver}
 use Rattle.dg_totals.specs.Printed.{entries_text, audit_text}
 
-pub record IsSessionIn (o : Opening) (cap : ℕ) (names : List (List ℕ)) (H : List Entry) (s : ℕ) (script : List ℕ)
+pub record IsSessionIn (o : Opening) (seats cap : ℕ) (names : List (List ℕ)) (H : List Entry) (s : ℕ) (script : List ℕ)
     (end : Result ℕ SessionEnd) : Type 0 where
   pub before : SeatView
   pub after : SeatView
   pub seat : before.number ≡ s
   pub fresh : before.mine ≡ []
   pub own : entries_of s H ≡ after.mine
-  pub session : IsSessionOver o cap names script before after end
+  pub begins : IsBeginning after.past H
+  pub session : IsSessionOver o seats cap names script before after end
 
 pub record IsParty (o : Opening) (cap : ℕ) (names : List (List ℕ)) (scripts : List (List ℕ)) (ends : List (Result ℕ SessionEnd))
     (text : List ℕ) : Type 0 where
   pub history : List Entry
-  pub legal : IsLegal o history
-  pub seated : AreSeated (length scripts) history
+  pub is : IsHistoryOf o (length scripts) cap history
   pub count : length ends ≡ length scripts
   pub sessions : (i : ℕ) (script : List ℕ) (end : Result ℕ SessionEnd) → slice_get scripts i ≡ Some script →
-      slice_get ends i ≡ Some end → IsSessionIn o cap names history (i + 1) script end
+      slice_get ends i ≡ Some end → IsSessionIn o (length scripts) cap names history (i + 1) script end
   pub position : Vector
   pub shown : Shows (position_after o history) position
   pub printed : text ≡ entries_text names 0 history ++ audit_text names (length scripts) history position

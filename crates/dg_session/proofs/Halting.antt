@@ -5,7 +5,7 @@
 --   halts_after   a step that passes and one that halts
 --   halts_line    a line that is refused halts the session
 --   tells_more    two steps
-use Rattle.std.proofs.Common.{ℕ, inl, inr, List, [], ◌∷◌, ◌++◌, Option, refl, sym, ap, subst, ◌∙◌, arith, append_assoc, append-nil, length-append}
+use Rattle.std.proofs.Common.{ℕ, ◌+◌, ◌≤◌, length, inl, inr, List, [], ◌∷◌, ◌++◌, Option, refl, sym, ap, subst, ◌∙◌, arith, append_assoc, append-nil, length-append}
 use Rattle.dg_chips.specs.Opening.{Opening}
 use Rattle.dg_game.specs.declared.entry.Entry.{Entry}
 use Rattle.dg_game.specs.declared.step.Command.{Command}
@@ -14,6 +14,7 @@ use Rattle.dg_session.specs.Saying.{AnswersLine, Answers}
 use Rattle.dg_session.specs.Ends.{Gains, CallsTable, TriesRank}
 use Rattle.dg_session.proofs.Made.{gains_more}
 use Rattle.dg_session.specs.Steps.{Passes, HaltsAt, HaltsUnsaid, HaltsIn, Halts, Tells, RefusesLine}
+use Rattle.dg_session.specs.declared.ends.TheConstants.{MAX_LINES}
 use Rattle.dg_session.specs.declared.ends.SessionEnd.{SessionEnd}
 use Rattle.dg_session.specs.declared.ends.SessionEnd.TheVariants.{Read, Write, LongLine, Turns, Table, Memory, Spawn}
 
@@ -47,7 +48,7 @@ pub answers_none : (o : Opening) (names : List (List ℕ)) (k : Option ℕ) → 
 unfolding Answers
 answers_none o names k = (refl, refl, refl)
 
-module _ (o : Opening) (cap : ℕ) (names : List (List ℕ)) (n n1 : ℕ) (k k1 : Option ℕ) (x y z : SeatView) (text text1 : List ℕ) (rest : List ℕ)
+module _ (o : Opening) (seats cap : ℕ) (names : List (List ℕ)) (n n1 : ℕ) (k k1 : Option ℕ) (x y z : SeatView) (text text1 : List ℕ) (rest : List ℕ)
     (Df : List (List ℕ) → List ℕ → Type 0) (first : Passes Df o names n k x rest n1 k1 y text) where
   pub passes_more : (Dn D : List (List ℕ) → List ℕ → Type 0) (rest1 : List ℕ) (n2 : ℕ) (k2 : Option ℕ)
       → ((ls ls1 : List (List ℕ)) → Df ls rest → Dn ls1 rest1 → D (ls ++ ls1) rest1)
@@ -118,10 +119,12 @@ module _ (o : Opening) (cap : ℕ) (names : List (List ℕ)) (n n1 : ℕ) (k k1 
   pub halts_after : (Cn C : List (List ℕ) → Type 0) (Dn D : List (List ℕ) → List ℕ → Type 0) (end : SessionEnd)
       → ((ls ls1 : List (List ℕ)) → Df ls rest → Cn ls1 → C (ls ++ ls1))
       → ((ls ls1 : List (List ℕ)) (r : List ℕ) → Df ls rest → Dn ls1 r → D (ls ++ ls1) r)
-      → Halts Cn Dn o cap names n1 k1 y z text1 end → Halts C D o cap names n k x z (text ++ text1) end
+      → Halts Cn Dn o seats cap names n1 k1 y z text1 end → Halts C D o seats cap names n k x z (text ++ text1) end
   halts_after Cn C Dn D Read come comes h = h
   halts_after Cn C Dn D Write come comes h = h
-  halts_after Cn C Dn D LongLine come comes h = after_in Dn D _ _ comes (λ ls1 r p. p) h
+  halts_after Cn C Dn D LongLine come comes h =
+      after_in Dn D _ _ comes
+      (λ ls1 r p. let e = length-append first.ls ls1 in (omega (arith, e, first.counted, p.0), p.1)) h
   halts_after Cn C Dn D Turns come comes h =
       after_in Dn D _ _ comes
       (λ ls1 r p. let e = length-append first.ls ls1 in (omega (arith, e, first.counted, p.0), p.1)) h
@@ -144,14 +147,14 @@ module _ (o : Opening) (cap : ℕ) (names : List (List ℕ)) (n n1 : ℕ) (k k1 
   }
 
 -- a line that is refused
-pub halts_line : (C : List (List ℕ) → Type 0) (D : List (List ℕ) → List ℕ → Type 0) (o : Opening) (cap : ℕ) (names : List (List ℕ)) (n : ℕ)
+pub halts_line : (C : List (List ℕ) → Type 0) (D : List (List ℕ) → List ℕ → Type 0) (o : Opening) (seats cap : ℕ) (names : List (List ℕ)) (n : ℕ)
     (k : Option ℕ) (line : List ℕ) (x y : SeatView) (end : SessionEnd) → C [] → C (line ∷ [])
-    → RefusesLine o cap names k line x y end → Halts C D o cap names n k x y [] end
-halts_line C D o cap names n k line x y Read none one h = h
-halts_line C D o cap names n k line x y Write none one h = h
-halts_line C D o cap names n k line x y LongLine none one h = absurd h
-halts_line C D o cap names n k line x y Turns none one h = absurd h
-halts_line C D o cap names n k line x y (Table fault) none one h =
+    → RefusesLine o seats cap names k line x y end → Halts C D o seats cap names n k x y [] end
+halts_line C D o seats cap names n k line x y Read none one h = h
+halts_line C D o seats cap names n k line x y Write none one h = h
+halts_line C D o seats cap names n k line x y LongLine none one h = absurd h
+halts_line C D o seats cap names n k line x y Turns none one h = absurd h
+halts_line C D o seats cap names n k line x y (Table fault) none one h =
     let (command, spelled, calls, refuses, gained) = h in (
       record {
         ls = [];
@@ -167,7 +170,7 @@ halts_line C D o cap names n k line x y (Table fault) none one h =
       },
       refuses,
     )
-halts_line C D o cap names n k line x y Spawn none one h =
+halts_line C D o seats cap names n k line x y Spawn none one h =
     let (command, spelled, tries, gained) = h in
     record {
       ls = [];
@@ -181,7 +184,7 @@ halts_line C D o cap names n k line x y Spawn none one h =
       spelled = spelled;
       wanted = tries;
     }
-halts_line C D o cap names n k line x y Memory none one h =
+halts_line C D o seats cap names n k line x y Memory none one h =
     record {
       ls = [];
       came = none;
@@ -197,31 +200,31 @@ halts_line C D o cap names n k line x y Memory none one h =
     }
 
 -- what was said before the session halted is the front of the answers to lines that came
-pub tells_halt : (C : List (List ℕ) → Type 0) (D : List (List ℕ) → List ℕ → Type 0) (o : Opening) (cap : ℕ) (names : List (List ℕ)) (n : ℕ)
+pub tells_halt : (C : List (List ℕ) → Type 0) (D : List (List ℕ) → List ℕ → Type 0) (o : Opening) (seats cap : ℕ) (names : List (List ℕ)) (n : ℕ)
     (k : Option ℕ) (x y : SeatView) (text : List ℕ) (end : SessionEnd)
-    → ((ls : List (List ℕ)) (line : List ℕ) → C (ls ++ line ∷ []) → C ls) → ((ls : List (List ℕ)) (r : List ℕ) → D ls r → C ls)
-    → Halts C D o cap names n k x y text end → Tells C o names k x y text
-tells_halt C D o cap names n k x y text Read fewer whole h = absurd h
-tells_halt C D o cap names n k x y text Write fewer whole h = absurd h
-tells_halt C D o cap names n k x y text LongLine fewer whole h = record {
+    → ((ls : List (List ℕ)) (line : List ℕ) → C (ls ++ line ∷ []) → C ls) → ((ls : List (List ℕ)) (r : List ℕ) → n + length ls ≤ MAX_LINES → D ls r → C ls)
+    → Halts C D o seats cap names n k x y text end → Tells C o names k x y text
+tells_halt C D o seats cap names n k x y text Read fewer whole h = absurd h
+tells_halt C D o seats cap names n k x y text Write fewer whole h = absurd h
+tells_halt C D o seats cap names n k x y text LongLine fewer whole h = record {
   ls = h.ls;
-  came = whole h.ls h.rest h.came;
+  came = whole h.ls h.rest (omega (arith, h.holds.0)) h.came;
   made = h.made;
   kept' = h.kept';
   more = [];
   answers = subst (Answers o names k h.ls h.made h.kept') (sym (append-nil text)) h.answers;
   gained = h.gained;
 }
-tells_halt C D o cap names n k x y text Turns fewer whole h = record {
+tells_halt C D o seats cap names n k x y text Turns fewer whole h = record {
   ls = h.ls;
-  came = whole h.ls h.rest h.came;
+  came = whole h.ls h.rest (omega (arith, h.holds.0)) h.came;
   made = h.made;
   kept' = h.kept';
   more = [];
   answers = subst (Answers o names k h.ls h.made h.kept') (sym (append-nil text)) h.answers;
   gained = h.gained;
 }
-tells_halt C D o cap names n k x y text (Table fault) fewer whole h = record {
+tells_halt C D o seats cap names n k x y text (Table fault) fewer whole h = record {
   ls = h.0.ls;
   came = fewer h.0.ls h.0.line h.0.came;
   made = h.0.made;
@@ -230,7 +233,7 @@ tells_halt C D o cap names n k x y text (Table fault) fewer whole h = record {
   answers = subst (Answers o names k h.0.ls h.0.made h.0.kept') (sym (append-nil text)) h.0.answers;
   gained = h.0.gained;
 }
-tells_halt C D o cap names n k x y text Spawn fewer whole h = record {
+tells_halt C D o seats cap names n k x y text Spawn fewer whole h = record {
   ls = h.ls;
   came = fewer h.ls h.line h.came;
   made = h.made;
@@ -239,7 +242,7 @@ tells_halt C D o cap names n k x y text Spawn fewer whole h = record {
   answers = subst (Answers o names k h.ls h.made h.kept') (sym (append-nil text)) h.answers;
   gained = h.gained;
 }
-tells_halt C D o cap names n k x y text Memory fewer whole h = elim h.next [
+tells_halt C D o seats cap names n k x y text Memory fewer whole h = elim h.next [
   | inl none ↦ record {
     ls = h.ls;
     came = h.came;

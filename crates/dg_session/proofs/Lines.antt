@@ -14,15 +14,15 @@ use Rattle.dg_session.specs.declared.ends.SessionEnd.{SessionEnd}
 use Rattle.dg_session.specs.declared.ends.SessionEnd.TheVariants as ends
 use Rattle.dg_session.proofs.Made.{gains_same}
 
-pub line_refused : (o : Opening) (cap : ℕ) (names : List (List ℕ)) (kept : Option ℕ) (line : List ℕ) (command : Command) (x y : SeatView) (end : SessionEnd)
-    → IsCommandLine names command line → RefusesCommand o cap names kept command x y end → RefusesLine o cap names kept line x y end
-line_refused o cap names kept line command x y ends.Read spelled h = h
-line_refused o cap names kept line command x y ends.Write spelled h = h
-line_refused o cap names kept line command x y ends.LongLine spelled h = h
-line_refused o cap names kept line command x y ends.Turns spelled h = h
-line_refused o cap names kept line command x y (ends.Table fault) spelled h = (command, spelled, h.0, h.1, h.2)
-line_refused o cap names kept line command x y ends.Spawn spelled h = (command, spelled, h.0, h.1)
-line_refused o cap names kept line command x y ends.Memory spelled h = record {
+pub line_refused : (o : Opening) (seats cap : ℕ) (names : List (List ℕ)) (kept : Option ℕ) (line : List ℕ) (command : Command) (x y : SeatView) (end : SessionEnd)
+    → IsCommandLine names command line → RefusesCommand o seats cap names kept command x y end → RefusesLine o seats cap names kept line x y end
+line_refused o seats cap names kept line command x y ends.Read spelled h = h
+line_refused o seats cap names kept line command x y ends.Write spelled h = h
+line_refused o seats cap names kept line command x y ends.LongLine spelled h = h
+line_refused o seats cap names kept line command x y ends.Turns spelled h = h
+line_refused o seats cap names kept line command x y (ends.Table fault) spelled h = (command, spelled, h.0, h.1, h.2)
+line_refused o seats cap names kept line command x y ends.Spawn spelled h = (command, spelled, h.0, h.1)
+line_refused o seats cap names kept line command x y ends.Memory spelled h = record {
   more = h.more;
   next = elim h.next [
     | inl none ↦ inl none

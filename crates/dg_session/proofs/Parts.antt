@@ -62,7 +62,7 @@ taken_none o names bytes pending count kept x text none may = record {
   may = may;
 }
 
-module _ (o : Opening) (cap : ℕ) (names : List (List ℕ)) (bytes rest : List ℕ) (pending0 : List ℕ) (count0 : ℕ) (kept0 : Option ℕ) (x : SeatView)
+module _ (o : Opening) (seats cap : ℕ) (names : List (List ℕ)) (bytes rest : List ℕ) (pending0 : List ℕ) (count0 : ℕ) (kept0 : Option ℕ) (x : SeatView)
     (pending : List ℕ) (count : ℕ) (kept : Option ℕ) (y : SeatView) (text : List ℕ)
     (taken : AreTaken o names bytes rest pending0 count0 kept0 x pending count kept y text) where
   -- all that was read begins with the lines so far, and goes on with what is pending and the rest
@@ -134,7 +134,7 @@ module _ (o : Opening) (cap : ℕ) (names : List (List ℕ)) (bytes rest : List 
 
   pub part_halts : (part more : List ℕ) (end : SessionEnd) → rest ≡ part ++ more → HasNoNewline part → 1 ≤ length rest
       → RefusesPart pending count part end
-      → Halts (BeginsWith (pending0 ++ bytes)) (Begins (pending0 ++ bytes)) o cap names count0 kept0 x y text end
+      → Halts (BeginsWith count0 (pending0 ++ bytes)) (Begins (pending0 ++ bytes)) o seats cap names count0 kept0 x y text end
   part_halts part more Read cut plain some h = h
   part_halts part more Write cut plain some h = h
   part_halts part more (Table fault) cut plain some h = absurd h
@@ -153,16 +153,19 @@ module _ (o : Opening) (cap : ℕ) (names : List (List ℕ)) (bytes rest : List 
     ls = taken.passed.ls;
     rest = pending ++ rest;
     came = all_begin;
-    holds = record {
-      front = take (MAX_LINE + 1) (pending ++ part);
-      back = drop (MAX_LINE + 1) (pending ++ part) ++ more;
-      whole = ap (λ l. pending ++ l) cut ∙ sym (append_assoc pending part more)
-          ∙ ap (λ l. l ++ more) (sym (take-append-drop (MAX_LINE + 1) (pending ++ part)))
-          ∙ append_assoc (take (MAX_LINE + 1) (pending ++ part)) (drop (MAX_LINE + 1) (pending ++ part)) more;
-      no_newline = All-take (λ byte. byte ≢ 10) (MAX_LINE + 1) (pending ++ part)
-          (All-append (λ byte. byte ≢ 10) pending part taken.may.line.no_newline plain);
-      long = let e = length-append pending part in length-take-le (MAX_LINE + 1) (pending ++ part) (omega (arith, e, h.1));
-    };
+    holds = (
+      omega (arith, taken.passed.counted, taken.may.few, h.0),
+      record {
+        front = take (MAX_LINE + 1) (pending ++ part);
+        back = drop (MAX_LINE + 1) (pending ++ part) ++ more;
+        whole = ap (λ l. pending ++ l) cut ∙ sym (append_assoc pending part more)
+            ∙ ap (λ l. l ++ more) (sym (take-append-drop (MAX_LINE + 1) (pending ++ part)))
+            ∙ append_assoc (take (MAX_LINE + 1) (pending ++ part)) (drop (MAX_LINE + 1) (pending ++ part)) more;
+        no_newline = All-take (λ byte. byte ≢ 10) (MAX_LINE + 1) (pending ++ part)
+            (All-append (λ byte. byte ≢ 10) pending part taken.may.line.no_newline plain);
+        long = let e = length-append pending part in length-take-le (MAX_LINE + 1) (pending ++ part) (omega (arith, e, h.1));
+      },
+    );
     made = taken.passed.made;
     kept' = kept;
     answers = taken.passed.answers;
@@ -170,7 +173,7 @@ module _ (o : Opening) (cap : ℕ) (names : List (List ℕ)) (bytes rest : List 
   }
   part_halts part more Memory cut plain some h = record {
     ls = taken.passed.ls;
-    came = (pending ++ rest, all_begin);
+    came = (omega (arith, taken.passed.counted, taken.may.few), (pending ++ rest, all_begin));
     made = taken.passed.made;
     kept' = kept;
     answers = taken.passed.answers;
@@ -179,9 +182,9 @@ module _ (o : Opening) (cap : ℕ) (names : List (List ℕ)) (bytes rest : List 
     gained = subst (Gains x y) (sym (append-nil taken.passed.made)) taken.passed.gained;
   }
 
-  pub line_halts : (more text' : List ℕ) (z : SeatView) (end : SessionEnd) → rest ≡ 10 ∷ more → text' ≡ text → RefusesLine o cap names kept pending y z end
-      → Halts (BeginsWith (pending0 ++ bytes)) (Begins (pending0 ++ bytes)) o cap names count0 kept0 x z text' end
-  line_halts more text' z end cut same h =
+  pub line_halts : (more text' : List ℕ) (z : SeatView) (end : SessionEnd) → count < MAX_LINES → rest ≡ 10 ∷ more → text' ≡ text → RefusesLine o seats cap names kept pending y z end
+      → Halts (BeginsWith count0 (pending0 ++ bytes)) (Begins (pending0 ++ bytes)) o seats cap names count0 kept0 x z text' end
+  line_halts more text' z end few cut same h =
       let Df : List (List ℕ) → List ℕ → Type 0 = λ ls r. (ls ≡ taken.passed.ls) × (r ≡ pending) in
       let Cn : List (List ℕ) → Type 0 = λ ls. (ls ≡ []) ⊎ (ls ≡ pending ∷ []) in
       let Dn : List (List ℕ) → List ℕ → Type 0 = λ ls r. ⊥ in
@@ -195,20 +198,26 @@ module _ (o : Opening) (cap : ℕ) (names : List (List ℕ)) (bytes rest : List 
       } in
       let begin : Begins (pending0 ++ bytes) taken.passed.ls (pending ++ 10 ∷ more) =
       subst (λ l. Begins (pending0 ++ bytes) taken.passed.ls (pending ++ l)) cut all_begin in
-      let come : (ls ls1 : List (List ℕ)) → Df ls pending → Cn ls1 → BeginsWith (pending0 ++ bytes) (ls ++ ls1) = λ ls ls1 d c. elim c [
+      let come : (ls ls1 : List (List ℕ)) → Df ls pending → Cn ls1 → BeginsWith count0 (pending0 ++ bytes) (ls ++ ls1) = λ ls ls1 d c. elim c [
         | inl none ↦ (
-          pending ++ 10 ∷ more,
-          subst (λ l. Begins (pending0 ++ bytes) l (pending ++ 10 ∷ more))
-              (sym (ap (λ l. ls ++ l) none ∙ append-nil ls ∙ d.0)) begin,
+          let size = length-append ls ls1 in omega (arith, size, ap length none, ap length d.0, taken.passed.counted, few),
+          (
+            pending ++ 10 ∷ more,
+            subst (λ l. Begins (pending0 ++ bytes) l (pending ++ 10 ∷ more))
+                (sym (ap (λ l. ls ++ l) none ∙ append-nil ls ∙ d.0)) begin,
+          ),
         )
         | inr one ↦ (
-          more,
-          subst (λ l. Begins (pending0 ++ bytes) l more)
-              (sym (ap (λ l. ls ++ l) one ∙ ap (λ l. l ++ pending ∷ []) d.0))
-              (begins_line (pending0 ++ bytes) pending more taken.passed.ls taken.may.line begin),
+          let size = length-append ls ls1 in omega (arith, size, ap length one, ap length d.0, taken.passed.counted, few),
+          (
+            more,
+            subst (λ l. Begins (pending0 ++ bytes) l more)
+                (sym (ap (λ l. ls ++ l) one ∙ ap (λ l. l ++ pending ∷ []) d.0))
+                (begins_line (pending0 ++ bytes) pending more taken.passed.ls taken.may.line begin),
+          ),
         )
       ] in
-      subst (λ l. Halts (BeginsWith (pending0 ++ bytes)) (Begins (pending0 ++ bytes)) o cap names count0 kept0 x z l end) (append-nil text ∙ sym same)
-      (halts_after o cap names count0 count kept0 kept x y z text [] pending Df first Cn (BeginsWith (pending0 ++ bytes)) Dn (Begins (pending0 ++ bytes)) end
+      subst (λ l. Halts (BeginsWith count0 (pending0 ++ bytes)) (Begins (pending0 ++ bytes)) o seats cap names count0 kept0 x z l end) (append-nil text ∙ sym same)
+      (halts_after o seats cap names count0 count kept0 kept x y z text [] pending Df first Cn (BeginsWith count0 (pending0 ++ bytes)) Dn (Begins (pending0 ++ bytes)) end
       come (λ ls ls1 r d none. absurd none)
-      (halts_line Cn Dn o cap names count kept pending y z end (inl refl) (inr refl) h))
+      (halts_line Cn Dn o seats cap names count kept pending y z end (inl refl) (inr refl) h))

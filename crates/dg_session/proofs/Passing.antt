@@ -10,7 +10,8 @@ use Rattle.dg_chips.specs.Opening.{Opening}
 use Rattle.dg_table.specs.Seats.{SeatView}
 use Rattle.dg_session.specs.Streams.{IsLine, with_newline, last_line}
 use Rattle.dg_session.specs.Saying.{AnswersLine, Answers}
-use Rattle.dg_session.specs.Steps.{IsDone, BeginsWith, IsLast, IsEnded, Passes, Halts, Tells, RefusesLine}
+use Rattle.dg_session.specs.Steps.{IsDone, MayPend, BeginsWith, IsLast, IsEnded, Passes, Halts, Tells, RefusesLine}
+use Rattle.dg_session.specs.declared.ends.TheConstants.{MAX_LINES}
 use Rattle.dg_session.specs.declared.ends.SessionEnd.{SessionEnd}
 use Rattle.dg_session.proofs.Made.{gains_same}
 use Rattle.dg_session.proofs.Halting.{answers_none, answers_one, halts_line, tells_halt}
@@ -47,41 +48,48 @@ end_line o names n n' k k' x y pending pending' old text some none done cleared 
   gained = done.gained;
 }
 
-pub end_halts : (o : Opening) (cap : ℕ) (names : List (List ℕ)) (n : ℕ) (k : Option ℕ) (x y : SeatView) (pending text : List ℕ) (end : SessionEnd)
-    → 1 ≤ length pending → IsLine pending → text ≡ [] → RefusesLine o cap names k pending x y end
-    → Halts (IsLast pending) (λ ls rest. ⊥) o cap names n k x y text end
-end_halts o cap names n k x y pending text end some is none h =
-    subst (λ t. Halts (IsLast pending) (λ ls rest. ⊥) o cap names n k x y t end) (sym none)
-    (halts_line (IsLast pending) (λ ls rest. ⊥) o cap names n k pending x y end (inl refl) (inr (some, is, refl)) h)
+pub end_halts : (o : Opening) (seats cap : ℕ) (names : List (List ℕ)) (n : ℕ) (k : Option ℕ) (x y : SeatView) (pending text : List ℕ) (end : SessionEnd)
+    → 1 ≤ length pending → IsLine pending → text ≡ [] → RefusesLine o seats cap names k pending x y end
+    → Halts (IsLast pending) (λ ls rest. ⊥) o seats cap names n k x y text end
+end_halts o seats cap names n k x y pending text end some is none h =
+    subst (λ t. Halts (IsLast pending) (λ ls rest. ⊥) o seats cap names n k x y t end) (sym none)
+    (halts_line (IsLast pending) (λ ls rest. ⊥) o seats cap names n k pending x y end (inl refl) (inr (some, is, refl)) h)
 
-pub tells_taken : {A : Type 0} (C : List (List ℕ) → Type 0) (D D' : List (List ℕ) → List ℕ → Type 0) (o : Opening) (cap : ℕ) (names : List (List ℕ)) (n n' : ℕ)
+pub tells_taken : {A : Type 0} (C : List (List ℕ) → Type 0) (D D' : List (List ℕ) → List ℕ → Type 0) (o : Opening) (seats cap : ℕ) (names : List (List ℕ)) (n n' : ℕ)
     (k k' : Option ℕ) (x y : SeatView) (rest text : List ℕ) (r : Result A SessionEnd)
-    → ((ls : List (List ℕ)) (line : List ℕ) → C (ls ++ line ∷ []) → C ls) → ((ls : List (List ℕ)) (r : List ℕ) → D ls r → C ls)
-    → ((ls : List (List ℕ)) (r : List ℕ) → D' ls r → C ls)
-    → OnOk r (Passes D' o names n k x rest n' k' y text) → IfErr r (Halts C D o cap names n k x y text) → Tells C o names k x y text
-tells_taken C D D' o cap names n n' k k' x y rest text (Ok a) fewer whole whole' passes halts = record {
+    → ((ls : List (List ℕ)) (line : List ℕ) → C (ls ++ line ∷ []) → C ls) → ((ls : List (List ℕ)) (r : List ℕ) → n + length ls ≤ MAX_LINES → D ls r → C ls)
+    → ((ls : List (List ℕ)) (r : List ℕ) → n + length ls ≤ MAX_LINES → D' ls r → C ls) → OnOk r (n' ≤ MAX_LINES)
+    → OnOk r (Passes D' o names n k x rest n' k' y text) → IfErr r (Halts C D o seats cap names n k x y text) → Tells C o names k x y text
+tells_taken C D D' o seats cap names n n' k k' x y rest text (Ok a) fewer whole whole' few passes halts = record {
   ls = passes.ls;
-  came = whole' passes.ls rest passes.came;
+  came = whole' passes.ls rest (omega (arith, few, passes.counted)) passes.came;
   made = passes.made;
   kept' = k';
   more = [];
   answers = subst (Answers o names k passes.ls passes.made k') (sym (append-nil text)) passes.answers;
   gained = passes.gained;
 }
-tells_taken C D D' o cap names n n' k k' x y rest text (Err end) fewer whole whole' passes halts =
-    tells_halt C D o cap names n k x y text end fewer whole halts
+tells_taken C D D' o seats cap names n n' k k' x y rest text (Err end) fewer whole whole' few passes halts =
+    tells_halt C D o seats cap names n k x y text end fewer whole halts
 
 -- lines that begin bytes, and the pending line
-pub begins_fewer : (bytes : List ℕ) (ls : List (List ℕ)) (line : List ℕ) → BeginsWith bytes (ls ++ line ∷ []) → BeginsWith bytes ls
-begins_fewer bytes ls line begin =
-    let b = begin.1 in (
-      flat_map with_newline (line ∷ []) ++ begin.0,
-      record {
-        whole = b.whole ∙ ap (λ l. l ++ begin.0) (flat_map-append with_newline ls (line ∷ []))
-            ∙ append_assoc (flat_map with_newline ls) (flat_map with_newline (line ∷ [])) begin.0;
-        each = subst (All IsLine) (take-append_seam ls (line ∷ [])) (All-take IsLine (length ls) (ls ++ line ∷ []) b.each);
-      },
-    )
+pub begins_fewer : (n : ℕ) (bytes : List ℕ) (ls : List (List ℕ)) (line : List ℕ) → BeginsWith n bytes (ls ++ line ∷ []) → BeginsWith n bytes ls
+begins_fewer n bytes ls line (few, (rest, begins)) = (
+  let size = length-append ls (line ∷ []) in omega (arith, size, few),
+  (
+    flat_map with_newline (line ∷ []) ++ rest,
+    record {
+      whole = begins.whole ∙ ap (λ l. l ++ rest) (flat_map-append with_newline ls (line ∷ []))
+          ∙ append_assoc (flat_map with_newline ls) (flat_map with_newline (line ∷ [])) rest;
+      each = subst (All IsLine) (take-append_seam ls (line ∷ [])) (All-take IsLine (length ls) (ls ++ line ∷ []) begins.each);
+    },
+  ),
+)
+
+-- what may be pending is so of few lines
+pub few_ok : {A : Type 0} (pending : List ℕ) (n : ℕ) (r : Result A SessionEnd) → OnOk r (MayPend pending n) → OnOk r (n ≤ MAX_LINES)
+few_ok pending n (Ok a) may = may.few
+few_ok pending n (Err end) may = tt
 
 pub last_fewer : (pending : List ℕ) (ls : List (List ℕ)) (line : List ℕ) → IsLast pending (ls ++ line ∷ []) → IsLast pending ls
 last_fewer pending [] line last = inl refl

@@ -91,7 +91,7 @@ so_far_none o names input old x pending count kept none zero unkept = record {
   };
 }
 
-module _ (o : Opening) (cap : ℕ) (names : List (List ℕ)) (input rest : Option (List ℕ)) (old mid : Option (List ℕ)) (x : SeatView)
+module _ (o : Opening) (seats cap : ℕ) (names : List (List ℕ)) (input rest : Option (List ℕ)) (old mid : Option (List ℕ)) (x : SeatView)
     (pending : List ℕ) (count : ℕ) (kept : Option ℕ) (y : SeatView)
     (far : IsSoFar o names input rest old mid x pending count kept y) where
   first : Passes (Begins far.stream) o names 0 None x pending count kept y far.passed.0
@@ -105,7 +105,7 @@ module _ (o : Opening) (cap : ℕ) (names : List (List ℕ)) (input rest : Optio
     read = consumes_more input rest rest' far.stream bytes far.read read;
     passed = (
       far.passed.0 ++ passed.0,
-      passes_more o cap names 0 count None kept x y z far.passed.0 passed.0 pending (Begins far.stream) first (Begins (pending ++ bytes)) (Begins (far.stream ++ bytes))
+      passes_more o seats cap names 0 count None kept x y z far.passed.0 passed.0 pending (Begins far.stream) first (Begins (pending ++ bytes)) (Begins (far.stream ++ bytes))
           pending' count' kept' (λ ls ls1 p q. begins_both far.stream bytes pending pending' ls ls1 p q) passed.1,
       appends_more old mid new far.passed.0 passed.0 far.passed.2 passed.2,
     );
@@ -118,17 +118,17 @@ module _ (o : Opening) (cap : ℕ) (names : List (List ℕ)) (input rest : Optio
   answered : AreAnswered o names first.ls x y old mid
   answered = record { made = first.made; kept = kept; text = far.passed.0; answers = first.answers; gained = first.gained; written = far.passed.2 }
 
-  pub session_reads : (rest' : Option (List ℕ)) → Keeps rest rest' → IsSession o cap names input rest' old mid x y (Err Read)
+  pub session_reads : (rest' : Option (List ℕ)) → Keeps rest rest' → IsSession o seats cap names input rest' old mid x y (Err Read)
   session_reads rest' keeps = record {
     stream = far.stream;
     read = consumes_kept input rest rest' far.stream far.read keeps;
-    ends = record { ls = first.ls; rest = pending; cut = first.came; holds = far.may.line; answered = answered };
+    ends = record { ls = first.ls; rest = pending; cut = first.came; holds = (omega (arith, first.counted, far.may.few), far.may.line); answered = answered };
   }
 
   -- the input ended, and what is pending is the last line
   pub session_ends : (rest' new : Option (List ℕ)) (pending' : List ℕ) (count' : ℕ) (kept' : Option ℕ) (z : SeatView)
       → Consumes rest rest' [] → IsAtEnd rest' → PassesWritten (IsEnded pending) o names count kept y pending' count' kept' z mid new → count' ≤ MAX_LINES
-      → IsSession o cap names input rest' old new x z (Ok count')
+      → IsSession o seats cap names input rest' old new x z (Ok count')
   session_ends rest' new pending' count' kept' z read end passed few =
       let second = passed.1 in
       let cut : lines far.stream ≡ first.ls ++ last_line pending = one_cutting far.stream pending first.ls first.came far.may.line.no_newline in
@@ -162,7 +162,7 @@ take_front : (k : ℕ) (xs ys : List ℕ) → k ≤ length xs → take k (xs ++ 
 take_front k xs ys low = take-append-le k xs ys low
 
 -- a session that halts, where all that was said is written
-module _ (o : Opening) (cap : ℕ) (names : List (List ℕ)) (ended : Type 0) (stream : List ℕ) (x z : SeatView) (old new : Option (List ℕ)) (text : List ℕ)
+module _ (o : Opening) (seats cap : ℕ) (names : List (List ℕ)) (ended : Type 0) (stream : List ℕ) (x z : SeatView) (old new : Option (List ℕ)) (text : List ℕ)
     (written : Appends old new text) where
   ends_at : (P : ℕ → Option ℕ → Command → Type 0) → HaltsAt (AreLines ended stream) o names None x z text P → StopsAt o names ended stream x z old new P
   ends_at P h = record {
@@ -199,24 +199,24 @@ module _ (o : Opening) (cap : ℕ) (names : List (List ℕ)) (ended : Type 0) (s
     gained = h.gained;
   }
 
-  ends_so : (end : SessionEnd) → Halts (AreLines ended stream) (Begins stream) o cap names 0 None x z text end
-      → Ends o cap names ended stream x z old new (Err end)
+  ends_so : (end : SessionEnd) → Halts (AreLines ended stream) (Begins stream) o seats cap names 0 None x z text end
+      → Ends o seats cap names ended stream x z old new (Err end)
   ends_so Read h = absurd h
   ends_so Write h = absurd h
-  ends_so LongLine h = ends_in _ (λ ls rest. IsTooLong rest) (λ ls r p. p) h
+  ends_so LongLine h = ends_in _ (λ ls rest. (length ls < MAX_LINES) × IsTooLong rest) (λ ls r p. (omega (arith, p.0), p.1)) h
   ends_so Turns h = ends_in _ (λ ls rest. (length ls ≡ MAX_LINES) × (1 ≤ length rest)) (λ ls r p. (omega (arith, p.0), p.1)) h
   ends_so (Table fault) h = (ends_at CallsTable h.0, h.1)
   ends_so Memory h = ends_unsaid h
   ends_so Spawn h = ends_at TriesRank h
 
-pub session_unsaid : (o : Opening) (cap : ℕ) (names : List (List ℕ)) (input old : Option (List ℕ)) (x : SeatView)
-    → IsSession o cap names input input old old x x (Err Memory)
-session_unsaid o cap names input old x = record {
+pub session_unsaid : (o : Opening) (seats cap : ℕ) (names : List (List ℕ)) (input old : Option (List ℕ)) (x : SeatView)
+    → IsSession o seats cap names input input old old x x (Err Memory)
+session_unsaid o seats cap names input old x = record {
   stream = [];
   read = consumes_none input;
   ends = record {
     ls = [];
-    came = inl ([], record { whole = refl; each = All-nil IsLine });
+    came = (omega arith, inl ([], record { whole = refl; each = All-nil IsLine }));
     made = [];
     kept = None;
     text = [];
@@ -228,21 +228,30 @@ session_unsaid o cap names input old x = record {
   };
 }
 
-module _ (o : Opening) (cap : ℕ) (names : List (List ℕ)) (input rest : Option (List ℕ)) (old mid : Option (List ℕ)) (x : SeatView)
+module _ (o : Opening) (seats cap : ℕ) (names : List (List ℕ)) (input rest : Option (List ℕ)) (old mid : Option (List ℕ)) (x : SeatView)
     (pending : List ℕ) (count : ℕ) (kept : Option ℕ) (y : SeatView)
     (far : IsSoFar o names input rest old mid x pending count kept y)
     (ended : Type 0) (stream : List ℕ) (Cn : List (List ℕ) → Type 0) (Dn : List (List ℕ) → List ℕ → Type 0) (z : SeatView) (new : Option (List ℕ))
-    (come : (ls ls1 : List (List ℕ)) → Begins far.stream ls pending → Cn ls1 → AreLines ended stream (ls ++ ls1))
+    (come : (ls ls1 : List (List ℕ)) → Begins far.stream ls pending → length ls ≡ count → Cn ls1 → AreLines ended stream (ls ++ ls1))
     (comes : (ls ls1 : List (List ℕ)) (r : List ℕ) → Begins far.stream ls pending → Dn ls1 r → Begins stream (ls ++ ls1) r)
     (few : (ls1 : List (List ℕ)) → Cn ls1 → length (flat_map with_newline ls1) ≤ READ_SIZE + MAX_LINE + 1) where
-  begun : Passes (Begins far.stream) o names 0 None x pending count kept y far.passed.0
-  begun = far.passed.1
+  begun : Passes (λ ls r. Begins far.stream ls r × (length ls ≡ count)) o names 0 None x pending count kept y far.passed.0
+  begun =
+      let first = far.passed.1 in
+      record {
+        ls = first.ls;
+        came = (first.came, omega (arith, first.counted));
+        counted = first.counted;
+        made = first.made;
+        answers = first.answers;
+        gained = first.gained;
+      }
 
   unheard : (text1 : List ℕ) → Tells Cn o names kept y z text1 → AppendsFront mid new [] text1 → IsUnheard o names ended stream x z old new
   unheard text1 tells front = record {
     told = begun.ls;
     last = tells.ls;
-    came = come begun.ls tells.ls begun.came tells.came;
+    came = come begun.ls tells.ls begun.came.0 begun.came.1 tells.came;
     few = few tells.ls tells.came;
     made = begun.made;
     kept = kept;
@@ -261,14 +270,15 @@ module _ (o : Opening) (cap : ℕ) (names : List (List ℕ)) (input rest : Optio
     );
   }
 
-  halting : (text1 : List ℕ) (end : SessionEnd) → Halts Cn Dn o cap names count kept y z text1 end → Appends mid new text1
-      → Ends o cap names ended stream x z old new (Err end)
+  halting : (text1 : List ℕ) (end : SessionEnd) → Halts Cn Dn o seats cap names count kept y z text1 end → Appends mid new text1
+      → Ends o seats cap names ended stream x z old new (Err end)
   halting text1 end h written =
-      ends_so o cap names ended stream x z old new (far.passed.0 ++ text1) (appends_more old mid new far.passed.0 text1 far.passed.2 written) end
-      (halts_after o cap names 0 count None kept x y z far.passed.0 text1 pending (Begins far.stream) begun Cn (AreLines ended stream) Dn (Begins stream) end
-      come comes h)
+      ends_so o seats cap names ended stream x z old new (far.passed.0 ++ text1) (appends_more old mid new far.passed.0 text1 far.passed.2 written) end
+      (halts_after o seats cap names 0 count None kept x y z far.passed.0 text1 pending
+      (λ ls r. Begins far.stream ls r × (length ls ≡ count)) begun Cn (AreLines ended stream) Dn (Begins stream) end
+      (λ ls ls1 d. come ls ls1 d.0 d.1) (λ ls ls1 r d. comes ls ls1 r d.0) h)
 
-  halting_written : (end : SessionEnd) → HaltsWritten Cn Dn o cap names count kept y z mid new end → Ends o cap names ended stream x z old new (Err end)
+  halting_written : (end : SessionEnd) → HaltsWritten Cn Dn o seats cap names count kept y z mid new end → Ends o seats cap names ended stream x z old new (Err end)
   halting_written Read h = absurd h.1
   halting_written Write h = let (text1, tells, front) = h in unheard text1 tells front
   halting_written LongLine h = halting h.0 LongLine h.1 h.2
@@ -278,43 +288,52 @@ module _ (o : Opening) (cap : ℕ) (names : List (List ℕ)) (input rest : Optio
   halting_written Spawn h = halting h.0 Spawn h.1 h.2
 
 -- the session halts in bytes that were read
-pub session_halts_in : (o : Opening) (cap : ℕ) (names : List (List ℕ)) (input rest rest' : Option (List ℕ)) (old mid new : Option (List ℕ)) (x y z : SeatView)
+pub session_halts_in : (o : Opening) (seats cap : ℕ) (names : List (List ℕ)) (input rest rest' : Option (List ℕ)) (old mid new : Option (List ℕ)) (x y z : SeatView)
     (pending bytes : List ℕ) (count : ℕ) (kept : Option ℕ) (end : SessionEnd)
     → IsSoFar o names input rest old mid x pending count kept y → Consumes rest rest' bytes → length bytes ≤ READ_SIZE
-    → HaltsWritten (BeginsWith (pending ++ bytes)) (Begins (pending ++ bytes)) o cap names count kept y z mid new end
-    → IsSession o cap names input rest' old new x z (Err end)
-session_halts_in o cap names input rest rest' old mid new x y z pending bytes count kept end far read small halts =
-    let P : List (List ℕ) → Type 0 = BeginsWith (pending ++ bytes) in
+    → HaltsWritten (BeginsWith count (pending ++ bytes)) (Begins (pending ++ bytes)) o seats cap names count kept y z mid new end
+    → IsSession o seats cap names input rest' old new x z (Err end)
+session_halts_in o seats cap names input rest rest' old mid new x y z pending bytes count kept end far read small halts =
     record {
       stream = far.stream ++ bytes;
       read = consumes_more input rest rest' far.stream bytes far.read read;
-      ends = halting_written o cap names input rest old mid x pending count kept y far (IsAtEnd rest') (far.stream ++ bytes)
-          (BeginsWith (pending ++ bytes)) (Begins (pending ++ bytes)) z new
-          (λ ls ls1 p q. inl (q.0, begins_both far.stream bytes pending q.0 ls ls1 p q.1))
+      ends = halting_written o seats cap names input rest old mid x pending count kept y far (IsAtEnd rest') (far.stream ++ bytes)
+          (BeginsWith count (pending ++ bytes)) (Begins (pending ++ bytes)) z new
+          (λ ls ls1 p many q. (
+            let size = length-append ls ls1 in omega (arith, size, many, q.0),
+            inl (q.1.0, begins_both far.stream bytes pending q.1.0 ls ls1 p q.1.1),
+          ))
           (λ ls ls1 r p q. begins_both far.stream bytes pending r ls ls1 p q)
-          (λ ls1 q. let whole = ap length q.1.whole in let left = length-append pending bytes in
-          let right = length-append (flat_map with_newline ls1) q.0 in omega (arith, whole, left, right, small, far.may.line.short))
+          (λ ls1 q. let whole = ap length q.1.1.whole in let left = length-append pending bytes in
+          let right = length-append (flat_map with_newline ls1) q.1.0 in omega (arith, whole, left, right, small, far.may.line.short))
           end halts;
     }
 
 -- the session halts at the last line
-pub session_halts_last : (o : Opening) (cap : ℕ) (names : List (List ℕ)) (input rest rest' : Option (List ℕ)) (old mid new : Option (List ℕ)) (x y z : SeatView)
+pub session_halts_last : (o : Opening) (seats cap : ℕ) (names : List (List ℕ)) (input rest rest' : Option (List ℕ)) (old mid new : Option (List ℕ)) (x y z : SeatView)
     (pending : List ℕ) (count : ℕ) (kept : Option ℕ) (end : SessionEnd)
     → IsSoFar o names input rest old mid x pending count kept y → Consumes rest rest' [] → IsAtEnd rest'
-    → HaltsWritten (IsLast pending) (λ ls r. ⊥) o cap names count kept y z mid new end
-    → IsSession o cap names input rest' old new x z (Err end)
-session_halts_last o cap names input rest rest' old mid new x y z pending count kept end far read over halts = record {
+    → HaltsWritten (IsLast pending) (λ ls r. ⊥) o seats cap names count kept y z mid new end
+    → IsSession o seats cap names input rest' old new x z (Err end)
+session_halts_last o seats cap names input rest rest' old mid new x y z pending count kept end far read over halts = record {
   stream = far.stream;
   read = subst (Consumes input rest') (append-nil far.stream) (consumes_more input rest rest' far.stream [] far.read read);
-  ends = halting_written o cap names input rest old mid x pending count kept y far (IsAtEnd rest') far.stream (IsLast pending) (λ ls r. ⊥) z new
-      (λ ls ls1 p q. elim q [
-        | inl none ↦ inl (pending, subst (λ l. Begins far.stream l pending) (sym (ap (λ l. ls ++ l) none ∙ append-nil ls)) p)
-        | inr one ↦ inr (
-          over,
-          ap (λ l. ls ++ l) one.2 ∙ ap (λ l. ls ++ l) (sym (one_line pending one.0))
-              ∙ sym (one_cutting far.stream pending ls p far.may.line.no_newline),
-          subst (λ l. All IsLine (ls ++ l)) (sym one.2)
-              (All-append IsLine ls (pending ∷ []) p.each (All-cons IsLine pending [] one.1 (All-nil IsLine))),
+  ends = halting_written o seats cap names input rest old mid x pending count kept y far (IsAtEnd rest') far.stream (IsLast pending) (λ ls r. ⊥) z new
+      (λ ls ls1 p many q. elim q [
+        | inl none ↦ (
+          let size = length-append ls ls1 in omega (arith, size, ap length none, many, far.may.few),
+          inl (pending, subst (λ l. Begins far.stream l pending) (sym (ap (λ l. ls ++ l) none ∙ append-nil ls)) p),
+        )
+        | inr one ↦ (
+          let left : count < MAX_LINES = room one.0 in
+              let size = length-append ls ls1 in omega (arith, size, ap length one.2, many, left),
+          inr (
+            over,
+            ap (λ l. ls ++ l) one.2 ∙ ap (λ l. ls ++ l) (sym (one_line pending one.0))
+                ∙ sym (one_cutting far.stream pending ls p far.may.line.no_newline),
+            subst (λ l. All IsLine (ls ++ l)) (sym one.2)
+                (All-append IsLine ls (pending ∷ []) p.each (All-cons IsLine pending [] one.1 (All-nil IsLine))),
+          ),
         )
       ])
       (λ ls ls1 r p none. absurd none)
@@ -326,20 +345,25 @@ session_halts_last o cap names input rest rest' old mid new x y z pending count 
       ])
       end halts;
 }
+  where
+    room : 1 ≤ length pending → count < MAX_LINES
+    room some =
+        let other : count ≢ MAX_LINES = λ full. omega (arith, some, ap length (far.may.full full)) in
+        omega (arith, other, far.may.few)
 
-pub seat_halted : (C : List (List ℕ) → Type 0) (D : List (List ℕ) → List ℕ → Type 0) (o : Opening) (cap : ℕ) (names : List (List ℕ)) (n : ℕ) (k : Option ℕ)
-    (x y z : SeatView) (mid new : Option (List ℕ)) (end : SessionEnd) → y.number ≡ x.number → HaltsWritten C D o cap names n k y z mid new end → z.number ≡ x.number
-seat_halted C D o cap names n k x y z mid new Read same h = absurd h.1
-seat_halted C D o cap names n k x y z mid new Write same h = h.1.gained.number ∙ same
-seat_halted C D o cap names n k x y z mid new LongLine same h = h.1.gained.number ∙ same
-seat_halted C D o cap names n k x y z mid new Turns same h = h.1.gained.number ∙ same
-seat_halted C D o cap names n k x y z mid new (Table fault) same h = h.1.0.gained.number ∙ same
-seat_halted C D o cap names n k x y z mid new Memory same h = h.1.gained.number ∙ same
-seat_halted C D o cap names n k x y z mid new Spawn same h = h.1.gained.number ∙ same
+pub seat_halted : (C : List (List ℕ) → Type 0) (D : List (List ℕ) → List ℕ → Type 0) (o : Opening) (seats cap : ℕ) (names : List (List ℕ)) (n : ℕ) (k : Option ℕ)
+    (x y z : SeatView) (mid new : Option (List ℕ)) (end : SessionEnd) → y.number ≡ x.number → HaltsWritten C D o seats cap names n k y z mid new end → z.number ≡ x.number
+seat_halted C D o seats cap names n k x y z mid new Read same h = absurd h.1
+seat_halted C D o seats cap names n k x y z mid new Write same h = h.1.gained.number ∙ same
+seat_halted C D o seats cap names n k x y z mid new LongLine same h = h.1.gained.number ∙ same
+seat_halted C D o seats cap names n k x y z mid new Turns same h = h.1.gained.number ∙ same
+seat_halted C D o seats cap names n k x y z mid new (Table fault) same h = h.1.0.gained.number ∙ same
+seat_halted C D o seats cap names n k x y z mid new Memory same h = h.1.gained.number ∙ same
+seat_halted C D o seats cap names n k x y z mid new Spawn same h = h.1.gained.number ∙ same
 
-pub no_read_end : (C : List (List ℕ) → Type 0) (D : List (List ℕ) → List ℕ → Type 0) (o : Opening) (cap : ℕ) (names : List (List ℕ)) (n : ℕ) (k : Option ℕ)
-    (y z : SeatView) (mid new : Option (List ℕ)) (end : SessionEnd) → HaltsWritten C D o cap names n k y z mid new end → end ≡ Read → ⊥
-no_read_end C D o cap names n k y z mid new end h e = (subst (HaltsWritten C D o cap names n k y z mid new) e h).1
+pub no_read_end : (C : List (List ℕ) → Type 0) (D : List (List ℕ) → List ℕ → Type 0) (o : Opening) (seats cap : ℕ) (names : List (List ℕ)) (n : ℕ) (k : Option ℕ)
+    (y z : SeatView) (mid new : Option (List ℕ)) (end : SessionEnd) → HaltsWritten C D o seats cap names n k y z mid new end → end ≡ Read → ⊥
+no_read_end C D o seats cap names n k y z mid new end h e = (subst (HaltsWritten C D o seats cap names n k y z mid new) e h).1
 
 -- how many bytes can still be read
 abbrev pub bytes_left : List ℕ → ℕ → ℕ

@@ -1,6 +1,7 @@
--- How a session ends. `stream` is what was read, and `ended` says that no more is to come; x is the seat before the session and
--- y after it; `old` and `new` are what the writer held, where that is known.
---   Gains x y made       == the seat is the same, has made these entries, and was told of what it was told, and perhaps more
+-- How a session ends, at a table with the opening o, so many seats and cap cells. `stream` is what was read, and `ended` says that
+-- no more is to come; x is the seat before the session and y after it; `old` and `new` are what the writer held, where that is known.
+--   Gains x y made       == the seat is the same, has made these entries, and was told of what it was told, and perhaps more; the
+--                           history that it has found begins with the one that it had
 --   AreAnswered o names ls x y old new == the lines ls are answered, one after another, and nothing else is: the seat has made
 --                           just the entries that they make, and just their answers were written
 --   CallsTable n kept command == the command makes an entry, where the table takes it: with that look kept, on n vertices
@@ -13,15 +14,16 @@
 --   Ends ..              == how the session ended: the lines that were read are counted, and all are answered; or, where reading
 --                           failed, where a line is too long or one too many, all whole lines before are; or it ended at a line
 --                           for what the table, the memory or a thread refused; or the writer took no more
---   IsSession o cap names input rest old new x y result == some bytes were read, on which the session ended so: those by which
+--   IsSession o seats cap names input rest old new x y result == some bytes were read, on which the session ended so: those by which
 --                           the reader's bytes, where they are known, have become the rest
-use Rattle.std.specs.Prelude.{◌≡◌, ℕ, ◌+◌, ◌≤◌, ◌⊎◌, List, [], ◌++◌, length, Option, None, Some, All, flat_map, ⊤, Result, Ok, Err}
+use Rattle.std.specs.Prelude.{◌≡◌, ℕ, ◌+◌, ◌<◌, ◌≤◌, ◌⊎◌, List, [], ◌++◌, length, Option, None, Some, All, flat_map, ⊤, Result, Ok, Err}
 use Rattle.std.specs.Io.KnownBytes.{Appends, Consumes, IsAtEnd}
 use Rattle.dg_chips.specs.Opening.{Opening}
 use Rattle.dg_game.specs.declared.entry.Entry.{Entry}
 use Rattle.dg_game.specs.declared.step.Command.{Command}
 use Rattle.dg_game.specs.declared.step.Command.TheVariants.{Call, Commit, Rank}
 use Rattle.dg_rank.specs.Ranks.{IsWithin}
+use Rattle.dg_log.specs.Numbered.{IsBeginning}
 use Rattle.dg_table.specs.Seats.{SeatView}
 use Rattle.dg_table.specs.Faults.{RefusesCall}
 use Rattle.dg_lines.specs.Commands.{IsCommandLine}
@@ -38,6 +40,7 @@ pub record Gains (x y : SeatView) (made : List (ℕ × Entry)) : Type 0 where
   pub mine : y.mine ≡ x.mine ++ made
   pub heard : List (ℕ × Entry)
   pub told : y.told ≡ x.told ++ heard
+  pub past : IsBeginning x.past y.past
 
 pub record AreAnswered (o : Opening) (names : List (List ℕ)) (ls : List (List ℕ)) (x y : SeatView)
     (old new : Option (List ℕ)) : Type 0 where
@@ -124,21 +127,21 @@ pub record IsWhole (o : Opening) (names : List (List ℕ)) (ended : Type 0) (str
   pub each : All IsLine (lines stream)
   pub answered : AreAnswered o names (lines stream) x y old new
 
-abbrev pub Ends : Opening → ℕ → List (List ℕ) → Type 0 → List ℕ → SeatView → SeatView → Option (List ℕ) → Option (List ℕ)
+abbrev pub Ends : Opening → ℕ → ℕ → List (List ℕ) → Type 0 → List ℕ → SeatView → SeatView → Option (List ℕ) → Option (List ℕ)
     → Result ℕ SessionEnd → Type 0
-Ends o cap names ended stream x y old new (Ok count) = IsWhole o names ended stream x y old new count
-Ends o cap names ended stream x y old new (Err Read) = IsAtBytes o names stream x y old new (λ ls rest. IsLine rest)
-Ends o cap names ended stream x y old new (Err Write) = IsUnheard o names ended stream x y old new
-Ends o cap names ended stream x y old new (Err LongLine) = IsAtBytes o names stream x y old new (λ ls rest. IsTooLong rest)
-Ends o cap names ended stream x y old new (Err Turns) =
+Ends o seats cap names ended stream x y old new (Ok count) = IsWhole o names ended stream x y old new count
+Ends o seats cap names ended stream x y old new (Err Read) = IsAtBytes o names stream x y old new (λ ls rest. (length ls ≤ MAX_LINES) × IsLine rest)
+Ends o seats cap names ended stream x y old new (Err Write) = IsUnheard o names ended stream x y old new
+Ends o seats cap names ended stream x y old new (Err LongLine) = IsAtBytes o names stream x y old new (λ ls rest. (length ls < MAX_LINES) × IsTooLong rest)
+Ends o seats cap names ended stream x y old new (Err Turns) =
     IsAtBytes o names stream x y old new (λ ls rest. (length ls ≡ MAX_LINES) × (1 ≤ length rest))
-Ends o cap names ended stream x y old new (Err (Table fault)) =
-    StopsAt o names ended stream x y old new CallsTable × RefusesCall o cap y fault
-Ends o cap names ended stream x y old new (Err Memory) = IsUnsaid o names ended stream x y old new
-Ends o cap names ended stream x y old new (Err Spawn) = StopsAt o names ended stream x y old new TriesRank
+Ends o seats cap names ended stream x y old new (Err (Table fault)) =
+    StopsAt o names ended stream x y old new CallsTable × RefusesCall o seats cap y fault
+Ends o seats cap names ended stream x y old new (Err Memory) = IsUnsaid o names ended stream x y old new
+Ends o seats cap names ended stream x y old new (Err Spawn) = StopsAt o names ended stream x y old new TriesRank
 
-pub record IsSession (o : Opening) (cap : ℕ) (names : List (List ℕ)) (input rest : Option (List ℕ)) (old new : Option (List ℕ))
+pub record IsSession (o : Opening) (seats cap : ℕ) (names : List (List ℕ)) (input rest : Option (List ℕ)) (old new : Option (List ℕ))
     (x y : SeatView) (result : Result ℕ SessionEnd) : Type 0 where
   pub stream : List ℕ
   pub read : Consumes input rest stream
-  pub ends : Ends o cap names (IsAtEnd rest) stream x y old new result
+  pub ends : Ends o seats cap names (IsAtEnd rest) stream x y old new result

@@ -1,20 +1,18 @@
--- What a session says to lines. `names` are the names of the vertices, and `kept` is the number of the look that the session
+-- What a session says to lines. An entry that is made stands, with its number, in the one history that the seat has found
+-- (`HasPast`), and is answered there as the game answers it. `names` are the names of the vertices, and `kept` is the number of the look that the session
 -- keeps, if it keeps one.
 --   fault_text fault            == `bad` and what is wrong with the line, and a newline
---   IsMade o request p          == the entry p, with its number, is that of the request, and the last of a legal history from
---                                  the opening o
 --   kept_after kept p           == the look that is kept after the entry p: it, if it is a look; none, if it enters what was
 --                                  reckoned on the look; otherwise the one that was kept
 --   Says kept words made after text == no entry is made, and these words are said
---   Enters o names kept request made after text == one entry is made, that of the request, and its line is said
+--   Enters names kept request made after text == one entry is made, that of the request, and its line is said
 --   AnswersCommand o names kept command made after text == the command, with that look kept, makes these entries, leaves that look
 --                                  kept, and is answered with the text
 --   AnswersLine o names kept line made after text == so is the line: by what is wrong with it, or as its command
 --   Answers o names kept ls made after text == so are the lines ls, one after another
-use Rattle.std.specs.Prelude.{◌≡◌, ℕ, ◌⊎◌, List, [], ◌∷◌, ◌++◌, length, Option, Some, None, codes}
+use Rattle.std.specs.Prelude.{◌≡◌, ℕ, ◌⊎◌, List, [], ◌∷◌, ◌++◌, Option, Some, None, codes}
 use Rattle.dg_chips.specs.Opening.{Opening}
 use Rattle.dg_rank.specs.Ranks.{IsWithin}
-use Rattle.dg_game.specs.Legal.{IsLegal}
 use Rattle.dg_game.specs.Schedule.{asked}
 use Rattle.dg_game.specs.declared.entry.Entry.{Entry}
 use Rattle.dg_game.specs.declared.entry.Request.{Request}
@@ -34,12 +32,6 @@ fault_text Form = codes "bad form\n"
 fault_text Name = codes "bad name\n"
 fault_text Number = codes "bad number\n"
 
-pub record IsMade (o : Opening) (request : Request) (p : ℕ × Entry) : Type 0 where
-  pub before : List Entry
-  pub place : p.0 ≡ length before
-  pub request' : p.1.request ≡ request
-  pub legal : IsLegal o (before ++ p.1 ∷ [])
-
 abbrev pub look_after : Option ℕ → ℕ → Request → Option ℕ
 look_after kept number Look = Some number
 look_after kept number (Judge i) = None
@@ -52,18 +44,18 @@ kept_after kept p = look_after kept p.0 p.1.request
 abbrev pub Says : Option ℕ → List ℕ → List (ℕ × Entry) → Option ℕ → List ℕ → Type 0
 Says kept words made after text = (made ≡ []) × (after ≡ kept) × (text ≡ words)
 
-abbrev pub Enters : Opening → List (List ℕ) → Option ℕ → Request → List (ℕ × Entry) → Option ℕ → List ℕ → Type 0
-Enters o names kept request made after text =
-    (p : ℕ × Entry) × IsMade o request p × (made ≡ p ∷ []) × (after ≡ kept_after kept p) × (text ≡ entry_text names p.0 p.1.reply)
+abbrev pub Enters : List (List ℕ) → Option ℕ → Request → List (ℕ × Entry) → Option ℕ → List ℕ → Type 0
+Enters names kept request made after text =
+    (p : ℕ × Entry) × (p.1.request ≡ request) × (made ≡ p ∷ []) × (after ≡ kept_after kept p) × (text ≡ entry_text names p.0 p.1.reply)
 
 abbrev pub AnswersCommand : Opening → List (List ℕ) → Option ℕ → Command → List (ℕ × Entry) → Option ℕ → List ℕ → Type 0
-AnswersCommand o names kept (Call plain) made after text = Enters o names kept (asked plain) made after text
+AnswersCommand o names kept (Call plain) made after text = Enters names kept (asked plain) made after text
 AnswersCommand o names None Commit made after text = Says None (codes "bad look\n") made after text
-AnswersCommand o names (Some i) Commit made after text = Enters o names (Some i) (Judge i) made after text
+AnswersCommand o names (Some i) Commit made after text = Enters names (Some i) (Judge i) made after text
 AnswersCommand o names None (Rank k) made after text = Says None (codes "bad look\n") made after text
 AnswersCommand o names (Some i) (Rank k) made after text =
     ((¬ IsWithin o.graph.size k) × Says (Some i) (codes "bad trials\n") made after text)
-    ⊎ (IsWithin o.graph.size k × Enters o names (Some i) (RankRequest i k) made after text)
+    ⊎ (IsWithin o.graph.size k × Enters names (Some i) (RankRequest i k) made after text)
 
 abbrev pub AnswersLine : Opening → List (List ℕ) → Option ℕ → List ℕ → List (ℕ × Entry) → Option ℕ → List ℕ → Type 0
 AnswersLine o names kept line made after text =

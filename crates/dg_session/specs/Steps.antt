@@ -4,11 +4,11 @@
 --   kept_number look           == the number of the look, if there is one
 --   IsDone A x y after old new == the step is answered as A says, and what was said has grown by the answer
 --   MadeAtMost A x y           == the seat has made nothing, or what the step makes where it is answered
---   RefusesCommand o cap names kept command x y end == the command is not answered, and the session ends so
---   RefusesLine o cap names kept line x y end       == so is the line
+--   RefusesCommand o seats cap names kept command x y end == the command is not answered, and the session ends so
+--   RefusesLine o seats cap names kept line x y end       == so is the line
 --   RefusesPart pending count part end  == the part of a line is not taken after what is pending, where count lines were answered
 --   MayPend pending count      == what is pending may be, where count lines were answered
---   BeginsWith bytes ls        == the bytes begin with the lines ls, each with its newline
+--   BeginsWith count bytes ls  == the bytes begin with the lines ls, each with its newline; after count lines there may be so many
 --   IsLast pending ls          == the lines are none, or the one that is pending
 --   IsEnded pending ls rest    == the lines are the one that is pending, if it has a byte, and there is no rest
 --   Passes D o names ..        == lines ls come, with a rest, and all are answered: their number, the entries, the look that is kept
@@ -55,20 +55,20 @@ pub record MadeAtMost (A : List (ℕ × Entry) → Option ℕ → List ℕ → T
   pub next : (more ≡ []) ⊎ ((after : Option ℕ) × (said : List ℕ) × A more after said)
   pub gained : Gains x y more
 
-abbrev pub RefusesCommand : Opening → ℕ → List (List ℕ) → Option ℕ → Command → SeatView → SeatView → SessionEnd → Type 0
-RefusesCommand o cap names kept command x y (Table fault) =
-    CallsTable o.graph.size kept command × RefusesCall o cap y fault × Gains x y []
-RefusesCommand o cap names kept command x y Spawn = TriesRank o.graph.size kept command × Gains x y []
-RefusesCommand o cap names kept command x y Memory = MadeAtMost (AnswersCommand o names kept command) x y
-RefusesCommand o cap names kept command x y end = ⊥
+abbrev pub RefusesCommand : Opening → ℕ → ℕ → List (List ℕ) → Option ℕ → Command → SeatView → SeatView → SessionEnd → Type 0
+RefusesCommand o seats cap names kept command x y (Table fault) =
+    CallsTable o.graph.size kept command × RefusesCall o seats cap y fault × Gains x y []
+RefusesCommand o seats cap names kept command x y Spawn = TriesRank o.graph.size kept command × Gains x y []
+RefusesCommand o seats cap names kept command x y Memory = MadeAtMost (AnswersCommand o names kept command) x y
+RefusesCommand o seats cap names kept command x y end = ⊥
 
-abbrev pub RefusesLine : Opening → ℕ → List (List ℕ) → Option ℕ → List ℕ → SeatView → SeatView → SessionEnd → Type 0
-RefusesLine o cap names kept line x y (Table fault) =
-    (command : Command) × IsCommandLine names command line × CallsTable o.graph.size kept command × RefusesCall o cap y fault × Gains x y []
-RefusesLine o cap names kept line x y Spawn =
+abbrev pub RefusesLine : Opening → ℕ → ℕ → List (List ℕ) → Option ℕ → List ℕ → SeatView → SeatView → SessionEnd → Type 0
+RefusesLine o seats cap names kept line x y (Table fault) =
+    (command : Command) × IsCommandLine names command line × CallsTable o.graph.size kept command × RefusesCall o seats cap y fault × Gains x y []
+RefusesLine o seats cap names kept line x y Spawn =
     (command : Command) × IsCommandLine names command line × TriesRank o.graph.size kept command × Gains x y []
-RefusesLine o cap names kept line x y Memory = MadeAtMost (AnswersLine o names kept line) x y
-RefusesLine o cap names kept line x y end = ⊥
+RefusesLine o seats cap names kept line x y Memory = MadeAtMost (AnswersLine o names kept line) x y
+RefusesLine o seats cap names kept line x y end = ⊥
 
 abbrev pub RefusesPart : List ℕ → ℕ → List ℕ → SessionEnd → Type 0
 RefusesPart pending count part Turns = count ≡ MAX_LINES
@@ -81,8 +81,8 @@ pub record MayPend (pending : List ℕ) (count : ℕ) : Type 0 where
   pub few : count ≤ MAX_LINES
   pub full : count ≡ MAX_LINES → pending ≡ []
 
-abbrev pub BeginsWith : List ℕ → List (List ℕ) → Type 0
-BeginsWith bytes ls = (rest : List ℕ) × Begins bytes ls rest
+abbrev pub BeginsWith : ℕ → List ℕ → List (List ℕ) → Type 0
+BeginsWith count bytes ls = (count + length ls ≤ MAX_LINES) × ((rest : List ℕ) × Begins bytes ls rest)
 
 abbrev pub IsLast : List ℕ → List (List ℕ) → Type 0
 IsLast pending ls = (ls ≡ []) ⊎ ((1 ≤ length pending) × IsLine pending × (ls ≡ pending ∷ []))
@@ -135,15 +135,16 @@ pub record HaltsIn (D : List (List ℕ) → List ℕ → Type 0) (o : Opening) (
   pub answers : Answers o names kept ls made kept' text
   pub gained : Gains x y made
 
-abbrev pub Halts : (List (List ℕ) → Type 0) → (List (List ℕ) → List ℕ → Type 0) → Opening → ℕ → List (List ℕ) → ℕ → Option ℕ
+abbrev pub Halts : (List (List ℕ) → Type 0) → (List (List ℕ) → List ℕ → Type 0) → Opening → ℕ → ℕ → List (List ℕ) → ℕ → Option ℕ
     → SeatView → SeatView → List ℕ → SessionEnd → Type 0
-Halts C D o cap names count kept x y text (Table fault) = HaltsAt C o names kept x y text CallsTable × RefusesCall o cap y fault
-Halts C D o cap names count kept x y text Spawn = HaltsAt C o names kept x y text TriesRank
-Halts C D o cap names count kept x y text Memory = HaltsUnsaid C o names kept x y text
-Halts C D o cap names count kept x y text LongLine = HaltsIn D o names kept x y text (λ ls rest. IsTooLong rest)
-Halts C D o cap names count kept x y text Turns =
+Halts C D o seats cap names count kept x y text (Table fault) = HaltsAt C o names kept x y text CallsTable × RefusesCall o seats cap y fault
+Halts C D o seats cap names count kept x y text Spawn = HaltsAt C o names kept x y text TriesRank
+Halts C D o seats cap names count kept x y text Memory = HaltsUnsaid C o names kept x y text
+Halts C D o seats cap names count kept x y text LongLine =
+    HaltsIn D o names kept x y text (λ ls rest. (count + length ls < MAX_LINES) × IsTooLong rest)
+Halts C D o seats cap names count kept x y text Turns =
     HaltsIn D o names kept x y text (λ ls rest. (count + length ls ≡ MAX_LINES) × (1 ≤ length rest))
-Halts C D o cap names count kept x y text end = ⊥
+Halts C D o seats cap names count kept x y text end = ⊥
 
 pub record Tells (C : List (List ℕ) → Type 0) (o : Opening) (names : List (List ℕ)) (kept : Option ℕ) (x y : SeatView)
     (text : List ℕ) : Type 0 where
@@ -160,9 +161,9 @@ abbrev pub PassesWritten : (List (List ℕ) → List ℕ → Type 0) → Opening
 PassesWritten D o names count kept x rest count' kept' y old new =
     (text : List ℕ) × Passes D o names count kept x rest count' kept' y text × Appends old new text
 
-abbrev pub HaltsWritten : (List (List ℕ) → Type 0) → (List (List ℕ) → List ℕ → Type 0) → Opening → ℕ → List (List ℕ) → ℕ → Option ℕ
+abbrev pub HaltsWritten : (List (List ℕ) → Type 0) → (List (List ℕ) → List ℕ → Type 0) → Opening → ℕ → ℕ → List (List ℕ) → ℕ → Option ℕ
     → SeatView → SeatView → Option (List ℕ) → Option (List ℕ) → SessionEnd → Type 0
-HaltsWritten C D o cap names count kept x y old new Write =
+HaltsWritten C D o seats cap names count kept x y old new Write =
     (text : List ℕ) × Tells C o names kept x y text × AppendsFront old new [] text
-HaltsWritten C D o cap names count kept x y old new end =
-    (text : List ℕ) × Halts C D o cap names count kept x y text end × Appends old new text
+HaltsWritten C D o seats cap names count kept x y old new end =
+    (text : List ℕ) × Halts C D o seats cap names count kept x y text end × Appends old new text

@@ -104,7 +104,7 @@ pub(crate) fn answer_line<N: Name, R: Threads + Wait>(
     ensures done { OnOk result (IsDone (AnswersLine N.start shared.now.names.now (kept_number kept.old) line.now)
         seat.old seat.new (kept_number kept.new) said.old.text.items said.new.text.items) }
     ensures unsaid { OnErr result (said.new.text.items ≡ said.old.text.items) }
-    ensures refused { IfErr result (RefusesLine N.start (length N.cells) shared.now.names.now (kept_number kept.old) line.now
+    ensures refused { IfErr result (RefusesLine N.start N.seats (length N.cells) shared.now.names.now (kept_number kept.old) line.now
         seat.old seat.new) }
 {
     match parse_line(line, shared.names) {
@@ -132,7 +132,7 @@ fn obey<N: Name, R: Threads + Wait>(
     ensures done { OnOk result (IsDone (AnswersCommand N.start shared.now.names.now (kept_number kept.old) command)
         seat.old seat.new (kept_number kept.new) said.old.text.items said.new.text.items) }
     ensures unsaid { OnErr result (said.new.text.items ≡ said.old.text.items) }
-    ensures refused { IfErr result (RefusesCommand N.start (length N.cells) shared.now.names.now (kept_number kept.old) command
+    ensures refused { IfErr result (RefusesCommand N.start N.seats (length N.cells) shared.now.names.now (kept_number kept.old) command
         seat.old seat.new) }
 {
     match command {
@@ -166,7 +166,7 @@ fn take_look<N: Name, R: Threads + Wait>(
     ensures done { OnOk result (IsDone (AnswersCommand N.start shared.now.names.now (kept_number kept.old) (Call Plain.Look))
         seat.old seat.new (kept_number kept.new) said.old.text.items said.new.text.items) }
     ensures unsaid { OnErr result (said.new.text.items ≡ said.old.text.items) }
-    ensures refused { IfErr result (RefusesCommand N.start (length N.cells) shared.now.names.now (kept_number kept.old)
+    ensures refused { IfErr result (RefusesCommand N.start N.seats (length N.cells) shared.now.names.now (kept_number kept.old)
         (Call Plain.Look) seat.old seat.new) }
 {
     match look(shared.table, shared.rt, shared.alloc, seat) {
@@ -194,7 +194,7 @@ fn call<N: Name, R: Threads + Wait>(
     ensures done { OnOk result (IsDone (AnswersCommand N.start shared.now.names.now (kept_number kept.old) (Call plain))
         seat.old seat.new (kept_number kept.new) said.old.text.items said.new.text.items) }
     ensures unsaid { OnErr result (said.new.text.items ≡ said.old.text.items) }
-    ensures refused { IfErr result (RefusesCommand N.start (length N.cells) shared.now.names.now (kept_number kept.old)
+    ensures refused { IfErr result (RefusesCommand N.start N.seats (length N.cells) shared.now.names.now (kept_number kept.old)
         (Call plain) seat.old seat.new) }
 {
     match shared.table.call(shared.rt, shared.alloc, seat, plain) {
@@ -217,7 +217,7 @@ fn enter_verdict<N: Name, R: Threads + Wait>(
     ensures done { OnOk result (IsDone (AnswersCommand N.start shared.now.names.now (kept_number kept.old) Commit)
         seat.old seat.new (kept_number kept.new) said.old.text.items said.new.text.items) }
     ensures unsaid { OnErr result (said.new.text.items ≡ said.old.text.items) }
-    ensures refused { IfErr result (RefusesCommand N.start (length N.cells) shared.now.names.now (kept_number kept.old) Commit
+    ensures refused { IfErr result (RefusesCommand N.start N.seats (length N.cells) shared.now.names.now (kept_number kept.old) Commit
         seat.old seat.new) }
 {
     let Some(look) = kept.take() else {
@@ -251,7 +251,7 @@ fn enter_rank<N: Name, R: Threads + Wait>(
     ensures done { OnOk result (IsDone (AnswersCommand N.start shared.now.names.now (kept_number kept.old) (Rank k))
         seat.old seat.new (kept_number kept.new) said.old.text.items said.new.text.items) }
     ensures unsaid { OnErr result (said.new.text.items ≡ said.old.text.items) }
-    ensures refused { IfErr result (RefusesCommand N.start (length N.cells) shared.now.names.now (kept_number kept.old)
+    ensures refused { IfErr result (RefusesCommand N.start N.seats (length N.cells) shared.now.names.now (kept_number kept.old)
         (Rank k) seat.old seat.new) }
 {
     let Some(look) = kept.take() else {

@@ -2,6 +2,7 @@
 ghost use Rattle.std.specs.Prelude.{◌≡◌, ◌<◌, ◌≤◌, length, take, Err, None, IfSome, true};
 ghost use Rattle.std.specs.Io.KnownBytes.{Consumes, IsAtEnd, Keeps};
 ghost use Rattle.dg_rank.specs.Ranks.{MayHaveWorkers};
+ghost use Rattle.dg_table.specs.Histories.{HasPast};
 ghost use Rattle.dg_session.specs.Ends.{IsSession};
 
 use crate::answering::Shared;
@@ -36,7 +37,35 @@ pub fn serve<N: Name, R: Threads + Wait, I: Read, O: Write>(
 ) -> Result<u32, SessionEnd>
     requires names { length names.now ≡ N.start.graph.size }
     requires workers { MayHaveWorkers workers }
-    ensures session { IsSession N.start (length N.cells) names.now reader.old.remaining reader.new.remaining
+    ensures session { IsSession N.start N.seats (length N.cells) names.now reader.old.remaining reader.new.remaining
+        writer.old.contents writer.new.contents seat.old seat.new result }
+    ensures history { HasPast N.start N.seats (length N.cells) seat.new }
+    ensures number { seat.new.number ≡ seat.old.number }
+    ensures read { result ≡ Err SessionEnd.Read → reader.new.has_failed ≡ true }
+    ensures write { result ≡ Err SessionEnd.Write → writer.new.has_failed ≡ true }
+{
+    let ended = serve_lines(rt, alloc, table, seat, names, reader, writer, workers);
+    let _past = seat.past();
+    match ended {
+        Ok(count) => Ok(count),
+        Err(end) => Err(end),
+    }
+}
+
+/// The same, of which it is not said that the history which the seat finds is one of the table.
+fn serve_lines<N: Name, R: Threads + Wait, I: Read, O: Write>(
+    rt: &R,
+    alloc: Global,
+    table: &Table<N>,
+    seat: &mut Seat<N>,
+    names: &Names,
+    reader: &mut Input<I>,
+    writer: &mut Output<O>,
+    workers: u32,
+) -> Result<u32, SessionEnd>
+    requires names { length names.now ≡ N.start.graph.size }
+    requires workers { MayHaveWorkers workers }
+    ensures session { IsSession N.start N.seats (length N.cells) names.now reader.old.remaining reader.new.remaining
         writer.old.contents writer.new.contents seat.old seat.new result }
     ensures number { seat.new.number ≡ seat.old.number }
     ensures read { result ≡ Err SessionEnd.Read → reader.new.has_failed ≡ true }

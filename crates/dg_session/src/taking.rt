@@ -85,7 +85,7 @@ fn end_line<N: Name, R: Threads + Wait>(
     ensures pending { OnOk result (progress.new.pending.items ≡ []) }
     ensures count { OnOk result (progress.new.count ≡ progress.old.count + 1) }
     ensures unsaid { OnErr result (progress.new.said.text.items ≡ progress.old.said.text.items) }
-    ensures refused { IfErr result (RefusesLine N.start (length N.cells) shared.now.names.now (kept_number progress.old.kept)
+    ensures refused { IfErr result (RefusesLine N.start N.seats (length N.cells) shared.now.names.now (kept_number progress.old.kept)
         progress.old.pending.items seat.old seat.new) }
 {
     match answer_line(
@@ -119,8 +119,8 @@ fn take_bytes<N: Name, R: Threads + Wait>(
         progress.old.count (kept_number progress.old.kept) seat.old progress.new.pending.items
         progress.new.count (kept_number progress.new.kept) seat.new progress.new.said.text.items) }
     ensures pending { OnOk result (MayPend progress.new.pending.items progress.new.count) }
-    ensures halted { IfErr result (Halts (BeginsWith (progress.old.pending.items ++ bytes.now))
-        (Begins (progress.old.pending.items ++ bytes.now)) N.start (length N.cells) shared.now.names.now
+    ensures halted { IfErr result (Halts (BeginsWith progress.old.count (progress.old.pending.items ++ bytes.now))
+        (Begins (progress.old.pending.items ++ bytes.now)) N.start N.seats (length N.cells) shared.now.names.now
         progress.old.count (kept_number progress.old.kept) seat.old seat.new progress.new.said.text.items) }
 {
     let mut rest = bytes;
@@ -157,7 +157,7 @@ fn take_end<N: Name, R: Threads + Wait>(
         progress.new.count (kept_number progress.new.kept) seat.new progress.new.said.text.items) }
     ensures count { OnOk result (progress.new.count ≤ MAX_LINES) }
     ensures halted { IfErr result (Halts (IsLast progress.old.pending.items) (λ ls rest. ⊥)
-        N.start (length N.cells) shared.now.names.now
+        N.start N.seats (length N.cells) shared.now.names.now
         progress.old.count (kept_number progress.old.kept) seat.old seat.new progress.new.said.text.items) }
 {
     if progress.pending.is_empty() {
@@ -187,8 +187,8 @@ pub(crate) fn pass_bytes<N: Name, R: Threads + Wait, O: Write>(
         writer.old.contents writer.new.contents) }
     ensures pending { OnOk result (MayPend progress.new.pending.items progress.new.count) }
     ensures said { OnOk result (progress.new.said.text.items ≡ []) }
-    ensures halted { IfErr result (HaltsWritten (BeginsWith (progress.old.pending.items ++ bytes.now))
-        (Begins (progress.old.pending.items ++ bytes.now)) N.start (length N.cells) shared.now.names.now
+    ensures halted { IfErr result (HaltsWritten (BeginsWith progress.old.count (progress.old.pending.items ++ bytes.now))
+        (Begins (progress.old.pending.items ++ bytes.now)) N.start N.seats (length N.cells) shared.now.names.now
         progress.old.count (kept_number progress.old.kept) seat.old seat.new
         writer.old.contents writer.new.contents) }
     ensures write { result ≡ Err WriteEnd → writer.new.has_failed ≡ true }
@@ -223,7 +223,7 @@ pub(crate) fn pass_end<N: Name, R: Threads + Wait, O: Write>(
         writer.old.contents writer.new.contents) }
     ensures count { OnOk result (progress.new.count ≤ MAX_LINES) }
     ensures halted { IfErr result (HaltsWritten (IsLast progress.old.pending.items) (λ ls rest. ⊥)
-        N.start (length N.cells) shared.now.names.now
+        N.start N.seats (length N.cells) shared.now.names.now
         progress.old.count (kept_number progress.old.kept) seat.old seat.new
         writer.old.contents writer.new.contents) }
     ensures write { result ≡ Err WriteEnd → writer.new.has_failed ≡ true }

@@ -29,22 +29,22 @@ pub record Left (x : SeatView) (es : List (ℕ × Entry)) (y : SeatView) : Type 
   pub mine : y.mine ≡ x.mine ++ es
   pub told : y.told ≡ x.told
 
-pub left_by : (A : Choosing) (o : Opening) (x : SeatView) (es : List (ℕ × Entry)) (y : SeatView) →
-    FoldsTo (IsTurnBy A o) x es y → Left x es y
-left_by A o x [] y same =
+pub left_by : (A : Choosing) (o : Opening) (seats cap : ℕ) (x : SeatView) (es : List (ℕ × Entry)) (y : SeatView) →
+    FoldsTo (IsTurnBy A o seats cap) x es y → Left x es y
+left_by A o seats cap x [] y same =
     subst (Left x []) same (record { number = refl; mine = sym (append-nil x.mine); told = refl })
-left_by A o x (r ∷ es) y (z, turn, rest) =
-    let left = left_by A o z es y rest in
+left_by A o seats cap x (r ∷ es) y (z, turn, rest) =
+    let left = left_by A o seats cap z es y rest in
     record {
       number = left.number ∙ turn.answered.number;
       mine = left.mine ∙ ap (λ ps. ps ++ es) turn.answered.mine ∙ append_assoc x.mine (r ∷ []) es;
       told = left.told ∙ turn.answered.told;
     }
 
-pub gained_by : (A : Choosing) (o : Opening) (x : SeatView) (es : List (ℕ × Entry)) (y z : SeatView) →
-    FoldsTo (IsTurnBy A o) x es y → Keeps y z → Gains (IsTurnBy A o) x es z
-gained_by A o x es y z steps kept =
-    let left = left_by A o x es y steps in
+pub gained_by : (A : Choosing) (o : Opening) (seats cap : ℕ) (x : SeatView) (es : List (ℕ × Entry)) (y z : SeatView) →
+    FoldsTo (IsTurnBy A o seats cap) x es y → Keeps y z → Gains (IsTurnBy A o seats cap) x es z
+gained_by A o seats cap x es y z steps kept =
+    let left = left_by A o seats cap x es y steps in
     record {
       last = y;
       steps = steps;
@@ -59,10 +59,10 @@ moves_more [] r moves move = (move, tt)
 moves_more (p ∷ es) r moves move = (moves.0, moves_more es r moves.1 move)
 
 keeps_itself : (x : SeatView) → Keeps x x
-keeps_itself x = record { number = refl; mine = refl; told = refl }
+keeps_itself x = record { number = refl; mine = refl; told = refl; past = refl }
 
-module _ (A : Choosing) (o : Opening) where
-  pub a_move : (x : SeatView) (r : ℕ × Entry) (y : SeatView) → IsTurnBy A o x r y → ¬ (r.1.request ≡ Claim) → IsMove r.1.request
+module _ (A : Choosing) (o : Opening) (seats cap : ℕ) where
+  pub a_move : (x : SeatView) (r : ℕ × Entry) (y : SeatView) → IsTurnBy A o seats cap x r y → ¬ (r.1.request ≡ Claim) → IsMove r.1.request
   a_move x r y turn other = asks turn.answer turn.answered.request'
     where
       asks : (m : Option Move) → r.1.request ≡ request_for m → IsMove r.1.request
@@ -71,40 +71,40 @@ module _ (A : Choosing) (o : Opening) where
 
   -- what turns that are moves leave of a seat, and how many they are
   abbrev pub Moved : SeatView → SeatView → ℕ → Type 0
-  Moved x y n = (es : List (ℕ × Entry)) × FoldsTo (IsTurnBy A o) x es y × AreMoves es × (length es ≡ n)
+  Moved x y n = (es : List (ℕ × Entry)) × FoldsTo (IsTurnBy A o seats cap) x es y × AreMoves es × (length es ≡ n)
 
-  pub one_more : (x y z : SeatView) (r : ℕ × Entry) (n : ℕ) → Moved x y n → IsTurnBy A o y r z → ¬ (r.1.request ≡ Claim) → Moved x z (n + 1)
+  pub one_more : (x y z : SeatView) (r : ℕ × Entry) (n : ℕ) → Moved x y n → IsTurnBy A o seats cap y r z → ¬ (r.1.request ≡ Claim) → Moved x z (n + 1)
   one_more x y z r n (es, steps, moves, count) turn other = (
     es ++ r ∷ [],
-    FoldsTo-push (IsTurnBy A o) x es y r z steps turn,
+    FoldsTo-push (IsTurnBy A o seats cap) x es y r z steps turn,
     moves_more es r moves (a_move y r z turn other),
     omega (arith, count, length-append es (r ∷ [])),
   )
 
-  pub claimed_by : (x y z : SeatView) (r : ℕ × Entry) (i n : ℕ) → Moved x y i → i < n → IsTurnBy A o y r z → r.1.request ≡ Claim →
-      IsClaimed (IsTurnBy A o) n x z r
+  pub claimed_by : (x y z : SeatView) (r : ℕ × Entry) (i n : ℕ) → Moved x y i → i < n → IsTurnBy A o seats cap y r z → r.1.request ≡ Claim →
+      IsClaimed (IsTurnBy A o seats cap) n x z r
   claimed_by x y z r i n (es, steps, moves, count) few turn claim = record {
     entries = es;
-    gained = gained_by A o x (es ++ r ∷ []) z z (FoldsTo-push (IsTurnBy A o) x es y r z steps turn) (keeps_itself z);
+    gained = gained_by A o seats cap x (es ++ r ∷ []) z z (FoldsTo-push (IsTurnBy A o seats cap) x es y r z steps turn) (keeps_itself z);
     moves = moves;
     few = omega (arith, count, few);
     claim = claim;
   }
 
-  pub stopped_by : (cap i n : ℕ) (x y z : SeatView) (fault : Fault) → Moved x y i → i < n → Keeps y z → RefusesCall o cap z fault →
-      IsStopped (IsTurnBy A o) o cap n x z fault
-  stopped_by cap i n x y z fault (es, steps, moves, count) few kept refused = record {
+  pub stopped_by : (i n : ℕ) (x y z : SeatView) (fault : Fault) → Moved x y i → i < n → Keeps y z → RefusesCall o seats cap z fault →
+      IsStopped (IsTurnBy A o seats cap) o seats cap n x z fault
+  stopped_by i n x y z fault (es, steps, moves, count) few kept refused = record {
     entries = es;
-    gained = gained_by A o x es y z steps kept;
+    gained = gained_by A o seats cap x es y z steps kept;
     moves = moves;
     few = omega (arith, count, few);
     refused = refused;
   }
 
-  pub played_out : (n : ℕ) (x y : SeatView) → Moved x y n → IsPlayedOut (IsTurnBy A o) n x y
+  pub played_out : (n : ℕ) (x y : SeatView) → Moved x y n → IsPlayedOut (IsTurnBy A o seats cap) n x y
   played_out n x y (es, steps, moves, count) = record {
     entries = es;
-    gained = gained_by A o x es y y steps (keeps_itself y);
+    gained = gained_by A o seats cap x es y y steps (keeps_itself y);
     moves = moves;
     count = count;
   }
@@ -139,8 +139,8 @@ module _ (T S : SeatView → ℕ × Entry → SeatView → Type 0) (also : (x : 
     count = played.count;
   }
 
-  pub stopped_as : (o : Opening) (cap n : ℕ) (x y : SeatView) (fault : Fault) → IsStopped T o cap n x y fault → IsStopped S o cap n x y fault
-  stopped_as o cap n x y fault stopped = record {
+  pub stopped_as : (o : Opening) (seats cap n : ℕ) (x y : SeatView) (fault : Fault) → IsStopped T o seats cap n x y fault → IsStopped S o seats cap n x y fault
+  stopped_as o seats cap n x y fault stopped = record {
     entries = stopped.entries;
     gained = gained_as x stopped.entries y stopped.gained;
     moves = stopped.moves;

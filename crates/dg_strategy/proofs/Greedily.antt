@@ -2,7 +2,7 @@
 --   filter_whole   a filter that leaves as many leaves all
 --   greedy_game    the history of a table that only such a seat played on
 --   game_of        the same, from the seats before and after
-use Rattle.std.proofs.Common.{◌≡◌, ℕ, suc, ◌+◌, ◌<◌, ◌≤◌, Bool, true, false, cond, List, [], ◌∷◌, ◌++◌, length, length-append, map, slice_get, Option, Some, None, eq-eqb, arith, refl, sym, ap, subst, ◌∙◌}
+use Rattle.std.proofs.Common.{◌≡◌, ℕ, ◌+◌, ◌<◌, ◌≤◌, Bool, true, false, cond, List, [], ◌∷◌, ◌++◌, length, length-append, map, slice_get, Option, Some, None, arith, refl, sym, ap, subst, ◌∙◌}
 use Rattle.std.specs.Prelude.{◌==◌}
 use Rattle.std.specs.List.{filter, enumerate_from, FoldsTo}
 use Rattle.std.proofs.lemmas.List.{map-append, length-map, append_cancel_right}
@@ -18,6 +18,7 @@ use Rattle.dg_table.specs.Turns.{request_for}
 use Rattle.dg_table.specs.Opened.{AreFresh}
 use Rattle.dg_table.specs.Closing.{IsClosed}
 use Rattle.dg_table.specs.Seats.{SeatView, AreSeated, Holds, entries_of}
+use Rattle.dg_table.proofs.Entries.{own_alone, entries_enumerated}
 use Rattle.dg_strategy.specs.Choices.{Choosing, BorrowsAtLeast}
 use Rattle.dg_strategy.specs.Greedy.{IsGreedyCall, AreGreedy, AllMoves, IsGreedyGame}
 use Rattle.dg_strategy.specs.Plays.{IsSettlerTurn, IsMove, AreMoves, Gains, IsPlayed, is_settled}
@@ -50,10 +51,6 @@ module _ {X : Type 0} (P : X → Bool) where
   filter_whole [] count = refl
   filter_whole (x ∷ xs) count = kept (P x) x (filter P xs) xs (filter_few xs) (filter_whole xs) count
 
-entries_enumerated : (n : ℕ) (H : List Entry) → entries (enumerate_from n H) ≡ H
-entries_enumerated n [] = refl
-entries_enumerated n (e ∷ H) = ap (λ L. e ∷ L) (entries_enumerated (n + 1) H)
-
 -- a history with as many entries of the seat as entries has those alone
 alone : (s : ℕ) (K : List Entry) (ps : List (ℕ × Entry)) → entries_of s K ≡ ps → length ps ≡ length K → K ≡ entries ps
 alone s K ps own count =
@@ -62,19 +59,10 @@ alone s K ps own count =
     ap length own ∙ count ∙ sym (length-enumerate_from 0 K) in
     sym (entries_enumerated 0 K) ∙ ap entries (sym (filter_whole P (enumerate_from 0 K) all) ∙ own)
 
-seated_from : (n : ℕ) (H : List Entry) → AreSeated 1 H → filter (λ (p : ℕ × Entry). p.1.seat == 1) (enumerate_from n H) ≡ enumerate_from n H
-seated_from n [] seated = refl
-seated_from n (e ∷ H) seated =
-    let bounds = seated 0 e refl in
-    let one : e.seat ≡ 1 = omega (arith, bounds.0, bounds.1) in
-    let F = filter (λ (p : ℕ × Entry). p.1.seat == 1) (enumerate_from (n + 1) H) in
-    ap (λ b. cond b ((n, e) ∷ F) F) (eq-eqb e.seat 1 one)
-    ∙ ap (λ (ps : List (ℕ × Entry)). (n, e) ∷ ps) (seated_from (n + 1) H (λ k x at. seated (suc k) x at))
-
-greedy_along : (o : Opening) (n : ℕ) (x : SeatView) (H : List Entry) (last : SeatView) → x.number ≡ 1 → length x.mine ≡ n →
-    FoldsTo (IsSettlerTurn greedily o) x (enumerate_from n H) last → AreGreedy o (entries x.mine) H
-greedy_along o n x [] last one count steps = tt
-greedy_along o n x (e ∷ H) last one count (z, step, rest) =
+greedy_along : (o : Opening) (seats cap n : ℕ) (x : SeatView) (H : List Entry) (last : SeatView) → x.number ≡ 1 → length x.mine ≡ n →
+    FoldsTo (IsSettlerTurn greedily o seats cap) x (enumerate_from n H) last → AreGreedy o (entries x.mine) H
+greedy_along o seats cap n x [] last one count steps = tt
+greedy_along o seats cap n x (e ∷ H) last one count (z, step, rest) =
     let turn = step.strategy.turn in
     let answered = turn.answered in
     let place : n ≡ length turn.history = answered.place in
@@ -94,7 +82,7 @@ greedy_along o n x (e ∷ H) last one count (z, step, rest) =
     } in (
       answered.seat ∙ one,
       subst (λ (L : List Entry). IsGreedyCall (position_after o L) e.request) same call,
-      subst (λ (L : List Entry). AreGreedy o L H) known (greedy_along o (n + 1) z H last (answered.number ∙ one) more rest),
+      subst (λ (L : List Entry). AreGreedy o L H) known (greedy_along o seats cap (n + 1) z H last (answered.number ∙ one) more rest),
     )
 
 moves_in : (es : List (ℕ × Entry)) → AreMoves es → AllMoves (entries es)
@@ -102,33 +90,33 @@ moves_in [] moves = tt
 moves_in (p ∷ es) moves = (moves.0, moves_in es moves.1)
 
 -- a claim by the settler is won
-claim_won : (o : Opening) (x : SeatView) (es : List (ℕ × Entry)) (r : ℕ × Entry) (last : SeatView) →
-    FoldsTo (IsSettlerTurn greedily o) x (es ++ r ∷ []) last → r.1.request ≡ Claim → r.1.reply ≡ Won
-claim_won o x [] r last (z, step, same) claim = none step.strategy.turn.answer refl
+claim_won : (o : Opening) (seats cap : ℕ) (x : SeatView) (es : List (ℕ × Entry)) (r : ℕ × Entry) (last : SeatView) →
+    FoldsTo (IsSettlerTurn greedily o seats cap) x (es ++ r ∷ []) last → r.1.request ≡ Claim → r.1.reply ≡ Won
+claim_won o seats cap x [] r last (z, step, same) claim = none step.strategy.turn.answer refl
   where
     none : (m : Option Move) → step.strategy.turn.answer ≡ m → r.1.reply ≡ Won
     none (Some m) is = absurd (subst IsMove (sym step.strategy.turn.answered.request' ∙ claim) (subst (λ a. IsMove (request_for a)) (sym is) tt))
     none None is = step.won is
-claim_won o x (p ∷ es) r last (z, step, rest) claim = claim_won o z es r last rest claim
+claim_won o seats cap x (p ∷ es) r last (z, step, rest) claim = claim_won o seats cap z es r last rest claim
 
-module _ (o : Opening) (n : ℕ) (x y : SeatView) (H : List Entry) (one : x.number ≡ 1) (fresh : x.mine ≡ []) (legal : IsLegal o H)
+module _ (o : Opening) (seats cap n : ℕ) (x y : SeatView) (H : List Entry) (one : x.number ≡ 1) (fresh : x.mine ≡ []) (legal : IsLegal o H)
     (seated : AreSeated 1 H) (held : Holds H y) where
-  numbered : (es : List (ℕ × Entry)) → Gains (IsSettlerTurn greedily o) x es y → es ≡ enumerate_from 0 H
+  numbered : (es : List (ℕ × Entry)) → Gains (IsSettlerTurn greedily o seats cap) x es y → es ≡ enumerate_from 0 H
   numbered es gained =
       let mine : y.mine ≡ es = gained.mine ∙ ap (λ ps. ps ++ es) fresh in
       let own : entries_of 1 H ≡ y.mine = subst (λ s. entries_of s H ≡ y.mine) (gained.number ∙ one) held.mine in
-      sym mine ∙ sym own ∙ seated_from 0 H seated
+      sym mine ∙ sym own ∙ own_alone H seated
 
-  history_is : (es : List (ℕ × Entry)) → Gains (IsSettlerTurn greedily o) x es y → H ≡ entries es
+  history_is : (es : List (ℕ × Entry)) → Gains (IsSettlerTurn greedily o seats cap) x es y → H ≡ entries es
   history_is es gained = sym (entries_enumerated 0 H) ∙ ap entries (sym (numbered es gained))
 
-  greedy_whole : (es : List (ℕ × Entry)) → Gains (IsSettlerTurn greedily o) x es y → AreGreedy o [] H
+  greedy_whole : (es : List (ℕ × Entry)) → Gains (IsSettlerTurn greedily o seats cap) x es y → AreGreedy o [] H
   greedy_whole es gained =
       subst (λ L. AreGreedy o L H) (ap entries fresh)
-      (greedy_along o 0 x H gained.last one (ap length fresh)
-      (subst (λ ps. FoldsTo (IsSettlerTurn greedily o) x ps gained.last) (numbered es gained) gained.steps))
+      (greedy_along o seats cap 0 x H gained.last one (ap length fresh)
+      (subst (λ ps. FoldsTo (IsSettlerTurn greedily o seats cap) x ps gained.last) (numbered es gained) gained.steps))
 
-  pub greedy_game : {N : Type 0} (ended : Ended N) → IsPlayed (IsSettlerTurn greedily o) n x y ended → IsGreedyGame o n H (is_settled ended)
+  pub greedy_game : {N : Type 0} (ended : Ended N) → IsPlayed (IsSettlerTurn greedily o seats cap) n x y ended → IsGreedyGame o n H (is_settled ended)
   greedy_game Turns played =
       let is = history_is played.entries played.gained in
       record {
@@ -152,7 +140,7 @@ module _ (o : Opening) (n : ℕ) (x y : SeatView) (H : List Entry) (one : x.numb
           moves_in es played.moves,
           subst (λ k. k < n) (sym (length-map es (λ (p : ℕ × Entry). p.1))) played.few,
           played.claim,
-          claim_won o x es r played.gained.last played.gained.steps played.claim,
+          claim_won o seats cap x es r played.gained.last played.gained.steps played.claim,
         );
       }
 
@@ -161,14 +149,14 @@ none_else xs [] x is one = refl
 none_else xs (z ∷ rest) x is one = absurd (omega (arith, one, ap length is, length-append (z ∷ rest) (x ∷ [])))
 
 -- the only seat of a table that was opened, played on by it, and closed
-pub game_of : {N : Type 0} (o : Opening) (n k m : ℕ) (xs rest ys : List SeatView) (x y : SeatView) (H : List Entry) (ended : Ended N) →
-    k ≡ 1 → m ≡ 1 → AreFresh k xs → xs ≡ rest ++ x ∷ [] → IsPlayed (IsSettlerTurn greedily o) n x y ended → ys ≡ rest ++ y ∷ [] →
-    IsClosed o m ys H → IsGreedyGame o n H (is_settled ended)
-game_of o n k m xs rest ys x y H ended one alone_there fresh before played after closed =
+pub game_of : {N : Type 0} (o : Opening) (cap n k m : ℕ) (xs rest ys : List SeatView) (x y : SeatView) (H : List Entry) (ended : Ended N) →
+    k ≡ 1 → m ≡ 1 → AreFresh k xs → xs ≡ rest ++ x ∷ [] → IsPlayed (IsSettlerTurn greedily o m cap) n x y ended → ys ≡ rest ++ y ∷ [] →
+    IsClosed o m cap ys H → IsGreedyGame o n H (is_settled ended)
+game_of o cap n k m xs rest ys x y H ended one alone_there fresh before played after closed =
     let none : rest ≡ [] = none_else xs rest x before (fresh.count ∙ one) in
     let first : xs ≡ x ∷ [] = before ∙ ap (λ l. l ++ x ∷ []) none in
     let last : ys ≡ y ∷ [] = after ∙ ap (λ l. l ++ y ∷ []) none in
     let found : slice_get xs 0 ≡ Some x = ap (λ l. slice_get l 0) first in
     let left : slice_get ys 0 ≡ Some y = ap (λ l. slice_get l 0) last in
-    greedy_game o n x y H (fresh.number 0 x found) (fresh.mine 0 x found) closed.legal
-    (subst (λ j. AreSeated j H) alone_there closed.seated) (closed.held 0 y left) ended played
+    greedy_game o m cap n x y H (fresh.number 0 x found) (fresh.mine 0 x found) closed.history.legal
+    (subst (λ j. AreSeated j H) alone_there closed.history.seated) (closed.held 0 y left) ended played

@@ -64,9 +64,9 @@ settler_moves A settles g d m graph size may = borrows m (settles.moves g d m gr
     borrows (Borrow v) debt = subst (λ n. v < n) size debt.0
     borrows m debt = absurd debt
 
-module _ (A : Choosing) (o : Opening) (graph : IsGraph o.graph) (x : SeatView) (r : ℕ × Entry) (y : SeatView) where
+module _ (A : Choosing) (o : Opening) (seats cap : ℕ) (graph : IsGraph o.graph) (x : SeatView) (r : ℕ × Entry) (y : SeatView) where
   -- the reply to what was answered, and what is known of it where the answer is a move that can be made
-  answered : (gives : GivesMoves A) (turn : IsTurnBy A o x r y) (m : Option Move) → turn.answer ≡ m →
+  answered : (gives : GivesMoves A) (turn : IsTurnBy A o seats cap x r y) (m : Option Move) → turn.answer ≡ m →
       (IsMove r.1.request → IsMadeOrPastRange r.1.reply) × (gift_counted r.1.reply ≡ 0)
   unfolding position_after
   answered gives turn (Some m) is =
@@ -83,7 +83,7 @@ module _ (A : Choosing) (o : Opening) (graph : IsGraph o.graph) (x : SeatView) (
       subst (λ q. Replies o turn.history q r.1.reply) (ap request_for is) turn.answered.reply in
       ((λ move. absurd (subst IsMove asked move)), claim_answered (position_after o turn.history) r.1.reply replies)
 
-  pub strategy_turn : GivesMoves A → IsTurnBy A o x r y → IsStrategyTurn A o x r y
+  pub strategy_turn : GivesMoves A → IsTurnBy A o seats cap x r y → IsStrategyTurn A o seats cap x r y
   strategy_turn gives turn =
       let found = answered gives turn turn.answer refl in
       record {
@@ -92,7 +92,7 @@ module _ (A : Choosing) (o : Opening) (graph : IsGraph o.graph) (x : SeatView) (
         moved = found.0;
       }
 
-  pub settler_turn : SettlesDebts A → IsTurnBy A o x r y → IsSettlerTurn A o x r y
+  pub settler_turn : SettlesDebts A → IsTurnBy A o seats cap x r y → IsSettlerTurn A o seats cap x r y
   unfolding position_after strategy_turn
   settler_turn settles turn =
       let kept = strategy_turn (settler_moves A settles) turn in

@@ -58,6 +58,7 @@ impl<O: Write> Output<O> {
         ensures written { OnOk result (Appends self.old.contents self.new.contents text.now) }
         ensures front { OnErr result (AppendsFront self.old.contents self.new.contents [] text.now) }
         ensures failed { OnErr result (self.new.has_failed ≡ true) }
+        ensures kept { OnOk result (self.new.has_failed ≡ self.old.has_failed) }
     {
         let mut at = 0;
         'writes: while at < text.len() {

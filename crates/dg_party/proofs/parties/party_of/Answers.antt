@@ -6,7 +6,7 @@ use Rattle.dg_party.proofs.parties.party_of.Goals as goal
 pub closing_text-requires-clause-history : goal.closing_text-requires-clause-history
 closing_text-requires-clause-history g c =
     read_named c.args.names.now g.N.Name.start c.in-Ok-close.audit.pen.entries c.deref.result.now (search rules)
-    (c.requires.names ∙ ap (λ o. o.graph.size) c.requires.start) c.in-Ok-close.ensures.0.legal
+    (c.requires.names ∙ ap (λ o. o.graph.size) c.requires.start) c.in-Ok-close.ensures.0.history.legal
 
 pub closing_text-requires-clause-position : goal.closing_text-requires-clause-position
 closing_text-requires-clause-position g c =

@@ -4,7 +4,7 @@ use Rattle.dg_session.proofs.answering.answer_line.Goals as goal
 
 pub returns-in-Err-obey-clause-refused : goal.returns-in-Err-obey-clause-refused
 returns-in-Err-obey-clause-refused g c =
-    line_refused g.N.Name.start _ c.args.shared.now.names.now _ c.args.line.now c.in-Ok.command c.args.seat.now c.obey.new.seat c.in-Err-obey.end
+    line_refused g.N.Name.start _ _ c.args.shared.now.names.now _ c.args.line.now c.in-Ok.command c.args.seat.now c.obey.new.seat c.in-Err-obey.end
     c.in-Ok.ensures.command c.in-Err-obey.ensures.refused
 
 pub returns-in-Ok-say-clause-done : goal.returns-in-Ok-say-clause-done

@@ -9,10 +9,11 @@ returns-in-Err-clause-halted g c =
     let pending = c.args.progress.now.pending.items in
     let text = c.take_end-taken.new.progress.said.text.items in (
       text,
-      tells_taken (IsLast pending) (λ ls rest. ⊥) (IsEnded pending) g.N.Name.start (length g.N.Name.cells) c.args.shared.now.names.now
+      tells_taken (IsLast pending) (λ ls rest. ⊥) (IsEnded pending) g.N.Name.start g.N.Name.seats (length g.N.Name.cells) c.args.shared.now.names.now
           c.args.progress.now.count c.take_end-taken.new.progress.count (kept_number c.args.progress.now.kept) (kept_number c.take_end-taken.new.progress.kept)
           c.args.seat.now c.take_end-taken.new.seat c.take_end-taken.new.progress.pending.items text c.take_end-taken.result
-          (last_fewer pending) (λ ls rest none. absurd none) (λ ls rest ended. ended_last pending ls rest c.requires.pending.line ended)
+          (last_fewer pending) (λ ls rest few none. absurd none)
+          (λ ls rest few ended. ended_last pending ls rest c.requires.pending.line ended) c.take_end-taken.ensures.count
           c.take_end-taken.ensures.passed c.take_end-taken.ensures.halted,
       subst (AppendsFront c.args.writer.now.contents c.write_whole.new.self.contents []) c.deref.ensures.value
           c.in-Err.ensures.front,

@@ -20,6 +20,6 @@ returns-in-Ok-clause-passed g c =
 pub returns-in-Err-clause-halted : goal.returns-in-Err-clause-halted
 returns-in-Err-clause-halted g c =
     let some : 1 ≤ length c.args.progress.now.pending.items = search (rules, tests) in
-    end_halts g.N.Name.start (length g.N.Name.cells) c.args.shared.now.names.now c.args.progress.now.count (kept_number c.args.progress.now.kept)
+    end_halts g.N.Name.start g.N.Name.seats (length g.N.Name.cells) c.args.shared.now.names.now c.args.progress.now.count (kept_number c.args.progress.now.kept)
     c.args.seat.now c.end_line.new.seat c.args.progress.now.pending.items c.end_line.new.progress.said.text.items c.in-Err.end some
     c.requires.pending.line (◌∙◌ {A = List ℕ} c.in-Err.ensures.unsaid c.requires.said) c.in-Err.ensures.refused

@@ -4,11 +4,11 @@ use Rattle.dg_session.specs.declared.ends.SessionEnd.TheVariants.{Write}
 use Rattle.dg_session.specs.Steps.{kept_number, BeginsWith, IsLast}
 use Rattle.dg_session.specs.Streams.{Begins}
 use Rattle.dg_session.proofs.Sessions.{so_far_none, so_far_more, session_reads, session_ends, session_unsaid, session_halts_in, session_halts_last, seat_so_far, seat_halted, no_read_end, fewer_left, chunk_size, some_of, read_chunk, read_nothing, inner_end}
-use Rattle.dg_session.proofs.serving.serve.Goals as goal
+use Rattle.dg_session.proofs.serving.serve_lines.Goals as goal
 
 pub returns-in_default-clause-session : goal.returns-in_default-clause-session
 returns-in_default-clause-session g c =
-    session_unsaid g.N.Name.start (length g.N.Name.cells) c.args.names.now c.args.reader.now.remaining
+    session_unsaid g.N.Name.start g.N.Name.seats (length g.N.Name.cells) c.args.names.now c.args.reader.now.remaining
     c.args.writer.now.contents c.args.seat.now
 
 pub reads-init : goal.reads-init
@@ -22,14 +22,14 @@ reads-init g c = (
 
 pub returns-in_default-read_some-clause-session : goal.returns-in_default-read_some-clause-session
 returns-in_default-read_some-clause-session g c =
-    session_reads g.N.Name.start (length g.N.Name.cells) c.args.names.now c.args.reader.now.remaining c.reads.reader.remaining
+    session_reads g.N.Name.start g.N.Name.seats (length g.N.Name.cells) c.args.names.now c.args.reader.now.remaining c.reads.reader.remaining
     c.args.writer.now.contents c.reads.writer.contents c.args.seat.now c.reads.progress.pending.items c.reads.progress.count
     (kept_number c.reads.progress.kept) c.reads.seat c.reads.invariant.0
     c.read_some.new.reader.remaining (c.in_default-read_some.ensures.kept refl)
 
 pub returns-in_default-read_some-clause-number : goal.returns-in_default-read_some-clause-number
 returns-in_default-read_some-clause-number g c =
-    seat_so_far g.N.Name.start (length g.N.Name.cells) c.args.names.now c.args.reader.now.remaining c.reads.reader.remaining
+    seat_so_far g.N.Name.start g.N.Name.seats (length g.N.Name.cells) c.args.names.now c.args.reader.now.remaining c.reads.reader.remaining
     c.args.writer.now.contents c.reads.writer.contents c.args.seat.now c.reads.progress.pending.items c.reads.progress.count
     (kept_number c.reads.progress.kept) c.reads.seat c.reads.invariant.0
 
@@ -39,7 +39,7 @@ returns-in-Ok-pass_end-clause-session g c =
     let read = read_nothing c.reads.reader.remaining c.read_some.new.reader.remaining c.in-Some.size
     c.read_some.new.buffer.items zero c.in-Some.ensures.bytes in
     let room : 0 < length c.reads.buffer.items = omega (arith, c.reads.invariant.2) in
-    session_ends g.N.Name.start (length g.N.Name.cells) c.args.names.now c.args.reader.now.remaining c.reads.reader.remaining
+    session_ends g.N.Name.start g.N.Name.seats (length g.N.Name.cells) c.args.names.now c.args.reader.now.remaining c.reads.reader.remaining
     c.args.writer.now.contents c.reads.writer.contents c.args.seat.now c.reads.progress.pending.items c.reads.progress.count
     (kept_number c.reads.progress.kept) c.reads.seat c.reads.invariant.0
     c.read_some.new.reader.remaining c.pass_end.new.writer.contents c.pass_end.new.progress.pending.items
@@ -48,7 +48,7 @@ returns-in-Ok-pass_end-clause-session g c =
 
 pub returns-in-Ok-pass_end-clause-number : goal.returns-in-Ok-pass_end-clause-number
 returns-in-Ok-pass_end-clause-number g c =
-    c.in-Ok-pass_end.ensures.passed.1.gained.number ∙ seat_so_far g.N.Name.start (length g.N.Name.cells) c.args.names.now c.args.reader.now.remaining c.reads.reader.remaining
+    c.in-Ok-pass_end.ensures.passed.1.gained.number ∙ seat_so_far g.N.Name.start g.N.Name.seats (length g.N.Name.cells) c.args.names.now c.args.reader.now.remaining c.reads.reader.remaining
     c.args.writer.now.contents c.reads.writer.contents c.args.seat.now c.reads.progress.pending.items c.reads.progress.count
     (kept_number c.reads.progress.kept) c.reads.seat c.reads.invariant.0
 
@@ -58,7 +58,7 @@ returns-in-Err-clause-session g c =
     let read = read_nothing c.reads.reader.remaining c.read_some.new.reader.remaining c.in-Some.size
     c.read_some.new.buffer.items zero c.in-Some.ensures.bytes in
     let room : 0 < length c.reads.buffer.items = omega (arith, c.reads.invariant.2) in
-    session_halts_last g.N.Name.start (length g.N.Name.cells) c.args.names.now c.args.reader.now.remaining
+    session_halts_last g.N.Name.start g.N.Name.seats (length g.N.Name.cells) c.args.names.now c.args.reader.now.remaining
     c.reads.reader.remaining c.read_some.new.reader.remaining c.args.writer.now.contents
     c.reads.writer.contents c.pass_end.new.writer.contents c.args.seat.now c.reads.seat c.pass_end.new.seat
     c.reads.progress.pending.items c.reads.progress.count (kept_number c.reads.progress.kept) c.in-Err.end c.reads.invariant.0 read
@@ -66,17 +66,17 @@ returns-in-Err-clause-session g c =
 
 pub returns-in-Err-clause-number : goal.returns-in-Err-clause-number
 returns-in-Err-clause-number g c =
-    seat_halted (IsLast c.reads.progress.pending.items) (λ ls rest. ⊥) g.N.Name.start (length g.N.Name.cells) c.args.names.now c.reads.progress.count
+    seat_halted (IsLast c.reads.progress.pending.items) (λ ls rest. ⊥) g.N.Name.start g.N.Name.seats (length g.N.Name.cells) c.args.names.now c.reads.progress.count
     (kept_number c.reads.progress.kept) c.args.seat.now c.reads.seat c.pass_end.new.seat c.reads.writer.contents
     c.pass_end.new.writer.contents c.in-Err.end
-    (seat_so_far g.N.Name.start (length g.N.Name.cells) c.args.names.now c.args.reader.now.remaining c.reads.reader.remaining
+    (seat_so_far g.N.Name.start g.N.Name.seats (length g.N.Name.cells) c.args.names.now c.args.reader.now.remaining c.reads.reader.remaining
     c.args.writer.now.contents c.reads.writer.contents c.args.seat.now c.reads.progress.pending.items c.reads.progress.count
     (kept_number c.reads.progress.kept) c.reads.seat c.reads.invariant.0)
     c.in-Err.ensures.halted
 
 pub returns-in-Err-clause-read : goal.returns-in-Err-clause-read
 returns-in-Err-clause-read g c e = absurd
-    (no_read_end (IsLast c.reads.progress.pending.items) (λ ls rest. ⊥) g.N.Name.start (length g.N.Name.cells) c.args.names.now c.reads.progress.count
+    (no_read_end (IsLast c.reads.progress.pending.items) (λ ls rest. ⊥) g.N.Name.start g.N.Name.seats (length g.N.Name.cells) c.args.names.now c.reads.progress.count
     (kept_number c.reads.progress.kept) c.reads.seat c.pass_end.new.seat c.reads.writer.contents
     c.pass_end.new.writer.contents c.in-Err.end c.in-Err.ensures.halted (inner_end c.in-Err.end _ e))
 
@@ -86,7 +86,7 @@ returns-in-Err-clause-write g c e = c.in-Err.ensures.write (ap Err (inner_end c.
 pub reads-preserved : goal.reads-preserved
 reads-preserved g c =
     let bytes = take c.in-Some.size c.deref.result.now in (
-      so_far_more g.N.Name.start (length g.N.Name.cells) c.args.names.now c.args.reader.now.remaining c.reads.reader.remaining
+      so_far_more g.N.Name.start g.N.Name.seats (length g.N.Name.cells) c.args.names.now c.args.reader.now.remaining c.reads.reader.remaining
           c.args.writer.now.contents c.reads.writer.contents c.args.seat.now c.reads.progress.pending.items c.reads.progress.count
           (kept_number c.reads.progress.kept) c.reads.seat c.reads.invariant.0
           c.read_some.new.reader.remaining c.pass_bytes.new.writer.contents bytes c.pass_bytes.new.progress.pending.items
@@ -114,7 +114,7 @@ returns-in-Err-pass_bytes-clause-session g c =
     let bytes = take c.in-Some.size c.deref.result.now in
     let room : length c.read_some.new.buffer.items ≡ READ_SIZE = c.in-Some.ensures.size ∙ c.reads.invariant.2 in
     let (size, small) = chunk_size c.in-Some.size c.deref.result.now c.read_some.new.buffer.items c.deref.ensures.value c.in-Some.ensures.bound room in
-    session_halts_in g.N.Name.start (length g.N.Name.cells) c.args.names.now c.args.reader.now.remaining
+    session_halts_in g.N.Name.start g.N.Name.seats (length g.N.Name.cells) c.args.names.now c.args.reader.now.remaining
     c.reads.reader.remaining c.read_some.new.reader.remaining c.args.writer.now.contents
     c.reads.writer.contents c.pass_bytes.new.writer.contents c.args.seat.now c.reads.seat c.pass_bytes.new.seat
     c.reads.progress.pending.items bytes c.reads.progress.count (kept_number c.reads.progress.kept) c.in-Err-pass_bytes.end c.reads.invariant.0
@@ -125,10 +125,10 @@ returns-in-Err-pass_bytes-clause-session g c =
 pub returns-in-Err-pass_bytes-clause-number : goal.returns-in-Err-pass_bytes-clause-number
 returns-in-Err-pass_bytes-clause-number g c =
     let bytes = c.reads.progress.pending.items ++ take c.in-Some.size c.deref.result.now in
-    seat_halted (BeginsWith bytes) (Begins bytes) g.N.Name.start (length g.N.Name.cells) c.args.names.now c.reads.progress.count
+    seat_halted (BeginsWith c.reads.progress.count bytes) (Begins bytes) g.N.Name.start g.N.Name.seats (length g.N.Name.cells) c.args.names.now c.reads.progress.count
     (kept_number c.reads.progress.kept) c.args.seat.now c.reads.seat c.pass_bytes.new.seat c.reads.writer.contents
     c.pass_bytes.new.writer.contents c.in-Err-pass_bytes.end
-    (seat_so_far g.N.Name.start (length g.N.Name.cells) c.args.names.now c.args.reader.now.remaining c.reads.reader.remaining
+    (seat_so_far g.N.Name.start g.N.Name.seats (length g.N.Name.cells) c.args.names.now c.args.reader.now.remaining c.reads.reader.remaining
     c.args.writer.now.contents c.reads.writer.contents c.args.seat.now c.reads.progress.pending.items c.reads.progress.count
     (kept_number c.reads.progress.kept) c.reads.seat c.reads.invariant.0)
     c.in-Err-pass_bytes.ensures.halted
@@ -136,7 +136,7 @@ returns-in-Err-pass_bytes-clause-number g c =
 pub returns-in-Err-pass_bytes-clause-read : goal.returns-in-Err-pass_bytes-clause-read
 returns-in-Err-pass_bytes-clause-read g c e =
     let bytes = c.reads.progress.pending.items ++ take c.in-Some.size c.deref.result.now in absurd
-    (no_read_end (BeginsWith bytes) (Begins bytes) g.N.Name.start (length g.N.Name.cells) c.args.names.now c.reads.progress.count
+    (no_read_end (BeginsWith c.reads.progress.count bytes) (Begins bytes) g.N.Name.start g.N.Name.seats (length g.N.Name.cells) c.args.names.now c.reads.progress.count
     (kept_number c.reads.progress.kept) c.reads.seat c.pass_bytes.new.seat c.reads.writer.contents
     c.pass_bytes.new.writer.contents c.in-Err-pass_bytes.end c.in-Err-pass_bytes.ensures.halted (inner_end c.in-Err-pass_bytes.end _ e))
 

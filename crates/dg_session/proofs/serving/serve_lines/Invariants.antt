@@ -3,7 +3,7 @@ use Rattle.std.proofs.Common.{◌≡◌, length, []}
 use Rattle.dg_session.specs.Steps.{kept_number}
 use Rattle.dg_session.specs.declared.ends.TheConstants.{READ_SIZE}
 use Rattle.dg_session.proofs.Sessions.{IsSoFar, bytes_left}
-use Rattle.dg_session.proofs.serving.serve.Given as goal
+use Rattle.dg_session.proofs.serving.serve_lines.Given as goal
 
 abbrev pub invariant-reads : goal.invariant-reads
 invariant-reads g l =
