@@ -1,5 +1,6 @@
 -- The one seat of a new table, and the parties that may be.
 --   fresh_seat     the seat of a new table with one is seat 1, and knows of no entry
+--   served_alone   what the one seat of a table made is the history that it found
 --   held_count     files that are held are as many as their names
 --   may_play       scripts that are held are as many as may have seats
 --   party_on       a party over files that are held is that of the table that one of them describes
@@ -7,7 +8,10 @@ use Rattle.std.proofs.Common.{◌≡◌, ℕ, suc, ◌≤◌, List, [], ◌∷�
 use Rattle.std.proofs.lemmas.List.{length-map}
 use Rattle.dg_game.specs.declared.entry.TheConstants.{MAX_SEATS}
 use Rattle.dg_table.specs.Opened.{AreFresh, MayHaveSeats}
-use Rattle.dg_table.specs.Seats.{SeatView}
+use Rattle.std.specs.List.{enumerate_from}
+use Rattle.dg_table.specs.Histories.{HasPast}
+use Rattle.dg_table.proofs.Entries.{own_alone}
+use Rattle.dg_table.specs.Seats.{SeatView, entries_of}
 use Rattle.dg_sources.specs.Held.{Held}
 use Rattle.dg_chips.specs.Opening.{Opening}
 use Rattle.std.specs.Prelude.{Result}
@@ -30,6 +34,10 @@ fresh_seat n xs (y ∷ []) x one fresh whole =
 fresh_seat n xs (y ∷ z ∷ ys) x one fresh whole =
     let count : length xs ≡ suc (suc (length (ys ++ x ∷ []))) = ap length whole in
     absurd (omega (arith, count, fresh.count, one))
+
+pub served_alone : (o : Opening) (cap : ℕ) (y : SeatView) → y.number ≡ 1 → HasPast o 1 cap y → y.mine ≡ enumerate_from 0 y.past
+served_alone o cap y one past =
+    sym past.own ∙ ap (λ s. entries_of s y.past) one ∙ own_alone y.past past.history.seated
 
 pub held_count : (held : List ℕ → Held) (names all : List (List ℕ)) → MayHoldAll held names all → length all ≡ length names
 held_count held [] [] known = refl

@@ -1,6 +1,7 @@
 -- Sessions over the input.
---   IsServed o cap names input old new end == a session over the input, of a seat that knows of no entry, on a table of its own with
---                            cap cells, came to this end; the output has grown by what it said
+--   IsServed o cap names input old new end == a session over the input, of a seat that knows of no entry, on a table of one seat with
+--                            cap cells, came to this end; the output has grown by what it said; and the entries that it made are
+--                            one history of the table, from the first to the last, each at its number
 --   Serves held input task old new == such a session came to the end of the input, on the table of the file that is named
 --   EndsEarly o cap names input fault old new == such a session ended early, for that fault; or memory was refused before it
 --                            began, and the output is as it was
@@ -9,8 +10,10 @@
 use Rattle.std.specs.Prelude.{◌≡◌, ℕ, List, [], Option, ◌⊎◌}
 use Rattle.std.specs.declared.result.Result.{Result}
 use Rattle.std.specs.declared.result.Result.TheVariants.{Ok, Err}
+use Rattle.std.specs.List.{enumerate_from}
 use Rattle.std.specs.Io.KnownBytes.{Keeps}
 use Rattle.dg_chips.specs.Opening.{Opening}
+use Rattle.dg_table.specs.Histories.{IsHistoryOf}
 use Rattle.dg_table.specs.Seats.{SeatView}
 use Rattle.dg_session.specs.Ends.{IsSession}
 use Rattle.dg_session.specs.declared.ends.SessionEnd.{SessionEnd}
@@ -29,7 +32,9 @@ pub record IsServed (o : Opening) (cap : ℕ) (names : List (List ℕ)) (input o
   pub number : seat.number ≡ 1
   pub mine : seat.mine ≡ []
   pub told : seat.told ≡ []
-  pub session : IsSession o cap names input rest old new seat after end
+  pub session : IsSession o 1 cap names input rest old new seat after end
+  pub history : IsHistoryOf o 1 cap after.past
+  pub alone : after.mine ≡ enumerate_from 0 after.past
 
 abbrev pub Serves : (List ℕ → Held) → Option (List ℕ) → ServeTask → Option (List ℕ) → Option (List ℕ) → Type 0
 Serves held input task old new =

@@ -10,7 +10,7 @@ use crate::fault::Fault;
 use dg_asked::PartyTask;
 use dg_file::{TableFile, read_table};
 use dg_game::MAX_SEATS;
-use dg_party::{PartyRefusal, Played, party};
+use dg_party::{Played, party};
 use dg_rank::OpenGate;
 use dg_session::SessionEnd;
 use dg_sources::{Sources, read_all};
@@ -56,9 +56,7 @@ where
         &OpenGate,
     ) {
         Ok(played) => played,
-        Err(PartyRefusal::OutOfMemory) => return Err(Fault::OutOfMemory),
-        Err(PartyRefusal::Spawn) => return Err(Fault::NoThread),
-        Err(PartyRefusal::Log) => return Err(Fault::History),
+        Err(refusal) => return Err(Fault::from(refusal)),
     };
     match print_played(rt.alloc(), &played, output) {
         Ok(()) => Ok(()),
