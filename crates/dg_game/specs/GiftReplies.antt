@@ -1,9 +1,10 @@
--- What may be replied to a gift of x dollars to v at the position p, after g accepted gifts.
---   IsGift x                      == a gift may be so large
+-- What may be replied to a gift of x dollars to v at the position p, after g accepted gifts. A gift of less than 0
+-- dollars is a levy: it takes dollars from v, and may leave v in debt. It is answered and counted as any other gift.
+--   IsGift x                      == a gift may be so large: it is not 0, and within the limit at both ends
 --   IsGivenTo p g v x count d     == the count and the amounts after the gift, all in range
 --   RefusesGift p v x refusal     == the gift is refused for this cause, and for no earlier one
 --   RepliesToGift p g v x reply   == the reply is the right one
-use Rattle.std.specs.Prelude.{◌≡◌, ℕ, ◌+◌, ◌<◌, ◌≤◌, ℤ, pos, ◌≤ℤ◌}
+use Rattle.std.specs.Prelude.{◌≡◌, ◌≢◌, ℕ, ◌+◌, ◌<◌, ◌≤◌, ℤ, pos, neg_ℤ, ◌≤ℤ◌}
 use Rattle.dg_chips.specs.Vector.{Vector, at, IsInRange, IsOutOfRange}
 use Rattle.dg_game.specs.Position.{Position, with_gift}
 use Rattle.dg_game.specs.declared.entry.Refusal.{Refusal}
@@ -13,7 +14,7 @@ use Rattle.dg_game.specs.declared.entry.Reply.TheVariants.{Given, Refused}
 use Rattle.dg_game.specs.declared.entry.TheConstants.{MAX_GIFT}
 
 abbrev pub IsGift : ℤ → Type 0
-IsGift x = (pos 1 ≤ℤ x) × (x ≤ℤ MAX_GIFT)
+IsGift x = (neg_ℤ MAX_GIFT ≤ℤ x) × (x ≤ℤ MAX_GIFT) × (x ≢ pos 0)
 
 pub record IsGivenTo (p : Position) (g v : ℕ) (x : ℤ) (count : ℕ) (d : Vector) : Type 0 where
   pub vertex : v < p.graph.size

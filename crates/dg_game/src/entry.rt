@@ -10,7 +10,7 @@ use dg_verdict::Verdict;
 /// The most seats of a table: they are numbered from 1 up to this.
 pub const MAX_SEATS: u8 = 64;
 
-/// The most dollars of a gift.
+/// The most dollars of a gift, and of a levy.
 pub const MAX_GIFT: i64 = 1_000_000;
 
 /// What a seat may ask of the game itself. Vertices are numbered from 0.
@@ -18,7 +18,7 @@ pub const MAX_GIFT: i64 = 1_000_000;
 pub enum Plain {
     /// Play a move.
     Move(Move),
-    /// Give a vertex some dollars, 1 to 1,000,000.
+    /// Give a vertex some dollars, -1,000,000 to 1,000,000 other than 0; a gift of less than 0 is a levy, which takes them.
     Gift(u8, i64),
     /// See the position.
     Look,
@@ -45,7 +45,7 @@ impl Plain {
 pub enum Request {
     /// A move.
     Move(Move),
-    /// A gift to a vertex.
+    /// A gift to a vertex, or a levy from it.
     Gift(u8, i64),
     /// A look at the position.
     Look,
@@ -62,7 +62,7 @@ pub enum Request {
 pub enum Reply {
     /// The move was played.
     Moved(Divisor),
-    /// The gift was accepted: the number of accepted gifts, and the amounts.
+    /// The gift was accepted: the number of accepted gifts, levies among them, and the amounts.
     Given(u32, Divisor),
     /// The number of accepted gifts, and the amounts.
     Looked(u32, Divisor),
@@ -89,7 +89,7 @@ pub enum Refusal {
     Empty,
     /// Its script has another size than the graph.
     Script,
-    /// The gift is not 1 to 1,000,000.
+    /// The gift is 0, or not within 1,000,000.
     Gift,
     /// It leaves an amount that is not within 1,000,000.
     Range,

@@ -270,7 +270,7 @@ impl Game {
         }
     }
 
-    /// Gives dollars to a vertex: the count and the amounts after the gift, or its refusal.
+    /// Gives dollars to a vertex, or takes them by a levy: the count and the amounts after it, or its refusal.
     fn give(&mut self, v: u8, dollars: i64) -> Reply
         requires { self.old.entries < MAX_ENTRIES }
         ensures replies { RepliesToGift (position_of self.old) self.old.gifts v dollars result }
@@ -281,7 +281,7 @@ impl Game {
         if v >= self.graph.size() {
             return Reply::Refused(Refusal::NoVertex);
         }
-        if dollars < 1 || dollars > MAX_GIFT {
+        if dollars == 0 || !(-MAX_GIFT..=MAX_GIFT).contains(&dollars) {
             return Reply::Refused(Refusal::Gift);
         }
         match self.amounts.with_more(v, dollars) {
