@@ -5,6 +5,8 @@
 #[cfg(test)]
 mod analyst;
 #[cfg(test)]
+mod gates;
+#[cfg(test)]
 mod observer;
 #[cfg(test)]
 mod openings;

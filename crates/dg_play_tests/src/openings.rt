@@ -3,8 +3,10 @@ ghost use Rattle.std.specs.Prelude.{◌≡◌};
 
 use crate::analyst::looks::{asks_too_much, judged, ranked};
 use crate::observer::watching::watched;
+use crate::party::gates::enter_first;
 use crate::session::streams::{Flow, Sip, serves};
 use crate::strategy::plays::{played, settled};
+use crate::table::filled::fills;
 use crate::table::meetings::{Meeting, meet};
 use crate::table::pens::writes;
 use crate::table::seats::{Calls, calls_are_entries};
@@ -31,6 +33,8 @@ pub(crate) enum Scene<'a> {
     NoSeats,
     // Calls are made until the row is full.
     Calls(&'a Calls<'a>),
+    // Ten thousand calls are made, until the row is full.
+    Filled,
     // Calls are chosen at the position that they find.
     Turns,
     // A finding is entered with a drift that leads nowhere.
@@ -49,6 +53,8 @@ pub(crate) enum Scene<'a> {
     Strategies,
     // Seats play in threads.
     Meeting(&'a Meeting<'a>),
+    // Sessions enter a gate before their first lines.
+    Gate,
     // A session over the stream leaves the writer with this answer, and ends so.
     Session(Flow<'a>, Sip, &'a [u8], Result<u32, SessionEnd>),
 }
@@ -104,7 +110,9 @@ fn shown<N: Name + Send + Sync, R: Threads + Wait + Abort + Sync>(
     match scene {
         Scene::Pen | Scene::NoSeats => Err(Fail::from("a table that is not wanted")),
         Scene::Calls(calls) => calls_are_entries(rt, alloc, table, seats, calls),
+        Scene::Filled => fills(rt, alloc, table, seats),
         Scene::Meeting(meeting) => meet(rt, alloc, table, seats, meeting),
+        Scene::Gate => enter_first(rt, alloc, &table, seats.as_mut_slice()),
         scene => match seats.as_mut_slice() {
             [seat] => shown_to_one(rt, alloc, &table, seat, scene),
             [first, second] => shown_to_two(rt, alloc, &table, first, second, scene),

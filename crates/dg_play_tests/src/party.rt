@@ -1,2 +1,3 @@
 //! Parties on the triangle.
+pub(crate) mod gates;
 mod meetings;

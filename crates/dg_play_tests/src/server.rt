@@ -2,6 +2,7 @@
 mod asked;
 mod faults;
 mod judge;
+mod lengths;
 mod ranks;
 mod rehearse;
 mod runs;

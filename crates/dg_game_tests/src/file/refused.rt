@@ -143,6 +143,8 @@ fn table_files_are_refused(rt: HostRuntime) -> Result<(), Fail> {
         }
     }
     assert!(rt; read_table(alloc, b"\xff").err() == Some(FileFault::Json));
+    let spaces = vec![in alloc; b' '; 20_000]?;
+    assert!(rt; read_table(alloc, &spaces).err() == Some(FileFault::Json));
     let told = format!(in alloc; "{}", FileFault::OutOfMemory)?;
     assert!(rt; told.as_str() == "out of memory");
     Ok(())

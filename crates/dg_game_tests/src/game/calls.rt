@@ -11,13 +11,18 @@ fn calls_are_answered_in_turn(rt: HostRuntime) -> Result<(), Fail> {
     let given = Divisor::new(&graph, &[2, 0, -1])?;
     let lent = Divisor::new(&graph, &[0, 1, 0])?;
     let rich = Divisor::new(&graph, &[1_000_000, 1, 0])?;
+    let levied = Divisor::new(&graph, &[1_000_000, -1, 0])?;
+    let poor = Divisor::new(&graph, &[1_000_000, -1, -1_000_000])?;
     let refused = |refusal| Reply::Refused(refusal);
     let calls = [
         (Plain::Look, Reply::Looked(0, *start.divisor())),
         (Plain::Gift(1, 1), Reply::Given(1, given)),
         (Plain::Gift(1, 0), refused(Refusal::Gift)),
         (Plain::Gift(1, 1_000_001), refused(Refusal::Gift)),
+        (Plain::Gift(1, -1_000_001), refused(Refusal::Gift)),
+        (Plain::Gift(1, i64::MIN), refused(Refusal::Gift)),
         (Plain::Gift(3, 0), refused(Refusal::NoVertex)),
+        (Plain::Gift(3, -1), refused(Refusal::NoVertex)),
         (Plain::Move(Move::Fire(0)), refused(Refusal::Empty)),
         (Plain::Move(Move::Borrow(3)), refused(Refusal::NoVertex)),
         (Plain::Claim, Reply::NotWon),
@@ -27,14 +32,18 @@ fn calls_are_answered_in_turn(rt: HostRuntime) -> Result<(), Fail> {
         (Plain::Gift(0, 1), refused(Refusal::Range)),
         (Plain::Move(Move::Borrow(0)), refused(Refusal::Range)),
         (Plain::Look, Reply::Looked(2, rich)),
+        (Plain::Gift(1, -2), Reply::Given(3, levied)),
+        (Plain::Claim, Reply::NotWon),
+        (Plain::Gift(2, -1_000_000), Reply::Given(4, poor)),
+        (Plain::Gift(2, -1), refused(Refusal::Range)),
     ];
     let mut game = Game::new(&start);
     for (i, (plain, reply)) in calls.iter().enumerate() {
         assert_eq!(rt; game.entries() as usize, i);
         assert!(rt; game.act(*plain) == *reply, "call {i}");
     }
-    assert_eq!(rt; game.gifts(), 2);
-    assert_eq!(rt; game.position().degree(), 1_000_001);
+    assert_eq!(rt; game.gifts(), 4);
+    assert_eq!(rt; game.position().degree(), -1);
     assert_eq!(rt; game.graph().genus(), 1);
     Ok(())
 }

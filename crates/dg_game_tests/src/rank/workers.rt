@@ -79,12 +79,14 @@ fn meets<R: Threads + Wait + Clock + Sync>(
 #[test]
 fn pieces_run_at_once(rt: HostRuntime) -> Result<(), Fail> {
     let triangle = Graph::new(3, &[(0, 1, 1), (1, 2, 1), (0, 2, 1)])?;
-    let cases: [(&[i64], u32, &[i64]); 5] = [
+    let cases: [(&[i64], u32, &[i64]); 7] = [
         (&[1, 0, 0], 1, &[0, 0, 1]),
         (&[2, -1, -1], 0, &[]),
         (&[2, 0, 0], 1, &[]),
         (&[3, 0, 0], 3, &[0, 1, 2]),
         (&[0, 0, 0], 1, &[0, 0, 1]),
+        (&[1, 0, 0], 150, &[0, 0, 150]),
+        (&[150, 0, 0], 150, &[0, 1, 149]),
     ];
     for (amounts, degree, loss) in cases {
         let wanted = if loss.is_empty() {

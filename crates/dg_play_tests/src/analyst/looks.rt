@@ -1,5 +1,6 @@
 //! Looks, and what is entered on them, one call after another.
 
+use crate::gates::Counts;
 use crate::openings::{Scene, on_a_table};
 use crate::tables::{triangle, winnable};
 use dg_analyst::{commit, commit_rank, look, reckon, reckon_aimed, try_rank};
@@ -61,7 +62,7 @@ pub(crate) fn judged<N: Name, R: Wait + Abort>(
     Ok(())
 }
 
-// The same with a rank test, which the move between leaves as it was.
+// The same with a rank test by two workers, each of which enters the gate; the move between leaves its answer as it was.
 pub(crate) fn ranked<N: Name, R: Threads + Wait + Abort>(
     rt: &R,
     alloc: Global,
@@ -71,9 +72,9 @@ pub(crate) fn ranked<N: Name, R: Threads + Wait + Abort>(
 ) -> Result<(), Fail> {
     let taken = look(table, rt, alloc, first)?;
     table.call(rt, alloc, second, LEND)?;
-    let tried = try_rank(rt, taken, 1, 2, &OpenGate)
-        .ok()
-        .ok_or("a rank test")?;
+    let gate = Counts::new();
+    let tried = try_rank(rt, taken, 1, 2, &gate).ok().ok_or("a rank test")?;
+    assert_eq!(rt; gate.all(), 0x11);
     let below = RankVerdict::Below(1, Divisor::new(table.start().graph(), &[0, 0, 1])?);
     assert!(rt; *tried.verdict() == below);
     let receipt = commit_rank(table, rt, alloc, first, tried)

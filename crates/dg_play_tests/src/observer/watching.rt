@@ -6,7 +6,7 @@ use crate::tables::{amounts, triangle};
 use dg_chips::{Divisor, Move};
 use dg_game::{Entry, Plain};
 use dg_log::{Log, Name};
-use dg_observer::{Gifts, Observer, Positions, RefusedMoves, Watch};
+use dg_observer::{Gifts, Observer, ObserverFault, Positions, RefusedMoves, Watch};
 use dg_table::{Seat, Table};
 use std::alloc::{AllocError, Global};
 use std::process::Abort;
@@ -28,6 +28,28 @@ impl Watch for Entries {
 
     fn step(&self, count: &u64, _entry: &Entry) -> Result<u64, AllocError> {
         Ok(count.saturating_add(1))
+    }
+}
+
+// Counts two entries, and has no memory for a third.
+#[derive(Clone, Copy)]
+struct FirstTwo;
+
+impl Watch for FirstTwo {
+    ghost use Rattle.std.specs.Prelude.{◌≡◌, ◌+◌};
+
+    type State = u64;
+
+    ghost begins = { λ n. n ≡ 0 };
+
+    ghost goes_on = { λ n e m. m ≡ n + 1 };
+
+    fn step(&self, count: &u64, _entry: &Entry) -> Result<u64, AllocError> {
+        if *count < 2 {
+            Ok(*count + 1)
+        } else {
+            Err(AllocError)
+        }
     }
 }
 
@@ -69,13 +91,18 @@ fn counts_gifts<N: Name>(rt: &impl Abort, alloc: Global, log: &Log<N>) -> Result
     Ok(())
 }
 
-// The third entry is the only refused move, of seat 2.
+// The third entry is the only refused move, of seat 2. Where there is no memory for it, what was read before stands.
 fn counts_entries<N: Name>(rt: &impl Abort, alloc: Global, log: &Log<N>) -> Result<(), Fail> {
     let mut entries = Observer::<N, Entries>::new(alloc, Entries, 0);
     assert_eq!(rt; (entries.catch_up(log)?, *entries.state()), (3, 3));
     let mut refused = Observer::<N, RefusedMoves>::new(alloc, RefusedMoves, [0; 64]);
     assert_eq!(rt; refused.catch_up(log)?, 3);
     assert!(rt; refused.state()[0] == 0 && refused.state()[1] == 1);
+    let mut two = Observer::<N, FirstTwo>::new(alloc, FirstTwo, 0);
+    for _ in 0..2 {
+        assert!(rt; two.catch_up(log) == Err(ObserverFault::OutOfMemory));
+        assert_eq!(rt; (two.count(), *two.state()), (2, 2));
+    }
     Ok(())
 }
 

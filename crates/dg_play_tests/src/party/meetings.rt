@@ -5,7 +5,7 @@ use dg_file::read_table;
 use dg_party::{Played, party};
 use dg_rank::Gate;
 use dg_session::SessionEnd;
-use std::alloc::Global;
+use std::alloc::{AllocError, Global};
 use std::process::Abort;
 use std::sync::Wait;
 use std::sync::atomic::{AtomicBool, AtomicU64, Ordering};
@@ -109,12 +109,18 @@ fn played<R: Threads + Wait + Sync, G: Gate>(
     gate: &G,
 ) -> Result<Played, Fail> {
     let file = read_table(alloc, TRIANGLE.as_bytes())?;
-    let mut scripts = Vec::new(alloc);
-    for text in texts {
-        scripts.push(Vec::from_slice(alloc, text.as_bytes())?)?;
-    }
+    let scripts = scripts_of(alloc, texts)?;
     if scripts.is_empty() || scripts.len() > 64 {
         return Err(Fail::new("1 to 64 scripts"));
     }
     Ok(party(rt, alloc, 100, file.start(), file.names(), &scripts, gate)?)
+}
+
+// The bytes of the texts.
+pub(super) fn scripts_of(alloc: Global, texts: &[&str]) -> Result<Vec<Vec<u8>>, AllocError> {
+    let mut scripts = Vec::new(alloc);
+    for text in texts {
+        scripts.push(Vec::from_slice(alloc, text.as_bytes())?)?;
+    }
+    Ok(scripts)
 }

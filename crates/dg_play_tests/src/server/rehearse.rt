@@ -2,7 +2,7 @@
 
 use crate::server::asked::Command;
 use crate::server::runs::{
-    ABSENT, ONE_ON_THREE, ONE_VERTEX, Run, SECOND_OF_THREE, TRIANGLE, TWICE_JOINED, all_run,
+    ABSENT, CALM, ONE_ON_THREE, ONE_VERTEX, Run, SECOND_OF_THREE, TRIANGLE, TWICE_JOINED, all_run,
 };
 use std::test::Fail;
 
@@ -18,8 +18,11 @@ const TWO_BELOW: &str =
 const RICH: &str =
     r#"{"vertices":["a","b","c"],"edges":[["a","b",1],["b","c",1],["a","c",1]],"amounts":[1000000,0,0],"q":"a"}"#;
 
+const POOR: &str =
+    r#"{"vertices":["a","b","c"],"edges":[["a","b",1],["b","c",1],["a","c",1]],"amounts":[-1000000,0,0],"q":"a"}"#;
+
 // Schedules that are played.
-static PLAYED: [Run; 18] = [
+static PLAYED: [Run; 22] = [
     (
         TRIANGLE,
         Command::Rehearse,
@@ -44,10 +47,45 @@ static PLAYED: [Run; 18] = [
         "",
         0,
     ),
+    // A levy makes the verdict stale; a dollar is missing after it.
     (
         TRIANGLE,
         Command::Rehearse,
-        "1 gift a -5\n1 gift a 0\n1 gift a 1000001\n",
+        "1 look\n2 gift a -1\n1 commit\n1 look\n1 commit\n",
+        "0 looked 0 a=2 b=-1 c=-1\n1 given 1 a=1 b=-1 c=-1\n2 stale 1\n3 looked 1 a=1 b=-1 c=-1\n4 unwinnable by a=0 b=-1 c=-1 to a=-1 b=0 c=0\n",
+        "",
+        0,
+    ),
+    // A levy takes back what a gift gave: the amounts are those of the look, and yet the verdict is stale.
+    (
+        TRIANGLE,
+        Command::Rehearse,
+        "1 look\n2 gift a 1\n2 gift a -1\n1 commit\n",
+        "0 looked 0 a=2 b=-1 c=-1\n1 given 1 a=3 b=-1 c=-1\n2 given 2 a=2 b=-1 c=-1\n3 stale 2\n",
+        "",
+        0,
+    ),
+    // A levy may leave a debt.
+    (
+        TRIANGLE,
+        Command::Rehearse,
+        "1 gift a -5\n",
+        "0 given 1 a=-3 b=-1 c=-1\n",
+        "",
+        0,
+    ),
+    (
+        POOR,
+        Command::Rehearse,
+        "1 gift a -1\n",
+        "0 refused range\n",
+        "",
+        0,
+    ),
+    (
+        CALM,
+        Command::Rehearse,
+        "1 gift a -1000001\n1 gift a 1000001\n1 gift a 0\n",
         "0 refused gift\n1 refused gift\n2 refused gift\n",
         "",
         0,
@@ -259,7 +297,7 @@ static ENDED: [Run; 11] = [
 ];
 
 // Schedules with rank tests.
-static RANKED: [Run; 7] = [
+static RANKED: [Run; 8] = [
     (
         ONE_ON_THREE,
         Command::Rehearse,
@@ -281,6 +319,14 @@ static RANKED: [Run; 7] = [
         Command::Rehearse,
         "1 look\n2 gift a 1\n1 rank 0\n",
         "0 looked 0 a=1 b=0 c=0\n1 given 1 a=2 b=0 c=0\n2 stale 1\n",
+        "",
+        0,
+    ),
+    (
+        ONE_ON_THREE,
+        Command::Rehearse,
+        "1 look\n2 gift a -1\n1 rank 0\n",
+        "0 looked 0 a=1 b=0 c=0\n1 given 1 a=0 b=0 c=0\n2 stale 1\n",
         "",
         0,
     ),

@@ -12,23 +12,17 @@ use std::test::Fail;
 use std::thread::Threads;
 
 // The table file, what is asked of it, the steps or the input, what is printed, what is said of a fault, and the status.
-pub(super) type Run = (
-    &'static str,
-    Command,
-    &'static str,
-    &'static str,
-    &'static str,
-    u8,
-);
+pub(super) type Run<'a> = (&'a str, Command, &'a str, &'a str, &'a str, u8);
 
 // A file that is not there.
 pub(super) const ABSENT: &str = "absent";
 
 // The scripts of parties.
-static SCRIPTS: [(&str, &[u8]); 7] = [
+static SCRIPTS: [(&str, &[u8]); 8] = [
     ("lend", b"lend a"),
     ("lends", b"lend a\nlend b"),
     ("gift", b"gift b 1\nnothing\ncommit\nlook\nclaim\n"),
+    ("levy", b"look\ngift a -1\ncommit\nlook\ncommit\n"),
     ("look", b"look\ncommit\n"),
     ("claims", b"claim\nclaim\nclaim\n"),
     ("nothing", b""),
@@ -36,20 +30,20 @@ static SCRIPTS: [(&str, &[u8]); 7] = [
 ];
 
 // Whether each of the runs comes out so.
-pub(super) fn all_run<R>(rt: &R, runs: &[Run]) -> Result<(), Fail>
+pub(super) fn all_run<R>(rt: &R, runs: &[Run<'_>]) -> Result<(), Fail>
 where
     R: Files + AllocGlobal + Threads + Wait + Abort + Sync,
 {
     for (table, command, input, printed, told, status) in runs {
         let (output, faults, got) = left_by(rt, *table, *command, *input)?;
-        assert!(rt; got == *status, "{table}, {input}: the status");
+        assert!(rt; got == *status, "{table:.300}, {input:.300}: the status");
         assert!(rt;
             output.as_slice() == printed.as_bytes(),
-            "{table}, {input}: the output"
+            "{table:.300}, {input:.300}: the output"
         );
         assert!(rt;
             faults.as_slice() == told.as_bytes(),
-            "{table}, {input}: the fault"
+            "{table:.300}, {input:.300}: the fault"
         );
     }
     Ok(())
@@ -58,9 +52,9 @@ where
 // What a run prints, what it says of a fault, and its status.
 fn left_by<R>(
     rt: &R,
-    table: &'static str,
+    table: &str,
     command: Command,
-    input: &'static str,
+    input: &str,
 ) -> Result<(Vec<u8>, Vec<u8>, u8), Fail>
 where
     R: Files + AllocGlobal + Threads + Wait + Sync,
@@ -88,6 +82,9 @@ fn named<'a>(name: &'a str, text: &'a str) -> (&'a str, &'a [u8]) {
         (name, text.as_bytes())
     }
 }
+
+pub(super) const CALM: &str =
+    r#"{"vertices":["a","b","c"],"edges":[["a","b",1],["b","c",1],["a","c",1]],"amounts":[0,0,0],"q":"a"}"#;
 
 pub(super) const ONE_ON_THREE: &str =
     r#"{"vertices":["a","b","c"],"edges":[["a","b",1],["b","c",1],["a","c",1]],"amounts":[1,0,0],"q":"a"}"#;

@@ -1,14 +1,11 @@
 //! Sessions over the input, and parties.
 
 use crate::server::asked::Command;
-use crate::server::runs::{ABSENT, Run, TRIANGLE, all_run};
+use crate::server::runs::{ABSENT, CALM, Run, TRIANGLE, all_run};
 use std::test::Fail;
 
-const CALM: &str =
-    r#"{"vertices":["a","b","c"],"edges":[["a","b",1],["b","c",1],["a","c",1]],"amounts":[0,0,0],"q":"a"}"#;
-
 // Sessions and parties that run.
-static ROWS: [Run; 18] = [
+static ROWS: [Run; 22] = [
     (
         TRIANGLE,
         Command::Serve(65_536, 1),
@@ -22,6 +19,31 @@ static ROWS: [Run; 18] = [
         Command::Serve(65_536, 16),
         "look\nrank 631\ngift b 1\nrank 0",
         "0 looked 0 a=2 b=-1 c=-1\nbad trials\n1 given 1 a=2 b=0 c=-1\n2 stale 1\n",
+        "",
+        0,
+    ),
+    (
+        TRIANGLE,
+        Command::Serve(65_536, 2),
+        "look\nrank 150\n",
+        "0 looked 0 a=2 b=-1 c=-1\n1 rank below 150 at a=0 b=0 c=150\n",
+        "",
+        0,
+    ),
+    // Levies: one makes the verdict stale, and leaves a dollar too few; past a million at either end none is taken.
+    (
+        TRIANGLE,
+        Command::Serve(65_536, 1),
+        "look\ngift a -1\ncommit\nlook\ncommit\n",
+        "0 looked 0 a=2 b=-1 c=-1\n1 given 1 a=1 b=-1 c=-1\n2 stale 1\n3 looked 1 a=1 b=-1 c=-1\n4 unwinnable by a=0 b=-1 c=-1 to a=-1 b=0 c=0\n",
+        "",
+        0,
+    ),
+    (
+        CALM,
+        Command::Serve(65_536, 1),
+        "gift a -1000001\ngift a 1000001\ngift a 0\ngift a -1000000\ngift a -1\n",
+        "0 refused gift\n1 refused gift\n2 refused gift\n3 given 1 a=-1000000 b=0 c=0\n4 refused range\n",
         "",
         0,
     ),
@@ -119,6 +141,14 @@ static ROWS: [Run; 18] = [
         Command::Party(&["gift"], 10),
         "",
         "0 1 given 1 a=2 b=0 c=-1\n1 1 looked 1 a=2 b=0 c=-1\n2 1 not won\nentries 3\ngifts 1\nposition a=2 b=0 c=-1\nseat 1 calls 3\n",
+        "",
+        0,
+    ),
+    (
+        TRIANGLE,
+        Command::Party(&["levy"], 10),
+        "",
+        "0 1 looked 0 a=2 b=-1 c=-1\n1 1 given 1 a=1 b=-1 c=-1\n2 1 stale 1\n3 1 looked 1 a=1 b=-1 c=-1\n4 1 unwinnable by a=0 b=-1 c=-1 to a=-1 b=0 c=0\nentries 5\ngifts 1\nposition a=1 b=-1 c=-1\nseat 1 calls 5\n",
         "",
         0,
     ),

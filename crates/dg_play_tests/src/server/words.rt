@@ -31,7 +31,7 @@ impl Words for Judging {
 #[test]
 fn what_words_ask_for_is_done(rt: HostRuntime) -> Result<(), Fail> {
     // The words, what is printed, what is said of a fault, and the status.
-    let cases: [(&[&str], &str, &str, u8); 3] = [
+    let cases: [(&[&str], &str, &str, u8); 4] = [
         (
             &["dollar", "judge", "table.json"],
             "winnable by a=0 b=-1 c=-1 to a=0 b=0 c=0\n",
@@ -43,6 +43,12 @@ fn what_words_ask_for_is_done(rt: HostRuntime) -> Result<(), Fail> {
             "",
             "dollar: read fault\n",
             5,
+        ),
+        (
+            &["dollar", "judge", "table.json", "more"],
+            "",
+            "dollar: a word of the command line is not UTF-8\n",
+            2,
         ),
         (
             &["dollar"],

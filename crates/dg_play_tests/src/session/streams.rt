@@ -142,6 +142,33 @@ fn sessions_end_where_writes_fail(rt: HostRuntime) -> Result<(), Fail> {
     Ok(())
 }
 
+// The first answers, of lines that come in one read, have more than 4,096 bytes; then come lines of 513 to 1,024 bytes.
+#[test]
+fn long_lines_are_answered(rt: HostRuntime) -> Result<(), Fail> {
+    let alloc = rt.alloc();
+    let zero = triangle(&[0, 0, 0])?;
+    let (mut text, mut answer) = (Vec::new(alloc), Vec::new(alloc));
+    for i in 0..1_000usize {
+        let size = if i < 488 { 1 } else { i + 25 };
+        text.resize(text.len().saturating_add(size), b'x')?;
+        text.push(b'\n')?;
+        answer.extend_from_slice(b"bad word\n")?;
+    }
+    let reader = Flow {
+        text: &text,
+        most: 100_000,
+        fault: None,
+    };
+    let writer = Sip {
+        held: Vec::new(alloc),
+        most: 100_000,
+        fails_at: 100_000,
+        refuses: false,
+    };
+    let scene = Scene::Session(reader, writer, &answer, Ok(1_000));
+    on_a_table(&rt, alloc, 1, &zero, 1, scene)
+}
+
 #[test]
 fn a_million_lines_are_answered(rt: HostRuntime) -> Result<(), Fail> {
     let alloc = rt.alloc();

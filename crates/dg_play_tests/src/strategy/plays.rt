@@ -7,7 +7,7 @@ use dg_chips::{Divisor, Move};
 use dg_game::{Reply, Request};
 use dg_graph::Graph;
 use dg_log::Name;
-use dg_strategy::{Ended, Strategy, greedy_settler, play, settle_out};
+use dg_strategy::{Ended, Strategy, greedy, greedy_settler, play, settle_out};
 use dg_table::{Seat, Table};
 use std::alloc::Global;
 use std::process::Abort;
@@ -28,6 +28,8 @@ fn one_seat_plays(rt: HostRuntime) -> Result<(), Fail> {
     ] {
         on_a_table(&rt, rt.alloc(), cells, start, 1, scene)?;
     }
+    let game = greedy(&rt, rt.alloc(), &odd, 65_536)?;
+    assert!(rt; !game.settled && game.history.len() == 65_536);
     Ok(())
 }
 

@@ -288,11 +288,11 @@ fn call_often<N: Name>(
     }
 }
 
-// A call on a graph of so many vertices; some name a vertex that is not there. About one in sixteen is a gift.
+// A call on a graph of so many vertices; some name a vertex that is not there. About one in sixteen is a gift, or a levy.
 fn drawn_call(drawn: u64, size: u8) -> Plain {
     let v = (drawn / 16 % (u64::from(size) + 1)) as u8;
     match drawn % 16 {
-        0 => Plain::Gift(v, (drawn / 512 % 4) as i64),
+        0 => Plain::Gift(v, (drawn / 512 % 4) as i64 - 1),
         1..=5 => Plain::Move(Move::Lend(v)),
         6..=10 => Plain::Move(Move::Borrow(v)),
         11 | 12 => Plain::Move(Move::Fire((drawn / 512 % 16) as u16)),

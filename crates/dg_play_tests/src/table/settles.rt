@@ -6,7 +6,7 @@ use crate::tables::winnable;
 use dg_chips::Move;
 use dg_game::{LookData, Plain, Reply, judge_look};
 use dg_log::{Name, Receipt};
-use dg_table::{Seat, Table};
+use dg_table::{Fault, Seat, Table};
 use std::alloc::Global;
 use std::process::Abort;
 use std::sync::Wait;
@@ -33,7 +33,7 @@ pub(crate) fn settles<N: Name, R: Wait + Abort>(
 }
 
 // The seat's look: its receipt, and what the seat keeps of it.
-fn look_at<N: Name>(
+pub(crate) fn look_at<N: Name>(
     rt: &impl Wait,
     alloc: Global,
     table: &Table<N>,
@@ -64,18 +64,18 @@ fn with_lending(shown: &LookData) -> Result<LookData, Fail>
 }
 
 // Enters the verdict on the look.
-fn settle<N: Name>(
+pub(crate) fn settle<N: Name>(
     rt: &impl Wait,
     alloc: Global,
     table: &Table<N>,
     seat: &mut Seat<N>,
     look: &Receipt<N>,
     shown: &LookData,
-) -> Result<Receipt<N>, Fail>
+) -> Result<Receipt<N>, Fault>
     requires look { IsLookOf N.start look.now shown.now }
     requires size { shown.now.position.size ≡ shown.now.graph.size }
     requires vertex { N.start.q < shown.now.graph.size }
 {
     let finding = judge_look(usize::from(table.start().q()), shown);
-    Ok(table.settle(rt, alloc, seat, look, shown, &finding)?)
+    table.settle(rt, alloc, seat, look, shown, &finding)
 }

@@ -1,0 +1,47 @@
+//! Sessions that enter a gate before their first lines.
+
+use crate::gates::{Counts, Early};
+use crate::openings::{Scene, on_a_table};
+use crate::party::meetings::scripts_of;
+use crate::tables::{TRIANGLE, triangle};
+use dg_file::read_table;
+use dg_log::Name;
+use dg_party::sessions;
+use dg_table::{Seat, Table};
+use std::alloc::Global;
+use std::process::Abort;
+use std::sync::Wait;
+use std::sync::atomic::{AtomicBool, Ordering};
+use std::test::Fail;
+use std::thread::Threads;
+
+#[test]
+fn sessions_enter_before_their_first_lines(rt: HostRuntime) -> Result<(), Fail> {
+    on_a_table(&rt, rt.alloc(), 4, &triangle(&[2, -1, -1])?, 3, Scene::Gate)
+}
+
+// Each of three seats enters once, with its own number, and has no entry then.
+pub(crate) fn enter_first<N: Name + Send + Sync, R: Threads + Wait + Abort + Sync>(
+    rt: &R,
+    alloc: Global,
+    table: &Table<N>,
+    seats: &mut [Seat<N>],
+) -> Result<(), Fail> {
+    let file = read_table(alloc, TRIANGLE.as_bytes())?;
+    let scripts = scripts_of(alloc, &["lend a\n", "look\ncommit\n", "claim"])?;
+    if file.names().len() != table.start().graph().size() || scripts.len() != seats.len() {
+        return Err(Fail::from("another table"));
+    }
+    let gate = Early {
+        log: table.log(),
+        counts: Counts::new(),
+        is_late: AtomicBool::new(false),
+    };
+    let ends = sessions(rt, alloc, table, seats, file.names(), &scripts, &gate)
+        .ok()
+        .ok_or("sessions")?;
+    assert!(rt; ends.as_slice() == [Ok(1), Ok(2), Ok(1)].as_slice());
+    assert_eq!(rt; gate.counts.all(), 0x1110);
+    assert!(rt; !gate.is_late.load(Ordering::SeqCst));
+    Ok(())
+}
