@@ -80,7 +80,7 @@ class Game:
         if word == "claim":
             return "won" if min(self.amounts) >= 0 else "not won"
         if word == "gift":
-            if not 1 <= command[2] <= 1000000:
+            if not 1 <= abs(command[2]) <= 1000000:
                 return "refused gift"
             after = list(self.amounts)
             after[command[1]] += command[2]
@@ -187,8 +187,8 @@ def judged(script, names):
 
 
 def some_script(rng, names):
-    """A script with each of the nine commands and with bad lines. One gift, of one dollar, is taken, and others are refused:
-    so the sum of the dollars rises slowly, and verdicts and rank tests stay open for long."""
+    """A script with each of the nine commands and with bad lines. One gift, of two dollars, and one levy, of a dollar, are
+    taken, and others are refused: so the sum of the dollars rises slowly, and verdicts and rank tests stay open for long."""
     def line():
         v, w = rng.sample(names, 2)
         return rng.choices([
@@ -196,14 +196,15 @@ def some_script(rng, names):
             "script %s=%d,%s=%d" % (v, rng.randint(-3, 3), w, rng.randint(-3, 3)),
             "look", "commit", "rank %d" % rng.randint(0, 3), "claim",
             "script %s=%d" % (v, rng.choice([-200000, 200000, 999999999])),
-            "gift %s %s" % (v, rng.choice(["0", "-5", "1000001", "9223372036854775807"])),
+            "gift %s %s" % (v, rng.choice(["0", "-1000001", "1000001", "9223372036854775807"])),
             rng.choice(["rank 105", "rank 1001"]),
             rng.choice(["", "lend", "look ", "lend  a", "Lend a", "lend z", "claim\r", "fire a,a", "fire a,", "script a",
                         "script a=b,z=1", "script a=1000000001", "gift a 01", "gift a 9223372036854775808", "rank -1",
                         "rank 4294967296", "\xff"]),
         ], [10, 10, 8, 8, 16, 14, 8, 4, 2, 2, 2, 5])[0]
     lines = [line() for _ in range(LINES)]
-    lines[rng.randrange(LINES)] = "gift %s 1" % rng.choice(names)
+    given, taken = rng.sample(range(LINES), 2)
+    lines[given], lines[taken] = "gift %s 2" % rng.choice(names), "gift %s -1" % rng.choice(names)
     return lines
 
 

@@ -100,6 +100,13 @@ def main(program):
         ("claim", "4 won"),
     ], (0, ""))
 
+    # A gift of less than nothing is a levy. It counts as a gift, so that the verdict on the look before it is stale.
+    play("a levy", Session(program, triangle), [
+        ("look", "0 looked 0 a=2 b=-1 c=-1"),
+        ("gift a -1", "1 given 1 a=1 b=-1 c=-1"),
+        ("commit", "2 stale 1"),
+    ], (0, ""))
+
     # A tool that chooses by the answers: whoever owes most borrows, until nobody owes anything. First b, the earlier of
     # two who owe a dollar, and then c, who owes two after that.
     session, position = Session(program, triangle), {"a": 2, "b": -1, "c": -1}

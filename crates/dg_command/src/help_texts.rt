@@ -3,7 +3,7 @@
 
 /// The program's version, and the toolchain that it is proved with, which `completions/check` compares with the one at
 /// hand.
-pub(crate) const VERSION: &str = "1.0.0\nproved with rattle-kit-13b, logic dac8208d650f15bf";
+pub(crate) const VERSION: &str = "1.0.0\nproved with rattle-kit-13f, logic dac8208d650f15bf";
 
 pub(crate) const FILE_HELP: &str = r#"The table: a JSON file, such as triangle.json:
 {
@@ -150,7 +150,7 @@ STEPS has up to 65536 lines, each with a seat and one of these commands:
     borrow V            V borrows
     fire V,V,..         the vertices named lend at once
     script V=x,V=x,..   each vertex named lends x times, at once
-    gift V x            V is given x dollars
+    gift V x            V is given x dollars; a levy if x is negative
     claim               the seat claims that nobody is in debt
     look                the seat looks at the amounts, and keeps the look
     commit              the verdict on the look that it keeps is entered
@@ -177,11 +177,12 @@ from 1, as in `line 1: bad seat`.
     5 stale 1
     6 won
 
-Each step gives a line with its number, from 0 on, and what came of it. A commit
-or a rank test uses up the look of its seat. It holds for the amounts at which
-it is entered, though there were moves since the look; only a gift makes it
-stale. Where a line or a step is refused, nothing is printed but the fault of
-the first such line, or else of the first such step.
+Each step gives a line with its number, from 0 on, and what came of it. A levy
+takes dollars from V, and counts as a gift. A commit or a rank test uses up the
+look of its seat. It holds for the amounts at which it is entered, though there
+were moves since the look; only a gift makes it stale. Where a line or a step is
+refused, nothing is printed but the fault of the first such line, or else of the
+first such step.
 ";
 
 pub(crate) const SERVE_MORE: &str = "\
