@@ -5,6 +5,7 @@ pub(super) use crate::tables::TRIANGLE;
 use dg_server::{perform, report};
 use dg_sources::Shelf;
 use dg_streams::Output;
+use std::alloc::{AllocError, Global};
 use std::process::Abort;
 use std::rt::Files;
 use std::sync::Wait;
@@ -61,9 +62,7 @@ where
 {
     let alloc = rt.alloc();
     let asked = asked(alloc, command)?;
-    let mut files = Vec::from_slice(alloc, &SCRIPTS)?;
-    files.push(named("table.json", table))?;
-    files.push(named("steps.txt", input))?;
+    let files = all_files(alloc, table, input)?;
     let shelf = Shelf { files: &files };
     let mut output = Output::new(Vec::new(alloc));
     let mut faults = Vec::new(alloc);
@@ -72,6 +71,21 @@ where
         Err(fault) => report(&fault, &mut faults),
     };
     Ok((output.into_inner(), faults, status))
+}
+
+// The scripts, the table and the steps.
+fn all_files<'a>(
+    alloc: Global,
+    table: &'a str,
+    steps: &'a str,
+) -> Result<Vec<(&'a str, &'a [u8])>, AllocError> {
+    let mut files = Vec::new(alloc);
+    files.push(named("table.json", table))?;
+    files.push(named("steps.txt", steps))?;
+    for (name, text) in &SCRIPTS {
+        files.push((*name, *text))?;
+    }
+    Ok(files)
 }
 
 // A file that is not there has a name that nobody asks for.

@@ -42,14 +42,7 @@ pub(crate) fn fills<N: Name, R: Threads + Wait + Abort>(
     seats: Vec<Seat<N>>,
 ) -> Result<(), Fail> {
     let mut seats = seats;
-    let [first, second] = seats.as_mut_slice() else {
-        return Err(Fail::from("another number of seats"));
-    };
-    goes_on(rt, alloc, &table, first)?;
-    hears_all(rt, alloc, &table, second)?;
-    is_full(rt, alloc, &table, first)?;
-    assert_eq!(rt; (first.past().len(), second.past().len()), (10_007, 10_004));
-    first.past().compare(second.past());
+    is_played(rt, alloc, &table, seats.as_mut_slice())?;
     let opening = *table.start().divisor();
     let mut observer = Observer::<N, Positions<N>>::new(alloc, Positions::new(), opening);
     assert_eq!(rt; observer.catch_up(table.log())?, 10_007);
@@ -58,6 +51,32 @@ pub(crate) fn fills<N: Name, R: Threads + Wait + Abort>(
     assert!(rt; audit.position == amounts(&[-20_004, 10_002, 10_002])?);
     assert!(rt; *observer.state() == audit.position);
     Ok(())
+}
+
+// Two seats fill the table.
+fn is_played<N: Name, R: Threads + Wait + Abort>(
+    rt: &R,
+    alloc: Global,
+    table: &Table<N>,
+    seats: &mut [Seat<N>],
+) -> Result<(), Fail> {
+    match seats {
+        [first, second] => {
+            goes_on(rt, alloc, table, first)?;
+            hears_all(rt, alloc, table, second)?;
+            is_full(rt, alloc, table, first)?;
+            found(rt, first, second);
+            Ok(())
+        }
+        _ => Err(Fail::from("another number of seats")),
+    }
+}
+
+// The history as each seat found it at its last call: the second's is the beginning of the first's.
+fn found<N: Name>(rt: &impl Abort, first: &Seat<N>, second: &Seat<N>) {
+    let (long, short) = (first.past(), second.past());
+    assert_eq!(rt; (long.len(), short.len()), (10_007, 10_004));
+    long.compare(short);
 }
 
 // The seat has 10,001 turns in which a lends, lends there by a call, and claims in a turn.
