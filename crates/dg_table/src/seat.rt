@@ -58,7 +58,7 @@ impl<N: Name> Seat<N> {
     }
 
     /// The seat with this number, which knows of no entry.
-    pub(crate) fn new(alloc: Global, number: u8) -> Seat<N>
+    fn new(alloc: Global, number: u8) -> Seat<N>
         requires { (1 ≤ number) × (number ≤ N.seats) }
         ensures number { result.number ≡ number }
         ensures mine { result.mine ≡ [] }
