@@ -1,7 +1,8 @@
 -- Chains of edges: a chain from a vertex ends at a vertex (end), one edge is a chain (edge), two chains in a row are
 -- a chain (append), where edges have no direction a chain can be walked back (reverse), a chain from within a set
--- that no edge leaves ends within it (stays), and equal numbers of edges give the same chains (cong).
-use Rattle.std.proofs.Common.{◌≡◌, ℕ, ◌<◌, arith}
+-- that no edge leaves ends within it (stays), a chain is one where there are more edges (more), and equal numbers of
+-- edges give the same chains (cong).
+use Rattle.std.proofs.Common.{◌≡◌, ℕ, ◌<◌, ◌≤◌, arith}
 use Rattle.dg_theory.specs.Multigraph.{JoinedIn, here, along}
 
 pub JoinedIn-end : {n : ℕ} {e : ℕ → ℕ → ℕ} {u w : ℕ} → u < n → JoinedIn n e u w → w < n
@@ -28,9 +29,13 @@ JoinedIn-stays P closed start here = start
 JoinedIn-stays P closed start (along v w chain below edge) =
     closed v w (JoinedIn-stays P closed start chain) below edge
 
+pub JoinedIn-more : {n : ℕ} {e f : ℕ → ℕ → ℕ} {u w : ℕ} → ((a b : ℕ) → e a b ≤ f a b) →
+    JoinedIn n e u w → JoinedIn n f u w
+JoinedIn-more more here = here
+JoinedIn-more {f = f} more (along v w chain below edge) =
+    let there : 0 < f v w = omega (arith, more v w) in
+    along v w (JoinedIn-more more chain) below there
+
 pub JoinedIn-cong : {n : ℕ} {e f : ℕ → ℕ → ℕ} {u w : ℕ} → ((a b : ℕ) → e a b ≡ f a b) →
     JoinedIn n e u w → JoinedIn n f u w
-JoinedIn-cong same here = here
-JoinedIn-cong {f = f} same (along v w chain below edge) =
-    let there : 0 < f v w = omega (arith, same v w) in
-    along v w (JoinedIn-cong same chain) below there
+JoinedIn-cong same chain = JoinedIn-more (λ a b. omega (arith, same a b)) chain

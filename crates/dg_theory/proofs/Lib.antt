@@ -14,6 +14,8 @@ pub mod SetFiring
 pub mod Scripts
 pub mod Exchange
 pub mod Multiples
+-- One edge more.
+pub mod JoinLaws
 -- Winning, reduced divisors and burning.
 pub mod Plays
 pub mod Equivalence
@@ -53,3 +55,10 @@ pub mod ExistenceLaws
 pub mod Giving
 pub mod RankLaws
 pub mod LossLaws
+-- The theorem of Riemann and Roch.
+pub mod OrderDivisors
+pub mod OrderDegrees
+pub mod BurningPlaces
+pub mod DualityLaws
+pub mod RankNumbers
+pub mod RankSums

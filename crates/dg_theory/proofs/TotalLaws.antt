@@ -2,6 +2,7 @@
 --   total_below-cong        equal terms give equal sums
 --   total_below-le          larger terms give a larger sum
 --   total_below-term        a term is at most the sum
+--   total_below-add         a sum of sums is the sum of both
 --   total_below-differ_at   sums whose terms agree but at v differ by their terms at v
 use Rattle.std.proofs.Common.{◌≡◌, ◌≢◌, ℕ, zero, suc, ◌+◌, ◌<◌, ◌≤◌, arith, refl, ap, ⊎_elim}
 use Rattle.std.proofs.lemmas.Bool.{cases_eq}
@@ -28,6 +29,10 @@ total_below-term (suc n) f v below =
     (λ (same : v ≡ n). let at : f v ≡ f n = ap f same in omega arith)
     (λ (other : v ≡ n → ⊥). let before : f v ≤ total_below n f = total_below-term n f v (omega arith) in omega arith)
     (cases_eq v n)
+
+pub total_below-add : (n : ℕ) (f h : ℕ → ℕ) → total_below n (λ w. f w + h w) ≡ total_below n f + total_below n h
+total_below-add zero f h = omega arith
+total_below-add (suc n) f h = omega (arith, total_below-add n f h)
 
 pub total_below-differ_at : (n : ℕ) (f h : ℕ → ℕ) (v : ℕ) → v < n → ((w : ℕ) → w < n → w ≢ v → f w ≡ h w) →
     total_below n f + h v ≡ total_below n h + f v

@@ -2,6 +2,7 @@
 -- vertex that holds fewer dollars than edges lead from it out of the set leaves, one after another.
 --   Falls g D T v         v is a vertex of T and holds fewer dollars than edges lead from it out of T
 --   AreVertices g S       the set S holds vertices only
+--   out-le-out            from a vertex, no more edges lead out of a set than out of a set within it
 --   Holds g q D S         each set without q in which no vertex falls lies within S
 --   holds_start           the set of all vertices but q holds each such set
 --   holds_next            so does S without a vertex that falls in S, where S does
@@ -42,7 +43,7 @@ out-le-out-once true c e kept = omega arith
 out-le-out-once false true e kept = absurd (both_ways _ refl (kept refl))
 out-le-out-once false false e kept = omega arith
 
-out-le-out : (g : Multigraph) (T S : ℕ → Bool) (v : ℕ) → IsWithin g T S → edges_out g S v ≤ edges_out g T v
+pub out-le-out : (g : Multigraph) (T S : ℕ → Bool) (v : ℕ) → IsWithin g T S → edges_out g S v ≤ edges_out g T v
 out-le-out g T S v within =
     total_below-le g.size _ _ (λ w below. out-le-out-once (S w) (T w) (edges_between g v w) (within w below))
 

@@ -6,6 +6,7 @@ pub mod Play
 pub mod Reduced
 pub mod Burning
 pub mod Rank
+pub mod Joins
 -- The laws, which are proved.
 pub mod FiringLaws
 pub mod EquivalenceLaws
@@ -15,5 +16,7 @@ pub mod BurningLaws
 pub mod GenusLaws
 pub mod ExistenceLaws
 pub mod RankLaws
+pub mod JoinLaws
+pub mod DualityLaws
 -- For the proofs of other crates.
 pub mod Distances

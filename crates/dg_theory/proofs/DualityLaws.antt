@@ -1,0 +1,134 @@
+-- The theorem of Riemann and Roch, as it speaks of rank tests (Baker and Norine 2007, section 3).
+--   Owes g D             by some script each vertex comes to hold at most what the divisor of some order has there
+--   winnable_or_owes     a divisor is winnable, or it owes
+--   IsDual g D k l       k less l is the degree of D, plus 1, less the genus
+--   dual-degree          the degree of the dual
+--   dual_of_dual         for the dual, k and l have exchanged their parts
+--   loss_from_order      where the dual less F owes, what it lacks of the divisor of the order is a loss that D can't bear:
+--                        it leaves what the reversed order's divisor less F is fired to
+--   pass_of_dual         so where D passes its test, the dual passes its own
+--   dual_tests           and the other way round
+--   loss_of_dual         a loss that the dual can't bear shows one that D can't bear
+--   natural              a whole number that is not negative is a natural number
+--   high_rank            from the genus on only rich divisors pass a test
+use Rattle.std.proofs.Common.{◌≡◌, ℕ, ◌<◌, ◌⊎◌, inl, inr, arith, refl, ⊎_elim}
+use Rattle.std.specs.Prelude.{◌≤ℤ◌, ◌<ℤ◌}
+use Rattle.std.proofs.lemmas.Int.{ints, by_lt_z}
+use Rattle.std.proofs.Math.IntN.{ℤ, pos, negsuc, ◌+ℤ◌, ◌-ℤ◌}
+use Rattle.dg_theory.specs.Multigraph.{Multigraph, IsMultigraph, genus}
+use Rattle.dg_theory.specs.Firing.{Amounts, degree, fired, IsEffective}
+use Rattle.dg_theory.specs.Play.{IsWinnable}
+use Rattle.dg_theory.specs.Rank.{less, canonical, HasRankAtLeast}
+use Rattle.dg_theory.specs.DualityLaws.{DualTests, LossOfDual, HighRank}
+use Rattle.dg_theory.proofs.Agreement.{winnable-cong}
+use Rattle.dg_theory.proofs.Equivalence.{opposite, equivalent-fired, equivalent-refl}
+use Rattle.dg_theory.proofs.Exchange.{degree_stays}
+use Rattle.dg_theory.proofs.Winning.{equivalent-winnable}
+use Rattle.dg_theory.proofs.ReducedLaws.{reduced_decides}
+use Rattle.dg_theory.proofs.ExistenceLaws.{reduced_exists}
+use Rattle.dg_theory.proofs.Giving.{win_more, degree-less}
+use Rattle.dg_theory.proofs.RankLaws.{equivalent-rank, poor_rank}
+use Rattle.dg_theory.proofs.OrderDivisors.{order_divisor, order_divisor-lost}
+use Rattle.dg_theory.proofs.OrderDegrees.{AreApart, order_divisor-reversed, order_divisor-degree, canonical-degree}
+use Rattle.dg_theory.proofs.BurningPlaces.{falls_if_owing, burning_exists, burns_below}
+
+pub record Owes (g : Multigraph) (D : Amounts) : Type 0 where
+  pub script : Amounts
+  pub place : Amounts
+  pub apart : AreApart g.size place
+  pub below : (v : ℕ) → v < g.size → fired g D script v ≤ℤ order_divisor g place v
+
+pub winnable_or_owes : (g : Multigraph) (D : Amounts) → IsMultigraph g → 0 < g.size → IsWinnable g D ⊎ Owes g D
+winnable_or_owes g D graph some =
+    let (s, at_q, reduced) = reduced_exists g 0 D graph some in
+    by_lt_z (fired g D s 0) (pos 0)
+    (λ (debt : fired g D s 0 <ℤ pos 0).
+    let (place, burning) = burning_exists g (fired g D s) (falls_if_owing g 0 (fired g D s) some reduced debt) in
+    let (apart, below) = burns_below g (fired g D s) place burning in
+    inr (record { script = s; place = place; apart = apart; below = below }))
+    (λ (paid : pos 0 ≤ℤ fired g D s 0). inl ((reduced_decides g 0 D (fired g D s) some (equivalent-fired g D s) reduced).1 paid))
+
+abbrev pub IsDual : Multigraph → Amounts → ℕ → ℕ → Type 0
+IsDual g D k l = pos k -ℤ pos l ≡ (degree g.size D +ℤ pos 1) -ℤ genus g
+
+pub dual-degree : (g : Multigraph) (D : Amounts) → IsMultigraph g →
+    degree g.size (less (canonical g) D) ≡ ((genus g +ℤ genus g) -ℤ pos 2) -ℤ degree g.size D
+dual-degree g D graph = omega (arith, ints, degree-less g.size (canonical g) D, canonical-degree g graph)
+
+pub dual_of_dual : (g : Multigraph) (D : Amounts) (k l : ℕ) → IsMultigraph g → IsDual g D k l →
+    IsDual g (less (canonical g) D) l k
+dual_of_dual g D k l graph dual = omega (arith, ints, dual-degree g D graph)
+
+abbrev LossOf : Multigraph → Amounts → ℕ → Type 0
+LossOf g D k = (E : Amounts) × IsEffective g.size E × (degree g.size E ≡ pos k) × (¬ IsWinnable g (less D E))
+
+loss_from_order : (g : Multigraph) (D F : Amounts) (k l : ℕ) → IsMultigraph g → 0 < g.size → IsDual g D k l →
+    IsEffective g.size F → degree g.size F ≡ pos l → Owes g (less (less (canonical g) D) F) → LossOf g D k
+loss_from_order g D F k l graph some dual effective of_degree owes =
+    let rest : Amounts = less (less (canonical g) D) F in
+    let now : Amounts = fired g rest owes.script in
+    let reversed : Amounts = order_divisor g (opposite owes.place) in
+    let E : Amounts = less (order_divisor g owes.place) now in (
+      E,
+      λ v inside. omega (arith, ints, owes.below v inside),
+      omega (
+        arith,
+        ints,
+        degree-less g.size (order_divisor g owes.place) now,
+        order_divisor-degree g owes.place graph owes.apart,
+        degree_stays g rest owes.script graph,
+        degree-less g.size (less (canonical g) D) F,
+        dual-degree g D graph,
+        of_degree,
+        dual,
+      ),
+      λ win.
+          let left : IsWinnable g (fired g (less reversed F) owes.script) =
+          winnable-cong g (less D E) (fired g (less reversed F) owes.script)
+          (λ v inside. omega (arith, ints, order_divisor-reversed g owes.place graph owes.apart v inside)) win in
+          let before : IsWinnable g (less reversed F) =
+          (equivalent-winnable g (less reversed F) _ (equivalent-fired g (less reversed F) owes.script)).1 left in
+          order_divisor-lost g (opposite owes.place) some
+          (win_more g (less reversed F) reversed (λ v inside. omega (arith, ints, effective v inside)) before),
+    )
+
+pass_of_dual : (g : Multigraph) (D : Amounts) (k l : ℕ) → IsMultigraph g → 0 < g.size → IsDual g D k l →
+    HasRankAtLeast g D k → HasRankAtLeast g (less (canonical g) D) l
+pass_of_dual g D k l graph some dual rank F effective of_degree =
+    ⊎_elim
+    (λ (win : IsWinnable g (less (less (canonical g) D) F)). win)
+    (λ (owes : Owes g (less (less (canonical g) D) F)).
+    let (E, taken, size, lost) = loss_from_order g D F k l graph some dual effective of_degree owes in
+    absurd (lost (rank E taken size)))
+    (winnable_or_owes g (less (less (canonical g) D) F) graph some)
+
+pub dual_tests : DualTests
+dual_tests g D k l graph some dual = (
+  pass_of_dual g D k l graph some dual,
+  λ rank.
+      (equivalent-rank g (less (canonical g) (less (canonical g) D)) D k
+      (equivalent-refl g _ D (λ v _. omega (arith, ints)))).0
+      (pass_of_dual g (less (canonical g) D) l k graph some (dual_of_dual g D k l graph dual) rank),
+)
+
+pub loss_of_dual : LossOfDual
+loss_of_dual g D F k l graph some dual effective of_degree lost =
+    ⊎_elim
+    (λ (win : IsWinnable g (less (less (canonical g) D) F)). absurd (lost win))
+    (λ (owes : Owes g (less (less (canonical g) D) F)).
+    loss_from_order g D F k l graph some dual effective of_degree owes)
+    (winnable_or_owes g (less (less (canonical g) D) F) graph some)
+
+pub natural : (z : ℤ) → pos 0 ≤ℤ z → (n : ℕ) × (z ≡ pos n)
+natural (pos n) high = (n, refl)
+natural (negsuc n) high = absurd (omega (arith, ints))
+
+pub high_rank : HighRank
+high_rank g D k graph some high rank =
+    by_lt_z (degree g.size D) (genus g +ℤ pos k)
+    (λ (less_rich : degree g.size D <ℤ (genus g +ℤ pos k)).
+    let (l, same) = natural (((pos k +ℤ genus g) -ℤ pos 1) -ℤ degree g.size D) (omega (arith, ints)) in
+    let dual : IsDual g D k l = omega (arith, ints) in
+    absurd (poor_rank g (less (canonical g) D) l graph some (omega (arith, ints, dual-degree g D graph))
+    ((dual_tests g D k l graph some dual).0 rank)))
+    (λ (rich : (genus g +ℤ pos k) ≤ℤ degree g.size D). rich)

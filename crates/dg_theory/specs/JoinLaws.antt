@@ -1,0 +1,22 @@
+-- The laws of one edge more, for every multigraph. A function of src/laws.rt promises them.
+--   EdgeIsAdded        == between u and v there is one edge more, and between all others there are as many as before
+--   JoinedIsMultigraph == with an edge between two different vertices a multigraph is one
+--   ValenceGrows       == that edge meets its two vertices, and no other
+--   SizeStays          == an edge more leaves the number of vertices
+use Rattle.std.specs.Prelude.{◌≡◌, ◌≢◌, ℕ, ◌+◌, ◌<◌}
+use Rattle.dg_theory.specs.Multigraph.{Multigraph, IsMultigraph, edges_between, valence}
+use Rattle.dg_theory.specs.Joins.{with_edge, on_pair, at_either}
+
+abbrev pub EdgeIsAdded : Type 0
+EdgeIsAdded = (g : Multigraph) (u v : ℕ) → u ≢ v → (a b : ℕ) →
+    edges_between (with_edge g u v) a b ≡ edges_between g a b + on_pair u v a b
+
+abbrev pub JoinedIsMultigraph : Type 0
+JoinedIsMultigraph = (g : Multigraph) (u v : ℕ) → IsMultigraph g → u < g.size → v < g.size → u ≢ v → IsMultigraph (with_edge g u v)
+
+abbrev pub ValenceGrows : Type 0
+ValenceGrows = (g : Multigraph) (u v : ℕ) → u < g.size → v < g.size → u ≢ v → (w : ℕ) →
+    valence (with_edge g u v) w ≡ valence g w + at_either u v w
+
+abbrev pub SizeStays : Type 0
+SizeStays = (g : Multigraph) (u v : ℕ) → (with_edge g u v).size ≡ g.size
