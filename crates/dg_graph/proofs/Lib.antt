@@ -6,3 +6,4 @@ pub mod Given
 pub mod NoEdges
 pub mod Genus
 pub mod Valences
+pub mod Joined

@@ -1,4 +1,4 @@
-//! Why a list of edges is refused.
+//! Why a list of edges is refused, and why one more edge is.
 
 use thiserror::Error;
 
@@ -23,4 +23,15 @@ pub enum GraphFault {
     /// Some two vertices are joined by no chain of edges.
     #[error("not connected")]
     NotConnected,
+}
+
+/// Why one more edge between two vertices is refused.
+#[derive(Clone, Copy, Debug, PartialEq, Eq)]
+pub enum JoinFault {
+    /// One of the two is not there.
+    NoVertex,
+    /// The two are the same vertex.
+    Loop,
+    /// 63 edges meet at one of the two already.
+    Valence,
 }

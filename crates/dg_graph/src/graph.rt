@@ -1,20 +1,23 @@
 //! A graph: its size and the numbers of its edges.
 
-ghost use Rattle.std.specs.Prelude.{◌≡◌, ℕ, ◌<◌, MatchResult, slice_index};
+ghost use Rattle.std.specs.Prelude.{◌≡◌, ℕ, ◌<◌, ◌≤◌, MatchBool, MatchResult, slice_index};
+ghost use Rattle.dg_graph.specs.declared.limits.TheConstants.{MAX_VALENCE};
 ghost use Rattle.dg_theory.specs.Multigraph.{edges_between, valence, genus};
+ghost use Rattle.dg_theory.specs.Joins.{with_edge};
 ghost use Rattle.dg_graph.specs.Graph.{IsGraph};
 ghost use Rattle.dg_graph.specs.Items.{IsGiven};
 ghost use Rattle.dg_graph.specs.Faults.{IsFirstFault};
+ghost use Rattle.dg_graph.specs.Joins.{IsJoinable, RefusesJoin};
 
 use crate::build::{first_item_fault, table_of};
 use crate::connected::is_connected;
-use crate::fault::GraphFault;
-use crate::limits::MAX_VERTICES;
-use crate::table::{Table, edge_count, first_high, valences_of};
+use crate::fault::{GraphFault, JoinFault};
+use crate::limits::{MAX_VALENCE, MAX_VERTICES};
+use crate::table::{Table, edge_count, first_high, valences_of, with_one_more};
 use std::marker::Model;
 
 /// A finite connected multigraph without loops: 1 to 16 vertices, numbered from 0, and at most 63 edges at each.
-#[derive(Clone, Copy)]
+#[derive(Clone, Copy, PartialEq, Eq)]
 pub struct Graph {
     size: usize,
     table: Table,
@@ -66,6 +69,43 @@ impl Graph {
             table,
             valences,
         })
+    }
+
+    /// The graph with one more edge between two vertices.
+    ///
+    /// The first fault is reported: `NoVertex`; then `Loop`, where the two are the same; then `Valence`, where 63 edges
+    /// meet at one of them already.
+    pub fn join(&self, u: u8, v: u8) -> Result<Graph, JoinFault>
+        ensures { MatchResult result
+            (λ g. (g ≡ with_edge self.now u v) × IsGraph g × IsJoinable self.now u v)
+            (RefusesJoin self.now u v) }
+    {
+        let (u, v) = (usize::from(u), usize::from(v));
+        if u >= self.size || v >= self.size {
+            return Err(JoinFault::NoVertex);
+        }
+        if u == v {
+            return Err(JoinFault::Loop);
+        }
+        if self.is_full(u) || self.is_full(v) {
+            return Err(JoinFault::Valence);
+        }
+        let once = with_one_more(self.table, u, v);
+        let table = with_one_more(once, v, u);
+        let valences = valences_of(self.size, &table);
+        Ok(Graph {
+            size: self.size,
+            table,
+            valences,
+        })
+    }
+
+    /// Whether as many edges as may be meet at a vertex.
+    fn is_full(&self, v: usize) -> bool
+        requires { v < self.now.size }
+        ensures { MatchBool result (MAX_VALENCE ≤ valence self.now v) (valence self.now v < MAX_VALENCE) }
+    {
+        u32::from(self.valence(v)) >= MAX_VALENCE
     }
 
     /// The number of vertices, 1 to 16.

@@ -10,7 +10,7 @@ mod limits;
 mod sets;
 mod table;
 
-pub use fault::GraphFault;
+pub use fault::{GraphFault, JoinFault};
 pub use graph::Graph;
 pub use limits::{MAX_VALENCE, MAX_VERTICES};
 pub use sets::{complement, contains, is_within, with_vertex};

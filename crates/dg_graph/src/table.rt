@@ -3,6 +3,7 @@
 ghost use Rattle.std.specs.Prelude.{◌≡◌, ℕ, ◌<◌, ◌≤◌, ◌*◌, MatchOption, slice_index};
 ghost use Rattle.dg_theory.specs.Sums.{total_below};
 ghost use Rattle.dg_theory.specs.Multigraph.{entry};
+ghost use Rattle.dg_theory.specs.Joins.{one_more, entry_more};
 ghost use Rattle.dg_graph.specs.Graph.{IsGraph};
 ghost use Rattle.dg_graph.specs.Valences.{valences_of};
 
@@ -75,4 +76,26 @@ pub fn first_high(size: usize, table: &Table) -> Option<usize>
         }
     }
     None
+}
+
+/// The table with one more edge in row u and column v, where there are fewer than 255.
+#[tactic(auto, unfolding(dg_theory::specs::Multigraph::entry))]
+pub fn with_one_more(mut table: Table, u: usize, v: usize) -> Table
+    requires u { u < MAX_VERTICES }
+    requires v { v < MAX_VERTICES }
+    requires few { entry table u v < 255 }
+    ensures { result ≡ entry_more table u v }
+{
+    table[u] = row_with_one_more(table[u], v);
+    table
+}
+
+/// The row with one more edge at v, where there are fewer than 255.
+fn row_with_one_more(mut row: [u8; MAX_VERTICES], v: usize) -> [u8; MAX_VERTICES]
+    requires v { v < MAX_VERTICES }
+    requires few { slice_index row v < 255 }
+    ensures { result ≡ one_more row v }
+{
+    row[v] += 1;
+    row
 }
