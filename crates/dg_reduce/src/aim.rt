@@ -11,6 +11,8 @@ use dg_graph::{Graph, MAX_VERTICES};
 /// it only makes the guesses bad.
 #[derive(Clone, Copy)]
 pub struct Aim {
+    /// The vertex q.
+    q: usize,
     /// How often each vertex lends so that one of them, and then q, has a dollar less, fractions too.
     inverse: [[f64; 16]; 16],
     /// What that comes to for the dollars that are left to the vertices: half of those that would keep them from burning.
@@ -26,11 +28,18 @@ impl Aim {
     pub fn new(graph: &Graph, q: usize) -> Aim {
         let inverse = inverse_of(graph.size(), &equations(graph, q));
         Aim {
+            q,
             inverse,
             shift: shift_of(graph, q, &inverse),
             rows: lending_rows(graph),
             valences: valences_of(graph),
         }
+    }
+
+    /// Whether this may serve a graph and a vertex q: the vertex is the one that it was made for, and so many edges meet at
+    /// each vertex. A graph to which edges were added since has more.
+    pub fn may_serve(&self, graph: &Graph, q: usize) -> bool {
+        self.q == q && self.valences == valences_of(graph)
     }
 
     /// How often each vertex lends, fractions too, so that all off q keep as much as they are aimed at, where they hold so

@@ -32,12 +32,27 @@ pub fn judge(graph: &Graph, q: usize, divisor: &Divisor) -> Verdict
     ensures order { BurnsInOrder graph.now q (at result.reduced) (take graph.now.size result.order) }
     ensures rest { (i : ℕ) → graph.now.size ≤ i → i < MAX_VERTICES → slice_index_or result.order i 0 ≡ 0 }
 {
-    judge_aimed(graph, &Aim::new(graph, q), q, divisor)
+    judge_by(graph, &Aim::new(graph, q), q, divisor)
 }
 
 /// The verdict as `judge` gives it, whatever is aimed by: an aim that was made for the graph and q saves the time to make
-/// it anew.
+/// it anew. One that was made before an edge was added is not used.
 pub fn judge_aimed(graph: &Graph, aim: &Aim, q: usize, divisor: &Divisor) -> Verdict
+    requires size { divisor.now.size ≡ graph.now.size }
+    requires vertex { q < graph.now.size }
+    ensures right { IsRight graph.now q (at divisor.now) result }
+    ensures order { BurnsInOrder graph.now q (at result.reduced) (take graph.now.size result.order) }
+    ensures rest { (i : ℕ) → graph.now.size ≤ i → i < MAX_VERTICES → slice_index_or result.order i 0 ≡ 0 }
+{
+    if aim.may_serve(graph, q) {
+        judge_by(graph, aim, q, divisor)
+    } else {
+        judge(graph, q, divisor)
+    }
+}
+
+/// The verdict, whatever is aimed by.
+fn judge_by(graph: &Graph, aim: &Aim, q: usize, divisor: &Divisor) -> Verdict
     requires size { divisor.now.size ≡ graph.now.size }
     requires vertex { q < graph.now.size }
     ensures right { IsRight graph.now q (at divisor.now) result }

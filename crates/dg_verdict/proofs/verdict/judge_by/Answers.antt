@@ -6,8 +6,8 @@ use Rattle.dg_theory.specs.Firing.{gain, FiresTo}
 use Rattle.dg_theory.proofs.ReducedLaws.{reduced_decides}
 use Rattle.dg_chips.specs.Vector.{at}
 use Rattle.dg_verdict.proofs.Verdicts.{all_in_order}
-use Rattle.dg_verdict.proofs.verdict.judge_aimed.Goals as goal
-use Rattle.dg_verdict.proofs.verdict.judge_aimed.Goals.{After-reduce_certified-found}
+use Rattle.dg_verdict.proofs.verdict.judge_by.Goals as goal
+use Rattle.dg_verdict.proofs.verdict.judge_by.Goals.{After-reduce_certified-found}
 
 -- the script leads from the amounts of the divisor themselves
 led : (c : After-reduce_certified-found) → FiresTo c.args.graph.now (at c.reduce_certified-found.result.reduced.script)
