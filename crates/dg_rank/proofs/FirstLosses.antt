@@ -4,6 +4,9 @@
 --   listed_before     an effective divisor before one that holds a trial is a list that comes before the trial
 --   wins_listed       where all trials win, a divisor can lose each effective divisor of their degree
 --   found_rank        where all trials win, the rank is at least their degree
+--   all_trials_win    and the other way round
+--   lost_rank         where one loses, the rank is less
+--   found_decides     so what is found among all trials tells whether the rank is at least their degree
 --   nth-trial         each number below that of all trials has a trial
 --   loss-trial        the first of all trials to lose is a trial
 --   found_trial       what was found among all trials, if it is one, is a trial
@@ -13,7 +16,8 @@
 --   poor_loses        where the degree is too low, each trial loses
 --   poor_loss         so trial number 0 is the first loss
 use Rattle.std.proofs.Common.{◌≡◌, ℕ, ◌<◌, List, length, arith, refl, sym, subst, ◌∙◌}
-use Rattle.std.specs.Prelude.{◌≤ℤ◌, ◌<ℤ◌, Option, Some, None, MatchOption, ⊤}
+use Rattle.std.specs.Prelude.{◌≤ℤ◌, ◌<ℤ◌, Bool, true, false, not, Option, Some, None, is_some, MatchBool, MatchOption, ⊤}
+use Rattle.std.proofs.lemmas.Bool.{both_ways}
 use Rattle.std.proofs.lemmas.Int.{ints}
 use Rattle.std.proofs.Math.IntN.{pos}
 use Rattle.dg_theory.specs.Multigraph.{Multigraph, IsMultigraph}
@@ -65,6 +69,25 @@ found_rank g D k c within wins E effective of_degree =
 
 pub nth-trial : (n k c i : ℕ) → IsWithinLimits n k c → i < c → IsTrial n k (nth_trial n k i)
 nth-trial n k c i within below = ((numbered n k).each i (omega (arith, limits_count n k c within))).0
+
+pub all_trials_win : (g : Multigraph) (D : Amounts) (k c : ℕ) → IsWithinLimits g.size k c → HasRankAtLeast g D k → AllWin g D k 0 c
+all_trials_win g D k c within rank i from below =
+    let trial : IsTrial g.size k (nth_trial g.size k i) = nth-trial g.size k c i within below in
+    rank (amounts_of (nth_trial g.size k i)) (λ v inside. omega (arith, ints))
+    (degree-trial g.size k (nth_trial g.size k i) trial)
+
+pub lost_rank : (g : Multigraph) (D : Amounts) (k c : ℕ) (E : List ℕ) → IsWithinLimits g.size k c → IsLossIn g D k 0 c E →
+    ¬ HasRankAtLeast g D k
+lost_rank g D k c E within loss rank =
+    loss.loses (subst (λ (L : List ℕ). WinsWithout g D L) (sym loss.trial)
+    (all_trials_win g D k c within rank loss.number loss.from loss.to))
+
+pub found_decides : (g : Multigraph) (D : Amounts) (k c : ℕ) (found : Option (List ℕ)) (b : Bool) → IsWithinLimits g.size k c →
+    IsFound g D k 0 c found → is_some found ≡ not b → MatchBool b (HasRankAtLeast g D k) (¬ HasRankAtLeast g D k)
+found_decides g D k c (Some E) true within loss none = absurd (both_ways true none refl)
+found_decides g D k c (Some E) false within loss none = lost_rank g D k c E within loss
+found_decides g D k c None true within wins none = found_rank g D k c within wins
+found_decides g D k c None false within wins none = absurd (both_ways false refl none)
 
 pub loss-trial : (g : Multigraph) (D : Amounts) (k c : ℕ) (E : List ℕ) → IsWithinLimits g.size k c → IsLossIn g D k 0 c E →
     IsTrial g.size k E

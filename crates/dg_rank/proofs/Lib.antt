@@ -13,7 +13,10 @@ pub mod TrialLists
 pub mod FirstLosses
 pub mod Search
 pub mod PieceLosses
+pub mod Gated
 pub mod Elsewhere
 -- The reduced divisor in place of the one given.
 pub mod SmallAmounts
+-- Ranks and rank tests by the dual.
+pub mod DualTests
 pub mod RankByTests

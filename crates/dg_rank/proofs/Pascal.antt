@@ -2,6 +2,7 @@
 --   one_place     on one place there is one trial of each degree
 --   count_more    trials are those that hold nothing at the first place and those that hold something there
 --   count_grows   on more places there are no fewer trials
+--   count_grows_by_degree   of a greater degree there are no fewer trials, on one place or more
 --   count_next    on p + 1 places there are (k + p) / p times as many trials of degree k as on p places
 use Rattle.std.proofs.Common.{◌≡◌, ℕ, zero, suc, ◌+◌, ◌*◌, ◌/◌, ◌<◌, ◌≤◌, arith, refl, ap, ⊎_elim, add-one}
 use Rattle.std.proofs.Math.Nat.{mul-div_cancel_left}
@@ -34,6 +35,17 @@ count_grows n (suc m) k less = ⊎_elim
     omega (arith, before, count_one_more m k))
     (λ (high : suc m ≤ n). let same : n ≡ suc m = omega arith in omega (arith, ap (λ (i : ℕ). trial_count i k) same))
     (cases_lt n (suc m))
+
+pub count_grows_by_degree : (n j k : ℕ) → 0 < n → j ≤ k → trial_count n j ≤ trial_count n k
+count_grows_by_degree zero j k some less = absurd (omega arith)
+count_grows_by_degree (suc n) j zero some less =
+    let same : j ≡ 0 = omega arith in omega (arith, ap (trial_count (suc n)) same)
+count_grows_by_degree (suc n) j (suc k) some less = ⊎_elim
+    (λ (low : j < suc k).
+    let before : trial_count (suc n) j ≤ trial_count (suc n) k = count_grows_by_degree (suc n) j k some (omega arith) in
+    omega (arith, before, count_more n k))
+    (λ (high : suc k ≤ j). let same : j ≡ suc k = omega arith in omega (arith, ap (trial_count (suc n)) same))
+    (cases_lt j (suc k))
 
 -- one dollar more
 abbrev ByDegree : ℕ → Type 0

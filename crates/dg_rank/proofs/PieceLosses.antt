@@ -4,15 +4,17 @@
 --   wins_both      trials that follow one another and all win
 --   loss_before    the first loss of trials is that of them and later ones
 --   loss_after     after trials that all win, the first loss of later ones is that of all
+--   found_after    so it is with what is found in later ones
 --   outcome_after  so it is with what later ones come to
 use Rattle.std.proofs.Common.{ℕ, ◌+◌, ◌*◌, ◌/◌, ◌<◌, ◌≤◌, List, arith, ⊎_elim, mul-le-mul_right}
+use Rattle.std.specs.Prelude.{Option, Some, None}
 use Rattle.std.proofs.lemmas.Bool.{cases_lt}
 use Rattle.std.proofs.lemmas.Nat.{le-div}
 use Rattle.std.proofs.Math.Nat.{div-mul-le_self, div-le_of_le-mul}
 use Rattle.dg_theory.specs.Multigraph.{Multigraph}
 use Rattle.dg_theory.specs.Firing.{Amounts}
 use Rattle.dg_chips.specs.Vector.{at}
-use Rattle.dg_rank.specs.Losses.{AllWin, IsLossIn}
+use Rattle.dg_rank.specs.Losses.{AllWin, IsLossIn, IsFound}
 use Rattle.dg_rank.specs.Pieces.{piece_start, IsOutcome}
 use Rattle.dg_rank.specs.declared.pieces.Search.{Search}
 use Rattle.dg_rank.specs.declared.pieces.Outcome.{Outcome}
@@ -55,6 +57,11 @@ loss_after g D k i m j E start wins loss = record {
   loses = loss.loses;
   first = wins_both g D k i m loss.number wins loss.first;
 }
+
+pub found_after : (g : Multigraph) (D : Amounts) (k i m j : ℕ) (found : Option (List ℕ)) → i ≤ m → AllWin g D k i m →
+    IsFound g D k m j found → IsFound g D k i j found
+found_after g D k i m j (Some E) start wins loss = loss_after g D k i m j E start wins loss
+found_after g D k i m j None start wins later = wins_both g D k i m j wins later
 
 pub outcome_after : (s : Search) (i m j : ℕ) (end : Outcome) → i ≤ m → AllWin s.graph (at s.chips) s.k i m → IsOutcome s m j end →
     IsOutcome s i j end

@@ -1,18 +1,62 @@
--- Ranks that are found by tests one after another.
---   rank_found   where the tests before k are passed and there is a loss of degree k, the rank is k - 1
-use Rattle.std.proofs.Common.{◌≡◌, ℕ, zero, suc, ◌+◌, ◌<◌, arith, refl, subst}
-use Rattle.std.proofs.Math.IntN.{pos, ◌-ℤ◌}
-use Rattle.std.proofs.lemmas.Int.{ints}
-use Rattle.dg_theory.specs.Multigraph.{Multigraph}
-use Rattle.dg_theory.specs.Firing.{Amounts}
-use Rattle.dg_theory.specs.Rank.{HasRankAtLeast, IsFirstLoss, IsRank}
-use Rattle.dg_theory.proofs.LossLaws.{loss_bounds_rank}
+-- Ranks that are told by the first test that fails.
+--   rank_before       where k is the least degree of the tests that D fails, the rank is k - 1
+--   rank_of_dual_before  so is that of the dual, for the degree at which its test passes where that of D does
+--   fails_low         there k is at most the degree and 1, but for its sign
+--   not_all_pass      from the genus on, and where it is not rich, a divisor fails
+--   in_limits         the rank is told within the limits, where the next test is
+--   needs_too_many    where a test of the next degree after the rank is past the limits, too many tests are needed
+use Rattle.std.proofs.Common.{◌≡◌, ℕ, zero, suc, ◌+◌, ◌<◌, ◌≤◌, arith, refl, sym, subst}
+use Rattle.std.specs.Int.RustNames.{unsigned_abs}
+use Rattle.std.specs.Prelude.{◌≤ℤ◌, ◌<ℤ◌}
+use Rattle.std.proofs.lemmas.Int.{ints, by_lt_z}
+use Rattle.std.proofs.Math.IntN.{ℤ, pos, ◌+ℤ◌, ◌-ℤ◌}
+use Rattle.dg_theory.specs.Multigraph.{Multigraph, IsMultigraph, genus}
+use Rattle.dg_theory.specs.Firing.{Amounts, degree}
+use Rattle.dg_theory.specs.Rank.{less, canonical, HasRankAtLeast, IsRank}
+use Rattle.dg_theory.proofs.RankLaws.{poor_rank}
+use Rattle.dg_theory.proofs.RankNumbers.{rank_passes, rank_of_dual}
+use Rattle.dg_theory.proofs.DualityLaws.{IsDual, high_rank}
+use Rattle.dg_rank.specs.Limits.{IsWithinLimits, IsPastLimits}
+use Rattle.dg_rank.specs.Ranks.{IsRankInLimits, NeedsTooMany, FailsFirstAt}
 
-pub rank_found : (g : Multigraph) (D : Amounts) (k : ℕ) (E : Amounts) → ((j : ℕ) → j < k → HasRankAtLeast g D j) →
-    IsFirstLoss g D k E → IsRank g D (pos k -ℤ pos 1)
-rank_found g D zero E passed loss = (refl, loss_bounds_rank g D 0 E loss)
-rank_found g D (suc j) E passed loss =
+pub rank_before : (g : Multigraph) (D : Amounts) (k : ℕ) → FailsFirstAt g D k → IsRank g D (pos k -ℤ pos 1)
+rank_before g D zero first = (refl, first.fails)
+rank_before g D (suc j) first =
     let less : pos j ≡ pos (suc j) -ℤ pos 1 = omega (arith, ints) in
     let more : j + 1 ≡ suc j = omega arith in
-    subst (IsRank g D) less
-    (passed j (omega arith), λ rank. loss_bounds_rank g D (suc j) E loss (subst (HasRankAtLeast g D) more rank))
+    subst (IsRank g D) less (first.passed j (omega arith), λ rank. first.fails (subst (HasRankAtLeast g D) more rank))
+
+pub rank_of_dual_before : (g : Multigraph) (D : Amounts) (k l : ℕ) → IsMultigraph g → 0 < g.size → FailsFirstAt g D k →
+    IsDual g D k l → IsRank g (less (canonical g) D) (pos l -ℤ pos 1)
+rank_of_dual_before g D k l graph some first dual =
+    rank_of_dual g D (pos k -ℤ pos 1) (pos l -ℤ pos 1) graph some (omega (arith, ints)) (rank_before g D k first)
+
+pub fails_low : (g : Multigraph) (D : Amounts) (k : ℕ) → IsMultigraph g → 0 < g.size → FailsFirstAt g D k →
+    k ≤ unsigned_abs (degree g.size D) + 1
+fails_low g D zero graph some first = omega arith
+fails_low g D (suc j) graph some first =
+    by_lt_z (degree g.size D) (pos j)
+    (λ (poor : degree g.size D <ℤ pos j). absurd (poor_rank g D j graph some poor (first.passed j (omega arith))))
+    (λ (enough : pos j ≤ℤ degree g.size D). omega (arith, ints))
+
+pub needs_too_many : (g : Multigraph) (D : Amounts) (k : ℕ) → IsRank g D (pos k -ℤ pos 1) → IsPastLimits g.size k →
+    NeedsTooMany g D
+needs_too_many g D k rank past = record {
+  degree = k;
+  past = past;
+  passed = λ j below. rank_passes g D (pos k -ℤ pos 1) j rank (omega (arith, ints));
+}
+
+pub not_all_pass : (g : Multigraph) (D : Amounts) (k : ℕ) → IsMultigraph g → 0 < g.size → genus g ≤ℤ pos k →
+    ((degree g.size D +ℤ pos 1) -ℤ genus g) ≤ℤ pos k → ¬ HasRankAtLeast g D k
+not_all_pass g D k graph some high poor rank =
+    let none : ⊥ = omega (arith, ints, high_rank g D k graph some high rank) in none
+
+pub in_limits : (g : Multigraph) (D : Amounts) (k c : ℕ) (r : ℤ) → IsRank g D (pos k -ℤ pos 1) → r ≡ pos k -ℤ pos 1 →
+    IsWithinLimits g.size k c → IsRankInLimits g D r
+in_limits g D k c r rank same within = record {
+  is_rank = subst (IsRank g D) (sym same) rank;
+  next = k;
+  follows = omega (arith, ints);
+  within = (c, within);
+}

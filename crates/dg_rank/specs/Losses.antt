@@ -3,6 +3,8 @@
 --   AllWin g D k i j        == D less each trial from number i up to, but not including, number j is winnable
 --   IsLossIn g D k i j E    == E is the first trial of the piece from i up to j whose loss leaves D unwinnable
 --   IsFound g D k i j found == what was found is the first loss of the piece, or nothing where all win
+--   IsTold g D k c told     == what is told of all c trials is so: the first loss, or that all win, or that those before some
+--                              number win
 use Rattle.std.specs.Prelude.{◌≡◌, ℕ, ◌<◌, ◌≤◌, List, Option, Some, None}
 use Rattle.dg_theory.specs.Multigraph.{Multigraph}
 use Rattle.dg_theory.specs.Firing.{Amounts}
@@ -10,6 +12,8 @@ use Rattle.dg_theory.specs.Play.{IsWinnable}
 use Rattle.dg_theory.specs.Rank.{less}
 use Rattle.dg_rank.specs.Divisors.{amounts_of}
 use Rattle.dg_rank.specs.Numbering.{nth_trial}
+use Rattle.dg_rank.specs.declared.duals.Told.{Told}
+use Rattle.dg_rank.specs.declared.duals.Told.TheVariants.{Lost, Won, Open}
 
 abbrev pub WinsWithout : Multigraph → Amounts → List ℕ → Type 0
 WinsWithout g D E = IsWinnable g (less D (amounts_of E))
@@ -28,3 +32,8 @@ pub record IsLossIn (g : Multigraph) (D : Amounts) (k i j : ℕ) (E : List ℕ) 
 abbrev pub IsFound : Multigraph → Amounts → ℕ → ℕ → ℕ → Option (List ℕ) → Type 0
 IsFound g D k i j (Some E) = IsLossIn g D k i j E
 IsFound g D k i j None = AllWin g D k i j
+
+abbrev pub IsTold : Multigraph → Amounts → ℕ → ℕ → Told → Type 0
+IsTold g D k c (Lost E) = IsLossIn g D k 0 c E
+IsTold g D k c Won = AllWin g D k 0 c
+IsTold g D k c (Open i) = (i ≤ c) × AllWin g D k 0 i

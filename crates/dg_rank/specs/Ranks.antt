@@ -2,17 +2,21 @@
 --   IsWithin n k           == a rank test of degree k on n vertices is within the limits
 --   IsRankTest g D k x     == the verdict x of the rank test of degree k is right for D
 --   IsUnsettled g D k      == what D less k dollars holds in all is at least 0 and less than the genus
+--   IsRankInLimits g D r   == r is the rank of D, and the test of the next degree is within the limits
 --   NeedsTooMany g D       == D needs too many rank tests: its rank is told by none within the limits, since D passes all
 --                             that come before one past them
 --   DualNeedsTooMany g D   == the dual of D is in range, and D or the dual needs too many rank tests
+--   BothArePast g D k      == the rank test of degree k is past the limits, and so is that of the dual which passes where it
+--                             passes
+--   NeedsPastTests g D     == D passes all rank tests before one that is past the limits, as is that of the dual
+--   FailsFirstAt g D k     == k is the least degree of the rank tests that D fails
 --   MayHaveWorkers w       == a rank test may have w workers
 --   IsRankFault n k w e    == a rank test with w workers is refused for this cause, and for no earlier one; whether memory
 --                             was really wanting, or a thread did not start, no definition can say
-use Rattle.std.specs.Prelude.{◌≡◌, ℕ, ◌<◌, ◌≤◌, ◌⊎◌, pos, ◌+ℤ◌, ◌≤ℤ◌, ◌<ℤ◌}
+use Rattle.std.specs.Prelude.{◌≡◌, ℕ, ◌<◌, ◌≤◌, ◌⊎◌, ℤ, pos, ◌+ℤ◌, ◌-ℤ◌, ◌≤ℤ◌, ◌<ℤ◌}
 use Rattle.dg_theory.specs.Multigraph.{Multigraph, genus}
 use Rattle.dg_theory.specs.Firing.{Amounts, degree}
-use Rattle.dg_theory.specs.Rank.{HasRankAtLeast, IsFirstLoss}
-use Rattle.dg_chips.specs.Dual.{DualOf}
+use Rattle.dg_theory.specs.Rank.{less, canonical, HasRankAtLeast, IsFirstLoss, IsRank}
 use Rattle.dg_chips.specs.Vector.{at, IsInRange}
 use Rattle.dg_rank.specs.Limits.{IsWithinLimits, IsPastLimits}
 use Rattle.dg_rank.specs.declared.rank_verdict.RankVerdict.{RankVerdict}
@@ -32,16 +36,35 @@ pub record IsUnsettled (g : Multigraph) (D : Amounts) (k : ℕ) : Type 0 where
   pub least : pos k ≤ℤ degree g.size D
   pub most : degree g.size D <ℤ (genus g +ℤ pos k)
 
+pub record IsRankInLimits (g : Multigraph) (D : Amounts) (r : ℤ) : Type 0 where
+  pub is_rank : IsRank g D r
+  pub next : ℕ
+  pub follows : pos next ≡ r +ℤ pos 1
+  pub within : IsWithin g.size next
+
 pub record NeedsTooMany (g : Multigraph) (D : Amounts) : Type 0 where
   pub degree : ℕ
   pub past : IsPastLimits g.size degree
   pub passed : (k : ℕ) → k < degree → HasRankAtLeast g D k
 
 pub record DualNeedsTooMany (g : Multigraph) (D : Amounts) : Type 0 where
-  pub dual : Amounts
-  pub is_dual : DualOf g D dual
-  pub in_range : IsInRange g.size dual
-  pub either : NeedsTooMany g D ⊎ NeedsTooMany g dual
+  pub in_range : IsInRange g.size (less (canonical g) D)
+  pub either : NeedsTooMany g D ⊎ NeedsTooMany g (less (canonical g) D)
+
+pub record BothArePast (g : Multigraph) (D : Amounts) (k : ℕ) : Type 0 where
+  pub other : ℕ
+  pub dual : pos k -ℤ pos other ≡ (degree g.size D +ℤ pos 1) -ℤ genus g
+  pub past : IsPastLimits g.size k
+  pub dual_past : IsPastLimits g.size other
+
+pub record NeedsPastTests (g : Multigraph) (D : Amounts) : Type 0 where
+  pub degree : ℕ
+  pub past : BothArePast g D degree
+  pub passed : (k : ℕ) → k < degree → HasRankAtLeast g D k
+
+pub record FailsFirstAt (g : Multigraph) (D : Amounts) (k : ℕ) : Type 0 where
+  pub passed : (j : ℕ) → j < k → HasRankAtLeast g D j
+  pub fails : ¬ HasRankAtLeast g D k
 
 abbrev pub MayHaveWorkers : ℕ → Type 0
 MayHaveWorkers w = (1 ≤ w) × (w ≤ MAX_WORKERS)

@@ -1,25 +1,25 @@
-//! Rank tests, and the rank that they tell.
-ghost use Rattle.std.specs.Prelude.{◌≡◌, ℕ, ◌<◌, ◌≤◌, ⊤, pos, ◌-ℤ◌, MatchOption, MatchResult};
+//! Rank tests.
+ghost use Rattle.std.specs.Prelude.{◌≡◌, ℕ, ◌<◌, ⊤, MatchOption, MatchResult};
 ghost use Rattle.dg_theory.specs.Multigraph.{Multigraph};
-ghost use Rattle.dg_theory.specs.Firing.{Amounts, degree, AreEquivalent};
-ghost use Rattle.dg_theory.specs.Rank.{IsRank};
+ghost use Rattle.dg_theory.specs.Firing.{Amounts, AreEquivalent};
 ghost use Rattle.dg_chips.specs.Vector.{at};
 ghost use Rattle.dg_rank.specs.Limits.{IsPastLimits, IsWithinLimits};
 ghost use Rattle.dg_rank.specs.Trials.{IsTrial};
 ghost use Rattle.dg_rank.specs.Losses.{IsFound};
-ghost use Rattle.dg_rank.specs.Ranks.{IsWithin, IsRankTest, IsUnsettled, NeedsTooMany};
+ghost use Rattle.dg_rank.specs.Ranks.{IsWithin, IsRankTest, IsUnsettled};
 ghost use Rattle.dg_rank.specs.declared.rank_verdict.RankFault.TheVariants.{TooMany};
 
-use crate::counting::{MAX_DEGREE, trials};
+use crate::counting::trials;
+use crate::duals::{degree_left, loss_after, told_by_dual};
 use crate::enumeration::Trial;
-use crate::first_loss::first_loss;
 use crate::rank_verdict::{RankFault, RankVerdict};
 use dg_chips::Divisor;
 use dg_graph::Graph;
 use dg_reduce::reduce;
 
 /// Tests whether the rank of a divisor is at least k: whether every effective divisor of degree k can be lost and the
-/// rest still won. If not, the answer names the first that can't, in the order of trials.
+/// rest still won. If not, the answer names the first that can't, in the order of trials. Where the dual of the divisor has
+/// fewer trials, those may tell that none can't.
 ///
 /// Refused with `TooMany` alone, where k is above 1,000 or there are more than 200,000 trials.
 pub fn rank_at_least(
@@ -42,27 +42,9 @@ pub fn rank_at_least(
         return Ok(verdict);
     }
     let chips = reduce(graph, q, divisor).divisor;
-    let loss = first_loss(graph, &chips, k, 0, count);
+    let told = told_by_dual(graph, q, divisor, &chips, k, count / 2);
+    let loss = loss_after(graph, &chips, k, count, told);
     Ok(verdict_on(k, loss))
-}
-
-/// The rank of a divisor: the greatest k of which its rank is at least k, and -1 where it is not winnable. `None` where a
-/// test past the limits would be needed.
-pub fn rank(graph: &Graph, q: usize, divisor: &Divisor) -> Option<i64>
-    requires size { divisor.now.size ≡ graph.now.size }
-    requires vertex { q < graph.now.size }
-    ensures { MatchOption result
-        (NeedsTooMany graph.now (at divisor.now))
-        (IsRank graph.now (at divisor.now)) }
-{
-    for k in 0..=MAX_DEGREE {
-        match rank_at_least(graph, q, divisor, k) {
-            Ok(RankVerdict::AtLeast(_)) => {}
-            Ok(RankVerdict::Below(..)) => return Some(i64::from(k) - 1),
-            Err(_) => return None,
-        }
-    }
-    None
 }
 
 /// The answer of a rank test that the degree alone settles. `None` where trials must be made.
@@ -95,13 +77,4 @@ pub(crate) fn verdict_on(k: u32, loss: Option<Trial>) -> RankVerdict
         Some(trial) => RankVerdict::Below(k, trial.to_divisor()),
         None => RankVerdict::AtLeast(k),
     }
-}
-
-/// The degree of what is left of a divisor after a loss of degree k.
-fn degree_left(divisor: &Divisor, k: u32) -> i64
-    requires { k ≤ MAX_DEGREE }
-    ensures { result ≡ degree divisor.now.size (at divisor.now) -ℤ pos k }
-{
-    let _amounts = divisor.size();
-    divisor.degree() - i64::from(k)
 }

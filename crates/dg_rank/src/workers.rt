@@ -2,8 +2,10 @@
 ghost use Rattle.std.specs.Prelude.{◌≡◌, ◌<◌, MatchResult};
 ghost use Rattle.dg_chips.specs.Vector.{at};
 ghost use Rattle.dg_rank.specs.Ranks.{IsWithin, IsRankTest, IsRankFault, MayHaveWorkers};
+ghost use Rattle.dg_rank.specs.declared.rank_verdict.RankFault.TheVariants.{Spawn};
 
 use crate::counting::trials;
+use crate::duals::{Told, told_by_dual};
 use crate::pieces::{Search, first_loss_among};
 use crate::rank_verdict::{RankFault, RankVerdict};
 use crate::ranks::{settled, verdict_on};
@@ -62,27 +64,54 @@ pub fn rank_with<R: Threads + Wait, G: Gate>(
         return Err(RankFault::Workers);
     }
     if let Some(verdict) = settled(graph, divisor, k) {
-        let search = Search {
-            graph: *graph,
-            chips: Wide::zero(graph),
-            k,
-            count: 0,
-            workers,
-        };
-        return match first_loss_among(rt, &search, gate) {
-            Ok(_) => Ok(verdict),
-            Err(fault) => Err(fault),
-        };
+        return after_the_gate(rt, graph, k, workers, gate, verdict);
     }
+    let chips = reduce(graph, q, divisor).divisor;
+    // The dual's trials are made here, while the workers wait.
+    match told_by_dual(graph, q, divisor, &chips, k, count / (2 * workers)) {
+        Told::Lost(trial) => {
+            let verdict = verdict_on(k, Some(trial));
+            after_the_gate(rt, graph, k, workers, gate, verdict)
+        }
+        Told::Won => after_the_gate(rt, graph, k, workers, gate, RankVerdict::AtLeast(k)),
+        Told::Open(_) => {
+            let search = Search {
+                graph: *graph,
+                chips,
+                k,
+                count,
+                workers,
+            };
+            match first_loss_among(rt, &search, gate) {
+                Ok(loss) => Ok(verdict_on(k, loss)),
+                Err(fault) => Err(fault),
+            }
+        }
+    }
+}
+
+// A verdict that is known, once a thread for each piece has passed the gate, with no trials to make.
+fn after_the_gate<R: Threads + Wait, G: Gate>(
+    rt: &R,
+    graph: &Graph,
+    k: u32,
+    workers: u32,
+    gate: &G,
+    verdict: RankVerdict,
+) -> Result<RankVerdict, RankFault>
+    requires limits { IsWithin graph.now.size k }
+    requires workers { MayHaveWorkers workers }
+    ensures { MatchResult result (λ x. x ≡ verdict) (λ e. e ≡ Spawn) }
+{
     let search = Search {
         graph: *graph,
-        chips: reduce(graph, q, divisor).divisor,
+        chips: Wide::zero(graph),
         k,
-        count,
+        count: 0,
         workers,
     };
     match first_loss_among(rt, &search, gate) {
-        Ok(loss) => Ok(verdict_on(k, loss)),
+        Ok(_) => Ok(verdict),
         Err(fault) => Err(fault),
     }
 }

@@ -4,7 +4,7 @@ use Rattle.std.proofs.lemmas.Int.{ints}
 use Rattle.dg_theory.specs.Firing.{degree}
 use Rattle.dg_chips.specs.Vector.{at}
 use Rattle.dg_rank.proofs.SmallAmounts.{degree_small}
-use Rattle.dg_rank.proofs.ranks.degree_left.Goals as goal
+use Rattle.dg_rank.proofs.duals.degree_left.Goals as goal
 
 pub overflow_sub-result : goal.overflow_sub-result
 overflow_sub-result c =

@@ -1,0 +1,54 @@
+-- Rank tests of a divisor by those of its dual.
+--   decided          a test that tells one of two facts which hold together tells the other
+--   unsettled-cong   divisors that agree are unsettled together
+--   unsettled_dual   where a divisor is unsettled by a test of a degree below the genus, so is the dual
+--   dual_passes      what agrees with the dual passes its test exactly where the divisor passes its own
+--   both_past        where the lower of both degrees is past the limits, so are both tests
+use Rattle.std.proofs.Common.{◌≡◌, ℕ, ◌<◌, Bool, true, false, arith}
+use Rattle.std.specs.Prelude.{◌↔◌, ◌<ℤ◌, MatchBool, min}
+use Rattle.std.proofs.lemmas.Int.{ints}
+use Rattle.std.proofs.Math.IntN.{pos}
+use Rattle.dg_theory.specs.Multigraph.{Multigraph, IsMultigraph, genus}
+use Rattle.dg_theory.specs.Firing.{Amounts, degree, AgreeOn}
+use Rattle.dg_theory.specs.Rank.{less, canonical, HasRankAtLeast}
+use Rattle.dg_theory.proofs.SumLaws.{sum_below-cong}
+use Rattle.dg_theory.proofs.Equivalence.{equivalent-refl}
+use Rattle.dg_theory.proofs.RankLaws.{equivalent-rank}
+use Rattle.dg_theory.proofs.DualityLaws.{IsDual, dual-degree, dual_tests}
+use Rattle.dg_rank.specs.Limits.{IsPastLimits}
+use Rattle.dg_rank.specs.Ranks.{IsUnsettled, BothArePast}
+use Rattle.dg_rank.proofs.Counts.{past_above}
+
+pub decided : {P Q : Type 0} (b : Bool) → P ↔ Q → MatchBool b P (¬ P) → MatchBool b Q (¬ Q)
+decided true same holds = same.0 holds
+decided false same fails = λ q. fails (same.1 q)
+
+pub unsettled-cong : (g : Multigraph) (D E : Amounts) (k : ℕ) → AgreeOn g.size D E → IsUnsettled g E k → IsUnsettled g D k
+unsettled-cong g D E k same unsettled =
+    let alike : degree g.size D ≡ degree g.size E = sum_below-cong g.size D E same in
+    record { least = omega (arith, ints, unsettled.least); most = omega (arith, ints, unsettled.most) }
+
+pub unsettled_dual : (g : Multigraph) (D E : Amounts) (k l : ℕ) → IsMultigraph g → pos k <ℤ genus g → IsDual g D k l →
+    AgreeOn g.size E (less (canonical g) D) → IsUnsettled g E l
+unsettled_dual g D E k l graph low dual same =
+    unsettled-cong g E (less (canonical g) D) l same (record {
+      least = omega (arith, ints, dual-degree g D graph);
+      most = omega (arith, ints, dual-degree g D graph);
+    })
+
+pub dual_passes : (g : Multigraph) (D E : Amounts) (k l : ℕ) → IsMultigraph g → 0 < g.size → IsDual g D k l →
+    AgreeOn g.size E (less (canonical g) D) → HasRankAtLeast g E l ↔ HasRankAtLeast g D k
+dual_passes g D E k l graph some dual same =
+    let alike : HasRankAtLeast g E l ↔ HasRankAtLeast g (less (canonical g) D) l =
+    equivalent-rank g E (less (canonical g) D) l (equivalent-refl g E (less (canonical g) D) same) in
+    let tests : HasRankAtLeast g D k ↔ HasRankAtLeast g (less (canonical g) D) l = dual_tests g D k l graph some dual in
+    (λ rank. tests.1 (alike.0 rank), λ rank. alike.1 (tests.0 rank))
+
+pub both_past : (g : Multigraph) (D : Amounts) (k l : ℕ) → 0 < g.size → IsDual g D k l → IsPastLimits g.size (min k l) →
+    BothArePast g D k
+both_past g D k l some dual past = record {
+  other = l;
+  dual = dual;
+  past = past_above g.size (min k l) k some (omega arith) past;
+  dual_past = past_above g.size (min k l) l some (omega arith) past;
+}

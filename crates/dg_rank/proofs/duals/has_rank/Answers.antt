@@ -1,0 +1,83 @@
+use Rattle.std.proofs.Common.{◌≡◌, ◌<◌, arith, refl}
+use Rattle.std.specs.Prelude.{min}
+use Rattle.std.proofs.lemmas.Int.{ints}
+use Rattle.std.proofs.Math.IntN.{pos, ◌-ℤ◌}
+use Rattle.dg_theory.specs.Firing.{degree}
+use Rattle.dg_theory.proofs.Equivalence.{equivalent-refl}
+use Rattle.dg_theory.proofs.RankLaws.{rich_rank, poor_rank, equivalent-rank}
+use Rattle.dg_theory.proofs.DualityLaws.{high_rank}
+use Rattle.dg_chips.specs.Vector.{at}
+use Rattle.dg_rank.specs.Limits.{IsPastLimits}
+use Rattle.dg_rank.proofs.DualTests.{decided, unsettled-cong, unsettled_dual, dual_passes, both_past}
+use Rattle.dg_rank.proofs.duals.has_rank.Goals.{then-rest-lt0-via-then-rest-lt0, then-rest-lt0-via-else-rest-lt0+then-from-genus}
+use Rattle.dg_rank.proofs.duals.has_rank.Goals as goal
+
+pub returns-then-rest-genus : goal.returns-then-rest-genus
+returns-then-rest-genus c =
+    let g = c.args.graph.now in
+    let rest : c.degree_left-rest.result ≡ degree g.size (at c.args.divisor.now) -ℤ pos c.args.k =
+    rw c.requires.size at c.degree_left-rest.ensures in
+    rich_rank g (at c.args.divisor.now) c.args.k c.size-size.ensures.graph.multigraph (omega arith) (omega (arith, ints))
+
+pub returns-then-rest-lt0 : goal.returns-then-rest-lt0
+returns-then-rest-lt0 c rank =
+    let g = c.args.graph.now in
+    let rest : c.degree_left-rest.result ≡ degree g.size (at c.args.divisor.now) -ℤ pos c.args.k =
+    rw c.requires.size at c.degree_left-rest.ensures in
+    elim c.then-rest-lt0.branch [
+      | then-rest-lt0-via-then-rest-lt0 w ↦
+          poor_rank g (at c.args.divisor.now) c.args.k c.size-size.ensures.graph.multigraph (omega arith)
+          (omega (arith, ints, w.if-rest-lt0.true)) rank
+      | then-rest-lt0-via-else-rest-lt0+then-from-genus w ↦
+          omega (
+            arith,
+            ints,
+            high_rank g (at c.args.divisor.now) c.args.k c.size-size.ensures.graph.multigraph (omega arith)
+                (omega (arith, ints, w.if-from-genus.true)) rank,
+          )
+    ]
+
+pub returns-in_default : goal.returns-in_default
+returns-in_default c =
+    let g = c.args.graph.now in
+    let past : IsPastLimits g.size (min c.args.k c.degree_of_dual-other.result) =
+    rw (c.size-size.ensures.size, c.min.ensures) at c.in_default.ensures in (
+      refl,
+      both_past g (at c.args.divisor.now) c.args.k c.degree_of_dual-other.result (omega arith)
+          c.degree_of_dual-other.ensures past,
+    )
+
+pub all_win-requires-clause-range : goal.all_win-requires-clause-range
+all_win-requires-clause-range c v inside =
+    let below : v < c.args.divisor.now.size = omega (arith, c.requires.size) in
+    omega (arith, ints, c.of.ensures.amounts v below, c.size-amounts.ensures.divisor.within v below)
+
+pub all_win-requires-clause-unsettled : goal.all_win-requires-clause-unsettled
+all_win-requires-clause-unsettled c =
+    let g = c.args.graph.now in
+    let rest : c.degree_left-rest.result ≡ degree g.size (at c.args.divisor.now) -ℤ pos c.args.k =
+    rw c.requires.size at c.degree_left-rest.ensures in
+    unsettled-cong g (at c.of.result) (at c.args.divisor.now) c.args.k
+    (λ v inside. c.of.ensures.amounts v (omega (arith, c.requires.size)))
+    (record { least = omega (arith, ints); most = omega (arith, ints) })
+
+pub all_win-requires-else-k-other-clause-unsettled : goal.all_win-requires-else-k-other-clause-unsettled
+all_win-requires-else-k-other-clause-unsettled c =
+    unsettled_dual c.args.graph.now (at c.args.divisor.now) (at c.dual_of.result) c.args.k c.degree_of_dual-other.result
+    c.size-size.ensures.graph.multigraph (omega (arith, ints)) c.degree_of_dual-other.ensures c.dual_of.ensures.amounts
+
+pub returns-then-k-other : goal.returns-then-k-other
+returns-then-k-other c =
+    let g = c.args.graph.now in
+    decided c.all_win.result
+    (equivalent-rank g (at c.of.result) (at c.args.divisor.now) c.args.k
+    (equivalent-refl g (at c.of.result) (at c.args.divisor.now)
+    (λ v inside. c.of.ensures.amounts v (omega (arith, c.requires.size)))))
+    c.all_win.ensures
+
+pub returns-else-k-other : goal.returns-else-k-other
+returns-else-k-other c =
+    decided c.all_win-else-k-other.result
+    (dual_passes c.args.graph.now (at c.args.divisor.now) (at c.dual_of.result) c.args.k c.degree_of_dual-other.result
+    c.size-size.ensures.graph.multigraph (omega arith) c.degree_of_dual-other.ensures c.dual_of.ensures.amounts)
+    c.all_win-else-k-other.ensures

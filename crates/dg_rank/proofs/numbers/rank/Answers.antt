@@ -1,0 +1,12 @@
+use Rattle.std.proofs.Common.{arith}
+use Rattle.std.proofs.lemmas.Int.{ints}
+use Rattle.dg_chips.specs.Vector.{at}
+use Rattle.dg_rank.proofs.RankByTests.{rank_before, in_limits}
+use Rattle.dg_rank.proofs.numbers.rank.Goals as goal
+
+pub returns : goal.returns
+returns c =
+    let g = c.args.graph.now in
+    let D = at c.args.divisor.now in
+    in_limits g D c.in_ok-fails.fails c.in_ok-trials.field-0 _ (rank_before g D c.in_ok-fails.fails c.in_ok-fails.ensures)
+    (omega (arith, ints, c.from.ensures)) (rw c.size.ensures.size at c.in_ok-trials.ensures)

@@ -1,0 +1,180 @@
+//! Rank tests by the dual of a divisor, which is the canonical divisor less it. By the theorem of Riemann and Roch a divisor
+//! passes a test exactly where its dual passes another, and one of the two may have far fewer trials.
+ghost use Rattle.std.specs.Prelude.{◌≡◌, ℕ, ◌<◌, ◌≤◌, pos, ◌+ℤ◌, ◌-ℤ◌, MatchBool, MatchResult};
+ghost use Rattle.std.specs.Int.RustNames.{unsigned_abs};
+ghost use Rattle.dg_theory.specs.Multigraph.{genus};
+ghost use Rattle.dg_theory.specs.Firing.{degree, AreEquivalent};
+ghost use Rattle.dg_theory.specs.Rank.{less, canonical, HasRankAtLeast};
+ghost use Rattle.dg_reduce.specs.declared.limits.TheConstants.{MAX_START};
+ghost use Rattle.dg_graph.specs.Graph.{IsGraph};
+ghost use Rattle.dg_chips.specs.Vector.{at};
+ghost use Rattle.dg_rank.specs.Limits.{IsWithinLimits};
+ghost use Rattle.dg_rank.specs.Losses.{IsFound, IsTold};
+ghost use Rattle.dg_rank.specs.Ranks.{IsUnsettled, BothArePast};
+ghost use Rattle.dg_rank.specs.declared.rank_verdict.RankFault.TheVariants.{TooMany};
+
+use crate::counting::trials;
+use crate::enumeration::Trial;
+use crate::first_loss::first_loss;
+use crate::rank_verdict::RankFault;
+use dg_chips::{Divisor, Wide};
+use dg_graph::Graph;
+use dg_reduce::reduce_wide;
+
+/// Whether the rank of a divisor is at least k: whether every effective divisor of degree k can be lost and the rest still
+/// won. The test is made of the divisor or of its dual, where that has fewer trials.
+///
+/// Refused with `TooMany` alone, where the tests of both are past the limits.
+pub fn has_rank(graph: &Graph, q: usize, divisor: &Divisor, k: u32) -> Result<bool, RankFault>
+    requires size { divisor.now.size ≡ graph.now.size }
+    requires vertex { q < graph.now.size }
+    ensures { MatchResult result
+        (λ b. MatchBool b
+        (HasRankAtLeast graph.now (at divisor.now) k)
+        (¬ HasRankAtLeast graph.now (at divisor.now) k))
+        (λ e. (e ≡ TooMany) × BothArePast graph.now (at divisor.now) k) }
+{
+    let size = graph.size();
+    // The clause of `size` says that the amounts are within their limit.
+    let _amounts = divisor.size();
+    let genus = i64::from(graph.genus());
+    let rest = degree_left(divisor, k);
+    if rest >= genus {
+        return Ok(true);
+    }
+    if rest < 0 || i64::from(k) >= genus {
+        return Ok(false);
+    }
+    let other = degree_of_dual(graph, divisor, k);
+    let Some(count) = trials(size, k.min(other)) else {
+        return Err(RankFault::TooMany);
+    };
+    if k <= other {
+        Ok(all_win(graph, q, &Wide::of(divisor), k, count))
+    } else {
+        Ok(all_win(graph, q, &dual_of(graph, divisor), other, count))
+    }
+}
+
+/// The degree of what is left of a divisor after a loss of degree k.
+pub(crate) fn degree_left(divisor: &Divisor, k: u32) -> i64
+    ensures { result ≡ degree divisor.now.size (at divisor.now) -ℤ pos k }
+{
+    let _amounts = divisor.size();
+    divisor.degree() - i64::from(k)
+}
+
+/// What some of the trials of degree k tell of all, with the help of the dual.
+#[derive(Drop)]
+pub(crate) enum Told {
+    /// The first of all to lose.
+    Lost(Trial),
+    /// All of them win.
+    Won,
+    /// Those before the one with this number win.
+    Open(u32),
+}
+
+/// What is told of the trials by as many of them as the dual has in all, and then by those of the dual; nothing where the
+/// dual has more than `most`, and where the degree of the test is too high for it to pass. The amounts are what the divisor
+/// can be fired to.
+pub(crate) fn told_by_dual(
+    graph: &Graph,
+    q: usize,
+    divisor: &Divisor,
+    chips: &Wide,
+    k: u32,
+    most: u32,
+) -> Told
+    requires size { divisor.now.size ≡ graph.now.size }
+    requires vertex { q < graph.now.size }
+    requires unsettled { IsUnsettled graph.now (at divisor.now) k }
+    requires chips { chips.now.size ≡ graph.now.size }
+    requires fired { AreEquivalent graph.now (at divisor.now) (at chips.now) }
+    requires range { (v : ℕ) → v < graph.now.size → unsigned_abs (at chips.now v) ≤ 1999000 }
+    requires limits { (c : ℕ) × IsWithinLimits graph.now.size k c × (most ≤ c) }
+    ensures { (c : ℕ) → IsWithinLimits graph.now.size k c →
+        IsTold graph.now (at chips.now) k c result }
+{
+    let size = graph.size();
+    if i64::from(k) >= i64::from(graph.genus()) {
+        return Told::Open(0);
+    }
+    let other = degree_of_dual(graph, divisor, k);
+    let Some(fewer) = trials(size, other) else {
+        return Told::Open(0);
+    };
+    if fewer > most {
+        return Told::Open(0);
+    }
+    if let Some(trial) = first_loss(graph, chips, k, 0, fewer) {
+        return Told::Lost(trial);
+    }
+    if all_win(graph, q, &dual_of(graph, divisor), other, fewer) {
+        return Told::Won;
+    }
+    Told::Open(fewer)
+}
+
+/// The first loss of all trials, of which so much is told; `None` where there is none.
+pub(crate) fn loss_after(
+    graph: &Graph,
+    chips: &Wide,
+    k: u32,
+    count: u32,
+    told: Told,
+) -> Option<Trial>
+    requires size { chips.now.size ≡ graph.now.size }
+    requires range { (v : ℕ) → v < graph.now.size → unsigned_abs (at chips.now v) ≤ 1999000 }
+    requires limits { IsWithinLimits graph.now.size k count }
+    requires told { IsTold graph.now (at chips.now) k count told }
+    ensures { IsFound graph.now (at chips.now) k 0 count result }
+{
+    match told {
+        Told::Lost(trial) => Some(trial),
+        Told::Won => None,
+        Told::Open(from) => first_loss(graph, chips, k, from, count),
+    }
+}
+
+/// The degree at which the dual passes its test exactly where the divisor passes that of degree k.
+fn degree_of_dual(graph: &Graph, divisor: &Divisor, k: u32) -> u32
+    requires size { divisor.now.size ≡ graph.now.size }
+    requires unsettled { IsUnsettled graph.now (at divisor.now) k }
+    ensures { pos k -ℤ pos result
+        ≡ (degree graph.now.size (at divisor.now) +ℤ pos 1) -ℤ genus graph.now }
+{
+    let _size = graph.size();
+    (i64::from(graph.genus()) - 1 - degree_left(divisor, k)) as u32
+}
+
+/// The dual of a divisor: the canonical divisor less it.
+fn dual_of(graph: &Graph, divisor: &Divisor) -> Wide
+    requires { divisor.now.size ≡ graph.now.size }
+    ensures size { result.size ≡ graph.now.size }
+    ensures amounts { (v : ℕ) → v < graph.now.size →
+        at result v ≡ less (canonical graph.now) (at divisor.now) v }
+    ensures range { (v : ℕ) → v < graph.now.size → unsigned_abs (at result v) ≤ MAX_START }
+{
+    let canonical = Divisor::canonical(graph);
+    // The clauses of `size` say that the amounts of both are within their limit.
+    let _canonical = canonical.size();
+    let _amounts = divisor.size();
+    Wide::of(&canonical).less(divisor)
+}
+
+/// Whether all trials of degree k win, of which there are so many.
+fn all_win(graph: &Graph, q: usize, amounts: &Wide, k: u32, count: u32) -> bool
+    requires graph { IsGraph graph.now }
+    requires size { amounts.now.size ≡ graph.now.size }
+    requires vertex { q < graph.now.size }
+    requires range { (v : ℕ) → v < graph.now.size → unsigned_abs (at amounts.now v) ≤ MAX_START }
+    requires unsettled { IsUnsettled graph.now (at amounts.now) k }
+    requires limits { IsWithinLimits graph.now.size k count }
+    ensures { MatchBool result
+        (HasRankAtLeast graph.now (at amounts.now) k)
+        (¬ HasRankAtLeast graph.now (at amounts.now) k) }
+{
+    let chips = reduce_wide(graph, q, amounts).divisor;
+    first_loss(graph, &chips, k, 0, count).is_none()
+}

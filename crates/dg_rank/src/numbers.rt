@@ -1,0 +1,108 @@
+//! The rank of a divisor and that of its dual, as numbers: the first test that fails tells the one, and by the theorem of
+//! Riemann and Roch the other.
+ghost use Rattle.std.specs.Prelude.{◌≡◌, ◌<◌, ◌≤◌, ◌⊎◌, pos, ◌+ℤ◌, ◌-ℤ◌, MatchOption};
+ghost use Rattle.std.specs.Int.RustNames.{unsigned_abs};
+ghost use Rattle.dg_theory.specs.Multigraph.{genus};
+ghost use Rattle.dg_theory.specs.Firing.{degree};
+ghost use Rattle.dg_theory.specs.Rank.{less, canonical, IsRank};
+ghost use Rattle.dg_chips.specs.Vector.{at};
+ghost use Rattle.dg_rank.specs.Ranks.{IsRankInLimits, NeedsTooMany, NeedsPastTests, FailsFirstAt};
+
+use crate::counting::trials;
+use crate::duals::has_rank;
+use dg_chips::Divisor;
+use dg_graph::Graph;
+
+/// The rank of a divisor: the greatest k of which its rank is at least k, and -1 where it is not winnable. `None` where a
+/// test past the limits would be needed.
+pub fn rank(graph: &Graph, q: usize, divisor: &Divisor) -> Option<i64>
+    requires size { divisor.now.size ≡ graph.now.size }
+    requires vertex { q < graph.now.size }
+    ensures { MatchOption result
+        (NeedsTooMany graph.now (at divisor.now))
+        (IsRankInLimits graph.now (at divisor.now)) }
+{
+    let fails = first_failing(graph, q, divisor)?;
+    trials(graph.size(), fails)?;
+    Some(i64::from(fails) - 1)
+}
+
+/// The rank of a divisor and that of its dual, which is the canonical divisor less it. `None` where tests of both are needed
+/// that are past the limits.
+pub fn both_ranks(graph: &Graph, q: usize, divisor: &Divisor) -> Option<(i64, i64)>
+    requires size { divisor.now.size ≡ graph.now.size }
+    requires vertex { q < graph.now.size }
+    ensures { MatchOption result
+        (NeedsPastTests graph.now (at divisor.now))
+        (λ r. IsRank graph.now (at divisor.now) r.0
+        × IsRank graph.now (less (canonical graph.now) (at divisor.now)) r.1) }
+{
+    let _size = graph.size();
+    let fails = first_failing(graph, q, divisor)?;
+    let rank = i64::from(fails) - 1;
+    Some((rank, rank - ranks_apart(graph, divisor)))
+}
+
+/// The rank of a divisor and that of its dual. `None` where a test past the limits would be needed, of the one or of the
+/// other, were each found by tests of its own.
+pub fn both_ranks_in_limits(graph: &Graph, q: usize, divisor: &Divisor) -> Option<(i64, i64)>
+    requires size { divisor.now.size ≡ graph.now.size }
+    requires vertex { q < graph.now.size }
+    ensures { MatchOption result
+        (NeedsTooMany graph.now (at divisor.now)
+        ⊎ NeedsTooMany graph.now (less (canonical graph.now) (at divisor.now)))
+        (λ r. IsRankInLimits graph.now (at divisor.now) r.0
+        × IsRankInLimits graph.now (less (canonical graph.now) (at divisor.now)) r.1) }
+{
+    let fails = first_failing(graph, q, divisor)?;
+    let dual_fails = first_failing_of_dual(graph, divisor, fails);
+    trials(graph.size(), fails)?;
+    trials(graph.size(), dual_fails)?;
+    Some((i64::from(fails) - 1, i64::from(dual_fails) - 1))
+}
+
+// The least degree at which the rank test of a divisor fails. `None` where a test is needed that is past the limits, as is
+// that of the dual.
+fn first_failing(graph: &Graph, q: usize, divisor: &Divisor) -> Option<u32>
+    requires size { divisor.now.size ≡ graph.now.size }
+    requires vertex { q < graph.now.size }
+    ensures { MatchOption result
+        (NeedsPastTests graph.now (at divisor.now))
+        (FailsFirstAt graph.now (at divisor.now)) }
+{
+    let _size = graph.size();
+    // A divisor passes all tests for which it is rich, and from the genus on no others.
+    let first = ranks_apart(graph, divisor).max(0);
+    let end = first.max(i64::from(graph.genus())) + 1;
+    for k in first as u32..end as u32 {
+        match has_rank(graph, q, divisor, k) {
+            Ok(true) => {}
+            Ok(false) => return Some(k),
+            Err(_) => return None,
+        }
+    }
+    unreachable!()
+}
+
+// The least degree at which the rank test of the dual fails, where this is that of the divisor.
+fn first_failing_of_dual(graph: &Graph, divisor: &Divisor, fails: u32) -> u32
+    requires size { divisor.now.size ≡ graph.now.size }
+    requires some { 0 < graph.now.size }
+    requires fails { FailsFirstAt graph.now (at divisor.now) fails }
+    ensures { pos fails -ℤ pos result
+        ≡ (degree graph.now.size (at divisor.now) +ℤ pos 1) -ℤ genus graph.now }
+{
+    let _size = graph.size();
+    (i64::from(fails) - ranks_apart(graph, divisor)) as u32
+}
+
+// By how much the rank of a divisor is above that of its dual.
+fn ranks_apart(graph: &Graph, divisor: &Divisor) -> i64
+    requires { divisor.now.size ≡ graph.now.size }
+    ensures apart { result ≡ (degree graph.now.size (at divisor.now) +ℤ pos 1) -ℤ genus graph.now }
+    ensures small { unsigned_abs result ≤ 17000000 }
+{
+    let _size = graph.size();
+    let _amounts = divisor.size();
+    divisor.degree() + 1 - i64::from(graph.genus())
+}
