@@ -1,18 +1,12 @@
 -- What one more entry, or a second part, adds to the sums over a history.
---   gifts_given-more      one more entry adds its gift to the gifts given
 --   scripts_played-more   one more entry adds its script to the scripts played
---   gifts_in-more         one more entry adds its gift to the gift count
+--   gifts_in-more         one more entry that is a change adds 1 to the gift count
 --   gifts_in-append       the gift counts of a history in two parts add up
 use Rattle.std.proofs.Common.{◌≡◌, ℕ, ◌+◌, List, [], ◌∷◌, ◌++◌, arith}
 use Rattle.std.proofs.lemmas.Int.{ints}
 use Rattle.std.proofs.Math.IntN.{◌+ℤ◌}
-use Rattle.dg_game.specs.History.{gift_by, script_by, gifts_given, scripts_played, gift_counted, gifts_in}
+use Rattle.dg_game.specs.History.{script_by, scripts_played, gift_counted, gifts_in}
 use Rattle.dg_game.specs.declared.entry.Entry.{Entry}
-
-pub gifts_given-more : (H : List Entry) (e : Entry) (v : ℕ) →
-    gifts_given (H ++ e ∷ []) v ≡ gifts_given H v +ℤ gift_by e.request e.reply v
-gifts_given-more [] e v = omega (arith, ints)
-gifts_given-more (x ∷ H) e v = omega (arith, ints, gifts_given-more H e v)
 
 pub scripts_played-more : (H : List Entry) (e : Entry) (v : ℕ) →
     scripts_played (H ++ e ∷ []) v ≡ scripts_played H v +ℤ script_by e.request e.reply v

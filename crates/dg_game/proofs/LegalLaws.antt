@@ -13,6 +13,7 @@ use Rattle.std.proofs.Common.{◌≡◌, ℕ, ◌<◌, ◌≤◌, List, [], ◌�
 use Rattle.std.proofs.Math.Seq.{take-append_seam}
 use Rattle.std.proofs.lemmas.List.{take-append-le, take-take, length-take}
 use Rattle.std.proofs.lemmas.Option.{slice_get_within}
+use Rattle.dg_theory.specs.Multigraph.{Multigraph}
 use Rattle.dg_chips.specs.Opening.{Opening}
 use Rattle.dg_rank.specs.declared.rank_verdict.RankVerdict.TheVariants.{AtLeast, Below}
 use Rattle.dg_game.specs.History.{position_after}
@@ -25,15 +26,15 @@ use Rattle.dg_game.specs.declared.entry.Entry.{Entry}
 use Rattle.dg_game.specs.declared.entry.Plain.{Plain}
 use Rattle.dg_game.specs.declared.entry.Plain.TheVariants as plain
 use Rattle.dg_game.specs.declared.entry.Request.{Request}
-use Rattle.dg_game.specs.declared.entry.Request.TheVariants.{Move, Gift, Look, Claim, Judge, Rank as RankRequest}
+use Rattle.dg_game.specs.declared.entry.Request.TheVariants.{Move, Gift, Join, Look, Claim, Judge, Rank as RankRequest}
 use Rattle.dg_game.specs.declared.entry.Reply.{Reply}
-use Rattle.dg_game.specs.declared.entry.Reply.TheVariants.{Moved, Given, Looked, Verdict, Rank as RankReply, Stale, Won, NotWon, Refused}
+use Rattle.dg_game.specs.declared.entry.Reply.TheVariants.{Moved, Given, Joined, Looked, Verdict, Rank as RankReply, Stale, Won, NotWon, Refused}
 use Rattle.dg_game.specs.declared.finding.Finding.{Finding}
 use Rattle.dg_game.specs.declared.finding.Finding.TheVariants.{Judged, Ranked}
 use Rattle.dg_game.specs.declared.look.LookData.{LookData}
 use Rattle.dg_game.specs.declared.step.Step.{Step}
 use Rattle.dg_game.proofs.ListLaws.{more_holds, slice_get_taken}
-use Rattle.dg_game.proofs.StepLaw.{graph_stays, vertices_stay}
+use Rattle.dg_game.proofs.StepLaw.{vertices_stay}
 
 pub legal_none : (o : Opening) → IsLegal o []
 legal_none o k e at = absurd (cc)
@@ -62,6 +63,7 @@ legal_part o K L legal = subst (IsLegal o) (take-append_seam K L) (legal_take o 
 pub back_asked : (H : List Entry) (p : Plain) → LooksBack H (asked p)
 back_asked H (plain.Move m) = tt
 back_asked H (plain.Gift v x) = tt
+back_asked H (plain.Join u v) = tt
 back_asked H plain.Look = tt
 back_asked H plain.Claim = tt
 
@@ -75,7 +77,9 @@ sized_reply o H n (Move m) (Moved d) size right = right.size ∙ size
 sized_reply o H n (Move m) (Refused r) size right = tt
 sized_reply o H n (Gift v x) (Given count d) size right = right.size ∙ size
 sized_reply o H n (Gift v x) (Refused r) size right = tt
-sized_reply o H n Look (Looked count d) size right = right.1.size ∙ size
+sized_reply o H n (Join u v) (Joined count d) size right = right.amounts.size ∙ size
+sized_reply o H n (Join u v) (Refused r) size right = tt
+sized_reply o H n Look (Looked count d graph) size right = (right.1.size ∙ size, ap (λ (g : Multigraph). g.size) right.2 ∙ size)
 sized_reply o H n Claim Won size right = tt
 sized_reply o H n Claim NotWon size right = tt
 sized_reply o H n (Judge i) (Verdict x) size right = (right.1.script_size ∙ size, right.1.reduced_size ∙ size)
@@ -89,10 +93,10 @@ pub legal_sized : LegalIsSized
 legal_sized o H i e legal at = sized_reply o (take i H) o.graph.size e.request e.reply (vertices_stay o (take i H)) (legal i e at).2
 
 pub legal_looks : LooksAreShown
-legal_looks o H e x legal at asks shows graph =
+legal_looks o H e x legal at asks shows =
     let right : Replies o (take x.number H) e.request e.reply = (legal x.number e at).2 in
-    let (gifts, amounts) = rw (asks, shows) at right in
-    record { look = (e, at, asks); gifts = gifts; graph = graph ∙ sym (graph_stays o (take x.number H)); amounts = amounts }
+    let (gifts, amounts, graph) = rw (asks, shows) at right in
+    record { look = (e, at, asks); gifts = gifts; graph = graph; amounts = amounts }
 
 pub entries_more : (steps : List Step) (H : List Entry) (step : Step) (e : Entry) → slice_get steps (length H) ≡ Some step →
     IsEntryOf steps (length H) step e →

@@ -4,6 +4,7 @@ pub mod StepLaw
 pub mod ReplyLaws
 pub mod StateLaws
 pub mod LegalLaws
+pub mod GraphLaws
 pub mod RankTests
 pub mod LookLaws
 pub mod KeptLaws

@@ -30,7 +30,7 @@ use Rattle.dg_game.specs.Position.{Position, fired_by}
 use Rattle.dg_game.specs.History.{position_after, script_by, scripts_played, gifts_in}
 use Rattle.dg_game.specs.Look.{IsLookAt, degree_of, asked_for}
 use Rattle.dg_game.specs.Replies.{Replies}
-use Rattle.dg_game.specs.State.{State, IsState, LeadsTo, IsNext, amounts_after, gifts_after}
+use Rattle.dg_game.specs.State.{State, IsState, LeadsTo, IsNext, amounts_after, gifts_after, graph_after}
 use Rattle.dg_game.specs.declared.entry.Entry.{Entry}
 use Rattle.dg_game.specs.declared.entry.Request.{Request}
 use Rattle.dg_game.specs.declared.entry.Request.TheVariants.{Look, Judge, Rank as RankRequest}
@@ -42,7 +42,7 @@ use Rattle.dg_game.specs.declared.look.LookData.{LookData}
 use Rattle.dg_game.proofs.HistoryLaws.{gifts_in-append}
 use Rattle.dg_game.proofs.ListLaws.{slice_get-append, slice_get-seam}
 use Rattle.dg_game.proofs.RankTests.{rank_test-cong, rank_test_led}
-use Rattle.dg_game.proofs.StepLaw.{since_gift, vertices_stay}
+use Rattle.dg_game.proofs.StepLaw.{since_change, vertices_stay}
 
 -- a history after a look, as the part before the look and the rest
 pub moved_since : (o : Opening) (H : List Entry) (s : State) (x : LookData) → LeadsTo o H s → IsLookAt o H x → s.gifts ≡ x.gifts →
@@ -54,7 +54,7 @@ moved_since o H s x leads look same =
     let counts : gifts_in H ≡ gifts_in K + gifts_in L = ap gifts_in (sym whole) ∙ gifts_in-append K L in
     let none : gifts_in L ≡ 0 = omega (arith, counts, same, leads.gifts, look.gifts) in
     let p : Position = position_after o K in
-    let fires : position_after o H ≡ fired_by p (scripts_played L) = ap (position_after o) (sym whole) ∙ since_gift o K L none in
+    let fires : position_after o H ≡ fired_by p (scripts_played L) = ap (position_after o) (sym whole) ∙ since_change o K L none in
     let graph : s.graph ≡ p.graph = leads.graph ∙ ap (λ (r : Position). r.graph) fires in (
       graph ∙ sym look.graph,
       scripts_played L,
@@ -130,10 +130,11 @@ look_size o H s x leads look =
 abbrev counted : State → State
 counted s = record { graph = s.graph; q = s.q; amounts = s.amounts; drift = s.drift; gifts = s.gifts; entries = s.entries + 1 }
 
-stays : (s : State) (request : Request) (reply : Reply) → amounts_after s.amounts reply ≡ s.amounts → gifts_after s.gifts reply ≡ s.gifts →
+stays : (s : State) (request : Request) (reply : Reply) → graph_after s.graph request reply ≡ s.graph →
+    amounts_after s.amounts reply ≡ s.amounts → gifts_after s.gifts reply ≡ s.gifts →
     ((v : ℕ) → script_by request reply v ≡ pos 0) → IsNext s request reply (counted s)
-stays s request reply amounts gifts still = record {
-  graph = refl;
+stays s request reply graph amounts gifts still = record {
+  graph = sym graph;
   q = refl;
   amounts = sym amounts;
   drift = λ v below. omega (arith, ints, still v);
@@ -143,11 +144,11 @@ stays s request reply amounts gifts still = record {
 
 pub settled_next : (o : Opening) (H : List Entry) (s : State) (i : ℕ) (finding : Finding) (reply : Reply) →
     Replies o H (asked_for i finding) reply → IsNext s (asked_for i finding) reply (counted s)
-settled_next o H s i (Judged v) (Verdict x) right = stays s (Judge i) (Verdict x) refl refl (λ v. refl)
-settled_next o H s i (Judged v) (Stale count) right = stays s (Judge i) (Stale count) refl refl (λ v. refl)
+settled_next o H s i (Judged v) (Verdict x) right = stays s (Judge i) (Verdict x) refl refl refl (λ v. refl)
+settled_next o H s i (Judged v) (Stale count) right = stays s (Judge i) (Stale count) refl refl refl (λ v. refl)
 settled_next o H s i (Judged v) reply right = absurd right
-settled_next o H s i (Ranked v) (RankReply x) right = stays s (RankRequest i (degree_of v)) (RankReply x) refl refl (λ v. refl)
-settled_next o H s i (Ranked v) (Stale count) right = stays s (RankRequest i (degree_of v)) (Stale count) refl refl (λ v. refl)
+settled_next o H s i (Ranked v) (RankReply x) right = stays s (RankRequest i (degree_of v)) (RankReply x) refl refl refl (λ v. refl)
+settled_next o H s i (Ranked v) (Stale count) right = stays s (RankRequest i (degree_of v)) (Stale count) refl refl refl (λ v. refl)
 settled_next o H s i (Ranked v) reply right = absurd right
 
 pub carried : (s : State) (D : Amounts) (x : AVerdict) (m : Vector) → IsState s → IsDivisor s.amounts → IsRight s.graph s.q D x →

@@ -91,6 +91,7 @@ looks_set o H e steps step looks x there places its keeps kept seat is = elim (c
 no_look : (p : Plain) → (p ≡ plain.Look → ⊥) → ¬ UsesLook (Call p)
 no_look (plain.Move m) other uses = uses
 no_look (plain.Gift v x) other uses = uses
+no_look (plain.Join u v) other uses = uses
 no_look plain.Look other uses = other refl
 no_look plain.Claim other uses = uses
 

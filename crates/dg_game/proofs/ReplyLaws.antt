@@ -7,19 +7,20 @@ use Rattle.std.proofs.lemmas.Int.{ints}
 use Rattle.std.proofs.Math.IntN.{ℤ}
 use Rattle.dg_theory.specs.Multigraph.{Multigraph}
 use Rattle.dg_theory.specs.Firing.{Amounts, AgreeOn}
-use Rattle.dg_chips.specs.Vector.{IsInRange, IsOutOfRange}
+use Rattle.dg_chips.specs.Vector.{Vector, IsInRange, IsOutOfRange}
 use Rattle.dg_chips.specs.Moves.{script_of}
 use Rattle.dg_chips.specs.declared.moves.Move.{Move as AMove}
 use Rattle.dg_theory.proofs.Agreement.{fired-here}
-use Rattle.dg_game.specs.Position.{with_gift}
+use Rattle.dg_game.specs.Position.{Shows, with_gift}
 use Rattle.dg_game.specs.MoveReplies.{RepliesToMove}
 use Rattle.dg_game.specs.GiftReplies.{RepliesToGift}
+use Rattle.dg_game.specs.JoinReplies.{RepliesToJoin}
 use Rattle.dg_game.specs.Replies.{RepliesToLook, RepliesToClaim, RepliesAt}
 use Rattle.dg_game.specs.declared.entry.Refusal.TheVariants as refusal
 use Rattle.dg_game.specs.declared.entry.Plain.{Plain}
 use Rattle.dg_game.specs.declared.entry.Plain.TheVariants as plain
 use Rattle.dg_game.specs.declared.entry.Reply.{Reply}
-use Rattle.dg_game.specs.declared.entry.Reply.TheVariants.{Moved, Given, Looked, Won, NotWon, Refused}
+use Rattle.dg_game.specs.declared.entry.Reply.TheVariants.{Moved, Given, Joined, Looked, Won, NotWon, Refused}
 
 in_range-cong : (n : ℕ) (D E : Amounts) → AgreeOn n D E → IsInRange n D → IsInRange n E
 in_range-cong n D E same right v below = rw (← same v below) (right v below)
@@ -62,10 +63,25 @@ given-cong g D E n v x (Refused refusal.Range) same right =
     (right.0, right.1, out_of_range-cong g.size _ _ (given-here g D E v same x) right.2)
 given-cong g D E n v x reply same right = absurd right
 
+shows-cong : (g : Multigraph) (D E : Amounts) (d : Vector) → AgreeOn g.size D E →
+    Shows (record { graph = g; amounts = D }) d → Shows (record { graph = g; amounts = E }) d
+shows-cong g D E d same shows = record { size = shows.size; amounts = λ v below. shows.amounts v below ∙ same v below }
+
+joined-cong : (g : Multigraph) (D E : Amounts) (n u v : ℕ) (reply : Reply) → AgreeOn g.size D E →
+    RepliesToJoin (record { graph = g; amounts = D }) n u v reply → RepliesToJoin (record { graph = g; amounts = E }) n u v reply
+joined-cong g D E n u v (Joined count d) same right = record {
+  joinable = right.joinable;
+  count' = right.count';
+  amounts = shows-cong g D E d same right.amounts;
+}
+joined-cong g D E n u v (Refused refusal.NoVertex) same right = right
+joined-cong g D E n u v (Refused refusal.Loop) same right = right
+joined-cong g D E n u v (Refused refusal.Valence) same right = right
+joined-cong g D E n u v reply same right = absurd right
+
 looked-cong : (g : Multigraph) (D E : Amounts) (n : ℕ) (reply : Reply) → AgreeOn g.size D E →
     RepliesToLook (record { graph = g; amounts = D }) n reply → RepliesToLook (record { graph = g; amounts = E }) n reply
-looked-cong g D E n (Looked count d) same right =
-    (right.0, record { size = right.1.size; amounts = λ v below. right.1.amounts v below ∙ same v below })
+looked-cong g D E n (Looked count d graph) same right = (right.0, shows-cong g D E d same right.1, right.2)
 looked-cong g D E n reply same right = absurd right
 
 claimed-cong : (g : Multigraph) (D E : Amounts) (reply : Reply) → AgreeOn g.size D E →
@@ -78,5 +94,6 @@ pub replies-cong : (g : Multigraph) (D E : Amounts) (n : ℕ) (call : Plain) (re
     RepliesAt (record { graph = g; amounts = D }) n call reply → RepliesAt (record { graph = g; amounts = E }) n call reply
 replies-cong g D E n (plain.Move m) reply same right = moved-cong g D E m reply same right
 replies-cong g D E n (plain.Gift v x) reply same right = given-cong g D E n v x reply same right
+replies-cong g D E n (plain.Join u v) reply same right = joined-cong g D E n u v reply same right
 replies-cong g D E n plain.Look reply same right = looked-cong g D E n reply same right
 replies-cong g D E n plain.Claim reply same right = claimed-cong g D E reply same right

@@ -1,26 +1,28 @@
 -- States and histories go on together.
 --   start_leads      the empty history leads to the state at the start
+--   shows_joined     what shows a position shows it on the graph with one more edge
 --   replies_after    a reply that is right in a state is right after a history that leads to it
 --   leads_more       a reply that is right after the history leads with its entry to the next state
 use Rattle.std.proofs.Common.{◌≡◌, ℕ, ◌+◌, ◌<◌, List, [], ◌∷◌, ◌++◌, arith, refl, sym, ap, subst, ◌∙◌, length-append}
 use Rattle.std.proofs.lemmas.Int.{ints}
 use Rattle.std.proofs.Math.IntN.{pos}
 use Rattle.dg_theory.specs.Multigraph.{Multigraph}
+use Rattle.dg_theory.proofs.JoinLaws.{size_stays}
 use Rattle.dg_chips.specs.Vector.{Vector, at}
 use Rattle.dg_chips.specs.Opening.{Opening}
-use Rattle.dg_game.specs.Position.{Position, Shows}
+use Rattle.dg_game.specs.Position.{Position, Shows, joined_at}
 use Rattle.dg_game.specs.History.{position_after, gifts_in, gift_counted, scripts_played}
 use Rattle.dg_game.specs.Step.{after_reply}
 use Rattle.dg_game.specs.Replies.{Replies, RepliesAt}
 use Rattle.dg_game.specs.Schedule.{asked}
-use Rattle.dg_game.specs.State.{State, LeadsTo, IsNext, position_of, amounts_after, gifts_after}
+use Rattle.dg_game.specs.State.{State, LeadsTo, IsNext, position_of, amounts_after, gifts_after, graph_after}
 use Rattle.dg_game.specs.declared.entry.Entry.{Entry}
 use Rattle.dg_game.specs.declared.entry.Plain.{Plain}
 use Rattle.dg_game.specs.declared.entry.Plain.TheVariants as plain
 use Rattle.dg_game.specs.declared.entry.Request.{Request}
-use Rattle.dg_game.specs.declared.entry.Request.TheVariants.{Move, Gift, Look, Claim, Judge, Rank as RankRequest}
+use Rattle.dg_game.specs.declared.entry.Request.TheVariants.{Move, Gift, Join, Look, Claim, Judge, Rank as RankRequest}
 use Rattle.dg_game.specs.declared.entry.Reply.{Reply}
-use Rattle.dg_game.specs.declared.entry.Reply.TheVariants.{Moved, Given, Looked, Verdict, Rank as RankReply, Stale, Won, NotWon, Refused}
+use Rattle.dg_game.specs.declared.entry.Reply.TheVariants.{Moved, Given, Joined, Looked, Verdict, Rank as RankReply, Stale, Won, NotWon, Refused}
 use Rattle.dg_game.proofs.HistoryLaws.{gifts_in-more, scripts_played-more}
 use Rattle.dg_game.proofs.StepLaw.{no_entry, one_more_entry}
 use Rattle.dg_game.proofs.ReplyLaws.{replies-cong}
@@ -29,6 +31,7 @@ replies_asked : (o : Opening) (H : List Entry) (call : Plain) (reply : Reply) �
     Replies o H (asked call) reply
 replies_asked o H (plain.Move m) reply right = right
 replies_asked o H (plain.Gift v x) reply right = right
+replies_asked o H (plain.Join u v) reply right = right
 replies_asked o H plain.Look reply right = right
 replies_asked o H plain.Claim reply right = right
 
@@ -42,13 +45,21 @@ replies_after o H s call reply leads right =
     replies-cong p.graph (at s.amounts) p.amounts s.gifts call reply leads.amounts.amounts on_graph in
     replies_asked o H call reply (subst (λ (g : ℕ). RepliesAt p g call reply) leads.gifts on_amounts)
 
+pub shows_joined : (p : Position) (u v : ℕ) (d : Vector) → Shows p d → Shows (joined_at p u v) d
+shows_joined p u v d shows = record {
+  size = shows.size ∙ sym (size_stays p.graph u v);
+  amounts = λ w below. shows.amounts w (subst (λ (n : ℕ). w < n) (size_stays p.graph u v) below);
+}
+
 shows_after : (o : Opening) (H : List Entry) (d : Vector) (request : Request) (reply : Reply) → Shows (position_after o H) d →
     Replies o H request reply → Shows (after_reply (position_after o H) request reply) (amounts_after d reply)
 shows_after o H d (Move m) (Moved e) shows right = record { size = right.size; amounts = right.amounts }
 shows_after o H d (Move m) (Refused refusal) shows right = shows
 shows_after o H d (Gift v x) (Given count e) shows right = record { size = right.size; amounts = right.amounts }
 shows_after o H d (Gift v x) (Refused refusal) shows right = shows
-shows_after o H d Look (Looked count e) shows right = shows
+shows_after o H d (Join u v) (Joined count e) shows right = shows_joined (position_after o H) u v d shows
+shows_after o H d (Join u v) (Refused refusal) shows right = shows
+shows_after o H d Look (Looked count e graph) shows right = shows
 shows_after o H d Claim Won shows right = shows
 shows_after o H d Claim NotWon shows right = shows
 shows_after o H d (Judge i) (Verdict x) shows right = shows
@@ -57,20 +68,15 @@ shows_after o H d (RankRequest i k) (RankReply x) shows right = shows
 shows_after o H d (RankRequest i k) (Stale count) shows right = shows
 shows_after o H d request reply shows right = absurd right
 
-graph_after : (o : Opening) (H : List Entry) (request : Request) (reply : Reply) → Replies o H request reply →
-    (after_reply (position_after o H) request reply).graph ≡ (position_after o H).graph
-graph_after o H (Move m) (Moved d) right = refl
-graph_after o H (Move m) (Refused refusal) right = refl
-graph_after o H (Gift v x) (Given count d) right = refl
-graph_after o H (Gift v x) (Refused refusal) right = refl
-graph_after o H Look (Looked count d) right = refl
-graph_after o H Claim Won right = refl
-graph_after o H Claim NotWon right = refl
-graph_after o H (Judge i) (Verdict x) right = refl
-graph_after o H (Judge i) (Stale count) right = refl
-graph_after o H (RankRequest i k) (RankReply x) right = refl
-graph_after o H (RankRequest i k) (Stale count) right = refl
-graph_after o H request reply right = absurd right
+graph_led : (p : Position) (request : Request) (reply : Reply) → (after_reply p request reply).graph ≡ graph_after p.graph request reply
+graph_led p (Move m) (Moved d) = refl
+graph_led p (Gift v x) (Given count d) = refl
+graph_led p (Join u v) (Joined count d) = refl
+graph_led p request reply = refl
+
+size_after : (g : Multigraph) (request : Request) (reply : Reply) → (graph_after g request reply).size ≡ g.size
+size_after g (Join u v) (Joined count d) = size_stays g u v
+size_after g request reply = refl
 
 gifts_counted : (o : Opening) (H : List Entry) (request : Request) (reply : Reply) → Replies o H request reply →
     gifts_after (gifts_in H) reply ≡ gifts_in H + gift_counted reply
@@ -78,7 +84,9 @@ gifts_counted o H (Move m) (Moved d) right = omega arith
 gifts_counted o H (Move m) (Refused refusal) right = omega arith
 gifts_counted o H (Gift v x) (Given count d) right = right.count'
 gifts_counted o H (Gift v x) (Refused refusal) right = omega arith
-gifts_counted o H Look (Looked count d) right = omega arith
+gifts_counted o H (Join u v) (Joined count d) right = right.count'
+gifts_counted o H (Join u v) (Refused refusal) right = omega arith
+gifts_counted o H Look (Looked count d graph) right = omega arith
 gifts_counted o H Claim Won right = omega arith
 gifts_counted o H Claim NotWon right = omega arith
 gifts_counted o H (Judge i) (Verdict x) right = omega arith
@@ -93,11 +101,13 @@ leads_more o H s t e leads right next =
     let p : Position = position_after o H in
     let shown : Shows (after_reply p e.request e.reply) t.amounts = rw next.amounts (shows_after o H s.amounts e.request e.reply leads.amounts right) in
     record {
-      graph = next.graph ∙ leads.graph ∙ sym (graph_after o H e.request e.reply right) ∙ ap (λ (r : Position). r.graph) (sym (one_more_entry o H e));
+      graph = next.graph ∙ ap (λ (g : Multigraph). graph_after g e.request e.reply) leads.graph ∙ sym (graph_led p e.request e.reply)
+          ∙ ap (λ (r : Position). r.graph) (sym (one_more_entry o H e));
       q = next.q ∙ leads.q;
       amounts = rw (one_more_entry o H e) shown;
       drift = λ v below.
-          let inside : v < s.graph.size = subst (λ (g : Multigraph). v < g.size) next.graph below in
+          let after : v < (graph_after s.graph e.request e.reply).size = subst (λ (g : Multigraph). v < g.size) next.graph below in
+          let inside : v < s.graph.size = subst (λ (n : ℕ). v < n) (size_after s.graph e.request e.reply) after in
           let before : at s.drift v ≡ scripts_played H v = leads.drift v inside in
           next.drift v inside ∙ omega (arith, ints, before, scripts_played-more H e v);
       gifts = next.gifts ∙ ap (λ (n : ℕ). gifts_after n e.reply) leads.gifts ∙ gifts_counted o H e.request e.reply right ∙ sym (gifts_in-more H e);

@@ -1,4 +1,4 @@
--- What may be replied to a gift of x dollars to v at the position p, after g accepted gifts. A gift of less than 0
+-- What may be replied to a gift of x dollars to v at the position p, where the gift count is g. A gift of less than 0
 -- dollars is a levy: it takes dollars from v, and may leave v in debt. It is answered and counted as any other gift.
 --   IsGift x                      == a gift may be so large: it is not 0, and within the limit at both ends
 --   IsGivenTo p g v x count d     == the count and the amounts after the gift, all in range
@@ -8,7 +8,7 @@ use Rattle.std.specs.Prelude.{◌≡◌, ◌≢◌, ℕ, ◌+◌, ◌<◌, ◌�
 use Rattle.dg_chips.specs.Vector.{Vector, at, IsInRange, IsOutOfRange}
 use Rattle.dg_game.specs.Position.{Position, with_gift}
 use Rattle.dg_game.specs.declared.entry.Refusal.{Refusal}
-use Rattle.dg_game.specs.declared.entry.Refusal.TheVariants.{NoVertex, Empty, Script, Gift, Range}
+use Rattle.dg_game.specs.declared.entry.Refusal.TheVariants.{NoVertex, Gift, Range}
 use Rattle.dg_game.specs.declared.entry.Reply.{Reply}
 use Rattle.dg_game.specs.declared.entry.Reply.TheVariants.{Given, Refused}
 use Rattle.dg_game.specs.declared.entry.TheConstants.{MAX_GIFT}
@@ -26,10 +26,9 @@ pub record IsGivenTo (p : Position) (g v : ℕ) (x : ℤ) (count : ℕ) (d : Vec
 
 abbrev pub RefusesGift : Position → ℕ → ℤ → Refusal → Type 0
 RefusesGift p v x NoVertex = p.graph.size ≤ v
-RefusesGift p v x Empty = ⊥
-RefusesGift p v x Script = ⊥
 RefusesGift p v x Gift = (v < p.graph.size) × (¬ IsGift x)
 RefusesGift p v x Range = (v < p.graph.size) × IsGift x × IsOutOfRange p.graph.size (with_gift p v x)
+RefusesGift p v x refusal = ⊥
 
 abbrev pub RepliesToGift : Position → ℕ → ℕ → ℤ → Reply → Type 0
 RepliesToGift p g v x (Given count d) = IsGivenTo p g v x count d

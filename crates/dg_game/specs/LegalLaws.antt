@@ -4,20 +4,22 @@
 --                            for a verdict or for a rank test, and is answered rightly
 --   BeginningsAreLegal    == the first entries of a legal history are a legal history, however many they are
 --   PartsAreLegal         == what comes first in a legal history of two parts is a legal history
---   HasSize n reply       == each divisor, script and wide amount in the reply is one of n vertices
+--   HasSize n reply       == each divisor, script, wide amount and graph in the reply is one of n vertices
 --   LegalIsSized          == each reply of a legal history has the size of the start
---   LooksAreShown         == a look of a legal history showed what `IsLookAt` says, where the graph kept with it is that of
---                            the start; whatever drift is kept
+--   GraphsHold            == a legal history, from an opening on a graph within the limits, leads to a position on one
+--   LooksAreShown         == a look of a legal history showed what `IsLookAt` says, whatever drift is kept with it
 use Rattle.std.specs.Prelude.{◌≡◌, ℕ, List, [], ◌∷◌, ◌++◌, take, slice_get, Some, ⊤}
+use Rattle.dg_graph.specs.Graph.{IsGraph}
 use Rattle.dg_chips.specs.Opening.{Opening}
 use Rattle.dg_rank.specs.declared.rank_verdict.RankVerdict.TheVariants.{AtLeast, Below}
+use Rattle.dg_game.specs.History.{position_after}
 use Rattle.dg_game.specs.Replies.{Replies}
 use Rattle.dg_game.specs.Legal.{IsSeat, LooksBack, IsLegal}
 use Rattle.dg_game.specs.Look.{IsLookAt}
 use Rattle.dg_game.specs.declared.entry.Entry.{Entry}
 use Rattle.dg_game.specs.declared.entry.Request.TheVariants.{Look}
 use Rattle.dg_game.specs.declared.entry.Reply.{Reply}
-use Rattle.dg_game.specs.declared.entry.Reply.TheVariants.{Moved, Given, Looked, Verdict, Rank}
+use Rattle.dg_game.specs.declared.entry.Reply.TheVariants.{Moved, Given, Joined, Looked, Verdict, Rank}
 use Rattle.dg_game.specs.declared.look.LookData.{LookData}
 
 abbrev pub EmptyIsLegal : Type 0
@@ -36,7 +38,8 @@ PartsAreLegal = (o : Opening) (K L : List Entry) → IsLegal o (K ++ L) → IsLe
 abbrev pub HasSize : ℕ → Reply → Type 0
 HasSize n (Moved d) = d.size ≡ n
 HasSize n (Given gifts d) = d.size ≡ n
-HasSize n (Looked gifts d) = d.size ≡ n
+HasSize n (Joined gifts d) = d.size ≡ n
+HasSize n (Looked gifts d graph) = (d.size ≡ n) × (graph.size ≡ n)
 HasSize n (Verdict x) = (x.script.size ≡ n) × (x.reduced.size ≡ n)
 HasSize n (Rank (AtLeast k)) = ⊤
 HasSize n (Rank (Below k d)) = d.size ≡ n
@@ -45,6 +48,9 @@ HasSize n reply = ⊤
 abbrev pub LegalIsSized : Type 0
 LegalIsSized = (o : Opening) (H : List Entry) (i : ℕ) (e : Entry) → IsLegal o H → slice_get H i ≡ Some e → HasSize o.graph.size e.reply
 
+abbrev pub GraphsHold : Type 0
+GraphsHold = (o : Opening) (H : List Entry) → IsGraph o.graph → IsLegal o H → IsGraph (position_after o H).graph
+
 abbrev pub LooksAreShown : Type 0
 LooksAreShown = (o : Opening) (H : List Entry) (e : Entry) (x : LookData) → IsLegal o H → slice_get H x.number ≡ Some e →
-    e.request ≡ Look → e.reply ≡ Looked x.gifts x.position → x.graph ≡ o.graph → IsLookAt o H x
+    e.request ≡ Look → e.reply ≡ Looked x.gifts x.position x.graph → IsLookAt o H x

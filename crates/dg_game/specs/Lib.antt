@@ -5,6 +5,7 @@ pub mod Step
 pub mod Refusals
 pub mod MoveReplies
 pub mod GiftReplies
+pub mod JoinReplies
 pub mod Replies
 pub mod Legal
 pub mod Look

@@ -8,7 +8,7 @@ use Rattle.dg_chips.specs.Applied.{IsMoved}
 use Rattle.dg_chips.specs.declared.moves.Move.{Move}
 use Rattle.dg_game.specs.Position.{Position}
 use Rattle.dg_game.specs.declared.entry.Refusal.{Refusal}
-use Rattle.dg_game.specs.declared.entry.Refusal.TheVariants.{NoVertex, Empty, Script, Gift, Range}
+use Rattle.dg_game.specs.declared.entry.Refusal.TheVariants.{NoVertex, Empty, Script, Range}
 use Rattle.dg_game.specs.declared.entry.Reply.{Reply}
 use Rattle.dg_game.specs.declared.entry.Reply.TheVariants.{Moved, Refused}
 
@@ -16,8 +16,8 @@ abbrev pub RefusesMove : Position → Move → Refusal → Type 0
 RefusesMove p m NoVertex = NamesNoVertex p.graph.size m
 RefusesMove p m Empty = IsEmptySet m
 RefusesMove p m Script = HasOtherSize p.graph.size m
-RefusesMove p m Gift = ⊥
 RefusesMove p m Range = IsPlayable p.graph.size m × IsOutOfRange p.graph.size (fired p.graph p.amounts (script_of m))
+RefusesMove p m refusal = ⊥
 
 abbrev pub RepliesToMove : Position → Move → Reply → Type 0
 RepliesToMove p m (Moved d) = IsMoved p.graph p.amounts m d

@@ -3,10 +3,12 @@
 --   Shows p d            == the divisor d holds the amounts of the position p
 --   opened o             == the position at the start: the graph and the amounts of the opening o
 --   with_gift p v x      == the amounts of the position p, with x more at v
+--   joined_at p u v      == the position p on the graph with one more edge between u and v
 --   fired_by p s         == the position p after every vertex has lent as often as the script s says
 use Rattle.std.specs.Prelude.{◌≡◌, ℕ, ◌<◌, ℤ, ◌+ℤ◌}
 use Rattle.dg_theory.specs.Multigraph.{Multigraph}
 use Rattle.dg_theory.specs.Firing.{Amounts, fired, only_at}
+use Rattle.dg_theory.specs.Joins.{with_edge}
 use Rattle.dg_chips.specs.Opening.{Opening}
 use Rattle.dg_chips.specs.Vector.{Vector, at}
 
@@ -23,6 +25,9 @@ opened o = record { graph = o.graph; amounts = at o.divisor }
 
 abbrev pub with_gift : Position → ℕ → ℤ → Amounts
 with_gift p v x w = p.amounts w +ℤ only_at v x w
+
+abbrev pub joined_at : Position → ℕ → ℕ → Position
+joined_at p u v = record { graph = with_edge p.graph u v; amounts = p.amounts }
 
 abbrev pub fired_by : Position → Amounts → Position
 fired_by p s = record { graph = p.graph; amounts = fired p.graph p.amounts s }

@@ -1,12 +1,11 @@
 -- What may be replied.
---   RepliesToLook p g reply        == the gift count and the amounts, as they are
+--   RepliesToLook p g reply        == the gift count, the amounts and the graph, as they are
 --   RepliesToClaim p reply         == won where nobody is in debt, and not won where somebody is
---   RepliesToJudge p q h g reply   == h gifts were accepted before the look: where there are as many now, a verdict that
---                                     is right for the position; else stale, with the gift count now
---   RepliesToRank p h g k reply    == h gifts were accepted before the look: where there are as many now, the verdict of
---                                     a rank test of degree k that is right for the position; else stale, with the gift
---                                     count now
---   RepliesAt p g call reply       == the reply to the call is right at the position p, after g accepted gifts
+--   RepliesToJudge p q h g reply   == the gift count was h before the look: where it is so now, a verdict that is right for
+--                                     the position; else stale, with the gift count now
+--   RepliesToRank p h g k reply    == the gift count was h before the look: where it is so now, the verdict of a rank test
+--                                     of degree k that is right for the position; else stale, with the gift count now
+--   RepliesAt p g call reply       == the reply to the call is right at the position p, where the gift count is g
 --   Replies o H request reply      == the reply is right after the history H from the opening o
 use Rattle.std.specs.Prelude.{◌≡◌, ◌≢◌, ℕ, List, take}
 use Rattle.dg_theory.specs.Firing.{IsEffective}
@@ -17,16 +16,17 @@ use Rattle.dg_game.specs.Position.{Position, Shows}
 use Rattle.dg_game.specs.History.{position_after, gifts_in}
 use Rattle.dg_game.specs.MoveReplies.{RepliesToMove}
 use Rattle.dg_game.specs.GiftReplies.{RepliesToGift}
+use Rattle.dg_game.specs.JoinReplies.{RepliesToJoin}
 use Rattle.dg_game.specs.declared.entry.Entry.{Entry}
 use Rattle.dg_game.specs.declared.entry.Plain.{Plain}
 use Rattle.dg_game.specs.declared.entry.Plain.TheVariants as plain
 use Rattle.dg_game.specs.declared.entry.Request.{Request}
-use Rattle.dg_game.specs.declared.entry.Request.TheVariants.{Move, Gift, Look, Claim, Judge, Rank as RankRequest}
+use Rattle.dg_game.specs.declared.entry.Request.TheVariants.{Move, Gift, Join, Look, Claim, Judge, Rank as RankRequest}
 use Rattle.dg_game.specs.declared.entry.Reply.{Reply}
 use Rattle.dg_game.specs.declared.entry.Reply.TheVariants.{Looked, Won, NotWon, Verdict, Rank as RankReply, Stale}
 
 abbrev pub RepliesToLook : Position → ℕ → Reply → Type 0
-RepliesToLook p g (Looked count d) = (count ≡ g) × Shows p d
+RepliesToLook p g (Looked count d graph) = (count ≡ g) × Shows p d × (graph ≡ p.graph)
 RepliesToLook p g reply = ⊥
 
 abbrev pub RepliesToClaim : Position → Reply → Type 0
@@ -47,12 +47,14 @@ RepliesToRank p h g k reply = ⊥
 abbrev pub RepliesAt : Position → ℕ → Plain → Reply → Type 0
 RepliesAt p g (plain.Move m) reply = RepliesToMove p m reply
 RepliesAt p g (plain.Gift v x) reply = RepliesToGift p g v x reply
+RepliesAt p g (plain.Join u v) reply = RepliesToJoin p g u v reply
 RepliesAt p g plain.Look reply = RepliesToLook p g reply
 RepliesAt p g plain.Claim reply = RepliesToClaim p reply
 
 abbrev pub Replies : Opening → List Entry → Request → Reply → Type 0
 Replies o H (Move m) reply = RepliesToMove (position_after o H) m reply
 Replies o H (Gift v x) reply = RepliesToGift (position_after o H) (gifts_in H) v x reply
+Replies o H (Join u v) reply = RepliesToJoin (position_after o H) (gifts_in H) u v reply
 Replies o H Look reply = RepliesToLook (position_after o H) (gifts_in H) reply
 Replies o H Claim reply = RepliesToClaim (position_after o H) reply
 Replies o H (Judge i) reply = RepliesToJudge (position_after o H) o.q (gifts_in (take i H)) (gifts_in H) reply

@@ -22,6 +22,7 @@ use Rattle.dg_game.specs.declared.step.Step.{Step}
 abbrev pub asked : Plain → Request
 asked (plain.Move m) = request.Move m
 asked (plain.Gift v x) = request.Gift v x
+asked (plain.Join u v) = request.Join u v
 asked plain.Look = request.Look
 asked plain.Claim = request.Claim
 

@@ -1,15 +1,17 @@
 -- The state of a game.
 --   State                     == the graph, the vertex q, the amounts now, how often each vertex has lent by the accepted
---                                moves, the number of accepted gifts and that of entries
+--                                moves, the gift count and the number of entries
 --   position_of s             == the position that the state shows
 --   IsState s                 == the parts of the state s fit together and are within their limits
 --   LeadsTo o H s             == the history H leads from the opening o to the state s
 --   amounts_after d reply     == the amounts after the reply, where they were d before
 --   gifts_after n reply       == the gift count after the reply, where it was n before
+--   graph_after g request reply == the graph after the request was so answered, where it was g before
 --   IsNext s request reply t  == t is the state after s and one entry with this request and reply
 use Rattle.std.specs.Prelude.{◌≡◌, ℕ, ◌+◌, ◌*◌, ◌<◌, ◌≤◌, ◌+ℤ◌, List, length}
 use Rattle.std.specs.Int.RustNames.{unsigned_abs}
 use Rattle.dg_theory.specs.Multigraph.{Multigraph}
+use Rattle.dg_theory.specs.Joins.{with_edge}
 use Rattle.dg_graph.specs.Graph.{IsGraph}
 use Rattle.dg_chips.specs.Vector.{Vector, at}
 use Rattle.dg_chips.specs.declared.limits.TheConstants.{MAX_ENTRY}
@@ -18,8 +20,9 @@ use Rattle.dg_game.specs.Position.{Position, Shows}
 use Rattle.dg_game.specs.History.{position_after, gifts_in, scripts_played, script_by}
 use Rattle.dg_game.specs.declared.entry.Entry.{Entry}
 use Rattle.dg_game.specs.declared.entry.Request.{Request}
+use Rattle.dg_game.specs.declared.entry.Request.TheVariants.{Join}
 use Rattle.dg_game.specs.declared.entry.Reply.{Reply}
-use Rattle.dg_game.specs.declared.entry.Reply.TheVariants.{Moved, Given}
+use Rattle.dg_game.specs.declared.entry.Reply.TheVariants.{Moved, Given, Joined}
 use Rattle.dg_game.specs.declared.game.TheConstants.{MAX_ENTRIES}
 
 pub record State : Type 0 where
@@ -57,10 +60,15 @@ amounts_after d reply = d
 
 abbrev pub gifts_after : ℕ → Reply → ℕ
 gifts_after n (Given g e) = g
+gifts_after n (Joined g e) = g
 gifts_after n reply = n
 
+abbrev pub graph_after : Multigraph → Request → Reply → Multigraph
+graph_after g (Join u v) (Joined n e) = with_edge g u v
+graph_after g request reply = g
+
 pub record IsNext (s : State) (request : Request) (reply : Reply) (t : State) : Type 0 where
-  pub graph : t.graph ≡ s.graph
+  pub graph : t.graph ≡ graph_after s.graph request reply
   pub q : t.q ≡ s.q
   pub amounts : t.amounts ≡ amounts_after s.amounts reply
   pub drift : (v : ℕ) → v < s.graph.size → at t.drift v ≡ at s.drift v +ℤ script_by request reply v

@@ -1,9 +1,10 @@
 //! Entries of a history: what was asked, and what was answered.
 ghost use Rattle.std.specs.Prelude.{◌≡◌};
-ghost use Rattle.dg_game.specs.Refusals.{refusal_for};
+ghost use Rattle.dg_game.specs.Refusals.{refusal_for, join_refusal_for};
 ghost use Rattle.dg_game.specs.Schedule.{asked};
 
 use dg_chips::{Divisor, Move, MoveFault};
+use dg_graph::{Graph, JoinFault};
 use dg_rank::RankVerdict;
 use dg_verdict::Verdict;
 
@@ -20,6 +21,8 @@ pub enum Plain {
     Move(Move),
     /// Give a vertex some dollars, -1,000,000 to 1,000,000 other than 0; a gift of less than 0 is a levy, which takes them.
     Gift(u8, i64),
+    /// Add an edge between two vertices.
+    Join(u8, u8),
     /// See the position.
     Look,
     /// Claim that nobody is in debt.
@@ -34,6 +37,7 @@ impl Plain {
         match self {
             Plain::Move(play) => Request::Move(*play),
             Plain::Gift(v, dollars) => Request::Gift(*v, *dollars),
+            Plain::Join(u, v) => Request::Join(*u, *v),
             Plain::Look => Request::Look,
             Plain::Claim => Request::Claim,
         }
@@ -47,6 +51,8 @@ pub enum Request {
     Move(Move),
     /// A gift to a vertex, or a levy from it.
     Gift(u8, i64),
+    /// An edge more between two vertices.
+    Join(u8, u8),
     /// A look at the position.
     Look,
     /// A claim that nobody is in debt.
@@ -57,30 +63,33 @@ pub enum Request {
     Rank(u32, u32),
 }
 
-/// What an entry of the history was answered. Amounts are those after the entry, and so are the numbers of gifts.
+/// What an entry of the history was answered. Amounts are those after the entry, and so are the numbers of gifts, which
+/// count the accepted gifts, levies and joins.
 #[derive(Clone, Copy, PartialEq, Eq)]
 pub enum Reply {
     /// The move was played.
     Moved(Divisor),
-    /// The gift was accepted: the number of accepted gifts, levies among them, and the amounts.
+    /// The gift was accepted: the number of gifts, and the amounts.
     Given(u32, Divisor),
-    /// The number of accepted gifts, and the amounts.
-    Looked(u32, Divisor),
+    /// The edge was added: the number of gifts, and the amounts, which are as before.
+    Joined(u32, Divisor),
+    /// The number of gifts, the amounts and the graph.
+    Looked(u32, Divisor, Graph),
     /// Whether the position is winnable, with what shows it.
     Verdict(Verdict),
     /// The answer of the rank test.
     Rank(RankVerdict),
-    /// Gifts were accepted since the look: their number now.
+    /// Gifts, levies or joins were accepted since the look: their number now.
     Stale(u32),
     /// Nobody is in debt.
     Won,
     /// Somebody is in debt.
     NotWon,
-    /// The move or the gift was refused, and nothing has changed.
+    /// The move, the gift or the join was refused, and nothing has changed.
     Refused(Refusal),
 }
 
-/// Why a move or a gift is refused.
+/// Why a move, a gift or a join is refused.
 #[derive(Clone, Copy, PartialEq, Eq)]
 pub enum Refusal {
     /// It names a vertex that is not there.
@@ -93,6 +102,10 @@ pub enum Refusal {
     Gift,
     /// It leaves an amount that is not within 1,000,000.
     Range,
+    /// The join is of a vertex and itself.
+    Loop,
+    /// 63 edges meet at a vertex of the join already.
+    Valence,
 }
 
 /// One line of the history: who asked, what, and what was answered.
@@ -115,6 +128,18 @@ impl From<MoveFault> for Refusal {
             MoveFault::Empty => Refusal::Empty,
             MoveFault::Script => Refusal::Script,
             MoveFault::Range => Refusal::Range,
+        }
+    }
+}
+
+impl From<JoinFault> for Refusal {
+    ghost from_gives = { λ fault refusal. refusal ≡ join_refusal_for fault };
+
+    fn from(fault: JoinFault) -> Refusal {
+        match fault {
+            JoinFault::NoVertex => Refusal::NoVertex,
+            JoinFault::Loop => Refusal::Loop,
+            JoinFault::Valence => Refusal::Valence,
         }
     }
 }

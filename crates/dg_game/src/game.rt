@@ -8,6 +8,7 @@ ghost use Rattle.dg_theory.specs.Firing.{FiresTo, AreEquivalent};
 ghost use Rattle.dg_verdict.specs.Right.{IsRight};
 ghost use Rattle.dg_game.specs.MoveReplies.{RepliesToMove};
 ghost use Rattle.dg_game.specs.GiftReplies.{RepliesToGift};
+ghost use Rattle.dg_game.specs.JoinReplies.{RepliesToJoin};
 ghost use Rattle.dg_game.specs.Replies.{Replies, RepliesToLook, RepliesToClaim};
 ghost use Rattle.dg_game.specs.History.{with_entry};
 ghost use Rattle.dg_game.specs.Legal.{IsSeat, IsLegal};
@@ -15,7 +16,7 @@ ghost use Rattle.dg_game.specs.Look.{IsLookAt, IsFoundFor, asked_for, KeepsFindi
 ghost use Rattle.dg_game.specs.State.{State, IsState, LeadsTo, IsNext, position_of};
 ghost use Rattle.dg_game.specs.Schedule.{asked};
 ghost use Rattle.dg_game.specs.declared.entry.Entry.{Entry};
-ghost use Rattle.dg_game.specs.declared.entry.Request.TheVariants.{Move as MoveRequest, Gift as GiftRequest, Look as LookRequest, Claim as ClaimRequest};
+ghost use Rattle.dg_game.specs.declared.entry.Request.TheVariants.{Move as MoveRequest, Gift as GiftRequest, Join as JoinRequest, Look as LookRequest, Claim as ClaimRequest};
 
 use crate::entry::{MAX_GIFT, Plain, Refusal, Reply};
 use crate::finding::Finding;
@@ -29,7 +30,7 @@ use std::marker::Model;
 pub const MAX_ENTRIES: usize = 65_536;
 
 /// A game as it stands: the graph and the vertex q, the amounts, how often each vertex has lent by the accepted moves,
-/// how many gifts were accepted and how many entries there are.
+/// how many gifts, levies and joins were accepted and how many entries there are.
 #[derive(Clone, Copy)]
 pub struct Game {
     graph: Graph,
@@ -111,7 +112,7 @@ impl Game {
         &self.amounts
     }
 
-    /// How many gifts were accepted.
+    /// How many gifts, levies and joins were accepted.
     pub fn gifts(&self) -> u32
         ensures { result ≡ self.now.gifts }
     {
@@ -157,16 +158,17 @@ impl Game {
         match plain {
             Plain::Move(play) => self.play(&play),
             Plain::Gift(v, dollars) => self.give(v, dollars),
+            Plain::Join(u, v) => self.join(u, v),
             Plain::Look => self.look(),
             Plain::Claim => self.claim(),
         }
     }
 
-    /// Enters what was reckoned on a look: `Stale` where gifts were accepted since; otherwise a verdict that is right
-    /// for the position now, with the reduced divisor and the burning order that were found, or the answer of the rank
-    /// test as it was found. A legal history stays legal where a seat of 1 to 64 enters it. The conditions are that there
-    /// are fewer than 65,536 entries, that the look is one of the history, whatever its drift, and that the finding is
-    /// right for the amounts of the look, on its graph.
+    /// Enters what was reckoned on a look: `Stale` where gifts, levies or joins were accepted since; otherwise a verdict
+    /// that is right for the position now, with the reduced divisor and the burning order that were found, or the answer
+    /// of the rank test as it was found. A legal history stays legal where a seat of 1 to 64 enters it. The conditions are
+    /// that there are fewer than 65,536 entries, that the look is one of the history, whatever its drift, and that the
+    /// finding is right for the amounts of the look, on its graph.
     pub fn settle(&mut self, look: &LookData, finding: &Finding) -> Reply
         requires room { self.old.entries < MAX_ENTRIES }
         requires look { (o : Opening) × (H : List Entry) × LeadsTo o H self.old × IsLookAt o H look.now }
@@ -294,14 +296,30 @@ impl Game {
         }
     }
 
-    /// Shows the count of accepted gifts, and the amounts.
+    /// Adds an edge between two vertices: the count and the amounts after it, or its refusal.
+    fn join(&mut self, u: u8, v: u8) -> Reply
+        requires { self.old.entries < MAX_ENTRIES }
+        ensures replies { RepliesToJoin (position_of self.old) self.old.gifts u v result }
+        ensures next { IsNext self.old (JoinRequest u v) result self.new }
+    {
+        self.entries += 1;
+        let graph = match self.graph.join(u, v) {
+            Ok(graph) => graph,
+            Err(fault) => return Reply::Refused(Refusal::from(fault)),
+        };
+        self.graph = graph;
+        self.gifts += 1;
+        Reply::Joined(self.gifts, self.amounts)
+    }
+
+    /// Shows the count of accepted gifts, levies and joins, the amounts, and the graph.
     fn look(&mut self) -> Reply
         requires { self.old.entries < MAX_ENTRIES }
         ensures replies { RepliesToLook (position_of self.old) self.old.gifts result }
         ensures next { IsNext self.old LookRequest result self.new }
     {
         self.entries += 1;
-        Reply::Looked(self.gifts, self.amounts)
+        Reply::Looked(self.gifts, self.amounts, self.graph)
     }
 
     /// Tells whether nobody is in debt.

@@ -7,7 +7,7 @@ use dg_graph::Graph;
 pub struct LookData {
     /// The number of the look's entry.
     pub number: u32,
-    /// How many gifts were accepted before it.
+    /// How many gifts, levies and joins were accepted before it.
     pub gifts: u32,
     /// The graph on which it was taken.
     pub graph: Graph,

@@ -40,7 +40,7 @@ pub enum RehearseFault {
 pub struct Rehearsal {
     /// The game as it stands.
     pub game: Game,
-    /// What serves all its verdicts; no answer depends on it.
+    /// What serves its verdicts until an edge is added; no answer depends on it.
     pub aim: Aim,
     /// The look that a seat has taken last and not used up, at the place of the seat's number.
     pub looks: [Option<LookData>; 65],

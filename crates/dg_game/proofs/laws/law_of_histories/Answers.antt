@@ -1,4 +1,4 @@
-use Rattle.dg_game.proofs.StepLaw.{no_entry, one_more_entry, since_gift, graph_stays, vertices_stay}
+use Rattle.dg_game.proofs.StepLaw.{no_entry, one_more_entry, since_change, since_start, since_last, vertices_stay}
 use Rattle.dg_game.proofs.laws.law_of_histories.Goals as goal
 
 pub returns-clause-start : goal.returns-clause-start
@@ -7,11 +7,14 @@ returns-clause-start c = no_entry
 pub returns-clause-step : goal.returns-clause-step
 returns-clause-step c = one_more_entry
 
-pub returns-clause-since_gift : goal.returns-clause-since_gift
-returns-clause-since_gift c = since_gift
+pub returns-clause-since_change : goal.returns-clause-since_change
+returns-clause-since_change c = since_change
 
-pub returns-clause-graph : goal.returns-clause-graph
-returns-clause-graph c = graph_stays
+pub returns-clause-since_start : goal.returns-clause-since_start
+returns-clause-since_start c = since_start
+
+pub returns-clause-since_last : goal.returns-clause-since_last
+returns-clause-since_last c = since_last
 
 pub returns-clause-vertices : goal.returns-clause-vertices
 returns-clause-vertices c = vertices_stay

@@ -1,3 +1,4 @@
+use Rattle.dg_game.proofs.GraphLaws.{graphs_hold}
 use Rattle.dg_game.proofs.LegalLaws.{legal_none, legal_more, legal_take, legal_part, legal_sized, legal_looks}
 use Rattle.dg_game.proofs.laws.law_of_legal_histories.Goals as goal
 
@@ -15,6 +16,9 @@ returns-clause-parts c = legal_part
 
 pub returns-clause-sizes : goal.returns-clause-sizes
 returns-clause-sizes c = legal_sized
+
+pub returns-clause-graphs : goal.returns-clause-graphs
+returns-clause-graphs c = graphs_hold
 
 pub returns-clause-looks : goal.returns-clause-looks
 returns-clause-looks c = legal_looks

@@ -33,6 +33,19 @@ returns-in-Gift-clause-legal c = λ o H seat leads legal is.
     legal_more o H _ legal is (back_asked H c.args.plain)
     (replies_after o H _ c.args.plain _ leads (rw c.in-Gift.is (rw (to_z-of_z held) at c.give.ensures.replies)))
 
+pub returns-in-Join-clause-replies : goal.returns-in-Join-clause-replies
+returns-in-Join-clause-replies c = λ o H leads. replies_after o H _ c.args.plain _ leads (rw c.in-Join.is c.join.ensures.replies)
+
+pub returns-in-Join-clause-leads : goal.returns-in-Join-clause-leads
+returns-in-Join-clause-leads c = λ o H seat leads.
+    leads_more o H _ _ _ leads (replies_after o H _ c.args.plain _ leads (rw c.in-Join.is c.join.ensures.replies))
+    (rw c.in-Join.is c.join.ensures.next)
+
+pub returns-in-Join-clause-legal : goal.returns-in-Join-clause-legal
+returns-in-Join-clause-legal c = λ o H seat leads legal is.
+    legal_more o H _ legal is (back_asked H c.args.plain)
+    (replies_after o H _ c.args.plain _ leads (rw c.in-Join.is c.join.ensures.replies))
+
 pub returns-in-Look-clause-replies : goal.returns-in-Look-clause-replies
 returns-in-Look-clause-replies c = λ o H leads. replies_after o H _ c.args.plain _ leads (rw c.in-Look.is c.look.ensures.replies)
 

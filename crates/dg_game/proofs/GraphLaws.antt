@@ -1,0 +1,51 @@
+-- The graphs of legal histories.
+--   graphs_hold      a legal history, from an opening on a graph within the limits, leads to a position on one
+use Rattle.std.proofs.Common.{◌≡◌, ℕ, List, [], ◌∷◌, ◌++◌, length, append_assoc, append-nil, refl, sym, subst}
+use Rattle.std.proofs.Math.Seq.{take-append_seam}
+use Rattle.dg_graph.specs.Graph.{IsGraph}
+use Rattle.dg_theory.specs.Multigraph.{Multigraph}
+use Rattle.dg_theory.specs.Joins.{entry_more, with_edge}
+use Rattle.dg_graph.specs.Joins.{IsJoinable}
+use Rattle.dg_graph.proofs.Joined.{joined_graph}
+use Rattle.dg_chips.specs.Opening.{Opening}
+use Rattle.dg_game.specs.History.{position_after}
+use Rattle.dg_game.specs.Legal.{IsLegal}
+use Rattle.dg_game.specs.LegalLaws.{GraphsHold}
+use Rattle.dg_game.specs.Position.{Position}
+use Rattle.dg_game.specs.Replies.{Replies}
+use Rattle.dg_game.specs.Step.{after_reply}
+use Rattle.dg_game.specs.declared.entry.Entry.{Entry}
+use Rattle.dg_game.specs.declared.entry.Request.{Request}
+use Rattle.dg_game.specs.declared.entry.Request.TheVariants.{Move, Gift, Join}
+use Rattle.dg_game.specs.declared.entry.Reply.{Reply}
+use Rattle.dg_game.specs.declared.entry.Reply.TheVariants.{Moved, Given, Joined}
+use Rattle.dg_game.proofs.ListLaws.{slice_get-seam}
+use Rattle.dg_game.proofs.StepLaw.{no_entry, one_more_entry}
+
+joined_on : (g : Multigraph) (u v : ℕ) → IsGraph g → IsJoinable g u v → IsGraph (with_edge g u v)
+unfolding with_edge
+joined_on g u v graph joinable =
+    joined_graph g u v (entry_more g.table u v) (entry_more (entry_more g.table u v) v u) graph joinable refl refl
+
+graph_next : (o : Opening) (K : List Entry) (request : Request) (reply : Reply) → Replies o K request reply →
+    IsGraph (position_after o K).graph → IsGraph (after_reply (position_after o K) request reply).graph
+graph_next o K (Move m) (Moved d) right graph = graph
+graph_next o K (Gift v x) (Given g d) right graph = graph
+graph_next o K (Join u v) (Joined g d) right graph = joined_on (position_after o K).graph u v graph right.joinable
+graph_next o K request reply right graph = graph
+
+graphs_since : (o : Opening) (K L : List Entry) → IsLegal o (K ++ L) → IsGraph (position_after o K).graph →
+    IsGraph (position_after o (K ++ L)).graph
+graphs_since o K [] legal graph = subst (λ (H : List Entry). IsGraph (position_after o H).graph) (sym (append-nil K)) graph
+graphs_since o K (e ∷ L) legal graph =
+    let whole : (K ++ e ∷ []) ++ L ≡ K ++ e ∷ L = append_assoc K (e ∷ []) L in
+    let right : Replies o K e.request e.reply =
+    subst (λ (H : List Entry). Replies o H e.request e.reply) (take-append_seam K (e ∷ L)) (legal (length K) e (slice_get-seam K e L)).2 in
+    let next : IsGraph (position_after o (K ++ e ∷ [])).graph =
+    subst (λ (p : Position). IsGraph p.graph) (sym (one_more_entry o K e)) (graph_next o K e.request e.reply right graph) in
+    subst (λ (H : List Entry). IsGraph (position_after o H).graph) whole
+    (graphs_since o (K ++ e ∷ []) L (subst (IsLegal o) (sym whole) legal) next)
+
+pub graphs_hold : GraphsHold
+graphs_hold o H graph legal =
+    graphs_since o [] H legal (subst (λ (p : Position). IsGraph p.graph) (sym (no_entry o)) graph)
