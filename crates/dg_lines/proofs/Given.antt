@@ -5,7 +5,9 @@
 --   is_named         a name that has a place is among the names
 --   not_named        a name that has no place is not among them
 --   named_alone      a name that has a place is given rightly where it stands alone
+--   both_named       so are two names that have places, of which the second is left out where it is the first
 --   unnamed_among    names of which one has no place are not given rightly
+--   second_unnamed   so are two of which the second has none
 --   twice_among      nor are those of which one stands twice
 --   set_members      the set of the vertices of names that are given rightly
 --   one_set          there is one such set
@@ -31,7 +33,7 @@ use Rattle.std.proofs.lemmas.Nat.Bits.{bit_at_lowest, bit_at-suc, bit_at-zero, b
 use Rattle.std.proofs.lemmas.Slice.Eq.{bytes_eq-Decides}
 use Rattle.dg_graph.specs.Sets.{in_set}
 use Rattle.dg_file.specs.Names.{has, place_of, name_at}
-use Rattle.dg_lines.specs.CommandWords.{AreGiven}
+use Rattle.dg_lines.specs.CommandWords.{AreGiven, others_than}
 use Rattle.dg_lines.specs.Commands.{IsSetOf}
 use Rattle.dg_lines.specs.Read.{is_distinct, are_given, members, set_of}
 
@@ -113,6 +115,18 @@ named_alone names name v e = record {
   different = (tt, tt);
 }
 
+pub both_named : (names : List (List ℕ)) (first second : List ℕ) (u v : ℕ) → place_of names first ≡ Some u → place_of names second ≡ Some v
+    → AreGiven names (first ∷ others_than first (second ∷ []))
+unfolding IsDistinct
+both_named names first second u v from to = go (bytes_eq first second) refl
+  where
+    go : (t : Bool) → bytes_eq first second ≡ t → AreGiven names (first ∷ cond (not t) (second ∷ []) [])
+    go true same = named_alone names first u from
+    go false differs = record {
+      each = All-cons (λ own. IsTrue (has names own)) first (second ∷ []) (is_named names first u from) (named_alone names second v to).each;
+      different = ((differs, tt), (tt, tt));
+    }
+
 pub none_given : (names : List (List ℕ)) → AreGiven names []
 unfolding IsDistinct
 none_given names = record { each = All-nil (λ own. IsTrue (has names own)); different = tt }
@@ -124,6 +138,15 @@ all_there P (x ∷ done) back name each = all_there P done back name (All-tail P
 pub unnamed_among : (names done back : List (List ℕ)) (name : List ℕ) → place_of names name ≡ None → AreGiven names (done ++ name ∷ back) → ⊥
 unnamed_among names done back name e known =
     not_named names name e (all_there (λ own. IsTrue (has names own)) done back name known.each)
+
+pub second_unnamed : (names : List (List ℕ)) (first second : List ℕ) (u : ℕ) → place_of names first ≡ Some u → place_of names second ≡ None
+    → AreGiven names (first ∷ others_than first (second ∷ [])) → ⊥
+second_unnamed names first second u from to = go (bytes_eq first second) refl
+  where
+    go : (t : Bool) → bytes_eq first second ≡ t → AreGiven names (first ∷ cond (not t) (second ∷ []) []) → ⊥
+    go true same known =
+        let no : Some u ≡ None = sym from ∙ ap (place_of names) (is_equal first second same) ∙ to in cc
+    go false differs known = unnamed_among names (first ∷ []) [] second to known
 
 recursion_there : (P : List ℕ → Type 0) (done back : List (List ℕ)) (name : List ℕ) → AllByRecursion P (done ++ name ∷ back) → P name
 recursion_there P [] back name each = each.0

@@ -14,7 +14,7 @@ use Rattle.dg_chips.specs.Vector.{Vector, at}
 use Rattle.dg_chips.specs.declared.moves.Move.TheVariants.{Lend, Borrow, Fire, Script}
 use Rattle.dg_game.specs.declared.step.Command.{Command}
 use Rattle.dg_game.specs.declared.step.Command.TheVariants.{Call, Commit, Rank}
-use Rattle.dg_game.specs.declared.entry.Plain.TheVariants.{Move as Play, Gift, Look, Claim}
+use Rattle.dg_game.specs.declared.entry.Plain.TheVariants.{Move as Play, Gift, Join, Look, Claim}
 use Rattle.dg_file.specs.Names.{place_of, name_at}
 use Rattle.dg_lines.specs.declared.line.LineFault.{LineFault}
 use Rattle.dg_lines.specs.declared.line.LineFault.TheVariants.{Seat, Word, Form, Name, Number}
@@ -24,10 +24,10 @@ use Rattle.dg_lines.specs.Commands.{number_given, IsScriptWord, Means, IsCommand
 use Rattle.dg_lines.specs.LineFaults.{IsLineFault}
 use Rattle.dg_lines.specs.LineLaws.{AreAlike, LinesHaveOneMeaning}
 use Rattle.dg_lines.specs.Numbers.{integer_of, degree_of}
-use Rattle.dg_lines.specs.Read.{only_word, play, lend_of, borrow_of, set_of, fire_of, value_of, script_with, script_of, bare, gift_of, rank_of, are_given, is_entry, command_of, any_of, IsRefused, IsRead}
+use Rattle.dg_lines.specs.Read.{only_word, play, lend_of, borrow_of, set_of, fire_of, value_of, script_with, script_of, bare, gift_of, join_of, rank_of, are_given, is_entry, command_of, any_of, IsRefused, IsRead}
 use Rattle.dg_lines.proofs.Cutting.{line_cut}
 use Rattle.dg_lines.proofs.Degrees.{degree_is}
-use Rattle.dg_lines.proofs.Given.{given_decides, named_alone, none_given, set_of-is}
+use Rattle.dg_lines.proofs.Given.{given_decides, named_alone, both_named, none_given, set_of-is}
 use Rattle.dg_lines.proofs.Integers.{integer_is}
 use Rattle.dg_lines.proofs.Reading.{any_read, line_command, line_fault}
 use Rattle.dg_lines.proofs.Scripts.{spelled_entries, values_back, entries_decide, script_entries}
@@ -73,6 +73,9 @@ means_good names (Call (Gift v x)) keyword rest (key, known) =
       named_alone names known.name v known.vertex,
       All-cons (IsNumberFor (codes "gift")) (signed_decimal x) [] (gift_number x known.fits) (All-nil (IsNumberFor (codes "gift"))),
     )
+means_good names (Call (Join u v)) keyword rest (key, known) =
+    good_at names keyword (codes "join") rest (known.first ∷ known.second ∷ []) key known.given
+    (both_named names known.first known.second u v known.from known.to, All-nil (IsNumberFor (codes "join")))
 means_good names (Call Look) keyword rest (key, none) =
     good_at names keyword (codes "look") rest [] key none (none_given names, All-nil (IsNumberFor (codes "look")))
 means_good names (Call Claim) keyword rest (key, none) =
@@ -154,6 +157,7 @@ IsLike (Call (Play (Lend v))) r = r ≡ Ok (Call (Play (Lend v)))
 IsLike (Call (Play (Borrow v))) r = r ≡ Ok (Call (Play (Borrow v)))
 IsLike (Call (Play (Fire set))) r = r ≡ Ok (Call (Play (Fire set)))
 IsLike (Call (Gift v x)) r = r ≡ Ok (Call (Gift v x))
+IsLike (Call (Join u v)) r = r ≡ Ok (Call (Join u v))
 IsLike (Call Look) r = r ≡ Ok (Call Look)
 IsLike (Call Claim) r = r ≡ Ok (Call Claim)
 IsLike Commit r = r ≡ Ok Commit
@@ -171,6 +175,7 @@ split (Call (Play (Lend v))) = inr (record { like = λ r e. e; alike = λ d e. e
 split (Call (Play (Borrow v))) = inr (record { like = λ r e. e; alike = λ d e. e; other = λ s e. cc })
 split (Call (Play (Fire set))) = inr (record { like = λ r e. e; alike = λ d e. e; other = λ s e. cc })
 split (Call (Gift v x)) = inr (record { like = λ r e. e; alike = λ d e. e; other = λ s e. cc })
+split (Call (Join u v)) = inr (record { like = λ r e. e; alike = λ d e. e; other = λ s e. cc })
 split (Call Look) = inr (record { like = λ r e. e; alike = λ d e. e; other = λ s e. cc })
 split (Call Claim) = inr (record { like = λ r e. e; alike = λ d e. e; other = λ s e. cc })
 split Commit = inr (record { like = λ r e. e; alike = λ d e. e; other = λ s e. cc })
@@ -246,6 +251,11 @@ gift_back : (names : List (List ℕ)) (x : ℕ) (xs number : List ℕ) (v : ℕ)
 unfolding any_of command_of gift_of
 gift_back names x xs number v z only place value = rw (only, place, value) refl
 
+join_back : (names : List (List ℕ)) (x : ℕ) (xs second : List ℕ) (u v : ℕ) → only_word (second ∷ []) ≡ Some second
+    → place_of names (x ∷ xs) ≡ Some u → place_of names second ≡ Some v → any_of names (codes "join") ((x ∷ xs) ∷ second ∷ []) ≡ Ok (Call (Join u v))
+unfolding any_of command_of join_of
+join_back names x xs second u v only from to = rw (only, from, to) refl
+
 rank_back : (names : List (List ℕ)) (word : List ℕ) (k : ℕ) → only_word (word ∷ []) ≡ Some word → degree_of word ≡ Some k
     → any_of names (codes "rank") (word ∷ []) ≡ Ok (Rank k)
 unfolding any_of command_of rank_of
@@ -302,6 +312,13 @@ gift_like names (y ∷ ys) v x filled place fits =
     (filled_word (signed_decimal x) (All-head (λ w. w ≢ []) (signed_decimal x) [] (All-tail (λ w. w ≢ []) (y ∷ ys) (signed_decimal x ∷ []) filled)))
     place (integer_is (signed_decimal x) x fits refl)
 
+join_like : (names : List (List ℕ)) (first second : List ℕ) (u v : ℕ) → All (λ w. w ≢ []) (first ∷ second ∷ []) → place_of names first ≡ Some u
+    → place_of names second ≡ Some v → any_of names (codes "join") (first ∷ second ∷ []) ≡ Ok (Call (Join u v))
+join_like names [] second u v filled from to = absurd (All-head (λ w. w ≢ []) [] (second ∷ []) filled refl)
+join_like names (y ∷ ys) second u v filled from to =
+    join_back names y ys second u v
+    (filled_word second (All-head (λ w. w ≢ []) second [] (All-tail (λ w. w ≢ []) (y ∷ ys) (second ∷ []) filled))) from to
+
 means_like : (names : List (List ℕ)) (c : Command) (keyword : List ℕ) (rest : List (List ℕ)) → IsWellFormed keyword rest → Means names c keyword rest
     → IsLike c (any_of names keyword rest)
 means_like names (Call (Play (Lend v))) keyword rest formed (word, one, (key, place)) =
@@ -317,6 +334,9 @@ means_like names (Call (Play (Script s))) keyword rest formed (word, one, (key, 
 means_like names (Call (Gift v x)) keyword rest formed (key, known) =
     at_words names (Call (Gift v x)) keyword (codes "gift") rest (known.name ∷ signed_decimal x ∷ []) key known.given
     (gift_like names known.name v x (subst (All (λ w. w ≢ [])) known.given formed.filled) known.vertex known.fits)
+means_like names (Call (Join u v)) keyword rest formed (key, known) =
+    at_words names (Call (Join u v)) keyword (codes "join") rest (known.first ∷ known.second ∷ []) key known.given
+    (join_like names known.first known.second u v (subst (All (λ w. w ≢ [])) known.given formed.filled) known.from known.to)
 means_like names (Call Look) keyword rest formed (key, none) =
     at_words names (Call Look) keyword (codes "look") rest [] key none (look_back names)
 means_like names (Call Claim) keyword rest formed (key, none) =

@@ -10,7 +10,7 @@ use Rattle.std.specs.Prelude.{bytes_eq, All, IsSome, is_some}
 use Rattle.std.specs.Fmt.{signed_decimal}
 use Rattle.std.specs.List.{list_all}
 use Rattle.std.proofs.lemmas.Int.{ints}
-use Rattle.std.proofs.lemmas.List.Elements.{All-nil, All-cons, All-head}
+use Rattle.std.proofs.lemmas.List.Elements.{All-nil, All-cons, All-head, All-tail}
 use Rattle.std.proofs.lemmas.Slice.Eq.{bytes_eq-Decides}
 use Rattle.dg_chips.specs.Vector.{Vector}
 use Rattle.dg_chips.specs.declared.moves.Move.TheVariants.{Lend, Borrow, Script}
@@ -21,13 +21,13 @@ use Rattle.dg_file.specs.Names.{place_of}
 use Rattle.dg_lines.specs.declared.line.LineFault.{LineFault}
 use Rattle.dg_lines.specs.declared.line.LineFault.TheVariants.{Seat, Word, Form, Name, Number}
 use Rattle.dg_lines.specs.Cuts.{words, items}
-use Rattle.dg_lines.specs.CommandWords.{number_beside, words_wanted, IsWellFormed, name_part, number_part, given_names, given_numbers, IsNumberWithin, IsNumberFor, AreGiven}
+use Rattle.dg_lines.specs.CommandWords.{number_beside, words_wanted, IsWellFormed, name_part, number_part, others_than, given_names, given_numbers, IsNumberWithin, IsNumberFor, AreGiven}
 use Rattle.dg_lines.specs.Commands.{Means, IsScriptWord, IsCommandLine}
 use Rattle.dg_lines.specs.LineFaults.{IsLineFault}
 use Rattle.dg_lines.specs.Numbers.{integer_of, degree_of}
-use Rattle.dg_lines.specs.Read.{only_word, play, at_vertex, with_word, lend_of, borrow_of, are_given, members, set_of, fire_set, fire_of, is_entry, value_of, script_with, script_to, script_pairs, script_of, bare, gift_to, gift_of, rank_to, rank_of, command_of, any_of, IsRead, IsRefusedPairs}
+use Rattle.dg_lines.specs.Read.{only_word, play, at_vertex, with_word, lend_of, borrow_of, are_given, members, set_of, fire_set, fire_of, is_entry, value_of, script_with, script_to, script_pairs, script_of, bare, gift_to, gift_of, join_to, join_of, with_two, rank_to, rank_of, command_of, any_of, IsRead, IsRefusedPairs}
 use Rattle.dg_lines.proofs.Degrees.{degree_is, is_degree}
-use Rattle.dg_lines.proofs.Given.{given_decides, named_alone, none_given, unnamed_among, set_members}
+use Rattle.dg_lines.proofs.Given.{given_decides, named_alone, none_given, unnamed_among, second_unnamed, set_members}
 use Rattle.dg_lines.proofs.Integers.{integer_is, is_integer}
 use Rattle.dg_lines.proofs.Scripts.{values_spelled, values_within, entries_decide, script_entries}
 
@@ -60,6 +60,27 @@ word_read names keyword ([] ∷ rest) read one good =
 word_read names keyword ((x ∷ xs) ∷ []) read one good = good (x ∷ xs) (formed_one keyword x xs one)
 word_read names keyword ((x ∷ xs) ∷ word ∷ rest) read one good =
     (wanted_some (words_wanted keyword) 1 one, λ formed. let no = count_of keyword ((x ∷ xs) ∷ word ∷ rest) 1 one formed in omega arith)
+
+-- two words are wanted
+two_read : (names : List (List ℕ)) (keyword : List ℕ) (rest : List (List ℕ)) (read : List ℕ → List ℕ → Result Command LineFault)
+    → words_wanted keyword ≡ Some 2
+    → ((one other : List ℕ) → IsWellFormed keyword (one ∷ other ∷ []) → IsRead names keyword (one ∷ other ∷ []) (read one other))
+    → IsRead names keyword rest (with_two read rest)
+unfolding IsRead only_word
+two_read names keyword [] read two good =
+    (wanted_some (words_wanted keyword) 2 two, λ formed. let no = count_of keyword [] 2 two formed in omega arith)
+two_read names keyword ([] ∷ rest) read two good =
+    (wanted_some (words_wanted keyword) 2 two, λ formed. first_filled keyword [] rest formed refl)
+two_read names keyword ((x ∷ xs) ∷ []) read two good =
+    (wanted_some (words_wanted keyword) 2 two, λ formed. let no = count_of keyword ((x ∷ xs) ∷ []) 2 two formed in omega arith)
+two_read names keyword ((x ∷ xs) ∷ [] ∷ rest) read two good = (
+  wanted_some (words_wanted keyword) 2 two,
+  λ formed. All-head (λ w. w ≢ []) [] rest (All-tail (λ w. w ≢ []) (x ∷ xs) ([] ∷ rest) formed.filled) refl,
+)
+two_read names keyword ((x ∷ xs) ∷ (y ∷ ys) ∷ []) read two good =
+    good (x ∷ xs) (y ∷ ys) (record { wanted = two; filled = All-cons (λ w. w ≢ []) (x ∷ xs) ((y ∷ ys) ∷ []) (λ e. cc) (filled_one y ys) })
+two_read names keyword ((x ∷ xs) ∷ (y ∷ ys) ∷ word ∷ rest) read two good =
+    (wanted_some (words_wanted keyword) 2 two, λ formed. let no = count_of keyword ((x ∷ xs) ∷ (y ∷ ys) ∷ word ∷ rest) 2 two formed in omega arith)
 
 -- no word is wanted
 alone_read : (names : List (List ℕ)) (keyword : List ℕ) (command : Command) (rest : List (List ℕ)) → words_wanted keyword ≡ Some 0
@@ -154,42 +175,40 @@ no_integer text e known =
     let no : Some known.number ≡ None = sym found ∙ e in
     cc
 
-gift_formed : (x : ℕ) (xs number : List ℕ) → number ≢ [] → IsWellFormed (codes "gift") ((x ∷ xs) ∷ number ∷ [])
-unfolding number_beside
-gift_formed x xs number some = record {
-  wanted = refl;
-  filled = All-cons (λ word. word ≢ []) (x ∷ xs) (number ∷ []) (λ e. cc) (All-cons (λ word. word ≢ []) number [] some (All-nil (λ word. word ≢ [])));
-}
-
-gift_word : (names : List (List ℕ)) (x : ℕ) (xs number : List ℕ) → number ≢ [] → (o : Option ℕ) → place_of names (x ∷ xs) ≡ o
-    → (z : Option ℤ) → integer_of number ≡ z → IsRead names (codes "gift") ((x ∷ xs) ∷ number ∷ []) (gift_to o z)
+gift_word : (names : List (List ℕ)) (name number : List ℕ) → IsWellFormed (codes "gift") (name ∷ number ∷ []) → (o : Option ℕ) → place_of names name ≡ o
+    → (z : Option ℤ) → integer_of number ≡ z → IsRead names (codes "gift") (name ∷ number ∷ []) (gift_to o z)
 unfolding IsRead
-gift_word names x xs number some None place z value =
-    (gift_formed x xs number some, λ known. unnamed_among names [] [] (x ∷ xs) place known)
-gift_word names x xs number some (Some v) place None value = (
-  gift_formed x xs number some,
-  named_alone names (x ∷ xs) v place,
+gift_word names name number formed None place z value = (formed, λ known. unnamed_among names [] [] name place known)
+gift_word names name number formed (Some v) place None value = (
+  formed,
+  named_alone names name v place,
   λ all. no_integer number value (All-head (IsNumberFor (codes "gift")) number [] all),
 )
-gift_word names x xs number some (Some v) place (Some z) value =
+gift_word names name number formed (Some v) place (Some z) value =
     let known = is_integer number z value in
-    (gift_formed x xs number some, (refl, record { name = x ∷ xs; given = ap (λ n. (x ∷ xs) ∷ n ∷ []) known.1; vertex = place; fits = known.0 }))
-
-gift_unformed : (rest : List (List ℕ)) (n : ℕ) → n ≢ 2 → length rest ≡ n → IsWellFormed (codes "gift") rest → ⊥
-unfolding number_beside
-gift_unformed rest n other size formed = let two : 2 ≡ length rest = count_of (codes "gift") rest 2 refl formed in other (omega arith)
+    (formed, (refl, record { name = name; given = ap (λ n. name ∷ n ∷ []) known.1; vertex = place; fits = known.0 }))
 
 gift_read : (names rest : List (List ℕ)) → IsRead names (codes "gift") rest (gift_of names rest)
-unfolding IsRead gift_of only_word number_beside
-gift_read names [] = (refl, gift_unformed [] 0 (λ e. omega arith) refl)
-gift_read names ([] ∷ rest) = (refl, λ formed. first_filled (codes "gift") [] rest formed refl)
-gift_read names ((x ∷ xs) ∷ []) = (refl, gift_unformed ((x ∷ xs) ∷ []) 1 (λ e. omega arith) refl)
-gift_read names ((x ∷ xs) ∷ [] ∷ rest) =
-    (refl, λ formed. All-head (λ w. w ≢ []) [] rest (Rattle.std.proofs.lemmas.List.Elements.All-tail (λ w. w ≢ []) (x ∷ xs) ([] ∷ rest) formed.filled) refl)
-gift_read names ((x ∷ xs) ∷ (y ∷ ys) ∷ []) =
-    gift_word names x xs (y ∷ ys) (λ e. cc) (place_of names (x ∷ xs)) refl (integer_of (y ∷ ys)) refl
-gift_read names ((x ∷ xs) ∷ (y ∷ ys) ∷ word ∷ rest) =
-    (refl, λ formed. let two : 2 ≡ length ((x ∷ xs) ∷ (y ∷ ys) ∷ word ∷ rest) = count_of (codes "gift") ((x ∷ xs) ∷ (y ∷ ys) ∷ word ∷ rest) 2 refl formed in omega arith)
+unfolding gift_of number_beside
+gift_read names rest =
+    two_read names (codes "gift") rest (λ name number. gift_to (place_of names name) (integer_of number)) refl
+    (λ name number formed. gift_word names name number formed (place_of names name) refl (integer_of number) refl)
+
+join_word : (names : List (List ℕ)) (first second : List ℕ) → IsWellFormed (codes "join") (first ∷ second ∷ [])
+    → (u : Option ℕ) → place_of names first ≡ u → (v : Option ℕ) → place_of names second ≡ v
+    → IsRead names (codes "join") (first ∷ second ∷ []) (join_to u v)
+unfolding IsRead
+join_word names first second formed None from v to =
+    (formed, λ known. unnamed_among names [] (others_than first (second ∷ [])) first from known)
+join_word names first second formed (Some u) from None to = (formed, λ known. second_unnamed names first second u from to known)
+join_word names first second formed (Some u) from (Some v) to =
+    (formed, (refl, record { first = first; second = second; given = refl; from = from; to = to }))
+
+join_read : (names rest : List (List ℕ)) → IsRead names (codes "join") rest (join_of names rest)
+unfolding join_of number_beside
+join_read names rest =
+    two_read names (codes "join") rest (λ first second. join_to (place_of names first) (place_of names second)) refl
+    (λ first second formed. join_word names first second formed (place_of names first) refl (place_of names second) refl)
 
 no_degree : (text : List ℕ) → degree_of text ≡ None → IsNumberWithin (pos 0) (pos (2 ^ 32 - 1)) text → ⊥
 no_degree text e known = go known.number known.spelled known.not_less known.not_more
@@ -226,10 +245,11 @@ either_read names keyword word rest here other good else = go (bytes_eq word key
 
 no_command : (names : List (List ℕ)) (word : List ℕ) (rest : List (List ℕ)) → bytes_eq word (codes "script") ≡ false
     → bytes_eq word (codes "lend") ≡ false → bytes_eq word (codes "borrow") ≡ false → bytes_eq word (codes "fire") ≡ false
-    → bytes_eq word (codes "look") ≡ false → bytes_eq word (codes "gift") ≡ false → bytes_eq word (codes "claim") ≡ false
-    → bytes_eq word (codes "commit") ≡ false → bytes_eq word (codes "rank") ≡ false → IsRead names word rest (Err Word)
+    → bytes_eq word (codes "look") ≡ false → bytes_eq word (codes "gift") ≡ false → bytes_eq word (codes "join") ≡ false
+    → bytes_eq word (codes "claim") ≡ false → bytes_eq word (codes "commit") ≡ false → bytes_eq word (codes "rank") ≡ false
+    → IsRead names word rest (Err Word)
 unfolding IsRead number_beside
-no_command names word rest no_script a b c d e f g h = rw (a, b, c, no_script, e, d, f, g, h) refl
+no_command names word rest no_script a b c d e f g h i = rw (a, b, c, no_script, e, f, d, g, h, i) refl
 
 pub command_read : (names : List (List ℕ)) (word : List ℕ) (rest : List (List ℕ)) → bytes_eq word (codes "script") ≡ false
     → IsRead names word rest (command_of names word rest)
@@ -240,10 +260,11 @@ command_read names word rest no_script =
     either_read names (codes "fire") word rest _ _ (fire_read names rest) (λ no_fire.
     either_read names (codes "look") word rest _ _ (look_read names rest) (λ no_look.
     either_read names (codes "gift") word rest _ _ (gift_read names rest) (λ no_gift.
+    either_read names (codes "join") word rest _ _ (join_read names rest) (λ no_join.
     either_read names (codes "claim") word rest _ _ (claim_read names rest) (λ no_claim.
     either_read names (codes "commit") word rest _ _ (commit_read names rest) (λ no_commit.
     either_read names (codes "rank") word rest _ _ (rank_read names rest) (λ no_rank.
-    no_command names word rest no_script no_lend no_borrow no_fire no_look no_gift no_claim no_commit no_rank))))))))
+    no_command names word rest no_script no_lend no_borrow no_fire no_look no_gift no_join no_claim no_commit no_rank)))))))))
 
 pub any_read : (names : List (List ℕ)) (word : List ℕ) (rest : List (List ℕ)) → IsRead names word rest (any_of names word rest)
 unfolding any_of

@@ -5,6 +5,7 @@
 --   IsScriptWord names word s            == the items of the word spell the script: each a name, `=` and a number
 --   IsMoveWord names move keyword word   == the command word and the word after it spell the move
 --   MeansGift names v x rest             == the two words name the vertex v and spell the number x
+--   MeansJoin names u v rest             == the two words name the vertices u and v, which may be the same
 --   Means names command keyword rest     == the command word and the words after it spell the command
 --   IsCommandLine names command line     == the line has the right form, and its words spell the command
 use Rattle.std.specs.Prelude.{◌≡◌, ℕ, ◌<◌, ◌≤◌, ◌^◌, ℤ, pos, FitsSigned, List, [], ◌∷◌, length, map, cond, Some, All, bytes_eq, codes, decimal}
@@ -18,7 +19,7 @@ use Rattle.dg_chips.specs.declared.moves.Move.{Move}
 use Rattle.dg_chips.specs.declared.moves.Move.TheVariants.{Lend, Borrow, Fire, Script}
 use Rattle.dg_game.specs.declared.step.Command.{Command}
 use Rattle.dg_game.specs.declared.step.Command.TheVariants.{Call, Commit, Rank}
-use Rattle.dg_game.specs.declared.entry.Plain.TheVariants.{Move as Play, Gift, Look, Claim}
+use Rattle.dg_game.specs.declared.entry.Plain.TheVariants.{Move as Play, Gift, Join, Look, Claim}
 use Rattle.dg_file.specs.Names.{has, place_of, name_at}
 use Rattle.dg_lines.specs.Cuts.{words, items}
 use Rattle.dg_lines.specs.CommandWords.{IsWellFormed, name_part, number_part, AreGiven}
@@ -57,9 +58,17 @@ pub record MeansGift (names : List (List ℕ)) (v : ℕ) (x : ℤ) (rest : List 
   pub vertex : place_of names name ≡ Some v
   pub fits : FitsSigned w64 x
 
+pub record MeansJoin (names : List (List ℕ)) (u v : ℕ) (rest : List (List ℕ)) : Type 0 where
+  pub first : List ℕ
+  pub second : List ℕ
+  pub given : rest ≡ first ∷ second ∷ []
+  pub from : place_of names first ≡ Some u
+  pub to : place_of names second ≡ Some v
+
 abbrev pub Means : List (List ℕ) → Command → List ℕ → List (List ℕ) → Type 0
 Means names (Call (Play move)) keyword rest = (word : List ℕ) × (rest ≡ word ∷ []) × IsMoveWord names move keyword word
 Means names (Call (Gift v x)) keyword rest = (keyword ≡ codes "gift") × MeansGift names v x rest
+Means names (Call (Join u v)) keyword rest = (keyword ≡ codes "join") × MeansJoin names u v rest
 Means names (Call Look) keyword rest = (keyword ≡ codes "look") × (rest ≡ [])
 Means names (Call Claim) keyword rest = (keyword ≡ codes "claim") × (rest ≡ [])
 Means names Commit keyword rest = (keyword ≡ codes "commit") × (rest ≡ [])

@@ -5,6 +5,8 @@
 --   play move                    == the command that plays the move
 --   at_vertex move v             == the move at the vertex v, or `Name` where there is none
 --   with_word read word          == what is read of the word, or `Form` where there is none
+--   with_two read rest           == what is read of the two words of the list, or `Form` where there are not just two or one
+--                                   is empty
 --   lend_of names rest           == the command of the words after `lend`: the name of a vertex
 --   borrow_of names rest         == the command of the words after `borrow`: the name of a vertex
 --   is_distinct given            == whether no name stands twice
@@ -24,6 +26,8 @@
 --   gift_to v dollars            == the gift to the vertex v, or `Name` or `Number` where there is none
 --   gift_of names rest           == the command of the words after `gift`: the name of a vertex and a whole number, which
 --                                   is read after the name is
+--   join_to u v                  == the join of the vertices u and v, or `Name` where there is none
+--   join_of names rest           == the command of the words after `join`: the names of two vertices
 --   rank_to k                    == the rank test of degree k, or `Number` where there is none
 --   rank_of rest                 == the command of the words after `rank`: a degree
 --   other_of names word rest     == the command of a first word that is no move's, and of the words after it
@@ -39,7 +43,7 @@ use Rattle.dg_chips.specs.declared.moves.Move.{Move}
 use Rattle.dg_chips.specs.declared.moves.Move.TheVariants.{Lend, Borrow, Fire, Script}
 use Rattle.dg_game.specs.declared.step.Command.{Command}
 use Rattle.dg_game.specs.declared.step.Command.TheVariants.{Call, Commit, Rank}
-use Rattle.dg_game.specs.declared.entry.Plain.TheVariants.{Move as Play, Gift, Look, Claim}
+use Rattle.dg_game.specs.declared.entry.Plain.TheVariants.{Move as Play, Gift, Join, Look, Claim}
 use Rattle.dg_lines.specs.declared.line.LineFault.{LineFault}
 use Rattle.dg_lines.specs.declared.line.LineFault.TheVariants.{Seat, Word, Form, Name, Number}
 use Rattle.dg_lines.specs.Cuts.{items}
@@ -64,6 +68,11 @@ at_vertex move (Some v) = Ok (play (move v))
 abbrev pub with_word : (List ℕ → Result Command LineFault) → Option (List ℕ) → Result Command LineFault
 with_word read None = Err Form
 with_word read (Some word) = read word
+
+abbrev pub with_two : (List ℕ → List ℕ → Result Command LineFault) → List (List ℕ) → Result Command LineFault
+with_two read [] = Err Form
+with_two read ([] ∷ rest) = Err Form
+with_two read ((x ∷ xs) ∷ rest) = with_word (read (x ∷ xs)) (only_word rest)
 
 unfoldable pub lend_of : List (List ℕ) → List (List ℕ) → Result Command LineFault
 lend_of names rest = with_word (λ name. at_vertex Lend (place_of names name)) (only_word rest)
@@ -123,10 +132,15 @@ gift_to (Some v) None = Err Number
 gift_to (Some v) (Some dollars) = Ok (Call (Gift v dollars))
 
 unfoldable pub gift_of : List (List ℕ) → List (List ℕ) → Result Command LineFault
-gift_of names [] = Err Form
-gift_of names ([] ∷ rest) = Err Form
-gift_of names ((x ∷ xs) ∷ rest) =
-    with_word (λ number. gift_to (place_of names (x ∷ xs)) (integer_of number)) (only_word rest)
+gift_of names rest = with_two (λ name number. gift_to (place_of names name) (integer_of number)) rest
+
+abbrev pub join_to : Option ℕ → Option ℕ → Result Command LineFault
+join_to None v = Err Name
+join_to (Some u) None = Err Name
+join_to (Some u) (Some v) = Ok (Call (Join u v))
+
+unfoldable pub join_of : List (List ℕ) → List (List ℕ) → Result Command LineFault
+join_of names rest = with_two (λ first second. join_to (place_of names first) (place_of names second)) rest
 
 abbrev pub rank_to : Option ℕ → Result Command LineFault
 rank_to None = Err Number
@@ -139,10 +153,11 @@ abbrev pub other_of : List (List ℕ) → List ℕ → List (List ℕ) → Resul
 other_of names word rest =
     cond (bytes_eq word (codes "look")) (bare (Call Look) rest)
     (cond (bytes_eq word (codes "gift")) (gift_of names rest)
+    (cond (bytes_eq word (codes "join")) (join_of names rest)
     (cond (bytes_eq word (codes "claim")) (bare (Call Claim) rest)
     (cond (bytes_eq word (codes "commit")) (bare Commit rest)
     (cond (bytes_eq word (codes "rank")) (rank_of rest)
-    (Err Word)))))
+    (Err Word))))))
 
 unfoldable pub command_of : List (List ℕ) → List ℕ → List (List ℕ) → Result Command LineFault
 command_of names word rest =

@@ -1,5 +1,6 @@
 -- The texts of replies, over the names of the vertices, in vertex order.
---   HasNames names reply          == there are as many names as the amounts of the reply, and its script, have vertices
+--   HasNames names reply          == there are as many names as the amounts of the reply, its script and its graph have
+--                                    vertices
 --   pair name amount              == `name=amount`
 --   more_pairs names amounts v    == the pairs from the vertex v on, each after a space
 --   pairs names amounts           == the pairs of all vertices, with one space between two
@@ -17,9 +18,9 @@ use Rattle.dg_chips.specs.Vector.{at}
 use Rattle.dg_game.specs.LegalLaws.{HasSize}
 use Rattle.dg_game.specs.declared.entry.Entry.{Entry}
 use Rattle.dg_game.specs.declared.entry.Reply.{Reply}
-use Rattle.dg_game.specs.declared.entry.Reply.TheVariants.{Moved, Given, Looked, Verdict, Rank, Stale, Won, NotWon, Refused}
+use Rattle.dg_game.specs.declared.entry.Reply.TheVariants.{Moved, Given, Joined, Looked, Verdict, Rank, Stale, Won, NotWon, Refused}
 use Rattle.dg_game.specs.declared.entry.Refusal.{Refusal}
-use Rattle.dg_game.specs.declared.entry.Refusal.TheVariants.{NoVertex, Empty, Script, Gift, Range}
+use Rattle.dg_game.specs.declared.entry.Refusal.TheVariants.{NoVertex, Empty, Script, Gift, Range, Loop, Valence}
 use Rattle.dg_verdict.specs.declared.verdict.Verdict.{Verdict as VerdictFound}
 use Rattle.dg_rank.specs.declared.rank_verdict.RankVerdict.{RankVerdict}
 use Rattle.dg_rank.specs.declared.rank_verdict.RankVerdict.TheVariants.{AtLeast, Below}
@@ -44,6 +45,8 @@ refusal_text Empty = codes "refused empty"
 refusal_text Script = codes "refused script"
 refusal_text Gift = codes "refused gift"
 refusal_text Range = codes "refused range"
+refusal_text Loop = codes "refused loop"
+refusal_text Valence = codes "refused valence"
 
 abbrev pub verdict_word : Bool → List ℕ
 verdict_word true = codes "winnable by "
@@ -59,7 +62,8 @@ rank_text names (Below k d) = codes "rank below " ++ decimal k ++ codes " at " +
 abbrev pub text_of : List (List ℕ) → Reply → List ℕ
 text_of names (Moved d) = codes "moved " ++ pairs names (at d)
 text_of names (Given gifts d) = codes "given " ++ decimal gifts ++ codes " " ++ pairs names (at d)
-text_of names (Looked gifts d) = codes "looked " ++ decimal gifts ++ codes " " ++ pairs names (at d)
+text_of names (Joined gifts d) = codes "joined " ++ decimal gifts ++ codes " " ++ pairs names (at d)
+text_of names (Looked gifts d graph) = codes "looked " ++ decimal gifts ++ codes " " ++ pairs names (at d)
 text_of names (Verdict x) = verdict_text names x
 text_of names (Rank x) = rank_text names x
 text_of names (Stale gifts) = codes "stale " ++ decimal gifts

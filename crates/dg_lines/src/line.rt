@@ -5,7 +5,7 @@ ghost use Rattle.dg_lines.specs.Cuts.{items, words_after};
 ghost use Rattle.dg_lines.specs.Commands.{IsCommandLine, IsScriptWord};
 ghost use Rattle.dg_lines.specs.LineFaults.{IsLineFault};
 ghost use Rattle.dg_lines.specs.Steps.{IsStepLine, IsStepFault};
-ghost use Rattle.dg_lines.specs.Read.{only_word, lend_of, borrow_of, set_of, fire_of, bare, gift_of, rank_of, command_of, IsRead, IsRefusedPairs};
+ghost use Rattle.dg_lines.specs.Read.{only_word, lend_of, borrow_of, set_of, fire_of, bare, gift_of, join_of, rank_of, command_of, IsRead, IsRefusedPairs};
 
 use crate::cuts::cut;
 use crate::number::{degree, entry, integer, seat};
@@ -83,6 +83,9 @@ fn other_command(word: &[u8], rest: Option<&[u8]>, names: &Names) -> Result<Comm
     if word == b"gift".as_slice() {
         return gift(rest, names);
     }
+    if word == b"join".as_slice() {
+        return join(rest, names);
+    }
     if word == b"claim".as_slice() {
         return bare(rest, Command::Call(Plain::Claim));
     }
@@ -153,6 +156,20 @@ fn gift(rest: Option<&[u8]>, names: &Names) -> Result<Command, LineFault>
     let v = names.place(name).ok_or(LineFault::Name)?;
     let dollars = integer(number).ok_or(LineFault::Number)?;
     Ok(Command::Call(Plain::Gift(v, dollars)))
+}
+
+#[tactic(auto, using(crate::proofs::Cutting::pieces_cut), unfolding(crate::specs::Read::join_of))]
+fn join(rest: Option<&[u8]>, names: &Names) -> Result<Command, LineFault>
+    ensures { result ≡ join_of names.now (words_after (option_copied rest.entry)) }
+{
+    let (first, more) = cut(rest.ok_or(LineFault::Form)?, b' ');
+    if first.is_empty() {
+        return Err(LineFault::Form);
+    }
+    let second = single_word(more).ok_or(LineFault::Form)?;
+    let u = names.place(first).ok_or(LineFault::Name)?;
+    let v = names.place(second).ok_or(LineFault::Name)?;
+    Ok(Command::Call(Plain::Join(u, v)))
 }
 
 #[tactic(auto, unfolding(crate::specs::Read::rank_of))]

@@ -65,7 +65,11 @@ pub fn push_reply<A: Allocator>(
             text.extend_from_slice(b"given ")?;
             push_counted(text, *gifts, names, divisor)?;
         }
-        Reply::Looked(gifts, divisor) => {
+        Reply::Joined(gifts, divisor) => {
+            text.extend_from_slice(b"joined ")?;
+            push_counted(text, *gifts, names, divisor)?;
+        }
+        Reply::Looked(gifts, divisor, _) => {
             text.extend_from_slice(b"looked ")?;
             push_counted(text, *gifts, names, divisor)?;
         }
@@ -174,6 +178,8 @@ fn push_refusal<A: Allocator>(text: &mut Vec<u8, A>, refusal: Refusal) -> Result
         Refusal::Script => text.extend_from_slice(b"refused script")?,
         Refusal::Gift => text.extend_from_slice(b"refused gift")?,
         Refusal::Range => text.extend_from_slice(b"refused range")?,
+        Refusal::Loop => text.extend_from_slice(b"refused loop")?,
+        Refusal::Valence => text.extend_from_slice(b"refused valence")?,
     }
     Ok(())
 }

@@ -1,21 +1,22 @@
 -- Amounts that are kept while a legal history is read.
 --   positions_shown   from the start on, what the replies show is the position
-use Rattle.std.proofs.Common.{◌≡◌, ℕ, List, [], ◌∷◌, ◌++◌, length, take, append_assoc, append-nil, refl, sym, ap, subst, ◌∙◌}
+use Rattle.std.proofs.Common.{◌≡◌, List, [], ◌∷◌, ◌++◌, length, take, append_assoc, append-nil, refl, sym, subst}
 use Rattle.std.proofs.Math.Seq.{take-append_seam}
 use Rattle.std.specs.List.{FoldsTo}
 use Rattle.dg_chips.specs.Opening.{Opening}
 use Rattle.dg_chips.specs.Vector.{Vector}
 use Rattle.dg_game.specs.History.{position_after}
 use Rattle.dg_game.specs.Legal.{IsLegal}
-use Rattle.dg_game.specs.Position.{Position, Shows}
+use Rattle.dg_game.specs.Position.{Shows}
 use Rattle.dg_game.specs.Replies.{Replies}
 use Rattle.dg_game.specs.Step.{after_reply}
 use Rattle.dg_game.specs.declared.entry.Entry.{Entry}
 use Rattle.dg_game.specs.declared.entry.Request.{Request}
-use Rattle.dg_game.specs.declared.entry.Request.TheVariants.{Move, Gift, Look, Claim, Judge, Rank}
+use Rattle.dg_game.specs.declared.entry.Request.TheVariants.{Move, Gift, Join, Look, Claim, Judge, Rank}
 use Rattle.dg_game.specs.declared.entry.Reply.{Reply}
-use Rattle.dg_game.specs.declared.entry.Reply.TheVariants.{Moved, Given, Looked, Verdict, Rank as RankFound, Stale, Won, NotWon, Refused}
+use Rattle.dg_game.specs.declared.entry.Reply.TheVariants.{Moved, Given, Joined, Looked, Verdict, Rank as RankFound, Stale, Won, NotWon, Refused}
 use Rattle.dg_game.proofs.ListLaws.{slice_get-seam}
+use Rattle.dg_game.proofs.StateLaws.{shows_joined}
 use Rattle.dg_game.proofs.StepLaw.{no_entry, one_more_entry}
 use Rattle.dg_observer.specs.Watched.{shown_by, PositionsAreShown}
 
@@ -25,7 +26,9 @@ shown_next o K (Move m) (Moved e) d right shows = record { size = right.size; am
 shown_next o K (Move m) (Refused refusal) d right shows = shows
 shown_next o K (Gift v x) (Given gifts e) d right shows = record { size = right.size; amounts = right.amounts }
 shown_next o K (Gift v x) (Refused refusal) d right shows = shows
-shown_next o K Look (Looked gifts e) d right shows = shows
+shown_next o K (Join u v) (Joined gifts e) d right shows = shows_joined (position_after o K) u v d shows
+shown_next o K (Join u v) (Refused refusal) d right shows = shows
+shown_next o K Look (Looked gifts e graph) d right shows = shows
 shown_next o K Claim Won d right shows = shows
 shown_next o K Claim NotWon d right shows = shows
 shown_next o K (Judge i) (Verdict x) d right shows = shows

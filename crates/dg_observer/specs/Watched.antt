@@ -1,6 +1,6 @@
 -- What three observers keep.
 --   counted n                 == one more than n, as far as 64 bits go
---   gift_counted_by reply n   == that where the reply is to an accepted gift, and n where it is not
+--   gift_counted_by reply n   == that where the reply accepts a gift, a levy or a join, and n where it does not
 --   gift_counted n e          == that for the reply of the entry e
 --   shown_by reply d          == the amounts that the reply shows as it changed them, and d where it changed nothing
 --   is_move request           == whether the request is a move
@@ -21,7 +21,7 @@ use Rattle.dg_game.specs.declared.entry.Entry.{Entry}
 use Rattle.dg_game.specs.declared.entry.Request.{Request}
 use Rattle.dg_game.specs.declared.entry.Request.TheVariants.{Move}
 use Rattle.dg_game.specs.declared.entry.Reply.{Reply}
-use Rattle.dg_game.specs.declared.entry.Reply.TheVariants.{Moved, Given, Refused}
+use Rattle.dg_game.specs.declared.entry.Reply.TheVariants.{Moved, Given, Joined, Refused}
 use Rattle.dg_observer.specs.Folds.{Folds}
 
 abbrev pub counted : ℕ → ℕ
@@ -29,6 +29,7 @@ counted n = min (n + 1) (2 ^ 64 - 1)
 
 abbrev pub gift_counted_by : Reply → ℕ → ℕ
 gift_counted_by (Given gifts d) n = counted n
+gift_counted_by (Joined gifts d) n = counted n
 gift_counted_by reply n = n
 
 abbrev pub gift_counted : ℕ → Entry → ℕ

@@ -1,4 +1,4 @@
-//! Three watches: the accepted gifts, the position, and the refused moves of each seat.
+//! Three watches: the gift count, the position, and the refused moves of each seat.
 ghost use Rattle.std.specs.Prelude.{◌≡◌};
 ghost use Rattle.dg_observer.specs.Watched.{PositionsAreShown};
 
@@ -9,7 +9,7 @@ use dg_log::Name;
 use std::alloc::AllocError;
 use std::marker::PhantomData;
 
-/// Counts the accepted gifts, as far as 64 bits go.
+/// Counts the accepted gifts, levies and joins, as far as 64 bits go.
 #[derive(Clone, Copy)]
 pub struct Gifts;
 
@@ -25,7 +25,7 @@ impl Watch for Gifts {
 
     fn step(&self, count: &u64, entry: &Entry) -> Result<u64, AllocError> {
         match entry.reply {
-            Reply::Given(..) => Ok(count.saturating_add(1)),
+            Reply::Given(..) | Reply::Joined(..) => Ok(count.saturating_add(1)),
             _ => Ok(*count),
         }
     }
@@ -48,7 +48,7 @@ impl<N: Name> Watch for Positions<N> {
 
     ghost goes_on = { λ old e next. next ≡ shown_by e.reply old };
 
-    // A move or a gift that was accepted shows the amounts after it.
+    // A move or a gift that was accepted shows the amounts after it. A join leaves them.
     fn step(&self, position: &Divisor, entry: &Entry) -> Result<Divisor, AllocError> {
         match entry.reply {
             Reply::Moved(divisor) | Reply::Given(_, divisor) => Ok(divisor),
