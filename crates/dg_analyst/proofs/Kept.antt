@@ -1,7 +1,6 @@
 -- What a seat keeps of a look that it just took.
 --   look_kept    where the last of a seat's entries is a look, the seat keeps something, which is that look's
 use Rattle.std.proofs.Common.{◌≡◌, ℕ, List, [], ◌∷◌, ◌++◌, Option, Some, None, MatchOption, ap, subst, ◌∙◌}
-use Rattle.dg_chips.specs.Opening.{Opening}
 use Rattle.dg_game.specs.declared.entry.Entry.{Entry}
 use Rattle.dg_game.specs.declared.entry.Request.TheVariants.{Look}
 use Rattle.dg_game.specs.declared.look.LookData.{LookData}
@@ -11,13 +10,13 @@ use Rattle.dg_table.proofs.Findings.{last_after}
 look_last : (ps qs : List (ℕ × Entry)) (p : ℕ × Entry) → p.1.request ≡ Look → qs ≡ ps ++ p ∷ [] → last_look qs ≡ Some p
 look_last ps qs p look more = ap last_look more ∙ last_after ps p look
 
-pub look_kept : (o : Opening) (ps qs : List (ℕ × Entry)) (p : ℕ × Entry) (look : Option LookData) → p.1.request ≡ Look →
-    qs ≡ ps ++ p ∷ [] → IsLastLook o qs look → MatchOption look ⊥ (λ x. IsLookOf o p x)
-look_kept o ps qs p None asks more none =
+pub look_kept : (ps qs : List (ℕ × Entry)) (p : ℕ × Entry) (look : Option LookData) → p.1.request ≡ Look →
+    qs ≡ ps ++ p ∷ [] → IsLastLook qs look → MatchOption look ⊥ (IsLookOf p)
+look_kept ps qs p None asks more none =
     let last : last_look qs ≡ Some p = look_last ps qs p asks more in
     cc
-look_kept o ps qs p (Some x) asks more kept =
+look_kept ps qs p (Some x) asks more kept =
     let (q, found, of) = kept in
     let last : last_look qs ≡ Some p = look_last ps qs p asks more in
     let same : q ≡ p = cc in
-    subst (λ (r : ℕ × Entry). IsLookOf o r x) same of
+    subst (λ (r : ℕ × Entry). IsLookOf r x) same of

@@ -1,8 +1,8 @@
 -- Looks, and what was found on them.
 --   LookView          == a look's entry, with its number, and what is kept of it
 --   Found A           == a look, and what was found on it: a verdict, or the answer of a rank test
---   IsTaken o x       == what is kept of the look x of a table with the opening o is that of its entry, with an amount
---                        for each vertex of its graph
+--   IsTaken o x       == what is kept of the look x of a table with the opening o is that of its entry, and has the vertices
+--                        of the opening
 --   IsJudged q x v    == the verdict v, from the vertex q, is right for the look x, its amounts on its graph; its order
 --                        is that in which the least vertex burns first, and has zeros past the last vertex
 --   IsTried x k w v   == v is the right answer of the rank test of degree k for the look x, its amounts on its graph;
@@ -19,7 +19,7 @@ use Rattle.dg_verdict.specs.Right.{IsRight}
 use Rattle.dg_verdict.specs.declared.verdict.Verdict.{Verdict}
 use Rattle.dg_game.specs.declared.entry.Entry.{Entry}
 use Rattle.dg_game.specs.declared.look.LookData.{LookData}
-use Rattle.dg_table.specs.Looks.{IsLookOf}
+use Rattle.dg_table.specs.Looks.{HasVertices, IsLookOf}
 
 pub record LookView : Type 0 where
   pub receipt : ℕ × Entry
@@ -30,8 +30,8 @@ pub record Found (A : Type 0) : Type 0 where
   pub verdict : A
 
 pub record IsTaken (o : Opening) (x : LookView) : Type 0 where
-  pub look : IsLookOf o x.receipt x.shown
-  pub size : x.shown.position.size ≡ x.shown.graph.size
+  pub look : IsLookOf x.receipt x.shown
+  pub vertices : HasVertices o.graph.size x.shown
 
 pub record IsJudged (q : ℕ) (x : LookView) (v : Verdict) : Type 0 where
   pub right : IsRight x.shown.graph q (at x.shown.position) v

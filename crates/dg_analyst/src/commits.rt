@@ -11,9 +11,9 @@ use dg_table::{Fault, Seat, Table};
 use std::alloc::Global;
 use std::sync::Wait;
 
-/// Enters a verdict that was reckoned on a look: as stale just where gifts were accepted since the look; otherwise as
-/// a verdict that is right for the position at its place in the one history, with the reduced divisor and the burning
-/// order that were found. The seat is told of the look, and need not be the one that looked.
+/// Enters a verdict that was reckoned on a look: as stale just where gifts, levies or joins were accepted since the look;
+/// otherwise as a verdict that is right for the position at its place in the one history, with the reduced divisor and the
+/// burning order that were found. The seat is told of the look, and need not be the one that looked.
 ///
 /// It waits for the lock, but nothing is reckoned under it that was found before. Refused with `OutOfMemory`, before it
 /// waits; with `Full`; and with `Log`, also where the history has no entry of the look's number. What was reckoned
@@ -38,9 +38,9 @@ pub fn commit<N: Name>(
     }
 }
 
-/// Enters the answer of a rank test on a look: as stale just where gifts were accepted since the look; otherwise as it
-/// was found, and it is right for the position at its place in the one history. The seat is told of the look, and need
-/// not be the one that looked.
+/// Enters the answer of a rank test on a look: as stale just where gifts, levies or joins were accepted since the look;
+/// otherwise as it was found, and it is right for the position at its place in the one history. The seat is told of the
+/// look, and need not be the one that looked.
 ///
 /// It waits and is refused as `commit`. What was tried comes back, the seat knows what it knew, and there is no entry.
 pub fn commit_rank<N: Name>(

@@ -38,7 +38,7 @@ impl<N: Name> Look<N> {
         &self.receipt
     }
 
-    /// How many gifts were accepted before the look.
+    /// How many gifts, levies and joins were accepted before the look.
     pub fn gifts(&self) -> u32
         ensures { result ≡ self.now.shown.gifts }
     {

@@ -88,8 +88,8 @@ impl<N: Name> Tried<N> {
     }
 }
 
-/// The verdict on the amounts that a look showed, reckoned from the vertex of the start. It takes no lock, and needs no
-/// memory.
+/// The verdict on the amounts that a look showed, on its graph, reckoned from the vertex of the start. It takes no lock,
+/// and needs no memory.
 pub fn reckon<N: Name>(look: Look<N>) -> Reckoned<N>
     ensures look { result.look ≡ look }
     ensures judged { IsJudged N.start.q look result.verdict }
@@ -98,7 +98,8 @@ pub fn reckon<N: Name>(look: Look<N>) -> Reckoned<N>
     reckon_aimed(look, &aim)
 }
 
-/// The verdict as `reckon` gives it, whatever is aimed by: the aim of the look's table saves the time to make one anew.
+/// The verdict as `reckon` gives it, whatever is aimed by: the aim of the look's table saves the time to make one anew,
+/// where no edge was added before the look.
 pub fn reckon_aimed<N: Name>(look: Look<N>, aim: &Aim) -> Reckoned<N>
     ensures look { result.look ≡ look }
     ensures judged { IsJudged N.start.q look result.verdict }
@@ -108,8 +109,8 @@ pub fn reckon_aimed<N: Name>(look: Look<N>, aim: &Aim) -> Reckoned<N>
     Reckoned { look, verdict }
 }
 
-/// The rank test of degree k for the amounts that a look showed, as `rank_with` makes it from the vertex of the start,
-/// with so many workers and this gate. It takes no lock of a table.
+/// The rank test of degree k for the amounts that a look showed, on its graph, as `rank_with` makes it from the vertex of
+/// the start, with so many workers and this gate. It takes no lock of a table.
 ///
 /// Refused with `TooMany` where the degree is above 1,000 or there are more than 200,000 trials; then with `Workers`
 /// where their number is not 1 to 16; then with `OutOfMemory`, and with `Spawn` where a thread could not be started.

@@ -12,6 +12,7 @@ use Rattle.std.specs.List.{slice_index}
 use Rattle.std.specs.Global.{Vec}
 use Rattle.std.proofs.lemmas.Option.{none-some}
 use Rattle.std.proofs.Math.Seq.{take-append_seam}
+use Rattle.dg_theory.specs.Multigraph.{Multigraph}
 use Rattle.dg_chips.specs.Opening.{Opening}
 use Rattle.dg_chips.specs.Vector.{Vector, at}
 use Rattle.dg_game.specs.Position.{Shows}
@@ -20,6 +21,7 @@ use Rattle.dg_game.specs.Legal.{IsLegal}
 use Rattle.dg_lines.specs.Texts.{pairs, AllHaveNames}
 use Rattle.dg_lines.proofs.Printing.{legal_named}
 use Rattle.dg_game.specs.declared.entry.Entry.{Entry}
+use Rattle.dg_game.proofs.StepLaw.{vertices_stay}
 use Rattle.dg_table.specs.Seats.{SeatView, entries_of}
 use Rattle.dg_table.specs.Opened.{AreFresh}
 use Rattle.dg_table.specs.Closing.{IsClosed, AreTotals}
@@ -82,10 +84,10 @@ calls_are H s (suc n) (count ∷ calls) enough each =
     ap (λ c. seat_text s c ++ calls_text (s + 1) (take n calls)) first
     ∙ ap (λ t. seat_text s (length (entries_of s H)) ++ t) (calls_are H (s + 1) n calls (omega (arith, enough)) rest)
 
-call_counts : (o : Opening) (n cap : ℕ) (ys : List SeatView) (H : List Entry) (entries gifts : ℕ) (position : Vector) (calls : List ℕ)
-    → IsClosed o n cap ys H → AreTotals o n ys H entries gifts position calls
+call_counts : (o : Opening) (n cap : ℕ) (ys : List SeatView) (H : List Entry) (entries gifts : ℕ) (graph : Multigraph) (position : Vector) (calls : List ℕ)
+    → IsClosed o n cap ys H → AreTotals o n ys H entries gifts graph position calls
     → (k : ℕ) → k < n → slice_index calls k ≡ length (entries_of (1 + k) H)
-call_counts o n cap ys H entries gifts position calls closed totals k less =
+call_counts o n cap ys H entries gifts graph position calls closed totals k less =
     let has = closed.complete (k + 1) (omega arith) (omega (arith, less)) in
     let same : k + 1 ≡ 1 + k = omega arith in
     totals.calls' has.0 has.1 has.2 k has.3
@@ -101,8 +103,7 @@ pub read_named : (names : List (List ℕ)) (o : Opening) (H history : List Entry
 read_named names o H history read fit legal = legal_named names o history fit (rw read legal)
 
 pub shown_size : (o : Opening) (H : List Entry) (position : Vector) → Shows (position_after o H) position → o.graph.size ≡ position.size
-unfolding position_after
-shown_size o H position shown = sym shown.size
+shown_size o H position shown = sym (shown.size ∙ vertices_stay o H)
 
 -- the totals of a history, with other lines of seats
 abbrev audit_with : List (List ℕ) → List Entry → Vector → List ℕ → List ℕ
@@ -111,12 +112,12 @@ audit_with names H position seats =
     ++ pairs names (at position) ++ codes "\n" ++ seats
 
 whole : (o : Opening) (cap : ℕ) (names scripts : List (List ℕ)) (n : ℕ) (xs ys : List SeatView)
-    (ends : List (Result ℕ SessionEnd)) (H : List Entry) (entries gifts : ℕ) (position : Vector) (calls text : List ℕ)
+    (ends : List (Result ℕ SessionEnd)) (H : List Entry) (entries gifts : ℕ) (graph : Multigraph) (position : Vector) (calls text : List ℕ)
     → length scripts ≡ n → AreFresh n xs → AreSessions o n cap names scripts xs ys ends → IsClosed o n cap ys H
-    → AreTotals o n ys H entries gifts position calls → n ≤ length calls
+    → AreTotals o n ys H entries gifts graph position calls → n ≤ length calls
     → text ≡ entries_text names 0 H ++ totals_text names entries gifts position (take n calls)
     → IsParty o cap names scripts ends text
-whole o cap names scripts n xs ys ends H entries gifts position calls text many fresh are closed totals enough printed =
+whole o cap names scripts n xs ys ends H entries gifts graph position calls text many fresh are closed totals enough printed =
     record {
       history = H;
       is = rw many closed.history;
@@ -140,7 +141,7 @@ whole o cap names scripts n xs ys ends H entries gifts position calls text many 
           ∙ ap (λ k. entries_text names 0 H ++ totals_text names k gifts position (take n calls)) totals.entries'
           ∙ ap (λ k. entries_text names 0 H ++ totals_text names (length H) k position (take n calls)) totals.gifts'
           ∙ ap (λ t. entries_text names 0 H ++ audit_with names H position t)
-          (calls_are H 1 n calls enough (call_counts o n cap ys H entries gifts position calls closed totals)
+          (calls_are H 1 n calls enough (call_counts o n cap ys H entries gifts graph position calls closed totals)
           ∙ ap (λ k. seats_text 1 k H) (sym many));
     }
 
@@ -157,15 +158,15 @@ seats_kept o seats cap names (c ∷ cs) (x ∷ xs) [] ends are = elim are [ ]
 seats_kept o seats cap names (c ∷ cs) (x ∷ xs) (y ∷ ys) [] are = elim are [ ]
 
 pub whole_lent : (o : Opening) (cap : ℕ) (names scripts : List (List ℕ)) (n m len : ℕ) (opened xs ys rest : List SeatView)
-    (ends : List (Result ℕ SessionEnd)) (H history : List Entry) (entries gifts : ℕ) (position : Vector) (calls text : List ℕ)
+    (ends : List (Result ℕ SessionEnd)) (H history : List Entry) (entries gifts : ℕ) (graph : Multigraph) (position : Vector) (calls text : List ℕ)
     → length scripts ≡ n → n ≡ m → AreFresh n opened → xs ≡ opened → len ≡ length opened → AreSessions o m cap names scripts xs ys ends
-    → IsClosed o m cap (take len (ys ++ rest)) H × AreTotals o m (take len (ys ++ rest)) H entries gifts position calls
+    → IsClosed o m cap (take len (ys ++ rest)) H × AreTotals o m (take len (ys ++ rest)) H entries gifts graph position calls
     → n ≤ length calls → history ≡ H
     → text ≡ entries_text names 0 history ++ totals_text names entries gifts position (take n calls)
     → IsParty o cap names scripts ends text
-whole_lent o cap names scripts n m len opened xs ys rest ends H history entries gifts position calls text many same fresh lent counted are closed enough read printed =
+whole_lent o cap names scripts n m len opened xs ys rest ends H history entries gifts graph position calls text many same fresh lent counted are closed enough read printed =
     let all : length ys ≡ len = seats_kept o m cap names scripts xs ys ends are ∙ ap length lent ∙ sym counted in
     let front : take len (ys ++ rest) ≡ ys = ap (λ k. take k (ys ++ rest)) (sym all) ∙ take-append_seam ys rest in
-    whole o cap names scripts n xs ys ends H entries gifts position calls text many (rw lent fresh) (rw same are)
+    whole o cap names scripts n xs ys ends H entries gifts graph position calls text many (rw lent fresh) (rw same are)
     (rw (same, ← front) closed.0) (rw (same, ← front) closed.1) enough
     (printed ∙ ap (λ K. entries_text names 0 K ++ totals_text names entries gifts position (take n calls)) read)

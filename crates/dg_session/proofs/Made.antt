@@ -21,7 +21,6 @@ use Rattle.dg_rank.specs.Limits.{IsPastLimits}
 use Rattle.dg_rank.proofs.CountedOnce.{counted_once}
 use Rattle.dg_rank.specs.declared.rank_verdict.RankVerdict.{RankVerdict}
 use Rattle.dg_rank.specs.declared.rank_verdict.RankVerdict.TheVariants.{AtLeast, Below}
-use Rattle.dg_theory.specs.Multigraph.{Multigraph}
 use Rattle.dg_game.specs.Look.{degree_of, asked_for}
 use Rattle.dg_game.specs.Schedule.{asked}
 use Rattle.dg_game.specs.declared.entry.Entry.{Entry}
@@ -111,7 +110,7 @@ rank_made o seats cap look found k w v r x y same taken tried settled =
     (settled_made o seats cap look found (Ranked v) r x y same taken settled)
 
 pub rank_within : (o : Opening) (look : LookView) (k : ℕ) → IsTaken o look → IsWithin look.shown.graph.size k → IsWithin o.graph.size k
-rank_within o look k taken within = subst (λ (g : Multigraph). IsWithin g.size k) taken.look.graph within
+rank_within o look k taken within = subst (λ n. IsWithin n k) taken.vertices.0 within
 
 past_within : (n k : ℕ) → IsPastLimits n k → IsWithin n k → ⊥
 past_within n k past (c, within) = elim past [
@@ -126,7 +125,7 @@ past_within n k past (c, within) = elim past [
 ]
 
 pub rank_past : (o : Opening) (look : LookView) (k : ℕ) → IsTaken o look → IsPastLimits look.shown.graph.size k → IsWithin o.graph.size k → ⊥
-rank_past o look k taken past = past_within o.graph.size k (subst (λ (g : Multigraph). IsPastLimits g.size k) taken.look.graph past)
+rank_past o look k taken past = past_within o.graph.size k (subst (λ n. IsPastLimits n k) taken.vertices.0 past)
 
 pub at_most : (o : Opening) (names : List (List ℕ)) (kept : Option ℕ) (request : Request) (r : ℕ × Entry) (x y : SeatView)
     → Stands o request r x y → MadeAtMost (Enters names kept request) x y
@@ -213,6 +212,7 @@ call_keeps : (kept : Option ℕ) (n : ℕ) (call : Plain) → call ≢ plain.Loo
 call_keeps kept n plain.Look other = absurd (other refl)
 call_keeps kept n (plain.Move m) other = refl
 call_keeps kept n (plain.Gift v x) other = refl
+call_keeps kept n (plain.Join u v) other = refl
 call_keeps kept n plain.Claim other = refl
 
 pub call_done : (o : Opening) (names : List (List ℕ)) (kept : Option ℕ) (call : Plain) (r : ℕ × Entry) (x y : SeatView) (old new : List ℕ)

@@ -2,7 +2,7 @@
 --   settler_moves    a settler's moves can be made
 --   strategy_turn    a turn by a choice whose moves can be made
 --   settler_turn     a turn by a choice that settles debts
-use Rattle.std.proofs.Common.{◌≡◌, ℕ, ◌<◌, Option, Some, None, arith, refl, ap, subst, ◌∙◌}
+use Rattle.std.proofs.Common.{◌≡◌, ℕ, ◌<◌, [], ◌∷◌, Option, Some, None, arith, refl, ap, subst, ◌∙◌}
 use Rattle.dg_theory.specs.Firing.{IsEffective}
 use Rattle.dg_graph.specs.Graph.{IsGraph}
 use Rattle.dg_chips.specs.Opening.{Opening}
@@ -15,11 +15,13 @@ use Rattle.dg_game.specs.Position.{Position}
 use Rattle.dg_game.specs.MoveReplies.{RepliesToMove}
 use Rattle.dg_game.specs.Replies.{Replies, RepliesToClaim}
 use Rattle.dg_game.specs.declared.entry.Entry.{Entry}
-use Rattle.dg_game.specs.declared.entry.Refusal.TheVariants.{NoVertex, Empty, Script as OtherScript, Gift, Range}
+use Rattle.dg_game.specs.declared.entry.Refusal.TheVariants.{NoVertex, Empty, Script as OtherScript, Range}
 use Rattle.dg_game.specs.declared.entry.Reply.{Reply}
 use Rattle.dg_game.specs.declared.entry.Reply.TheVariants.{Moved, Refused, Won, NotWon}
 use Rattle.dg_game.specs.declared.entry.Request.TheVariants as request
 use Rattle.dg_game.proofs.HistoryLaws.{gifts_in-more}
+use Rattle.dg_game.proofs.LegalLaws.{legal_part}
+use Rattle.dg_game.proofs.GraphLaws.{graphs_hold}
 use Rattle.dg_table.specs.Seats.{SeatView}
 use Rattle.dg_table.specs.Turns.{request_for}
 use Rattle.dg_strategy.specs.Choices.{Choosing, GivesMoves, SettlesDebts, BorrowsInDebt}
@@ -41,8 +43,8 @@ move_answered p (Lend v) (Refused OtherScript) playable replies = absurd replies
 move_answered p (Borrow v) (Refused OtherScript) playable replies = absurd replies
 move_answered p (Fire m) (Refused OtherScript) playable replies = absurd replies
 move_answered p (Script s) (Refused OtherScript) playable replies = absurd (replies playable)
-move_answered p m (Refused Gift) playable replies = absurd replies
 move_answered p m (Refused Range) playable replies = (tt, refl)
+move_answered p m (Refused refusal) playable replies = absurd replies
 move_answered p m reply playable replies = absurd replies
 
 -- a claim gives nothing
@@ -64,12 +66,18 @@ settler_moves A settles g d m graph size may = borrows m (settles.moves g d m gr
     borrows (Borrow v) debt = subst (λ n. v < n) size debt.0
     borrows m debt = absurd debt
 
-module _ (A : Choosing) (o : Opening) (seats cap : ℕ) (graph : IsGraph o.graph) (x : SeatView) (r : ℕ × Entry) (y : SeatView) where
+-- the graph that a turn finds is within the limits
+graph_found : (A : Choosing) (o : Opening) (seats cap : ℕ) (x : SeatView) (r : ℕ × Entry) (y : SeatView) → IsGraph o.graph →
+    (turn : IsTurnBy A o seats cap x r y) → IsGraph (position_after o turn.history).graph
+graph_found A o seats cap x r y graph turn =
+    graphs_hold o turn.history graph (legal_part o turn.history (r.1 ∷ []) turn.answered.history.legal)
+
+module _ (A : Choosing) (o : Opening) (seats cap : ℕ) (opening : IsGraph o.graph) (x : SeatView) (r : ℕ × Entry) (y : SeatView) where
   -- the reply to what was answered, and what is known of it where the answer is a move that can be made
   answered : (gives : GivesMoves A) (turn : IsTurnBy A o seats cap x r y) (m : Option Move) → turn.answer ≡ m →
       (IsMove r.1.request → IsMadeOrPastRange r.1.reply) × (gift_counted r.1.reply ≡ 0)
-  unfolding position_after
   answered gives turn (Some m) is =
+      let graph = graph_found A o seats cap x r y opening turn in
       let chosen = rw is at turn.chosen in
       let asked : r.1.request ≡ request.Move m = turn.answered.request' ∙ ap request_for is in
       let replies : Replies o turn.history (request.Move m) r.1.reply =
@@ -93,8 +101,9 @@ module _ (A : Choosing) (o : Opening) (seats cap : ℕ) (graph : IsGraph o.graph
       }
 
   pub settler_turn : SettlesDebts A → IsTurnBy A o seats cap x r y → IsSettlerTurn A o seats cap x r y
-  unfolding position_after strategy_turn
+  unfolding strategy_turn
   settler_turn settles turn =
+      let graph = graph_found A o seats cap x r y opening turn in
       let kept = strategy_turn (settler_moves A settles) turn in
       let p = position_after o turn.history in
       let won : turn.answer ≡ None → r.1.reply ≡ Won = λ is.

@@ -4,7 +4,7 @@
 --   look_kept        what is kept of the last look, with an entry that is no look
 --   look_seen        what is kept of a look, once it is the last entry of a seat
 --   look_of          what is kept of the last of entries, where that is a look
---   looked_size      a right reply to a look shows an amount for each vertex of the start
+--   looked_vertices  a right reply to a look shows the vertices of the start
 --   stale_both       the reply to a finding on an entry is stale just where a gift was accepted after it
 --   carried_over     where none was, the finding is carried to the position now
 --   look_stands      what is kept of an entry of a legal history that is a look, is of a look of it
@@ -13,8 +13,8 @@ use Rattle.std.specs.List.{filter, last_or}
 use Rattle.std.proofs.lemmas.List.{append-nil}
 use Rattle.std.proofs.lemmas.Option.{same_Some}
 use Rattle.std.proofs.lemmas.List.Elements.{filter-append}
+use Rattle.dg_theory.specs.Multigraph.{Multigraph}
 use Rattle.dg_chips.specs.Opening.{Opening}
-use Rattle.dg_chips.specs.Vector.{Vector}
 use Rattle.dg_game.specs.History.{position_after, gifts_in}
 use Rattle.dg_game.specs.Legal.{IsLegal}
 use Rattle.dg_game.specs.Look.{IsLookAt, asked_for, KeepsFinding}
@@ -29,7 +29,7 @@ use Rattle.dg_game.specs.declared.look.LookData.{LookData}
 use Rattle.dg_game.proofs.LegalLaws.{legal_looks}
 use Rattle.dg_game.proofs.StepLaw.{vertices_stay}
 use Rattle.dg_table.specs.Lock.{IsKept}
-use Rattle.dg_table.specs.Looks.{LastLook, IsLastLook, IsLookOf, is_look, last_look, asks_look}
+use Rattle.dg_table.specs.Looks.{LastLook, HasVertices, IsLastLook, IsLookOf, is_look, last_look, asks_look}
 use Rattle.dg_table.specs.Settled.{IsCarriedTo}
 
 last_or-snoc : {A : Type 0} (o : Option A) (xs : List A) (x : A) → last_or o (xs ++ x ∷ []) ≡ Some x
@@ -48,22 +48,26 @@ last_kept ps p test =
 
 pub look_kept : (o : Opening) (ps : List (ℕ × Entry)) (p : ℕ × Entry) (look : Option LookData) → is_look p ≡ false → IsKept o ps look →
     IsKept o (ps ++ p ∷ []) look
-look_kept o ps p None test kept = record { last = last_kept ps p test ∙ kept.last; size = tt }
+look_kept o ps p None test kept = record { last = last_kept ps p test ∙ kept.last; vertices = tt }
 look_kept o ps p (Some x) test kept =
     let (q, last, of) = kept.last in
-    record { last = (q, last_kept ps p test ∙ last, of); size = kept.size }
+    record { last = (q, last_kept ps p test ∙ last, of); vertices = kept.vertices }
 
-pub look_seen : (o : Opening) (ps : List (ℕ × Entry)) (p : ℕ × Entry) (x : LookData) → IsLookOf o p x → x.position.size ≡ o.graph.size →
+pub look_seen : (o : Opening) (ps : List (ℕ × Entry)) (p : ℕ × Entry) (x : LookData) → IsLookOf p x → HasVertices o.graph.size x →
     IsKept o (ps ++ p ∷ []) (Some x)
-look_seen o ps p x of size = record { last = (p, last_after ps p of.look, of); size = size }
+look_seen o ps p x of vertices = record { last = (p, last_after ps p of.look, of); vertices = vertices }
 
-pub look_of : (o : Opening) (ps : List (ℕ × Entry)) (p : ℕ × Entry) (x : LookData) → p.1.request ≡ Look →
-    IsLastLook o (ps ++ p ∷ []) (Some x) → IsLookOf o p x
-look_of o ps p x look (q, last, of) =
-    subst (λ (r : ℕ × Entry). IsLookOf o r x) (same_Some q p (sym last ∙ last_after ps p look)) of
+pub look_of : (ps : List (ℕ × Entry)) (p : ℕ × Entry) (x : LookData) → p.1.request ≡ Look →
+    IsLastLook (ps ++ p ∷ []) (Some x) → IsLookOf p x
+look_of ps p x look (q, last, of) =
+    subst (λ (r : ℕ × Entry). IsLookOf r x) (same_Some q p (sym last ∙ last_after ps p look)) of
 
-pub looked_size : (o : Opening) (H : List Entry) (gifts : ℕ) (d : Vector) → Replies o H Look (Looked gifts d) → d.size ≡ o.graph.size
-looked_size o H gifts d right = right.1.size ∙ vertices_stay o H
+pub looked_vertices : (o : Opening) (H : List Entry) (x : LookData) → Replies o H Look (Looked x.gifts x.position x.graph) →
+    HasVertices o.graph.size x
+looked_vertices o H x right =
+    let (count, shows, graph) = right in
+    let size : x.graph.size ≡ o.graph.size = ap (λ (g : Multigraph). g.size) graph ∙ vertices_stay o H in
+    (size, shows.size ∙ vertices_stay o H)
 
 pub stale_both : (o : Opening) (H : List Entry) (i : ℕ) (f : Finding) (reply : Reply) → Replies o H (asked_for i f) reply →
     (gifts_in (take i H) ≢ gifts_in H) ↔ (reply ≡ Stale (gifts_in H))
@@ -81,7 +85,7 @@ carried_over o H i (Ranked v) (RankReply w) kept right same = right.1
 carried_over o H i (Ranked v) (Stale count) kept right same = right.0 same
 carried_over o H i f reply kept right same = absurd right
 
-pub look_stands : (o : Opening) (H : List Entry) (p : ℕ × Entry) (x : LookData) → IsLegal o H → IsLookOf o p x →
+pub look_stands : (o : Opening) (H : List Entry) (p : ℕ × Entry) (x : LookData) → IsLegal o H → IsLookOf p x →
     slice_get H p.0 ≡ Some p.1 → IsLookAt o H x
 look_stands o H p x legal of stands =
-    legal_looks o H p.1 x legal (ap (slice_get H) of.number ∙ stands) of.look of.shown of.graph
+    legal_looks o H p.1 x legal (ap (slice_get H) of.number ∙ stands) of.look of.shown

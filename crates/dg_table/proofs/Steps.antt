@@ -86,7 +86,7 @@ answered {o} {n} {cap} {H} {x} e y replies history holds own number mine told pa
 }
 
 pub settled : (o : Opening) (n cap : ℕ) (H : List Entry) (look : ℕ × Entry) (x : LookData) (f : Finding) (r : ℕ × Entry) (s m t : SeatView) →
-    IsAnsweredAfter o n cap H (asked_for x.number f) r s m → IsLookOf o look x → slice_get H look.0 ≡ Some look.1 → KeepsFinding f r.1.reply →
+    IsAnsweredAfter o n cap H (asked_for x.number f) r s m → IsLookOf look x → slice_get H look.0 ≡ Some look.1 → KeepsFinding f r.1.reply →
     t.number ≡ m.number → t.mine ≡ m.mine → t.told ≡ m.told ++ look ∷ [] → t.past ≡ m.past → IsSettledAfter o n cap H look x f r s t
 settled o n cap H look x f r s m t answered of stands kept number mine told past =
     let hears : t.told ≡ s.told ++ look ∷ [] = told ∙ ap (λ ps. ps ++ look ∷ []) answered.told in

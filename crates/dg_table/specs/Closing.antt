@@ -4,7 +4,8 @@
 --   AllHeld H xs                 == the history H holds what each of the seats xs knows
 --   IsClosed o n cap xs H        == H is a history of the table, with at most cap entries, and holds what each of the seats xs
 --                                   knows, among which are all n
---   AreTotals o n xs H e g d c   == e, g and d are the number of entries of H, its gift count and the amounts after it;
+--   AreTotals o n xs H e g h d c == e, g, h and d are the number of entries of H, its gift count, and the graph and the
+--                                   amounts after it;
 --                                   c has at each seat's place, from 0, the number of its calls, and 0 past the n
 --                                   seats; together they are the number of entries
 --   IsMissing n xs s             == s is the least of the seats 1 to n that is not among xs
@@ -14,6 +15,7 @@
 --   IsRefused o n cap xs s       == after some history of the table the close with the seats xs is refused with s
 use Rattle.std.specs.Prelude.{◌≡◌, ℕ, ◌+◌, ◌<◌, ◌≤◌, List, length, slice_get, Some, ◌⊎◌, sum}
 use Rattle.std.specs.List.{slice_index}
+use Rattle.dg_theory.specs.Multigraph.{Multigraph}
 use Rattle.dg_chips.specs.Opening.{Opening}
 use Rattle.dg_chips.specs.Vector.{Vector}
 use Rattle.dg_game.specs.Position.{Shows}
@@ -37,10 +39,11 @@ pub record IsClosed (o : Opening) (n cap : ℕ) (xs : List SeatView) (H : List E
   pub complete : IsComplete n xs
   pub held : AllHeld H xs
 
-pub record AreTotals (o : Opening) (n : ℕ) (xs : List SeatView) (H : List Entry) (entries gifts : ℕ) (position : Vector)
-    (calls : List ℕ) : Type 0 where
+pub record AreTotals (o : Opening) (n : ℕ) (xs : List SeatView) (H : List Entry) (entries gifts : ℕ) (graph : Multigraph)
+    (position : Vector) (calls : List ℕ) : Type 0 where
   pub entries' : entries ≡ length H
   pub gifts' : gifts ≡ gifts_in H
+  pub graph' : graph ≡ (position_after o H).graph
   pub position' : Shows (position_after o H) position
   pub calls' : (i : ℕ) (x : SeatView) → slice_get xs i ≡ Some x → (s : ℕ) → x.number ≡ s + 1 →
       slice_index calls s ≡ length x.mine

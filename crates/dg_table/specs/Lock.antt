@@ -4,8 +4,7 @@
 --                                 seats 1 to n
 --   IsReady cap H x            == the history H has room for an entry of the seat x, which is admissible, and holds what
 --                                 it knows
---   IsKept o ps look           == the look that is kept is the last of the entries ps, and shows an amount for each
---                                 vertex of the opening o
+--   IsKept o ps look           == the look that is kept is the last of the entries ps, and has the vertices of the opening o
 --   IsSeated o n cap s ps qs H d look   == what the seat s of n keeps fits together: the history H that it found is one of the
 --                                      table, with the entries ps as its own; the digest d is of the entries qs that it was told
 --                                      of, and look is its last look
@@ -19,7 +18,7 @@ use Rattle.dg_game.specs.declared.entry.TheConstants.{MAX_SEATS}
 use Rattle.dg_game.specs.declared.game.TheConstants.{MAX_ENTRIES}
 use Rattle.dg_game.specs.declared.look.LookData.{LookData}
 use Rattle.dg_table.specs.Histories.{IsHistoryOf}
-use Rattle.dg_table.specs.Looks.{IsLastLook}
+use Rattle.dg_table.specs.Looks.{HasVertices, IsLastLook}
 use Rattle.dg_table.specs.Seats.{SeatView, Holds, IsAdmissible, AreSeated, entries_of}
 
 abbrev pub AreCounted : List ℕ → List Entry → Type 0
@@ -41,8 +40,8 @@ pub record IsReady (cap : ℕ) (H : List Entry) (x : SeatView) : Type 0 where
   pub holds : Holds H x
 
 pub record IsKept (o : Opening) (ps : List (ℕ × Entry)) (look : Option LookData) : Type 0 where
-  pub last : IsLastLook o ps look
-  pub size : IfSome look (λ x. x.position.size ≡ o.graph.size)
+  pub last : IsLastLook ps look
+  pub vertices : IfSome look (HasVertices o.graph.size)
 
 pub record IsSeated (o : Opening) (n cap s : ℕ) (ps qs : List (ℕ × Entry)) (H : List Entry) (d : List (ℕ × Entry))
     (look : Option LookData) : Type 0 where

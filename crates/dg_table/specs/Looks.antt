@@ -2,13 +2,13 @@
 --   asks_look request    == whether the request is for a look
 --   is_look p            == whether the entry p, with its number, asks for a look
 --   last_look ps         == the last of the entries ps that is a look, if there is one
---   IsLookOf o p x       == the entry p is a look, and x holds its number, and the gift count and the amounts that it
---                           showed; any drift. No entry shows a graph, and none changes it: it is that of the opening o
---   IsLastLook o ps look == what is kept is that of the last look among the entries ps; nothing where there is none
+--   IsLookOf p x         == the entry p is a look, and x holds its number, and the gift count, the amounts and the graph that
+--                           it showed; any drift
+--   HasVertices n x      == the graph of the look x has n vertices, and x holds an amount for each
+--   IsLastLook ps look   == what is kept is that of the last look among the entries ps; nothing where there is none
 --   LastLook             == after a look there is a last look, and it is that look
 use Rattle.std.specs.Prelude.{◌≡◌, ℕ, List, [], ◌∷◌, ◌++◌, Option, Some, None, Bool, true, false, MatchOption}
 use Rattle.std.specs.List.{filter, last_or}
-use Rattle.dg_chips.specs.Opening.{Opening}
 use Rattle.dg_game.specs.declared.entry.Entry.{Entry}
 use Rattle.dg_game.specs.declared.entry.Request.{Request}
 use Rattle.dg_game.specs.declared.entry.Request.TheVariants.{Look}
@@ -25,16 +25,18 @@ is_look p = asks_look p.1.request
 abbrev pub last_look : List (ℕ × Entry) → Option (ℕ × Entry)
 last_look ps = last_or None (filter is_look ps)
 
-pub record IsLookOf (o : Opening) (p : ℕ × Entry) (x : LookData) : Type 0 where
+pub record IsLookOf (p : ℕ × Entry) (x : LookData) : Type 0 where
   pub look : p.1.request ≡ Look
-  pub shown : p.1.reply ≡ Looked x.gifts x.position
+  pub shown : p.1.reply ≡ Looked x.gifts x.position x.graph
   pub number : x.number ≡ p.0
-  pub graph : x.graph ≡ o.graph
 
-abbrev pub IsLastLook : Opening → List (ℕ × Entry) → Option LookData → Type 0
-IsLastLook o ps look = MatchOption look
+abbrev pub HasVertices : ℕ → LookData → Type 0
+HasVertices n x = (x.graph.size ≡ n) × (x.position.size ≡ n)
+
+abbrev pub IsLastLook : List (ℕ × Entry) → Option LookData → Type 0
+IsLastLook ps look = MatchOption look
     (last_look ps ≡ None)
-    (λ x. (p : ℕ × Entry) × (last_look ps ≡ Some p) × IsLookOf o p x)
+    (λ x. (p : ℕ × Entry) × (last_look ps ≡ Some p) × IsLookOf p x)
 
 abbrev pub LastLook : Type 0
 LastLook = (ps : List (ℕ × Entry)) (p : ℕ × Entry) → p.1.request ≡ Look → last_look (ps ++ p ∷ []) ≡ Some p

@@ -3,6 +3,7 @@ ghost use Rattle.std.specs.Prelude.{◌≡◌, IfOk};
 
 use dg_chips::Divisor;
 use dg_game::Entry;
+use dg_graph::Graph;
 use dg_log::{Log, Name, Pen};
 use std::alloc::{AllocError, Global};
 
@@ -11,8 +12,10 @@ use std::alloc::{AllocError, Global};
 pub struct Audit<N: Name> {
     /// How many entries there are.
     pub entries: u32,
-    /// How many gifts were accepted.
+    /// How many gifts, levies and joins were accepted.
     pub gifts: u32,
+    /// The graph after all entries.
+    pub graph: Graph,
     /// The amounts after all entries.
     pub position: Divisor,
     /// How many entries each seat has; that of seat 1 comes first.

@@ -184,7 +184,7 @@ impl<N: Name> Held<N> {
         finding: &Finding,
     ) -> Result<Receipt<N>, Fault>
         requires space { seat.old.space ≡ true }
-        requires look { IsLookOf N.start look.now shown.now }
+        requires look { IsLookOf look.now shown.now }
         requires found { IsFoundFor N.start.q shown.now finding.now }
         ensures settled { IfOk result (λ r.
             IsSettledAfter N.start N.seats (length N.cells) self.old.entries look.now shown.now finding.now r seat.old seat.new ×
@@ -297,7 +297,7 @@ impl<N: Name> Held<N> {
     pub(crate) fn audit(self, log: Log<N>) -> Audit<N>
         ensures history { result.pen.entries ≡ self.entries }
         ensures totals { (xs : List SeatView) → AllHeld self.entries xs → AreTotals N.start N.seats xs self.entries
-            result.entries result.gifts result.position result.calls }
+            result.entries result.gifts result.graph result.position result.calls }
     {
         let Held {
             game,
@@ -308,6 +308,7 @@ impl<N: Name> Held<N> {
         Audit {
             entries: game.entries(),
             gifts: game.gifts(),
+            graph: *game.graph(),
             position: *game.position(),
             calls: counts,
             log,
@@ -323,10 +324,11 @@ fn keep_look(look: &mut Option<LookData>, game: &Game, entry: &Entry)
         IsKept o ps look.old → IsKept o (ps ++ (length H, entry.now) ∷ []) look.new }
 {
     match (&entry.request, &entry.reply) {
-        (Request::Look, Reply::Looked(gifts, position)) => {
+        (Request::Look, Reply::Looked(gifts, position, graph)) => {
             *look = Some(LookData {
                 gifts: *gifts,
                 position: *position,
+                graph: *graph,
                 ..game.look_data()
             });
         }

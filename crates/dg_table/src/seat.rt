@@ -1,7 +1,7 @@
 //! Seats: who calls a table, and what they know of its history.
 ghost use Rattle.std.specs.Prelude.{◌≡◌, ◌≤◌, [], ◌∷◌, ◌++◌, length, true, None, IfOk, IfSome, MatchResult};
 ghost use Rattle.dg_table.specs.Histories.{HasPast};
-ghost use Rattle.dg_table.specs.Looks.{IsLastLook};
+ghost use Rattle.dg_table.specs.Looks.{HasVertices, IsLastLook};
 ghost use Rattle.dg_table.specs.Opened.{MayHaveSeats, AreFresh};
 ghost use Rattle.dg_table.specs.Seats.{Keeps};
 
@@ -98,11 +98,11 @@ impl<N: Name> Seat<N> {
         &self.past
     }
 
-    /// What the seat keeps of the last look that it took; `None` where it took none. The graph is the table's, and the amounts
-    /// are as many as its vertices.
+    /// What the seat keeps of the last look that it took; `None` where it took none. Its graph has the
+    /// vertices of the start, and there is an amount for each.
     pub fn look_data(&self) -> Option<LookData>
-        ensures look { IsLastLook N.start self.now.mine result }
-        ensures size { IfSome result (λ x. x.position.size ≡ N.start.graph.size) }
+        ensures look { IsLastLook self.now.mine result }
+        ensures vertices { IfSome result (HasVertices N.start.graph.size) }
     {
         self.look
     }

@@ -126,7 +126,7 @@ impl<N: Name> Table<N> {
         self.held.lock(rt).turn(&self.log, seat, slot, choose)
     }
 
-    /// Enters what was reckoned on the look of a receipt: as stale where gifts were accepted since; otherwise a verdict
+    /// Enters what was reckoned on the look of a receipt: as stale where gifts, levies or joins were accepted since; otherwise a verdict
     /// that is right for the position at its place in the one history, with the reduced divisor and the burning order
     /// that were found, or the answer of the rank test as it was found. The seat is told of the look. The conditions are
     /// that the data is that of the look, whatever its drift, and that the finding is right for the look's amounts on the
@@ -142,7 +142,7 @@ impl<N: Name> Table<N> {
         shown: &LookData,
         finding: &Finding,
     ) -> Result<Receipt<N>, Fault>
-        requires look { IsLookOf N.start look.now shown.now }
+        requires look { IsLookOf look.now shown.now }
         requires found { IsFoundFor N.start.q shown.now finding.now }
         ensures settled { IfOk result (λ r. IsSettled N.start N.seats (length N.cells) look.now shown.now finding.now r seat.old seat.new) }
         ensures fault { IfErr result (λ f. Keeps seat.old seat.new ×
@@ -163,7 +163,7 @@ impl<N: Name> Table<N> {
         &self.start
     }
 
-    /// What serves the verdicts on the looks at this table. Nothing is promised of it.
+    /// What serves the verdicts on looks at this table whose graph is that of the start. Nothing is promised of it.
     pub fn aim(&self) -> &Aim {
         &self.aim
     }
@@ -180,7 +180,7 @@ impl<N: Name> Table<N> {
     pub fn close(self, seats: Vec<Seat<N>>) -> Result<Audit<N>, CloseFault<N>>
         ensures { MatchResult result
             (λ a. IsClosed N.start N.seats (length N.cells) seats.items a.pen.entries ×
-            AreTotals N.start N.seats seats.items a.pen.entries a.entries a.gifts a.position a.calls)
+            AreTotals N.start N.seats seats.items a.pen.entries a.entries a.gifts a.graph a.position a.calls)
             (λ f. (f.seats.items ≡ seats.items) ×
             IsRefused N.start N.seats (length N.cells) seats.items f.missing) }
     {

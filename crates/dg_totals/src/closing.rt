@@ -71,7 +71,7 @@ fn push_seat_entry(
     Ok(())
 }
 
-// How many entries and gifts there are, the amounts, and the calls of each seat, after the text.
+// How many entries there are, how many gifts, levies and joins, the amounts, and the calls of each seat, after the text.
 fn push_totals(
     text: &mut Vec<u8>,
     names: &Names,

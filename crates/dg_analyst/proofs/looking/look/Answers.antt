@@ -1,21 +1,20 @@
-use Rattle.std.proofs.Common.{◌≡◌, ◌<◌, Some, None, ap, sym, ◌∙◌}
-use Rattle.dg_theory.specs.Multigraph.{Multigraph}
+use Rattle.std.proofs.Common.{◌<◌, Some, None}
 use Rattle.dg_analyst.proofs.Kept.{look_kept}
 use Rattle.dg_analyst.proofs.looking.look.Goals as goal
 
 pub unreachable-requires : goal.unreachable-requires
 unreachable-requires g c =
     let (history, entered) = c.in_ok-receipt.ensures.answered in
-    look_kept g.N.Name.start c.args.seat.now.mine c.call.new.seat.mine c.in_ok-receipt.receipt None entered.request' entered.mine
+    look_kept c.args.seat.now.mine c.call.new.seat.mine c.in_ok-receipt.receipt None entered.request' entered.mine
     c.in_default.ensures.look
 
 pub invariant_of-result : goal.invariant_of-result
 invariant_of-result g c =
     let (history, entered) = c.in_ok-receipt.ensures.answered in
     let shown = c.in-Some.shown in
-    let kept = look_kept g.N.Name.start c.args.seat.now.mine c.call.new.seat.mine c.in_ok-receipt.receipt (Some shown) entered.request'
+    let kept = look_kept c.args.seat.now.mine c.call.new.seat.mine c.in_ok-receipt.receipt (Some shown) entered.request'
     entered.mine c.in-Some.ensures.look in
-    let size : shown.graph.size ≡ g.N.Name.start.graph.size = ap (λ (m : Multigraph). m.size) kept.graph in
+    let vertices = c.in-Some.ensures.vertices in
     let opening = rw c.start-start.ensures at c.graph-graph.ensures.opening.vertex in
-    let vertex : c.q.result < shown.graph.size = rw (c.q.ensures, size, c.start-start.ensures) opening in
-    (record { look = kept; size = c.in-Some.ensures.size ∙ sym size }, cc, vertex)
+    let vertex : c.q.result < shown.graph.size = rw (c.q.ensures, vertices.0, c.start-start.ensures) opening in
+    (record { look = kept; vertices = vertices }, cc, vertex)

@@ -18,7 +18,7 @@ returns-in-Ok-closing_text g c =
     whole_lent g.N.Name.start (length g.N.Name.cells) c.args.names.now (contents c.args.scripts.now) (length c.args.scripts.now)
     g.N.Name.seats c.in-Ok.opened.1.len c.in-Ok.opened.1.items c.deref_mut.result.now c.sessions.new.seats _ c.in-Ok-sessions.ends.items
     c.in-Ok-close.audit.pen.entries c.deref.result.now c.in-Ok-close.audit.entries c.in-Ok-close.audit.gifts
-    c.in-Ok-close.audit.position c.in-Ok-close.audit.calls c.in-Ok-closing_text.text.items
+    c.in-Ok-close.audit.graph c.in-Ok-close.audit.position c.in-Ok-close.audit.calls c.in-Ok-closing_text.text.items
     (contents_count c.args.scripts.now) c.requires.seats
     c.in-Ok.ensures (search rules) (search rules) c.in-Ok-sessions.ensures.ok c.in-Ok-close.ensures (search rules) (search rules)
     c.in-Ok-closing_text.ensures

@@ -2,16 +2,21 @@ use Rattle.std.proofs.Common.{◌≡◌, ◌∙◌, length}
 use Rattle.dg_game.specs.Replies.{Replies}
 use Rattle.dg_game.specs.declared.entry.Request.TheVariants.{Look}
 use Rattle.dg_game.specs.declared.entry.Reply.TheVariants.{Looked}
-use Rattle.dg_game.proofs.StepLaw.{graph_stays}
-use Rattle.dg_table.proofs.Findings.{look_seen, looked_size}
+use Rattle.dg_game.specs.declared.look.LookData.{LookData}
+use Rattle.dg_table.proofs.Findings.{look_seen, looked_vertices}
 use Rattle.dg_table.proofs.held.keep_look.Goals as goal
 
 pub returns-in-Look-Looked : goal.returns-in-Look-Looked
 returns-in-Look-Looked c = λ o H ps leads replies kept.
     let looked = c.in-Look-Looked in
-    let shown : Replies o H Look (Looked looked.gifts looked.position) = rw (looked.is-0, looked.is-1) at replies in
+    let shown : Replies o H Look (Looked looked.gifts looked.position looked.graph) = rw (looked.is-0, looked.is-1) at replies in
     let number : c.look_data.result.number ≡ length H = c.look_data.ensures.number ∙ leads.entries in
-    let graph : c.look_data.result.graph ≡ o.graph = c.look_data.ensures.graph ∙ leads.graph ∙ graph_stays o H in
-    look_seen o ps (length H, c.args.entry.now) _
-    (record { look = looked.is-0; shown = looked.is-1; number = number; graph = graph })
-    (looked_size o H looked.gifts looked.position shown)
+    let seen : LookData = record {
+      number = c.look_data.result.number;
+      gifts = looked.gifts;
+      graph = looked.graph;
+      position = looked.position;
+      drift = c.look_data.result.drift;
+    } in
+    look_seen o ps (length H, c.args.entry.now) seen (record { look = looked.is-0; shown = looked.is-1; number = number })
+    (looked_vertices o H seen shown)
