@@ -6,19 +6,20 @@
 --                                  thread
 --   number_line label z         == the label, the number and a newline
 --   riemann_roch_text o r s     == the lines of the opening divisor's degree, of the genus, and of the ranks r and s
---   IsRiemannRoch o text        == the text is those lines, with the rank of the divisor and that of its dual
+--   IsRiemannRoch o text        == the text is those lines, with the rank of the divisor and that of its dual, each told by
+--                                  tests within the limits; the two differ by the degree, plus 1, less the genus
 --   RefusesRiemannRoch o fault  == the dual is out of range; else one of the two ranks needs a test past the limits; of
 --                                  want of memory nothing is said
-use Rattle.std.specs.Prelude.{◌≡◌, ℕ, ℤ, List, ◌++◌, codes, ⊤}
+use Rattle.std.specs.Prelude.{◌≡◌, ℕ, ℤ, pos, ◌+ℤ◌, ◌-ℤ◌, List, ◌++◌, codes, ⊤}
 use Rattle.std.specs.Fmt.{signed_decimal}
 use Rattle.dg_theory.specs.Multigraph.{genus}
-use Rattle.dg_theory.specs.Firing.{Amounts, degree}
-use Rattle.dg_theory.specs.Rank.{IsRank}
-use Rattle.dg_chips.specs.Dual.{DualOf, IsDualFault}
+use Rattle.dg_theory.specs.Firing.{degree}
+use Rattle.dg_theory.specs.Rank.{less, canonical}
+use Rattle.dg_chips.specs.Dual.{IsDualFault}
 use Rattle.dg_chips.specs.Opening.{Opening}
 use Rattle.dg_chips.specs.Vector.{at}
 use Rattle.dg_rank.specs.Limits.{IsPastLimits}
-use Rattle.dg_rank.specs.Ranks.{IsRankTest, DualNeedsTooMany}
+use Rattle.dg_rank.specs.Ranks.{IsRankTest, IsRankInLimits, DualNeedsTooMany}
 use Rattle.dg_rank.specs.declared.rank_verdict.RankVerdict.{RankVerdict}
 use Rattle.dg_game.specs.declared.entry.Reply.TheVariants.{Rank}
 use Rattle.dg_lines.specs.Texts.{text_of}
@@ -47,11 +48,10 @@ riemann_roch_text o rank dual_rank = number_line (codes "degree ") (degree o.gra
 
 pub record IsRiemannRoch (o : Opening) (text : List ℕ) : Type 0 where
   pub rank : ℤ
-  pub of_divisor : IsRank o.graph (at o.divisor) rank
-  pub dual : Amounts
-  pub is_dual : DualOf o.graph (at o.divisor) dual
+  pub of_divisor : IsRankInLimits o.graph (at o.divisor) rank
   pub dual_rank : ℤ
-  pub of_dual : IsRank o.graph dual dual_rank
+  pub of_dual : IsRankInLimits o.graph (less (canonical o.graph) (at o.divisor)) dual_rank
+  pub apart : rank -ℤ dual_rank ≡ (degree o.graph.size (at o.divisor) +ℤ pos 1) -ℤ genus o.graph
   pub printed : text ≡ riemann_roch_text o rank dual_rank
 
 abbrev pub RefusesRiemannRoch : Opening → TaskFault → Type 0

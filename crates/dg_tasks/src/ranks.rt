@@ -8,7 +8,7 @@ use crate::printed::reply_line;
 use dg_chips::{Start, dual};
 use dg_file::TableFile;
 use dg_game::Reply;
-use dg_rank::{OpenGate, RankFault, rank, rank_with};
+use dg_rank::{OpenGate, RankFault, both_ranks_in_limits, rank_with};
 use itoa::Buffer;
 use std::alloc::{AllocError, Allocator, Global};
 use std::sync::Wait;
@@ -58,17 +58,13 @@ pub fn riemann_roch(alloc: Global, table: &TableFile) -> Result<Vec<u8>, TaskFau
     let graph = start.graph();
     let divisor = start.divisor();
     let q = usize::from(start.q());
-    let other = match dual(graph, divisor) {
-        Ok(other) => other,
-        Err(fault) => return Err(TaskFault::Chip(fault)),
-    };
-    let Some(divisor_rank) = rank(graph, q, divisor) else {
+    if let Err(fault) = dual(graph, divisor) {
+        return Err(TaskFault::Chip(fault));
+    }
+    let Some((rank, dual_rank)) = both_ranks_in_limits(graph, q, divisor) else {
         return Err(TaskFault::TooMany);
     };
-    let Some(dual_rank) = rank(graph, q, &other) else {
-        return Err(TaskFault::TooMany);
-    };
-    match riemann_roch_lines(alloc, start, divisor_rank, dual_rank) {
+    match riemann_roch_lines(alloc, start, rank, dual_rank) {
         Ok(text) => Ok(text),
         Err(_) => Err(TaskFault::OutOfMemory),
     }

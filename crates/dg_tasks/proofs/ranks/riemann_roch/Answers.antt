@@ -1,15 +1,43 @@
-use Rattle.std.proofs.Common.{inl}
+use Rattle.std.proofs.Common.{◌≡◌, arith, rules, w64, to_z, of_z}
+use Rattle.std.specs.Int.RustNames.{FitsSigned}
+use Rattle.std.proofs.lemmas.Int.{ints, to_z-of_z}
+use Rattle.dg_theory.specs.Rank.{less, canonical}
+use Rattle.dg_theory.proofs.RankNumbers.{riemann_roch}
 use Rattle.dg_chips.specs.Vector.{at}
-use Rattle.dg_rank.specs.Ranks.{DualNeedsTooMany}
+use Rattle.dg_rank.specs.Ranks.{IsRankInLimits, DualNeedsTooMany}
+use Rattle.dg_tasks.specs.RankTests.{riemann_roch_text, IsRiemannRoch}
 use Rattle.dg_tasks.proofs.ranks.riemann_roch.Goals as goal
 
-pub returns-in_default-clause-refused : goal.returns-in_default-clause-refused
-returns-in_default-clause-refused c =
-    let (size, is_dual, in_range) = c.in-Ok.ensures in
+pub returns-in_default-both_ranks_in_limits-clause-refused : goal.returns-in_default-both_ranks_in_limits-clause-refused
+returns-in_default-both_ranks_in_limits-clause-refused c =
+    let (size, is_dual, in_range) = c.in_default.ensures in
     let needs : DualNeedsTooMany c.graph-graph.result.now (at c.divisor-divisor.result.now) = record {
-      dual = at c.in-Ok.other;
-      is_dual = is_dual;
-      in_range = in_range;
-      either = inl c.in_default.ensures;
+      in_range = λ v inside. omega (arith, ints, is_dual v inside, in_range v inside);
+      either = c.in_default-both_ranks_in_limits.ensures;
     } in
     rw (← c.start-start.ensures, ← c.graph-graph.ensures.graph, ← c.divisor-divisor.ensures) needs
+
+pub returns-in-Ok-clause-told : goal.returns-in-Ok-clause-told
+returns-in-Ok-clause-told c =
+    let o = c.start-start.result.now in
+    let opening = c.graph-graph.ensures.opening in
+    let (rank, dual_rank) = c.in-Some.ensures in
+    let of_divisor : IsRankInLimits o.graph (at o.divisor) c.in-Some.rank =
+    rw (← c.graph-graph.ensures.graph, ← c.divisor-divisor.ensures) rank in
+    let of_dual : IsRankInLimits o.graph (less (canonical o.graph) (at o.divisor)) c.in-Some.dual_rank =
+    rw (← c.graph-graph.ensures.graph, ← c.divisor-divisor.ensures) dual_rank in
+    let fits : FitsSigned w64 c.in-Some.rank = search rules in
+    let dual_fits : FitsSigned w64 c.in-Some.dual_rank = search rules in
+    let text : c.in-Ok.text.items
+    ≡ riemann_roch_text o (to_z w64 (of_z w64 c.in-Some.rank)) (to_z w64 (of_z w64 c.in-Some.dual_rank)) = c.in-Ok.ensures in
+    let told : IsRiemannRoch o c.in-Ok.text.items = record {
+      rank = c.in-Some.rank;
+      of_divisor = of_divisor;
+      dual_rank = c.in-Some.dual_rank;
+      of_dual = of_dual;
+      apart =
+          riemann_roch o.graph (at o.divisor) c.in-Some.rank c.in-Some.dual_rank opening.graph.multigraph
+          (omega (arith, opening.vertex)) of_divisor.is_rank of_dual.is_rank;
+      printed = rw (to_z-of_z w64 c.in-Some.rank fits, to_z-of_z w64 c.in-Some.dual_rank dual_fits) at text;
+    } in
+    rw (← c.start-start.ensures) told
