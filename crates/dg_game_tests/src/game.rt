@@ -1,6 +1,7 @@
 //! Games and schedules on small tables, reckoned by hand.
 mod calls;
 mod commits;
+mod joins;
 mod ranks;
 mod schedules;
 mod verdicts;

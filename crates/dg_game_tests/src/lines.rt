@@ -1,4 +1,5 @@
 //! What lines spell and how replies are written, against the formats' own examples.
+mod played;
 mod spelled;
 mod written;
 

@@ -1,3 +1,4 @@
-//! Graphs, and sets of their vertices.
+//! Graphs, edges that are added, and sets of vertices.
 mod graphs;
+mod joins;
 mod sets;

@@ -15,7 +15,7 @@ fn calls_are_answered_in_turn(rt: HostRuntime) -> Result<(), Fail> {
     let poor = Divisor::new(&graph, &[1_000_000, -1, -1_000_000])?;
     let refused = |refusal| Reply::Refused(refusal);
     let calls = [
-        (Plain::Look, Reply::Looked(0, *start.divisor())),
+        (Plain::Look, Reply::Looked(0, *start.divisor(), graph)),
         (Plain::Gift(1, 1), Reply::Given(1, given)),
         (Plain::Gift(1, 0), refused(Refusal::Gift)),
         (Plain::Gift(1, 1_000_001), refused(Refusal::Gift)),
@@ -31,7 +31,7 @@ fn calls_are_answered_in_turn(rt: HostRuntime) -> Result<(), Fail> {
         (Plain::Gift(0, 1_000_000), Reply::Given(2, rich)),
         (Plain::Gift(0, 1), refused(Refusal::Range)),
         (Plain::Move(Move::Borrow(0)), refused(Refusal::Range)),
-        (Plain::Look, Reply::Looked(2, rich)),
+        (Plain::Look, Reply::Looked(2, rich, graph)),
         (Plain::Gift(1, -2), Reply::Given(3, levied)),
         (Plain::Claim, Reply::NotWon),
         (Plain::Gift(2, -1_000_000), Reply::Given(4, poor)),

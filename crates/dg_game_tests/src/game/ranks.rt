@@ -41,7 +41,7 @@ fn rank_tests_are_entered(rt: HostRuntime) -> Result<(), Fail> {
     let history = rehearse(rt.alloc(), &start, &[LOOK, lend, rank(1, 1)])?;
     let below = RankVerdict::Below(1, Divisor::new(&graph, &[0, 0, 1])?);
     assert_eq!(rt; history.len(), 3);
-    assert!(rt; history[0].reply == Reply::Looked(0, *start.divisor()));
+    assert!(rt; history[0].reply == Reply::Looked(0, *start.divisor(), graph));
     assert!(rt; history[1].reply == Reply::Moved(Divisor::new(&graph, &[-1, 1, 1])?));
     assert!(rt; history[2] == answered(0, Reply::Rank(below)));
     let gift = call(2, Plain::Gift(1, 1));

@@ -12,7 +12,7 @@ fn play(play: Move) -> Command {
 }
 
 // Lines, and the calls that they spell.
-const CALLS: [(&str, Plain); 11] = [
+const CALLS: [(&str, Plain); 14] = [
     ("lend a", Plain::Move(Move::Lend(0))),
     ("borrow c", Plain::Move(Move::Borrow(2))),
     ("fire a,b", Plain::Move(Move::Fire(3))),
@@ -22,6 +22,9 @@ const CALLS: [(&str, Plain); 11] = [
     ("gift c 0", Plain::Gift(2, 0)),
     ("gift a 9223372036854775807", Plain::Gift(0, i64::MAX)),
     ("gift a -9223372036854775808", Plain::Gift(0, i64::MIN)),
+    ("join a b", Plain::Join(0, 1)),
+    ("join c a", Plain::Join(2, 0)),
+    ("join a a", Plain::Join(0, 0)),
     ("look", Plain::Look),
     ("claim", Plain::Claim),
 ];
@@ -114,6 +117,7 @@ fn lines_are_refused(rt: HostRuntime) -> Result<(), Fail> {
         (b"script \xff=1".as_slice(), LineFault::Name),
         (b"script a=\xff".as_slice(), LineFault::Number),
         (b"gift a \xff".as_slice(), LineFault::Number),
+        (b"join a \xff".as_slice(), LineFault::Name),
         (b"rank \xff".as_slice(), LineFault::Number),
     ];
     for (line, fault) in table {
@@ -126,6 +130,7 @@ fn lines_are_refused(rt: HostRuntime) -> Result<(), Fail> {
         ("script ", "a=1,", LineFault::Name),
         ("script a=", "1", LineFault::Number),
         ("gift a ", "1", LineFault::Number),
+        ("join a ", "a", LineFault::Name),
         ("rank ", "1", LineFault::Number),
         ("look", " ", LineFault::Form),
     ];
@@ -141,7 +146,7 @@ fn lines_are_refused(rt: HostRuntime) -> Result<(), Fail> {
 }
 
 // Lines that are no commands, and why.
-static REFUSED: [(&str, LineFault); 86] = [
+static REFUSED: [(&str, LineFault); 102] = [
     ("", LineFault::Word),
     (" ", LineFault::Word),
     ("Lend a", LineFault::Word),
@@ -149,6 +154,8 @@ static REFUSED: [(&str, LineFault); 86] = [
     ("lend\ta", LineFault::Word),
     ("ranks 1", LineFault::Word),
     ("give a 1", LineFault::Word),
+    ("joins a b", LineFault::Word),
+    ("Join a b", LineFault::Word),
     ("look\r", LineFault::Word),
     ("lend", LineFault::Form),
     ("lend ", LineFault::Form),
@@ -168,6 +175,14 @@ static REFUSED: [(&str, LineFault); 86] = [
     ("gift a 1 2", LineFault::Form),
     ("gift  1", LineFault::Form),
     ("gift z  01", LineFault::Form),
+    ("join", LineFault::Form),
+    ("join ", LineFault::Form),
+    ("join a", LineFault::Form),
+    ("join a ", LineFault::Form),
+    ("join  a", LineFault::Form),
+    ("join a b ", LineFault::Form),
+    ("join a b c", LineFault::Form),
+    ("join z", LineFault::Form),
     ("look ", LineFault::Form),
     ("look a", LineFault::Form),
     ("claim ", LineFault::Form),
@@ -197,6 +212,12 @@ static REFUSED: [(&str, LineFault); 86] = [
     ("script =1", LineFault::Name),
     ("gift z 01", LineFault::Name),
     ("gift a,b 1", LineFault::Name),
+    ("join a z", LineFault::Name),
+    ("join z a", LineFault::Name),
+    ("join z z", LineFault::Name),
+    ("join a,b c", LineFault::Name),
+    ("join a 1", LineFault::Name),
+    ("join a b\r", LineFault::Name),
     ("script a", LineFault::Number),
     ("script a=", LineFault::Number),
     ("script b,a=1", LineFault::Number),

@@ -18,7 +18,8 @@ fn replies_are_written(rt: HostRuntime) -> Result<(), Fail> {
     let table = [
         (Reply::Moved(divisor), "moved a=2 b=-1 c=-10"),
         (Reply::Given(3, divisor), "given 3 a=2 b=-1 c=-10"),
-        (Reply::Looked(0, divisor), "looked 0 a=2 b=-1 c=-10"),
+        (Reply::Joined(4, divisor), "joined 4 a=2 b=-1 c=-10"),
+        (Reply::Looked(0, divisor, graph), "looked 0 a=2 b=-1 c=-10"),
         (
             Reply::Rank(RankVerdict::AtLeast(1000)),
             "rank at least 1000",
@@ -35,6 +36,8 @@ fn replies_are_written(rt: HostRuntime) -> Result<(), Fail> {
         (Reply::Refused(Refusal::Script), "refused script"),
         (Reply::Refused(Refusal::Gift), "refused gift"),
         (Reply::Refused(Refusal::Range), "refused range"),
+        (Reply::Refused(Refusal::Loop), "refused loop"),
+        (Reply::Refused(Refusal::Valence), "refused valence"),
     ];
     for (reply, want) in table {
         let text = reply_text(rt.alloc(), &reply, &names)?;

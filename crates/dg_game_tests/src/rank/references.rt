@@ -3,7 +3,7 @@ ghost use Rattle.std.specs.Prelude.{◌≡◌, ◌<◌, ◌^◌, IfOk};
 
 use dg_chips::{ChipFault, Divisor};
 use dg_graph::{Graph, GraphFault};
-use dg_rank::{RankVerdict, rank_at_least, trial, trials};
+use dg_rank::{RankVerdict, has_rank, rank_at_least, trial, trials};
 use dg_reduce::reduce;
 use std::test::Fail;
 
@@ -72,7 +72,7 @@ fn any_divisor(numbers: &mut Numbers, graph: &Graph, degree: u32) -> Result<Divi
 }
 
 // The answer of the rank test, by the plain way; `None` past the limits and out of range.
-fn plainly(graph: &Graph, divisor: &Divisor, degree: u32) -> Option<RankVerdict>
+pub(crate) fn plainly(graph: &Graph, divisor: &Divisor, degree: u32) -> Option<RankVerdict>
     requires { divisor.now.size ≡ graph.now.size }
 {
     let size = graph.size();
@@ -104,6 +104,11 @@ fn walks_answer_as_the_plain_way(rt: HostRuntime) -> Result<(), Fail> {
         }
         let found = rank_at_least(&graph, 0, &divisor, degree)?;
         assert!(rt; found == wanted, "table {table}");
+        let passes = has_rank(&graph, 0, &divisor, degree)?;
+        assert!(rt;
+            passes == (wanted == RankVerdict::AtLeast(degree)),
+            "table {table}"
+        );
     }
     assert!(rt; most > 100 && below > 100, "{most} and {below}");
     Ok(())

@@ -75,27 +75,40 @@ fn meets<R: Threads + Wait + Clock + Sync>(
 }
 
 // By hand: on the triangle a divisor of degree 0 is winnable where the amounts of the last two vertices agree but for a
-// multiple of 3, and all are won with a degree of at least 1.
+// multiple of 3, and all are won with a degree of at least 1. On the complete graph of four the canonical divisor has the
+// rank 3 - 1.
 #[test]
 fn pieces_run_at_once(rt: HostRuntime) -> Result<(), Fail> {
     let triangle = Graph::new(3, &[(0, 1, 1), (1, 2, 1), (0, 2, 1)])?;
-    let cases: [(&[i64], u32, &[i64]); 7] = [
-        (&[1, 0, 0], 1, &[0, 0, 1]),
-        (&[2, -1, -1], 0, &[]),
-        (&[2, 0, 0], 1, &[]),
-        (&[3, 0, 0], 3, &[0, 1, 2]),
-        (&[0, 0, 0], 1, &[0, 0, 1]),
-        (&[1, 0, 0], 150, &[0, 0, 150]),
-        (&[150, 0, 0], 150, &[0, 1, 149]),
+    let four = Graph::new(
+        4,
+        &[
+            (0, 1, 1),
+            (0, 2, 1),
+            (0, 3, 1),
+            (1, 2, 1),
+            (1, 3, 1),
+            (2, 3, 1),
+        ],
+    )?;
+    let cases: [(Graph, &[i64], u32, &[i64]); 8] = [
+        (triangle, &[1, 0, 0], 1, &[0, 0, 1]),
+        (triangle, &[2, -1, -1], 0, &[]),
+        (triangle, &[2, 0, 0], 1, &[]),
+        (triangle, &[3, 0, 0], 3, &[0, 1, 2]),
+        (triangle, &[0, 0, 0], 1, &[0, 0, 1]),
+        (triangle, &[1, 0, 0], 150, &[0, 0, 150]),
+        (triangle, &[150, 0, 0], 150, &[0, 1, 149]),
+        (four, &[1, 1, 1, 1], 2, &[]),
     ];
-    for (amounts, degree, loss) in cases {
+    for (graph, amounts, degree, loss) in cases {
         let wanted = if loss.is_empty() {
             RankVerdict::AtLeast(degree)
         } else {
-            RankVerdict::Below(degree, Divisor::new(&triangle, loss)?)
+            RankVerdict::Below(degree, Divisor::new(&graph, loss)?)
         };
         for workers in [1, 2, 3, 16] {
-            let found = meets(&rt, &triangle, amounts, degree, workers)?;
+            let found = meets(&rt, &graph, amounts, degree, workers)?;
             assert!(rt; found == wanted, "{workers} workers at {amounts:?}");
         }
     }

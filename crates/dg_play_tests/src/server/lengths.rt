@@ -38,6 +38,44 @@ fn long_files_are_read(rt: HostRuntime) -> Result<(), Fail> {
     all_run(&rt, &runs)
 }
 
+const APART: &str = r#"{"vertices":["a","b"],"edges":[["a","b",1]],"amounts":[-63,63],"q":"a"}"#;
+
+// A thousand joins, of which two vertices bear 62 more edges; by the verdict after them b lends once.
+#[test]
+fn many_edges_are_added(rt: HostRuntime) -> Result<(), Fail> {
+    let alloc = rt.alloc();
+    let lines = repeated(alloc, "join a b\n", 1_000, "look\ncommit\n")?;
+    let steps = repeated(alloc, "1 join a b\n", 1_000, "1 look\n1 commit\n")?;
+    let mut printed = String::new(alloc);
+    for number in 0..1_000 {
+        if number < 62 {
+            write!(printed, "{number} joined {} a=-63 b=63\n", number + 1)?;
+        } else {
+            write!(printed, "{number} refused valence\n")?;
+        }
+    }
+    printed.push_str("1000 looked 62 a=-63 b=63\n1001 winnable by a=0 b=1 to a=0 b=0\n")?;
+    let runs: [Run<'_>; 2] = [
+        (
+            APART,
+            Command::Serve(65_536, 1),
+            lines.as_str(),
+            printed.as_str(),
+            "",
+            0,
+        ),
+        (
+            APART,
+            Command::Rehearse,
+            steps.as_str(),
+            printed.as_str(),
+            "",
+            0,
+        ),
+    ];
+    all_run(&rt, &runs)
+}
+
 // A text so many times, and then another.
 fn repeated(alloc: Global, text: &str, times: u32, last: &str) -> Result<String, AllocError> {
     let mut all = String::new(alloc);

@@ -21,8 +21,14 @@ const RICH: &str =
 const POOR: &str =
     r#"{"vertices":["a","b","c"],"edges":[["a","b",1],["b","c",1],["a","c",1]],"amounts":[-1000000,0,0],"q":"a"}"#;
 
+const WANTS_AN_EDGE: &str =
+    r#"{"vertices":["a","b","c"],"edges":[["a","b",1],["b","c",1],["a","c",1]],"amounts":[3,-2,-1],"q":"a"}"#;
+
+const FULLY_JOINED: &str =
+    r#"{"vertices":["a","b"],"edges":[["a","b",63]],"amounts":[0,0],"q":"a"}"#;
+
 // Schedules that are played.
-static PLAYED: [Run; 22] = [
+static PLAYED: [Run; 26] = [
     (
         TRIANGLE,
         Command::Rehearse,
@@ -53,6 +59,42 @@ static PLAYED: [Run; 22] = [
         Command::Rehearse,
         "1 look\n2 gift a -1\n1 commit\n1 look\n1 commit\n",
         "0 looked 0 a=2 b=-1 c=-1\n1 given 1 a=1 b=-1 c=-1\n2 stale 1\n3 looked 1 a=1 b=-1 c=-1\n4 unwinnable by a=0 b=-1 c=-1 to a=-1 b=0 c=0\n",
+        "",
+        0,
+    ),
+    // A join makes the verdict stale; on the graph with the edge the position can't be won.
+    (
+        TRIANGLE,
+        Command::Rehearse,
+        "1 look\n2 join a b\n1 commit\n1 look\n1 commit\n",
+        "0 looked 0 a=2 b=-1 c=-1\n1 joined 1 a=2 b=-1 c=-1\n2 stale 1\n3 looked 1 a=2 b=-1 c=-1\n4 unwinnable by a=0 b=-1 c=-1 to a=-1 b=1 c=0\n",
+        "",
+        0,
+    ),
+    // A move goes along the edge that was added.
+    (
+        TRIANGLE,
+        Command::Rehearse,
+        "1 join a b\n1 lend a\n",
+        "0 joined 1 a=2 b=-1 c=-1\n1 moved a=-1 b=1 c=0\n",
+        "",
+        0,
+    ),
+    // A join turns a position that can't be won into one that can: then a lends once.
+    (
+        WANTS_AN_EDGE,
+        Command::Rehearse,
+        "1 look\n1 commit\n2 join a b\n1 look\n1 commit\n",
+        "0 looked 0 a=3 b=-2 c=-1\n1 unwinnable by a=0 b=-2 c=-2 to a=-1 b=0 c=1\n2 joined 1 a=3 b=-2 c=-1\n3 looked 1 a=3 b=-2 c=-1\n4 winnable by a=0 b=-1 c=-1 to a=0 b=0 c=0\n",
+        "",
+        0,
+    ),
+    // Where as many edges meet as may, none is added, and the verdict stands.
+    (
+        FULLY_JOINED,
+        Command::Rehearse,
+        "1 look\n2 join a b\n1 commit\n",
+        "0 looked 0 a=0 b=0\n1 refused valence\n2 winnable by a=0 b=0 to a=0 b=0\n",
         "",
         0,
     ),
@@ -297,7 +339,7 @@ static ENDED: [Run; 11] = [
 ];
 
 // Schedules with rank tests.
-static RANKED: [Run; 8] = [
+static RANKED: [Run; 9] = [
     (
         ONE_ON_THREE,
         Command::Rehearse,
@@ -327,6 +369,14 @@ static RANKED: [Run; 8] = [
         Command::Rehearse,
         "1 look\n2 gift a -1\n1 rank 0\n",
         "0 looked 0 a=1 b=0 c=0\n1 given 1 a=0 b=0 c=0\n2 stale 1\n",
+        "",
+        0,
+    ),
+    (
+        ONE_ON_THREE,
+        Command::Rehearse,
+        "1 look\n2 join b c\n1 rank 0\n",
+        "0 looked 0 a=1 b=0 c=0\n1 joined 1 a=1 b=0 c=0\n2 stale 1\n",
         "",
         0,
     ),

@@ -19,11 +19,12 @@ pub(super) type Run<'a> = (&'a str, Command, &'a str, &'a str, &'a str, u8);
 pub(super) const ABSENT: &str = "absent";
 
 // The scripts of parties.
-static SCRIPTS: [(&str, &[u8]); 8] = [
+static SCRIPTS: [(&str, &[u8]); 9] = [
     ("lend", b"lend a"),
     ("lends", b"lend a\nlend b"),
     ("gift", b"gift b 1\nnothing\ncommit\nlook\nclaim\n"),
     ("levy", b"look\ngift a -1\ncommit\nlook\ncommit\n"),
+    ("join", b"look\njoin a c\ncommit\n"),
     ("look", b"look\ncommit\n"),
     ("claims", b"claim\nclaim\nclaim\n"),
     ("nothing", b""),

@@ -5,7 +5,7 @@ use crate::server::runs::{ABSENT, CALM, Run, TRIANGLE, all_run};
 use std::test::Fail;
 
 // Sessions and parties that run.
-static ROWS: [Run; 22] = [
+static ROWS: [Run; 25] = [
     (
         TRIANGLE,
         Command::Serve(65_536, 1),
@@ -44,6 +44,23 @@ static ROWS: [Run; 22] = [
         Command::Serve(65_536, 1),
         "gift a -1000001\ngift a 1000001\ngift a 0\ngift a -1000000\ngift a -1\n",
         "0 refused gift\n1 refused gift\n2 refused gift\n3 given 1 a=-1000000 b=0 c=0\n4 refused range\n",
+        "",
+        0,
+    ),
+    // Joins: one of a vertex and itself is refused; one makes the verdict stale, and leaves a position that can't be won.
+    (
+        TRIANGLE,
+        Command::Serve(65_536, 1),
+        "join a a\njoin a\njoin a z\n",
+        "0 refused loop\nbad form\nbad name\n",
+        "",
+        0,
+    ),
+    (
+        TRIANGLE,
+        Command::Serve(65_536, 1),
+        "look\njoin a b\ncommit\nlook\ncommit\n",
+        "0 looked 0 a=2 b=-1 c=-1\n1 joined 1 a=2 b=-1 c=-1\n2 stale 1\n3 looked 1 a=2 b=-1 c=-1\n4 unwinnable by a=0 b=-1 c=-1 to a=-1 b=1 c=0\n",
         "",
         0,
     ),
@@ -149,6 +166,14 @@ static ROWS: [Run; 22] = [
         Command::Party(&["levy"], 10),
         "",
         "0 1 looked 0 a=2 b=-1 c=-1\n1 1 given 1 a=1 b=-1 c=-1\n2 1 stale 1\n3 1 looked 1 a=1 b=-1 c=-1\n4 1 unwinnable by a=0 b=-1 c=-1 to a=-1 b=0 c=0\nentries 5\ngifts 1\nposition a=1 b=-1 c=-1\nseat 1 calls 5\n",
+        "",
+        0,
+    ),
+    (
+        TRIANGLE,
+        Command::Party(&["join"], 10),
+        "",
+        "0 1 looked 0 a=2 b=-1 c=-1\n1 1 joined 1 a=2 b=-1 c=-1\n2 1 stale 1\nentries 3\ngifts 1\nposition a=2 b=-1 c=-1\nseat 1 calls 3\n",
         "",
         0,
     ),

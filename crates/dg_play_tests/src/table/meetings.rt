@@ -3,7 +3,7 @@ ghost use Rattle.std.specs.Prelude.{◌≡◌};
 
 use crate::openings::{Scene, on_a_table};
 use crate::strategy::choices::{BorrowFirst, LendFirst};
-use crate::tables::{petersen, triangle};
+use crate::tables::{amounts, petersen, triangle};
 use dg_analyst::{commit, look, reckon};
 use dg_chips::{Divisor, Move, Start};
 use dg_game::{Entry, Game, Plain, Reply, Request};
@@ -26,6 +26,8 @@ enum Player {
     Lends(u8),
     // Gives a vertex a dollar.
     Gives(u8),
+    // Adds an edge between two vertices.
+    Joins(u8, u8),
     // Makes calls that are drawn, on a graph of so many vertices.
     Draws(u8),
     // Looks, reckons and commits.
@@ -42,6 +44,8 @@ enum Player {
 enum End {
     // So many gifts, and these amounts.
     At(u32, Divisor),
+    // One join, between a and c, and at the end k 0 -k, where a has lent k times more before it than it has borrowed.
+    Joined,
     // So many claims, all won, and nobody in debt.
     Settled(u32),
     // Nobody can tell.
@@ -63,6 +67,7 @@ fn many_seats_make_one_history(rt: HostRuntime) -> Result<(), Fail> {
     let owing = triangle(&[2, -1, -1])?;
     let analyst = (Player::Analyses, 500, 1_000);
     let lender = (Player::Lends(1), 1_000, 1_000);
+    let joiner = (Player::Joins(0, 2), 1, 1);
     let still = End::At(0, *even.divisor());
     let given = End::At(1, *triangle(&[0, 0, 1])?.divisor());
     for (cells, start, seats, players, end) in [
@@ -93,16 +98,24 @@ fn many_seats_make_one_history(rt: HostRuntime) -> Result<(), Fail> {
             given,
         ),
         (
-            1_400,
+            2_001,
             &even,
             3,
+            [analyst, lender, joiner].as_slice(),
+            End::At(1, *even.divisor()),
+        ),
+        (
+            1_401,
+            &even,
+            4,
             [
                 (Player::LendsFirst, 500, 500),
                 (Player::BorrowsFirst, 500, 500),
                 (Player::Analyses, 200, 400),
+                joiner,
             ]
             .as_slice(),
-            still,
+            End::Joined,
         ),
     ] {
         let meeting = Meeting {
@@ -198,7 +211,7 @@ pub(crate) fn meet<N: Name + Send + Sync, R: Threads + Wait + Abort + Sync>(
     assert!(rt; *observer.state() == audit.position);
     let history = audit.history(alloc)?;
     let claims = is_replayed(rt, &start, &history, &audit)?;
-    is_ended(rt, claims, &audit, meeting)
+    is_ended(rt, claims, lent_before_a_join(&history), &audit, meeting)
 }
 
 // Keeps the position while others play.
@@ -227,7 +240,7 @@ fn take_part<N: Name>(
         return;
     };
     match player {
-        Player::Lends(_) | Player::Gives(_) | Player::Draws(_) => {
+        Player::Lends(_) | Player::Gives(_) | Player::Joins(_, _) | Player::Draws(_) => {
             call_often(rt, alloc, table, seat, player, times);
         }
         Player::Analyses => analyse(rt, alloc, table, seat, times),
@@ -280,6 +293,7 @@ fn call_often<N: Name>(
             Player::Lends(v) => Plain::Move(Move::Borrow(v)),
             Player::Draws(size) => drawn_call(drawn, size),
             Player::Gives(v) => Plain::Gift(v, 1),
+            Player::Joins(u, v) => Plain::Join(u, v),
             _ => return,
         };
         if table.call(rt, alloc, seat, plain).is_err() {
@@ -288,7 +302,8 @@ fn call_often<N: Name>(
     }
 }
 
-// A call on a graph of so many vertices; some name a vertex that is not there. About one in sixteen is a gift, or a levy.
+// A call on a graph of so many vertices; some name a vertex that is not there. About one in sixteen is a gift, or a levy,
+// and as many are joins.
 fn drawn_call(drawn: u64, size: u8) -> Plain {
     let v = (drawn / 16 % (u64::from(size) + 1)) as u8;
     match drawn % 16 {
@@ -296,7 +311,8 @@ fn drawn_call(drawn: u64, size: u8) -> Plain {
         1..=5 => Plain::Move(Move::Lend(v)),
         6..=10 => Plain::Move(Move::Borrow(v)),
         11 | 12 => Plain::Move(Move::Fire((drawn / 512 % 16) as u16)),
-        13 | 14 => Plain::Look,
+        13 => Plain::Look,
+        14 => Plain::Join(v, (drawn / 512 % 4) as u8),
         _ => Plain::Claim,
     }
 }
@@ -318,6 +334,7 @@ fn is_replayed<N: Name>(
         let right = match entry.request {
             Request::Move(play) => game.act(Plain::Move(play)) == entry.reply,
             Request::Gift(v, dollars) => game.act(Plain::Gift(v, dollars)) == entry.reply,
+            Request::Join(u, v) => game.act(Plain::Join(u, v)) == entry.reply,
             Request::Look => game.act(Plain::Look) == entry.reply,
             Request::Claim => game.act(Plain::Claim) == entry.reply,
             Request::Judge(look) => is_right(&game, history, look as usize, &entry.reply),
@@ -332,15 +349,16 @@ fn is_replayed<N: Name>(
         }
     }
     assert!(rt; *game.position() == audit.position && game.gifts() == audit.gifts);
+    assert!(rt; *game.graph() == audit.graph);
     Ok(claims)
 }
 
-// Whether a finding on a look is stale just where a gift was accepted since, and otherwise right where it is entered.
+// Whether a finding on a look is stale just where a gift or a join was accepted since, and otherwise right where it is entered.
 fn is_right(game: &Game, history: &[Entry], look: usize, reply: &Reply) -> bool {
     let Some(entry) = history.get(look) else {
         return false;
     };
-    let Reply::Looked(gifts, _) = entry.reply else {
+    let Reply::Looked(gifts, _, _) = entry.reply else {
         return false;
     };
     match reply {
@@ -352,10 +370,25 @@ fn is_right(game: &Game, history: &[Entry], look: usize, reply: &Reply) -> bool 
     }
 }
 
+// How often a has lent before the first join, less how often it has borrowed.
+fn lent_before_a_join(history: &[Entry]) -> i64 {
+    let mut lent = 0i64;
+    for entry in history {
+        match (entry.request, &entry.reply) {
+            (Request::Move(Move::Lend(0)), Reply::Moved(_)) => lent = lent.wrapping_add(1),
+            (Request::Move(Move::Borrow(0)), Reply::Moved(_)) => lent = lent.wrapping_sub(1),
+            (Request::Join(_, _), Reply::Joined(_, _)) => return lent,
+            _ => (),
+        }
+    }
+    lent
+}
+
 // Whether the meeting has come to its end.
 fn is_ended<N: Name>(
     rt: &impl Abort,
     claims: (u32, u32),
+    lent: i64,
     audit: &Audit<N>,
     meeting: &Meeting<'_>,
 ) -> Result<(), Fail> {
@@ -368,6 +401,10 @@ fn is_ended<N: Name>(
         End::At(gifts, position) => {
             assert_eq!(rt; audit.gifts, gifts);
             assert!(rt; audit.position == position);
+        }
+        End::Joined => {
+            assert_eq!(rt; audit.gifts, 1);
+            assert!(rt; audit.position == amounts(&[lent, 0, lent.wrapping_neg()])?);
         }
         End::Settled(count) => {
             assert_eq!(rt; claims, (count, count));

@@ -39,7 +39,7 @@ pub(crate) fn look_at<N: Name>(
     table: &Table<N>,
     seat: &mut Seat<N>,
 ) -> Result<(Receipt<N>, LookData), Fail>
-    ensures look { IfOk result (λ r. IsLookOf N.start r.0 r.1) }
+    ensures look { IfOk result (λ r. IsLookOf r.0 r.1) }
     ensures size { IfOk result (λ r. r.1.position.size ≡ r.1.graph.size) }
     ensures vertex { IfOk result (λ r. N.start.q < r.1.graph.size) }
 {
@@ -72,7 +72,7 @@ pub(crate) fn settle<N: Name>(
     look: &Receipt<N>,
     shown: &LookData,
 ) -> Result<Receipt<N>, Fault>
-    requires look { IsLookOf N.start look.now shown.now }
+    requires look { IsLookOf look.now shown.now }
     requires size { shown.now.position.size ≡ shown.now.graph.size }
     requires vertex { N.start.q < shown.now.graph.size }
 {
