@@ -25,6 +25,11 @@ tuple: its word, its numbers, and its lists of amounts as dicts.
     ('looked', 0, {'a': 2, 'b': -1, 'c': -1})
     ('moved', {'a': 0, 'b': 0, 'c': 0})
     ('winnable', {'a': 0, 'b': 0, 'c': 0}, {'a': 0, 'b': 0, 'c': 0})
+    >>> for answer in rehearse(triangle, ["1 look", "2 join a b", "1 commit"]):
+    ...     print(answer)
+    ('looked', 0, {'a': 2, 'b': -1, 'c': -1})
+    ('joined', 1, {'a': 2, 'b': -1, 'c': -1})
+    ('stale', 1)
     >>> greedy(triangle, 1), greedy(triangle, 3)[-1]
     ([('moved', {'a': 1, 'b': 1, 'c': -2}), ('turns',)], ('won',))
 
@@ -33,8 +38,8 @@ import contextlib, doctest, functools, json, os, re, subprocess, sys, tempfile
 
 HERE = os.path.dirname(os.path.abspath(__file__))
 FORMS = [form.replace("P", r"(\w+=-?\d+(?: \w+=-?\d+)*)").replace("N", r"(\d+)") for form in (
-    "(moved) P", "(given) N P", "(looked) N P", "(won|not won)", "(winnable|unwinnable) by P to P", "(rank at least) N",
-    "(rank below) N at P", "(stale) N", r"(refused \w+)", r"(bad \w+)", "(turns)")]
+    "(moved) P", "(given) N P", "(joined) N P", "(looked) N P", "(won|not won)", "(winnable|unwinnable) by P to P",
+    "(rank at least) N", "(rank below) N at P", "(stale) N", r"(refused \w+)", r"(bad \w+)", "(turns)")]
 
 
 class Fault(Exception):
@@ -108,6 +113,8 @@ def answer(text):
 
         >>> answer("given 1 a=2 b=0 c=-1")
         ('given', 1, {'a': 2, 'b': 0, 'c': -1})
+        >>> answer("joined 2 a=2 b=0 c=-1")
+        ('joined', 2, {'a': 2, 'b': 0, 'c': -1})
     """
     parts = next(filter(None, (re.fullmatch(form, text) for form in FORMS)), None)
     if not parts:
@@ -211,6 +218,20 @@ class Session:
             self.end()
             if self.fault and not kind:
                 raise self.fault
+
+
+def joined(table, u, v):
+    """The table with one more edge between two vertices, as `join` makes it; the amounts are as they were.
+
+        >>> edges(joined(example("triangle"), "a", "b"))["b"]
+        {'a': 2, 'c': 1}
+        >>> vain = example("triangle_in_vain")
+        >>> judge(vain)
+        ('unwinnable', {'a': 0, 'b': -2, 'c': -2}, {'a': -1, 'b': 0, 'c': 1})
+        >>> judge(joined(vain, "a", "b"))
+        ('winnable', {'a': 0, 'b': -1, 'c': -1}, {'a': 0, 'b': 0, 'c': 0})
+    """
+    return dict(table, edges=table["edges"] + [[u, v, 1]])
 
 
 def edges(table):

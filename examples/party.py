@@ -17,7 +17,8 @@ TABLE = {
     "amounts": [-30, 5, 0, -5],
     "q": "a",
 }
-WORDS = {"lend": 2, "borrow": 2, "fire": 2, "script": 2, "gift": 3, "look": 1, "claim": 1, "commit": 1, "rank": 2}
+WORDS = {"lend": 2, "borrow": 2, "fire": 2, "script": 2, "gift": 3, "join": 3, "look": 1, "claim": 1, "commit": 1, "rank": 2}
+MOST_EDGES = 63
 
 
 class Bad(Exception):
@@ -40,9 +41,12 @@ def parse(line, names):
         return words
     if words[0] == "rank":
         return ["rank", number(words[1], 0, 4294967295)]
-    items = [words[1]] if words[0] in ("lend", "borrow", "gift") else words[1].split(",")
+    if words[0] == "join":
+        items = words[1:]
+    else:
+        items = [words[1]] if words[0] in ("lend", "borrow", "gift") else words[1].split(",")
     named = [item.split("=")[0] if words[0] == "script" else item for item in items]
-    if len(set(named)) < len(named) or not set(named) <= set(names):
+    if (len(set(named)) < len(named) and words[0] != "join") or not set(named) <= set(names):
         raise Bad("bad name")
     vertices = [names.index(name) for name in named]
     if words[0] == "script":
@@ -53,7 +57,7 @@ def parse(line, names):
 
 
 class Game:
-    """The one-player game on a table: amounts, the count of accepted gifts, and the rules."""
+    """The one-player game on a table: edges, amounts, the count of accepted gifts, levies and joins, and the rules."""
 
     def __init__(self, table):
         self.names, self.amounts, self.gifts = table["vertices"], list(table["amounts"]), 0
@@ -73,8 +77,10 @@ class Game:
         return [x + sum(e * (script[w] - script[v]) for w, e in enumerate(self.edges[v])) for v, x in enumerate(amounts)]
 
     def act(self, command):
-        """The text of the reply to a move, a gift, a look or a claim."""
+        """The text of the reply to a move, a gift, a join, a look or a claim."""
         word = command[0]
+        if word == "join":
+            return self.join(*command[1])
         if word == "look":
             return "looked %d %s" % (self.gifts, self.pairs(self.amounts))
         if word == "claim":
@@ -94,6 +100,18 @@ class Game:
             self.gifts += 1
             return "given %d %s" % (self.gifts, self.pairs(after))
         return "moved " + self.pairs(after)
+
+    def join(self, u, v):
+        """The text of the reply to a join of two vertices."""
+        if u == v:
+            return "refused loop"
+        if max(sum(self.edges[u]), sum(self.edges[v])) >= MOST_EDGES:
+            return "refused valence"
+        self.edges[u][v] += 1
+        self.edges[v][u] += 1
+        self.kept.clear()
+        self.gifts += 1
+        return "joined %d %s" % (self.gifts, self.pairs(self.amounts))
 
     def unburnt(self, amounts):
         """What is left when all has burnt from q that may: a vertex burns that more edges join to burnt ones than it holds."""
@@ -187,8 +205,9 @@ def judged(script, names):
 
 
 def some_script(rng, names):
-    """A script with each of the nine commands and with bad lines. One gift, of two dollars, and one levy, of a dollar, are
-    taken, and others are refused: so the sum of the dollars rises slowly, and verdicts and rank tests stay open for long."""
+    """A script with each of the ten commands and with bad lines. One gift, of two dollars, and one levy, of a dollar, are
+    taken, and others are refused, as all joins are: so the sum of the dollars rises slowly, and verdicts and rank tests stay
+    open for long."""
     def line():
         v, w = rng.sample(names, 2)
         return rng.choices([
@@ -197,11 +216,12 @@ def some_script(rng, names):
             "look", "commit", "rank %d" % rng.randint(0, 3), "claim",
             "script %s=%d" % (v, rng.choice([-200000, 200000, 999999999])),
             "gift %s %s" % (v, rng.choice(["0", "-1000001", "1000001", "9223372036854775807"])),
+            "join %s %s" % (v, v),
             rng.choice(["rank 105", "rank 1001"]),
             rng.choice(["", "lend", "look ", "lend  a", "Lend a", "lend z", "claim\r", "fire a,a", "fire a,", "script a",
-                        "script a=b,z=1", "script a=1000000001", "gift a 01", "gift a 9223372036854775808", "rank -1",
-                        "rank 4294967296", "\xff"]),
-        ], [10, 10, 8, 8, 16, 14, 8, 4, 2, 2, 2, 5])[0]
+                        "script a=b,z=1", "script a=1000000001", "gift a 01", "gift a 9223372036854775808", "join a", "join a z",
+                        "rank -1", "rank 4294967296", "\xff"]),
+        ], [10, 10, 8, 8, 16, 14, 8, 4, 2, 2, 1, 2, 5])[0]
     lines = [line() for _ in range(LINES)]
     given, taken = rng.sample(range(LINES), 2)
     lines[given], lines[taken] = "gift %s 2" % rng.choice(names), "gift %s -1" % rng.choice(names)
@@ -223,7 +243,8 @@ def main(program):
 
     rng, game = random.Random(1), Game(TABLE)
     scripts = [some_script(rng, game.names) for _ in range(SEATS)]
-    scripts[-1][-12:] = ["gift %s 1000000" % name for name in game.names * 3]
+    # Edges are added late: each one gives more classes of divisors, and the model more trials to make that it has not made.
+    scripts[-1][-14:] = ["join a c", "join d b"] + ["gift %s 1000000" % name for name in game.names * 3]
     texts = ["".join(line + "\n" for line in script).encode("latin-1") for script in scripts]
     waiting = [collections.deque(pair for pair in judged(script, game.names) if isinstance(pair[1], list)) for script in scripts]
     calls = [len(entered) for entered in waiting]
@@ -257,7 +278,7 @@ def main(program):
             if command[0] == "look":
                 looks[seat] = number, game.gifts
             apart += command[0] in ("commit", "rank") and number > looked + 1
-            kinds[re.match("[a-z]*( won| gift| range| at least| below)?", entry[3])[0]] += 1
+            kinds[re.match("[a-z]*( won| gift| range| loop| at least| below)?", entry[3])[0]] += 1
             replies.append("%d %s" % (number, entry[3]))
             steps.append("%d %s\n" % (seat, line))
         for text in wrong[:10]:
@@ -265,8 +286,8 @@ def main(program):
         check(not wrong, "the model of the game gives each reply")
         print("    " + ", ".join("%d %s" % (times, kind) for kind, times in sorted(kinds.items())))
         print("    %d verdicts and rank tests on a look that was not the entry before" % apart)
-        expected = {"moved", "given", "looked", "not won", "winnable", "unwinnable", "rank at least", "rank below", "stale",
-                    "refused gift", "refused range"}
+        expected = {"moved", "given", "joined", "looked", "not won", "winnable", "unwinnable", "rank at least", "rank below",
+                    "stale", "refused gift", "refused range", "refused loop"}
         check(expected <= set(kinds) and apart > 0, "there are entries of each kind")
         check(not any(waiting), "no seat's line is missing")
         totals = ["entries %d" % sum(calls), "gifts %d" % game.gifts, "position " + game.pairs(game.amounts)]

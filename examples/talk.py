@@ -107,6 +107,16 @@ def main(program):
         ("commit", "2 stale 1"),
     ], (0, ""))
 
+    # A join adds an edge, and counts as a gift does. The amounts are as they were; but along two edges a now sends b two
+    # dollars when it lends.
+    play("a join", Session(program, triangle), [
+        ("look", "0 looked 0 a=2 b=-1 c=-1"),
+        ("join a a", "1 refused loop"),
+        ("join a b", "2 joined 1 a=2 b=-1 c=-1"),
+        ("commit", "3 stale 1"),
+        ("lend a", "4 moved a=-1 b=1 c=0"),
+    ], (0, ""))
+
     # A tool that chooses by the answers: whoever owes most borrows, until nobody owes anything. First b, the earlier of
     # two who owe a dollar, and then c, who owes two after that.
     session, position = Session(program, triangle), {"a": 2, "b": -1, "c": -1}

@@ -6,14 +6,14 @@
     docs/pictures/draw.py FILE       prints a picture of a table of yours, its vertices in a ring, and of its verdict
 
 A vertex has its name and its dollars; a red one is in debt, and q has a double ring. What burns is orange, with its
-number in the order of burning. The script needs Python 3 and nothing else. It reckons burnings, scripts and losses
+number in the order of burning. An edge that was added is blue. The script needs Python 3 and nothing else. It reckons burnings, scripts and losses
 itself; but a verdict of yours is the program's."""
 import html, itertools, json, math, os, sys
 
 HERE = os.path.dirname(os.path.abspath(__file__))
 sys.dont_write_bytecode = True
 sys.path.insert(0, os.path.join(HERE, "..", "..", "examples"))
-from dollar import Fault, burnt, edges, example, fired, judge
+from dollar import Fault, burnt, edges, example, fired, joined, judge
 
 ROUND, MARGIN, FOOT = 21, 36, 46
 
@@ -71,8 +71,9 @@ def first_loss(table, amounts, degree):
     return None
 
 
-def frame(middle, size, table, places, amounts, lines, order=()):
-    """One drawing of a table around a place: edges, vertices, and lines of text below."""
+def frame(middle, size, table, places, amounts, lines, order=(), added=None):
+    """One drawing of a table around a place: edges, one of them blue if it was added between two vertices, the vertices, and
+    lines of text below."""
     place = {v: (middle[0] + size * x, middle[1] + size * y) for v, (x, y) in places.items()}
     number = {v: i + 1 for i, v in enumerate(order)}
     yield '<g font-family="sans-serif" text-anchor="middle">'
@@ -85,7 +86,7 @@ def frame(middle, size, table, places, amounts, lines, order=()):
             bow = (i - (count - 1) / 2) * min(36, 252 / count)
             bent = (x + z) / 2 - bow * (w - y) / long, (y + w) / 2 + bow * (z - x) / long
             yield ('<path d="M%.1f %.1f Q%.1f %.1f %.1f %.1f" fill="none" stroke="%s" stroke-width="1.8"/>'
-                   % (x, y, *bent, z, w, colour))
+                   % (x, y, *bent, z, w, "#1a66cc" if (u, v) == added and i == 0 else colour))
     for v in table["vertices"]:
         x, y = place[v]
         fill, line = ("#fbd3cd", "#b3261e") if amounts[v] < 0 else ("#e6f2e6", "#2e6b34")
@@ -168,6 +169,35 @@ def loss(name, places, degree):
         (table, places, end, says, burnt(table, end))]
 
 
+def before_and_after(name, places, u, v):
+    """A table, the same with one more edge, and that one reduced."""
+    table = example(name)
+    more = joined(table, u, v)
+    words = ["can be won" if reduced(each, held(each))[1][each["q"]] >= 0 else "can't be won" for each in (table, more)]
+    _, end = reduced(more, held(more))
+    return "The table examples/%s.json before and after a join of %s and %s" % (name, u, v), [
+        (table, places, held(table), ["examples/%s.json:" % name, "it " + words[0]]),
+        (more, places, held(more), ["after join %s %s, with the same amounts:" % (u, v), "it " + words[1]], (), (u, v)),
+        (more, places, end, ["all burns, in this order:", table["q"] + (" owes" if end[table["q"]] < 0 else " does not owe")],
+         burnt(more, end))]
+
+
+def earlier(table, order):
+    """The divisor of an order: at each vertex the edges to those before it, less 1."""
+    return {v: sum(edges(table)[v].get(u, 0) for u in order[:order.index(v)]) - 1 for v in table["vertices"]}
+
+
+def both_orders(name, places):
+    """What a table is reduced to, with the order in which it burns; the divisor of that order; and that of the reversed one."""
+    table = example(name)
+    _, end = reduced(table, held(table))
+    order = burnt(table, end)
+    return "An order in which all burns on examples/%s.json, and the divisors of it and of the reversed one" % name, [
+        (table, places, end, ["reduced: all burns, in this order;", "%s owes" % table["q"]], order),
+        (table, places, earlier(table, order), ["the divisor of the order:", "edges to earlier ones, less 1"], order),
+        (table, places, earlier(table, order[::-1]), ["the divisor of the", "reversed order"], order[::-1])]
+
+
 def yours(place):
     """The table of a file and its verdict."""
     with open(place) as file:
@@ -190,6 +220,8 @@ PICTURES = {
     "cycle_burning": burning("four_cycle", DIAMOND),
     "village": plain("village", VILLAGE),
     "loss": loss("uneven_four", SQUARE, 2),
+    "joined": before_and_after("triangle_in_vain", TRIANGLE, "a", "b"),
+    "both_orders": both_orders("dual_of_uneven", SQUARE),
 }
 
 

@@ -119,9 +119,9 @@ For the triangle they are:
 
 By Riemann-Roch, rank - dual = degree + 1 - genus.
 
-Each rank is found by tests with the limits of `dollar rank`, and `too many
-trials` does not say which of the two was too great. With 16 vertices each may
-be at most 6.
+Each rank must be one that tests tell which have the limits of `dollar rank`;
+`too many trials` does not say which of the two was too great. With 16 vertices
+each may be at most 6.
 ";
 
 pub(crate) const GREEDY_MORE: &str = "\
@@ -151,6 +151,7 @@ STEPS has up to 65536 lines, each with a seat and one of these commands:
     fire V,V,..         the vertices named lend at once
     script V=x,V=x,..   each vertex named lends x times, at once
     gift V x            V is given x dollars; a levy if x is negative
+    join V V            one more edge joins the two vertices
     claim               the seat claims that nobody is in debt
     look                the seat looks at the amounts, and keeps the look
     commit              the verdict on the look that it keeps is entered
@@ -178,11 +179,12 @@ from 1, as in `line 1: bad seat`.
     6 won
 
 Each step gives a line with its number, from 0 on, and what came of it. A levy
-takes dollars from V, and counts as a gift. A commit or a rank test uses up the
-look of its seat. It holds for the amounts at which it is entered, though there
-were moves since the look; only a gift makes it stale. Where a line or a step is
-refused, nothing is printed but the fault of the first such line, or else of the
-first such step.
+takes dollars from V. A join changes no amount, but who lends or borrows after
+it does so along the new edge too. Both count as gifts. A commit or a rank test
+uses up the look of its seat. It holds for the amounts at which it is entered,
+though there were moves since the look; only a gift makes it stale. Where a line
+or a step is refused, nothing is printed but the fault of the first such line,
+or else of the first such step.
 ";
 
 pub(crate) const SERVE_MORE: &str = "\
@@ -216,7 +218,8 @@ pub(crate) const PARTY_MORE: &str = "\
 A script has the lines of a session, as `dollar serve --help` shows them. The
 first is played by seat 1, the next by seat 2, and so on, all at once, in an
 order that nobody fixes. Then the history is printed, each entry with its
-number, its seat and what came of it, and what was counted in it:
+number, its seat and what came of it, and what was counted in it, levies and
+joins among the gifts:
 
     $ cat lend.txt
     lend a
