@@ -22,9 +22,15 @@ const MOST: i64 = 1_000_000_000;
 /// How often those who owe borrow in turn: more than was ever seen to be needed.
 const PAYING_ROUNDS: usize = 16;
 
-/// How often those who do not burn lend together: more than was ever seen to be needed, but on graphs with heavy edges
-/// and few of them between two parts.
+/// How many times those who do not burn lend together: more than was ever seen to be needed.
 const BURNING_ROUNDS: usize = 200;
+
+/// How many of these times they lend but once. Mostly all burn by then, and to reckon how often they can lend costs more than
+/// it saves; where a heavy part hangs on few edges it saves hundreds of rounds.
+const SINGLE_ROUNDS: usize = 4;
+
+/// The most lendings of a round.
+const MOST_TIMES: i32 = 1_000_000;
 
 /// Amounts and lendings near to those of a reduction.
 #[derive(Clone, Copy)]
@@ -146,21 +152,40 @@ fn times_to_pay(chips: i32, valence: i32) -> i32 {
     chips.saturating_sub(valence - 1) / valence
 }
 
-/// Lets those who do not burn lend together, once and again, until all burn: that burning is the result.
+/// Lets those who do not burn lend together, again and again, until all burn: that burning is the result.
 fn burn_down(graph: &Graph, aim: &Aim, q: usize, near: &mut Near) -> Option<Burning>
     requires { q < graph.now.size }
     ensures { IfSome result (λ x. IsWhole graph.now q x) }
 {
-    for _ in 0..BURNING_ROUNDS {
+    for round in 0..BURNING_ROUNDS {
         let held = held_by(&near.chips);
         let counted = burn_counted(graph, q, &held);
         if counted.burnt.unburnt == 0 {
             let order = counted.burnt.order;
             return Some(Burning { held, order });
         }
-        fire(aim, counted.burnt.unburnt, &counted.joined, near);
+        let set = counted.burnt.unburnt;
+        let times = if round < SINGLE_ROUNDS {
+            1
+        } else {
+            most_times(set, &counted.joined, &near.chips)
+        };
+        fire(aim, set, &counted.joined, times, near);
     }
     None
+}
+
+/// How often a set can lend together until one of it would owe, but at least once; `joined` are the edges of each vertex to
+/// those that are not in the set.
+fn most_times(set: u16, joined: &[u8; 16], chips: &[i32; 16]) -> i32 {
+    let mut most = MOST_TIMES;
+    for v in 0..16 {
+        let out = i32::from(joined[v]);
+        if contains(set, v) && out > 0 {
+            most = most.min(chips[v] / out);
+        }
+    }
+    most.max(1)
 }
 
 /// The amounts as far as burning looks at them.
@@ -172,14 +197,15 @@ fn held_by(chips: &[i32; 16]) -> [u8; 16] {
     held
 }
 
-/// Lets each vertex of a set lend once more; `joined` are the edges of each vertex to those that are not in it.
-fn fire(aim: &Aim, set: u16, joined: &[u8; 16], near: &mut Near) {
+/// Lets the vertices of a set lend together so many times; `joined` are the edges of each vertex to those that are not in it.
+fn fire(aim: &Aim, set: u16, joined: &[u8; 16], times: i32, near: &mut Near) {
     for v in 0..16 {
         let lends = i32::from(contains(set, v));
         let out = i32::from(joined[v]);
         let got = (1i32.wrapping_sub(lends)).wrapping_mul(aim.valences[v]);
-        near.chips[v] = near.chips[v].wrapping_sub(out).wrapping_add(got);
-        near.script[v] = near.script[v].wrapping_add(lends);
+        let gains = got.wrapping_sub(out).wrapping_mul(times);
+        near.chips[v] = near.chips[v].wrapping_add(gains);
+        near.script[v] = near.script[v].wrapping_add(lends.wrapping_mul(times));
     }
 }
 
