@@ -19,4 +19,5 @@ pub mod Elsewhere
 pub mod SmallAmounts
 -- Ranks and rank tests by the dual.
 pub mod DualTests
+pub mod TestDegrees
 pub mod RankByTests

@@ -1,6 +1,7 @@
 -- The amounts of a reduced divisor whose degree is at least 0 and not high are small.
 --   edges_few        a graph has at most 63 edges for each vertex
 --   genus_small      the genus of a graph is at most 1,009
+--   genus_least      and at least -16
 --   reduced_at_q     at q a reduced divisor holds at most its degree, and at least that less 62 dollars for each vertex
 --   degree_small     n amounts within 1,000,000 add up to at most n times as much
 --   reduced_small    where the degree is at least 0 and less than the genus and a thousand, all amounts are small
@@ -49,6 +50,9 @@ edges_few g graph =
 
 pub genus_small : (g : Multigraph) → IsGraph g → genus g ≤ℤ pos 1009
 genus_small g graph = omega (arith, ints, edges_few g graph, graph.few)
+
+pub genus_least : (g : Multigraph) → IsGraph g → pos 0 ≤ℤ (genus g +ℤ pos 16)
+genus_least g graph = omega (arith, ints, graph.few)
 
 sum_below-constant : (n : ℕ) (K : ℕ) → sum_below n (λ _. pos K) ≡ pos (n * K)
 sum_below-constant zero K = omega (arith, ints)

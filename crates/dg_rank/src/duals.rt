@@ -145,7 +145,18 @@ fn degree_of_dual(graph: &Graph, divisor: &Divisor, k: u32) -> u32
         ≡ (degree graph.now.size (at divisor.now) +ℤ pos 1) -ℤ genus graph.now }
 {
     let _size = graph.size();
-    (i64::from(graph.genus()) - 1 - degree_left(divisor, k)) as u32
+    (i64::from(k) - ranks_apart(graph, divisor)) as u32
+}
+
+/// By how much the rank of a divisor is above that of its dual.
+pub(crate) fn ranks_apart(graph: &Graph, divisor: &Divisor) -> i64
+    requires { divisor.now.size ≡ graph.now.size }
+    ensures apart { result ≡ (degree graph.now.size (at divisor.now) +ℤ pos 1) -ℤ genus graph.now }
+    ensures small { unsigned_abs result ≤ 17000000 }
+{
+    let _size = graph.size();
+    let _amounts = divisor.size();
+    divisor.degree() + 1 - i64::from(graph.genus())
 }
 
 /// The dual of a divisor: the canonical divisor less it.

@@ -1,7 +1,6 @@
 //! The rank of a divisor and that of its dual, as numbers: the first test that fails tells the one, and by the theorem of
 //! Riemann and Roch the other.
 ghost use Rattle.std.specs.Prelude.{◌≡◌, ◌<◌, ◌≤◌, ◌⊎◌, pos, ◌+ℤ◌, ◌-ℤ◌, MatchOption};
-ghost use Rattle.std.specs.Int.RustNames.{unsigned_abs};
 ghost use Rattle.dg_theory.specs.Multigraph.{genus};
 ghost use Rattle.dg_theory.specs.Firing.{degree};
 ghost use Rattle.dg_theory.specs.Rank.{less, canonical, IsRank};
@@ -9,7 +8,7 @@ ghost use Rattle.dg_chips.specs.Vector.{at};
 ghost use Rattle.dg_rank.specs.Ranks.{IsRankInLimits, NeedsTooMany, NeedsPastTests, FailsFirstAt};
 
 use crate::counting::trials;
-use crate::duals::has_rank;
+use crate::duals::{has_rank, ranks_apart};
 use dg_chips::Divisor;
 use dg_graph::Graph;
 
@@ -94,15 +93,4 @@ fn first_failing_of_dual(graph: &Graph, divisor: &Divisor, fails: u32) -> u32
 {
     let _size = graph.size();
     (i64::from(fails) - ranks_apart(graph, divisor)) as u32
-}
-
-// By how much the rank of a divisor is above that of its dual.
-fn ranks_apart(graph: &Graph, divisor: &Divisor) -> i64
-    requires { divisor.now.size ≡ graph.now.size }
-    ensures apart { result ≡ (degree graph.now.size (at divisor.now) +ℤ pos 1) -ℤ genus graph.now }
-    ensures small { unsigned_abs result ≤ 17000000 }
-{
-    let _size = graph.size();
-    let _amounts = divisor.size();
-    divisor.degree() + 1 - i64::from(graph.genus())
 }

@@ -35,7 +35,8 @@ impl Gate for OpenGate {
 
 /// The rank test among workers: the answer is that of `rank_at_least`, whatever their number and the gate. The trials
 /// are shared in as many pieces as there are workers. Each piece has a thread of its own, which enters the gate with the
-/// piece's number, from 0 on, before its first trial, also where it has none to make.
+/// piece's number, from 0 on, before its first trial, also where it has none to make: the degree, or a few trials and those
+/// of the dual, made before any thread starts, may have told the answer.
 ///
 /// Refused with `TooMany` as there, then with `Workers` where their number is not 1 to 16; then no gate is entered. Refused
 /// with `Spawn` where a thread could not be started; those that were have ended then. `OutOfMemory` does not come, since
@@ -67,7 +68,7 @@ pub fn rank_with<R: Threads + Wait, G: Gate>(
         return after_the_gate(rt, graph, k, workers, gate, verdict);
     }
     let chips = reduce(graph, q, divisor).divisor;
-    // The dual's trials are made here, while the workers wait.
+    // The first trials and the dual's are made before there are threads to share the rest.
     match told_by_dual(graph, q, divisor, &chips, k, count / (2 * workers)) {
         Told::Lost(trial) => {
             let verdict = verdict_on(k, Some(trial));

@@ -1,8 +1,8 @@
 use Rattle.std.proofs.Common.{◌≡◌, arith, sym, subst, ⊎_elim}
 use Rattle.std.specs.Prelude.{◌≤ℤ◌}
 use Rattle.std.proofs.lemmas.Bool.{cases_eq}
-use Rattle.std.proofs.lemmas.Int.{ints, clamps}
-use Rattle.std.proofs.Math.IntN.{pos, ◌+ℤ◌, ◌-ℤ◌}
+use Rattle.std.proofs.lemmas.Int.{ints}
+use Rattle.std.proofs.Math.IntN.{pos}
 use Rattle.dg_theory.specs.Multigraph.{genus}
 use Rattle.dg_theory.specs.Firing.{degree}
 use Rattle.dg_theory.specs.Rank.{HasRankAtLeast}
@@ -10,15 +10,16 @@ use Rattle.dg_theory.proofs.RankLaws.{rich_rank}
 use Rattle.dg_theory.proofs.DualityLaws.{natural}
 use Rattle.dg_chips.specs.Vector.{at}
 use Rattle.dg_rank.proofs.RankByTests.{not_all_pass}
-use Rattle.dg_rank.proofs.SmallAmounts.{genus_small}
+use Rattle.dg_rank.proofs.SmallAmounts.{genus_small, genus_least}
+use Rattle.dg_rank.proofs.TestDegrees.{rich_below, first_small, last_small, one_more, last_tested, through}
 use Rattle.dg_rank.proofs.numbers.first_failing.Goals as goal
 
 pub loop-k-init : goal.loop-k-init
 loop-k-init c j below =
     let g = c.args.graph.now in
-    let apart : c.ranks_apart.result ≡ (degree g.size (at c.args.divisor.now) +ℤ pos 1) -ℤ genus g = c.ranks_apart.ensures.apart in
     rich_rank g (at c.args.divisor.now) j c.size-size.ensures.graph.multigraph (omega arith)
-    (omega (arith, ints, clamps, c.max-first.ensures.value, c.ranks_apart.ensures.small))
+    (rich_below (degree g.size (at c.args.divisor.now)) (genus g) c.ranks_apart.result c.max-first.result j
+    c.ranks_apart.ensures.apart c.ranks_apart.ensures.small c.max-first.ensures.value below)
 
 pub returns-in-Ok-false : goal.returns-in-Ok-false
 returns-in-Ok-false c = record {
@@ -37,27 +38,24 @@ loop-k-preserved c j below =
 
 pub overflow_cast-k-end : goal.overflow_cast-k-end
 overflow_cast-k-end c =
-    let first : c.max-first.result ≤ℤ pos 17000000 =
-    omega (arith, ints, clamps, c.max-first.ensures.value, c.ranks_apart.ensures.small) in
-    let low : pos 0 ≤ℤ c.max-first.result = c.max-first.ensures.other_bound in
-    let few : genus c.args.graph.now ≤ℤ pos 1009 = genus_small c.args.graph.now c.size-size.ensures.graph in
-    let end : c.max-end.result ≤ℤ pos 17000000 = omega (arith, ints, clamps, c.max-end.ensures.value, c.from.ensures) in
-    let least : pos 0 ≤ℤ c.max-end.result = omega (arith, ints, c.max-end.ensures.self_bound) in
-    omega (arith, ints)
+    let g = c.args.graph.now in
+    let (low, _, high) = first_small c.ranks_apart.result c.max-first.result c.ranks_apart.ensures.small c.max-first.ensures.value in
+    let (more, _, least) =
+    last_small c.max-first.result c.genus.result c.from.result c.max-end.result low high
+    (rw c.genus.ensures (genus_small g c.size-size.ensures.graph)) (rw c.genus.ensures (genus_least g c.size-size.ensures.graph)) c.from.ensures c.max-end.ensures.value in
+    let none : pos 0 ≤ℤ c.max-end.result = through (pos 0) c.max-first.result c.max-end.result low more in
+    rw (one_more c.max-end.result none least) (omega (arith, ints))
 
 pub unreachable-requires : goal.unreachable-requires
 unreachable-requires c =
     let g = c.args.graph.now in
     let D = at c.args.divisor.now in
-    let apart : c.ranks_apart.result ≡ (degree g.size D +ℤ pos 1) -ℤ genus g = c.ranks_apart.ensures.apart in
-    let first : c.max-first.result ≤ℤ pos 17000000 =
-    omega (arith, ints, clamps, c.max-first.ensures.value, c.ranks_apart.ensures.small) in
-    let low : pos 0 ≤ℤ c.max-first.result = c.max-first.ensures.other_bound in
-    let poor : c.ranks_apart.result ≤ℤ c.max-first.result = omega (arith, ints, c.max-first.ensures.self_bound, c.ranks_apart.ensures.small) in
-    let few : genus g ≤ℤ pos 1009 = genus_small g c.size-size.ensures.graph in
-    let end : c.max-end.result ≤ℤ pos 17000000 = omega (arith, ints, clamps, c.max-end.ensures.value, c.from.ensures) in
-    let least : c.max-first.result ≤ℤ c.max-end.result = omega (arith, ints, c.max-end.ensures.self_bound) in
-    let high : genus g ≤ℤ c.max-end.result = omega (arith, ints, c.max-end.ensures.other_bound, c.from.ensures, c.genus.ensures, c.size-size.ensures.graph.few) in
-    let (last, same) = natural c.max-end.result (omega (arith, ints)) in
-    not_all_pass g D last c.size-size.ensures.graph.multigraph (omega arith) (omega (arith, ints)) (omega (arith, ints))
-    (c.loop-k.invariant last (omega (arith, ints, c.loop-k-test.false)))
+    let (low, apart, high) = first_small c.ranks_apart.result c.max-first.result c.ranks_apart.ensures.small c.max-first.ensures.value in
+    let (more, whole, least) =
+    last_small c.max-first.result c.genus.result c.from.result c.max-end.result low high
+    (rw c.genus.ensures (genus_small g c.size-size.ensures.graph)) (rw c.genus.ensures (genus_least g c.size-size.ensures.graph)) c.from.ensures c.max-end.ensures.value in
+    let (last, same) = natural c.max-end.result (through (pos 0) c.max-first.result c.max-end.result low more) in
+    not_all_pass g D last c.size-size.ensures.graph.multigraph (omega arith)
+    (rw (c.genus.ensures, same) at whole)
+    (rw (c.ranks_apart.ensures.apart, same) at (through c.ranks_apart.result c.max-first.result c.max-end.result apart more))
+    (c.loop-k.invariant last (last_tested c.max-end.result last c.loop-k.k same least c.loop-k-test.false))

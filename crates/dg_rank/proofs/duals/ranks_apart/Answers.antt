@@ -7,7 +7,7 @@ use Rattle.dg_theory.specs.Multigraph.{genus}
 use Rattle.dg_theory.specs.Firing.{degree}
 use Rattle.dg_chips.specs.Vector.{at}
 use Rattle.dg_rank.proofs.SmallAmounts.{degree_small, genus_small}
-use Rattle.dg_rank.proofs.numbers.ranks_apart.Goals as goal
+use Rattle.dg_rank.proofs.duals.ranks_apart.Goals as goal
 
 pub overflow_add-result : goal.overflow_add-result
 overflow_add-result c =
