@@ -57,6 +57,26 @@ enum Shape {
     Heavy,
     /// Two parts with heavy edges, and one single edge between them.
     Bridge,
+    /// Eight vertices joined by heavy edges, and a path that hangs on the last of them.
+    Tail,
+    /// Two eights joined by heavy edges, and a single edge between them.
+    Barbell,
+    /// A path of heavy and single edges in turn.
+    Path,
+    /// Triangles with heavy edges, each joined to the next by a single edge.
+    Triangles,
+}
+
+/// How many edges a thin graph has between two vertices, of which u is the lesser: heavy ones within a part, and a single
+/// one from part to part.
+fn thin_edges(heavy: u8, is_one_part: bool, u: u8, v: u8) -> u8
+    requires { u ≤ v }
+{
+    if is_one_part {
+        heavy
+    } else {
+        u8::from(v - u == 1)
+    }
 }
 
 /// A random connected graph; none where some vertex has got too many edges.
@@ -77,6 +97,10 @@ fn graph_of(dice: &mut Dice, shape: Shape, size: u8) -> Option<Graph>
                 Shape::Heavy => 1 + dice.byte(single),
                 Shape::Bridge if across => u8::from(u == 0 && v == half),
                 Shape::Bridge => 1 + dice.byte(double),
+                Shape::Tail => thin_edges(8, v < 8, u, v),
+                Shape::Barbell => thin_edges(8, u / 8 == v / 8, u, v),
+                Shape::Path => thin_edges(60, u / 2 == v / 2, u, v),
+                Shape::Triangles => thin_edges(25, u / 3 == v / 3, u, v),
             };
             if edges > 0 && count < 152 {
                 items[count] = (u, v, edges);
@@ -154,12 +178,21 @@ fn agrees(dice: &mut Dice, graph: &Graph, q: usize, most: u64) -> Option<(bool, 
 
 #[test]
 fn as_by_levels(rt: HostRuntime) -> Result<(), Fail> {
-    let shapes = [Shape::Tree, Shape::Light, Shape::Heavy, Shape::Bridge];
+    let shapes = [
+        Shape::Tree,
+        Shape::Light,
+        Shape::Heavy,
+        Shape::Bridge,
+        Shape::Tail,
+        Shape::Barbell,
+        Shape::Path,
+        Shape::Triangles,
+    ];
     let limits = [3, 10, 1000, 1_000_000];
     let mut dice = Dice { state: 1 };
     let mut graphs = 0u32;
     let mut wrong = 0u32;
-    for _ in 0..1500 {
+    for _ in 0..800 {
         for shape in shapes {
             for most in limits {
                 let size = 1 + dice.byte(16);
