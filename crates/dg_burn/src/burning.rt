@@ -36,7 +36,7 @@ pub struct Counted {
 
 /// Burns the graph from q. Of the vertices that more edges join to burnt ones than they hold dollars, the least burns
 /// next, until there is none. What is left is the greatest set of vertices without q that can fire so that nobody off q
-/// comes into debt.
+/// comes into debt. It takes no memory.
 pub fn burn(graph: &Graph, q: usize, chips: &Wide) -> Burnt
     requires size { chips.now.size ≡ graph.now.size }
     requires vertex { q < graph.now.size }

@@ -1,4 +1,4 @@
-//! Burning a graph from a vertex: the order in which the vertices burn, and those that do not.
+//! Burning a graph from a vertex: the order in which the vertices burn, and those that do not. No call takes memory.
 #![tactic(auto)]
 
 mod burning;

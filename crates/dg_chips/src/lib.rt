@@ -1,4 +1,4 @@
-//! Divisors, scripts and moves of the dollar game, and what a move does.
+//! Divisors, scripts and moves of the dollar game, and what a move does. No call takes memory.
 #![tactic(auto)]
 
 mod divisor;

@@ -145,7 +145,7 @@ impl Game {
     }
 
     /// Answers a call as the game answers it after its history, and takes it into the history, which stays legal where
-    /// a seat of 1 to 64 calls. The condition is that there are fewer than 65,536 entries.
+    /// a seat of 1 to 64 calls. It takes no memory. The condition is that there are fewer than 65,536 entries.
     pub fn act(&mut self, plain: Plain) -> Reply
         requires { self.old.entries < MAX_ENTRIES }
         ensures replies { (o : Opening) (H : List Entry) → LeadsTo o H self.old →
@@ -166,9 +166,9 @@ impl Game {
 
     /// Enters what was reckoned on a look: `Stale` where gifts, levies or joins were accepted since; otherwise a verdict
     /// that is right for the position now, with the reduced divisor and the burning order that were found, or the answer
-    /// of the rank test as it was found. A legal history stays legal where a seat of 1 to 64 enters it. The conditions are
-    /// that there are fewer than 65,536 entries, that the look is one of the history, whatever its drift, and that the
-    /// finding is right for the amounts of the look, on its graph.
+    /// of the rank test as it was found. A legal history stays legal where a seat of 1 to 64 enters it. It takes no memory.
+    /// The conditions are that there are fewer than 65,536 entries, that the look is one of the history, whatever its drift,
+    /// and that the finding is right for the amounts of the look, on its graph.
     pub fn settle(&mut self, look: &LookData, finding: &Finding) -> Reply
         requires room { self.old.entries < MAX_ENTRIES }
         requires look { (o : Opening) × (H : List Entry) × LeadsTo o H self.old × IsLookAt o H look.now }

@@ -1,4 +1,5 @@
-//! The dollar game of one table, played by one hand: requests, replies and the history that they make.
+//! The dollar game of one table, played by one hand: requests, replies and the history that they make. No call takes memory
+//! but `rehearse`.
 #![tactic(auto)]
 
 mod entry;

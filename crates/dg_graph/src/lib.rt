@@ -1,4 +1,4 @@
-//! Finite connected multigraphs without loops, of at most 16 vertices, and sets of their vertices.
+//! Finite connected multigraphs without loops, of at most 16 vertices, and sets of their vertices. No call takes memory.
 #![tactic(auto)]
 
 mod build;

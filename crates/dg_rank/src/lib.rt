@@ -1,4 +1,5 @@
-//! Rank tests: whether every effective divisor of a degree can be lost and the rest still won.
+//! Rank tests: whether every effective divisor of a degree can be lost and the rest still won. Nothing takes memory but the
+//! threads of `rank_with`.
 #![tactic(auto)]
 
 mod counting;

@@ -1,5 +1,5 @@
 //! The divisor that is reduced for a vertex q and can be reached by firing, and the script that leads to it; and amounts
-//! without debts, kept so while dollars are taken.
+//! without debts, kept so while dollars are taken. No call takes memory.
 #![tactic(auto)]
 
 mod aim;

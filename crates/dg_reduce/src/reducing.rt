@@ -36,7 +36,7 @@ pub struct Certified {
     pub order: [u8; 16],
 }
 
-/// The divisor that is reduced for q and can be reached by firing, and the script that leads to it.
+/// The divisor that is reduced for q and can be reached by firing, and the script that leads to it. It takes no memory.
 pub fn reduce(graph: &Graph, q: usize, divisor: &Divisor) -> Reduced
     requires size { divisor.now.size ≡ graph.now.size }
     requires vertex { q < graph.now.size }
@@ -49,7 +49,7 @@ pub fn reduce(graph: &Graph, q: usize, divisor: &Divisor) -> Reduced
 }
 
 /// The amounts, within 2,000,000 before, that are reduced for q and can be reached by firing, and the script that leads to
-/// them.
+/// them. It takes no memory.
 pub fn reduce_wide(graph: &Graph, q: usize, chips: &Wide) -> Reduced
     requires size { chips.now.size ≡ graph.now.size }
     requires vertex { q < graph.now.size }

@@ -12,7 +12,7 @@ use dg_graph::{Graph, contains, with_vertex};
 use dg_reduce::is_solvent_off;
 
 /// Whether a verdict is right for a divisor and vertex q, whoever made it and whatever it holds. Nothing is reduced
-/// anew: firing by the script and burning in the order of the verdict tell.
+/// anew: firing by the script and burning in the order of the verdict tell. It takes no memory.
 pub fn check(graph: &Graph, q: usize, divisor: &Divisor, verdict: &Verdict) -> bool
     requires size { divisor.now.size ≡ graph.now.size }
     requires vertex { q < graph.now.size }

@@ -1,4 +1,4 @@
-//! Verdicts: whether a divisor is winnable, with what shows it.
+//! Verdicts: whether a divisor is winnable, with what shows it. No call takes memory.
 #![tactic(auto)]
 
 mod checking;

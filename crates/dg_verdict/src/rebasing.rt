@@ -11,7 +11,7 @@ use crate::verdict::Verdict;
 use dg_chips::Drift;
 
 /// The verdict for the position to which a drift leads from that of a right verdict. Only the script is another: firing
-/// changes neither whether a divisor is winnable nor which reduced divisor it leads to.
+/// changes neither whether a divisor is winnable nor which reduced divisor it leads to. It takes no memory.
 pub fn rebase(q: usize, verdict: &Verdict, drift: &Drift) -> Verdict
     requires { IsRebasable q verdict.now drift.now }
     ensures winnable { result.winnable ≡ verdict.now.winnable }

@@ -24,7 +24,7 @@ pub struct Verdict {
 }
 
 /// The verdict on a divisor, reckoned from vertex q. The order is that in which the least vertex burns first; past the
-/// last vertex it holds zeros.
+/// last vertex it holds zeros. It takes no memory.
 pub fn judge(graph: &Graph, q: usize, divisor: &Divisor) -> Verdict
     requires size { divisor.now.size ≡ graph.now.size }
     requires vertex { q < graph.now.size }
