@@ -35,7 +35,7 @@ pub enum LineFault {
     Number,
 }
 
-/// The step that a line spells: a seat from 1 to 64, one space, and a command line.
+/// The step that a line spells: a seat from 1 to 64, one space, and a command line. It takes no memory.
 ///
 /// Refused with `Seat` first, then as the command line is: with `Word`, `Form`, `Name`, `Number`.
 pub fn parse_step(line: &[u8], names: &Names) -> Result<Step, LineFault>
@@ -49,7 +49,7 @@ pub fn parse_step(line: &[u8], names: &Names) -> Result<Step, LineFault>
     Ok(Step { seat, command })
 }
 
-/// The command that a line spells: a command word and what belongs to it.
+/// The command that a line spells: a command word and what belongs to it. It takes no memory.
 ///
 /// Refused with `Word` where the first word is no command, then with `Form`, then with `Name`, then with `Number`.
 pub fn parse_line(line: &[u8], names: &Names) -> Result<Command, LineFault>

@@ -1,4 +1,5 @@
-//! The history of one table, in cells that are each set once, and receipts for its entries.
+//! The history of one table, in cells that are each set once, and receipts for its entries. No call takes memory but
+//! `Row::new`.
 #![tactic(auto)]
 
 mod digest;

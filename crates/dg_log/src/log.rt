@@ -43,7 +43,7 @@ impl<N: Name> Log<N> {
         self.cells.len() as u32
     }
 
-    /// The entry of a receipt.
+    /// The entry of a receipt. It takes no memory.
     pub fn entry(&self, receipt: &Receipt<N>) -> &Entry
         ensures { result.now ≡ receipt.now.1 }
     {
@@ -56,7 +56,8 @@ impl<N: Name> Log<N> {
         }
     }
 
-    /// The entry of a number, with a receipt for it; `None` past the last cell, and where the cell is found empty.
+    /// The entry of a number, with a receipt for it; `None` past the last cell, and where the cell is found empty. It takes
+    /// no memory.
     pub fn read(&self, number: u32) -> Option<(Receipt<N>, &Entry)>
         ensures { MatchOption result ⊤ (λ r. (r.0.0 ≡ number) × (r.1.now ≡ r.0.1) × (number < length N.cells)) }
     {

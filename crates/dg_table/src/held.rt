@@ -29,7 +29,8 @@ use dg_log::{Log, Name, Pen, Receipt};
 use std::marker::Model;
 
 /// The game of the table N, the pen that writes its history, and how many entries each seat has. A contract sees what
-/// the pen has written; the rest is a function of it.
+/// the pen has written; the rest is a function of it. No call of it takes memory: a step uses the box and the space that
+/// `Seat::room` made.
 #[derive(Drop)]
 pub struct Held<N: Name> {
     game: Game,

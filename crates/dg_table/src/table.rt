@@ -173,7 +173,8 @@ impl<N: Name> Table<N> {
         &self.log
     }
 
-    /// Ends the game, where all its seats are handed in: each seat's calls are just its entries of the one history.
+    /// Ends the game, where all its seats are handed in: each seat's calls are just its entries of the one history. It takes
+    /// no memory.
     ///
     /// Refused where a seat is missing, or one is not admitted: it knows what the history does not hold, or the history has
     /// calls of it that it did not make.
