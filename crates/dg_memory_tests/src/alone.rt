@@ -1,0 +1,96 @@
+//! Calls that need no table to be opened, where memory may be refused.
+
+use crate::acts::of_rank;
+use crate::outcomes::{Outcome, done_if, tell};
+use crate::tables::triangle;
+use dg_chips::{Divisor, Move};
+use dg_file::TableFile;
+use dg_game::{Command, Entry, Plain, RehearseFault, Reply, Step, rehearse};
+use dg_lines::reply_text;
+use dg_rank::{OpenGate, RankVerdict, rank_with};
+use std::alloc::Global;
+use std::sync::Wait;
+use std::test::Fail;
+use std::thread::Threads;
+
+#[derive(Clone, Copy)]
+enum Call {
+    Rehearse,
+    ReplyText,
+    RankWith,
+}
+
+// A look, a move after which nobody is in debt, and a claim.
+const STEPS: [Step; 3] = [
+    Step {
+        seat: 1,
+        command: Command::Call(Plain::Look),
+    },
+    Step {
+        seat: 2,
+        command: Command::Call(Plain::Move(Move::Lend(0))),
+    },
+    Step {
+        seat: 1,
+        command: Command::Call(Plain::Claim),
+    },
+];
+
+#[test]
+fn calls_answer_or_refuse(rt: HostRuntime) -> Result<(), Fail> {
+    let alloc = rt.alloc();
+    let file = triangle(&rt, alloc)?;
+    for (name, call) in [
+        ("rehearse", Call::Rehearse),
+        ("reply_text", Call::ReplyText),
+        ("rank_with", Call::RankWith),
+    ] {
+        let outcome = called(&rt, alloc, &file, call)?;
+        tell(&rt, name, outcome)?;
+        if outcome != Outcome::Done {
+            assert!(&rt; called(&rt, alloc, &file, call)? == Outcome::Done, "{name}");
+        }
+    }
+    Ok(())
+}
+
+// What comes of a call.
+fn called<R: Threads + Wait>(
+    rt: &R,
+    alloc: Global,
+    file: &TableFile,
+    call: Call,
+) -> Result<Outcome, Fail> {
+    match call {
+        Call::Rehearse => match rehearse(alloc, file.start(), &STEPS) {
+            Ok(history) => Ok(done_if(is_won(history.as_slice(), file)?)),
+            Err(RehearseFault::OutOfMemory) => Ok(Outcome::Memory),
+            Err(_) => Ok(Outcome::Wrong),
+        },
+        Call::ReplyText => {
+            let _graph = file.start().graph();
+            match reply_text(alloc, &Reply::Moved(*file.start().divisor()), file.names()) {
+                Ok(text) => Ok(done_if(text.as_slice() == b"moved a=2 b=-1 c=-1".as_slice())),
+                Err(_) => Ok(Outcome::Memory),
+            }
+        }
+        Call::RankWith => {
+            let graph = file.start().graph();
+            let three = Divisor::new(graph, &[3, 0, 0])?;
+            let loss = Divisor::new(graph, &[0, 1, 2])?;
+            match rank_with(rt, graph, 0, &three, 3, 2, &OpenGate) {
+                Ok(verdict) => Ok(done_if(verdict == RankVerdict::Below(3, loss))),
+                Err(fault) => Ok(of_rank(fault)),
+            }
+        }
+    }
+}
+
+// Whether the history is that of the steps: nobody is in debt after the move.
+fn is_won(history: &[Entry], file: &TableFile) -> Result<bool, Fail> {
+    let even = Divisor::new(file.start().graph(), &[0, 0, 0])?;
+    Ok(match history {
+        [_, lent, claimed] => lent.reply == Reply::Moved(even) && claimed.reply == Reply::Won,
+        _ => false,
+    })
+}

@@ -1,0 +1,306 @@
+//! Tables that are opened, played on and closed, where memory may be refused.
+ghost use Rattle.std.specs.Prelude.{◌≡◌, length};
+
+use crate::acts::act_in_turn;
+use crate::lends::LendFirst;
+use crate::outcomes::{Outcome, done_if, refused, tell, tell_spared};
+use dg_chips::{Divisor, Script, Wide};
+use dg_file::{FileFault, Names, TableFile, read_table};
+use dg_game::{Entry, Reply, Request};
+use dg_graph::Graph;
+use dg_log::{Log, LogFault, Name, Row};
+use dg_observer::{Gifts, Observer, ObserverFault};
+use dg_rank::RankVerdict;
+use dg_session::{SessionEnd, serve};
+use dg_strategy::{Strategy, greedy_settler, play, settle_out};
+use dg_streams::{Input, Output};
+use dg_table::{Seat, Table, TableFault};
+use dg_verdict::Verdict;
+use std::alloc::Global;
+use std::marker::Brand;
+use std::process::Abort;
+use std::sync::Wait;
+use std::test::Fail;
+use std::thread::Threads;
+
+// The triangle where a has two dollars, and b and c owe one each, seen from a.
+const TRIANGLE: &str =
+    r#"{"vertices":["a","b","c"],"edges":[["a","b",1],["b","c",1],["a","c",1]],"amounts":[2,-1,-1],"q":"a"}"#;
+
+const TEXT: &[u8] = b"look\nlend a\ncommit\ncommit\nlend z\ngift a 0\nclaim\n";
+
+const ANSWER: &[u8] =
+    b"0 looked 0 a=2 b=-1 c=-1\n1 moved a=0 b=0 c=0\n2 winnable by a=0 b=0 c=0 to a=0 b=0 c=0\nbad look\nbad name\n3 refused gift\n4 won\n";
+
+// What is done at a table.
+#[derive(Clone, Copy)]
+enum Scene {
+    // Two seats act, an observer reads, and the table is closed.
+    Acts,
+    // A strategy has two turns.
+    Play,
+    // The greedy settler plays until it claims.
+    SettleOut,
+    // A session answers the lines.
+    Serve,
+    // A pen writes the row's log, and no table is opened.
+    Pen,
+}
+
+// A scene that goes on from what stands is played on a new table once it was refused.
+#[test]
+fn tables_answer_or_refuse(rt: HostRuntime) -> Result<(), Fail> {
+    let alloc = rt.alloc();
+    let file = triangle(&rt, alloc)?;
+    for scene in [
+        Scene::Acts,
+        Scene::Play,
+        Scene::SettleOut,
+        Scene::Serve,
+        Scene::Pen,
+    ] {
+        if on_a_table(&rt, alloc, &file, scene)? != Outcome::Done {
+            assert!(&rt; on_a_table(&rt, alloc, &file, scene)? == Outcome::Done);
+        }
+    }
+    Ok(())
+}
+
+// The table of the triangle, which is read once more where memory was refused.
+pub(crate) fn triangle<R: Abort + Print>(rt: &R, alloc: Global) -> Result<TableFile, Fail> {
+    match read_table(alloc, TRIANGLE.as_bytes()) {
+        Ok(file) => {
+            tell(rt, "read_table", Outcome::Done)?;
+            Ok(file)
+        }
+        Err(fault) => {
+            assert_eq!(rt; fault, FileFault::OutOfMemory);
+            tell(rt, "read_table", Outcome::Memory)?;
+            Ok(read_table(alloc, TRIANGLE.as_bytes())?)
+        }
+    }
+}
+
+// Plays the scene on a row of ten cells.
+fn on_a_table<R: Threads + Wait + Abort + Print>(
+    rt: &R,
+    alloc: Global,
+    file: &TableFile,
+    scene: Scene,
+) -> Result<Outcome, Fail> {
+    let row = match Row::new(alloc, 10) {
+        Err(LogFault::OutOfMemory) => {
+            tell(rt, "Row::new", Outcome::Memory)?;
+            Row::new(alloc, 10)?
+        }
+        made => {
+            tell(rt, "Row::new", Outcome::Done)?;
+            made?
+        }
+    };
+    opened::<Brand, R>(rt, alloc, row, file, 2, scene)
+}
+
+// The same where N names the row, the start and the number of seats. A row that comes back is used again.
+fn opened<N: Name, R: Threads + Wait + Abort + Print>(
+    rt: &R,
+    alloc: Global,
+    row: Row,
+    file: &TableFile,
+    count: u8,
+    scene: Scene,
+) -> Result<Outcome, Fail>
+    requires row { row ≡ N.cells }
+    requires start { file.now.start ≡ N.start }
+    requires seats { count ≡ N.seats }
+{
+    if let Scene::Pen = scene {
+        return writes::<N, R>(rt, alloc, row);
+    }
+    let (table, seats) = match Table::<N>::open(alloc, row, file.start(), count) {
+        Ok(opened) => {
+            tell(rt, "Table::open", Outcome::Done)?;
+            opened
+        }
+        Err((row, fault)) => {
+            assert_eq!(rt; fault, TableFault::OutOfMemory);
+            tell(rt, "Table::open", Outcome::Memory)?;
+            Table::<N>::open(alloc, row, file.start(), count)
+                .ok()
+                .ok_or("a table")?
+        }
+    };
+    shown(rt, alloc, table, seats, file.names(), scene)
+}
+
+fn shown<N: Name, R: Threads + Wait + Abort + Print>(
+    rt: &R,
+    alloc: Global,
+    table: Table<N>,
+    seats: Vec<Seat<N>>,
+    names: &Names,
+    scene: Scene,
+) -> Result<Outcome, Fail>
+    requires { length names.now ≡ N.start.graph.size }
+{
+    let mut seats = seats;
+    if let Scene::Acts = scene {
+        act_in_turn(rt, alloc, &table, seats.as_mut_slice())?;
+        watches(rt, alloc, &table)?;
+        return closes(rt, alloc, table, seats);
+    }
+    let seat = seats.first_mut().ok_or("a seat")?;
+    let (name, outcome) = match scene {
+        Scene::Play => ("play", plays(rt, alloc, &table, seat)),
+        Scene::SettleOut => ("settle_out", settles(rt, alloc, &table, seat)),
+        _ => ("serve", serves(rt, alloc, &table, seat, names)),
+    };
+    tell(rt, name, outcome)?;
+    Ok(outcome)
+}
+
+// A pen writes a claim that is won into the first cell of the row.
+fn writes<N: Name, R: Abort + Print>(rt: &R, alloc: Global, row: Row) -> Result<Outcome, Fail>
+    requires { row ≡ N.cells }
+{
+    let (log, mut pen) = Log::<N>::new(row);
+    let claim = Entry {
+        seat: 1,
+        request: Request::Claim,
+        reply: Reply::Won,
+    };
+    let Ok(slot) = Box::new(alloc, claim) else {
+        tell(rt, "Box::new", Outcome::Memory)?;
+        return Ok(Outcome::Memory);
+    };
+    tell(rt, "Box::new", Outcome::Done)?;
+    if pen.len() == log.len() {
+        return Ok(Outcome::Wrong);
+    }
+    let receipt = pen.put(&log, slot).ok().ok_or("an entry")?;
+    tell_spared(rt, "Pen::put")?;
+    assert!(rt; *log.entry(&receipt) == claim);
+    tell_spared(rt, "Log::entry")?;
+    assert!(rt; log.read(0).is_some() && log.read(1).is_none());
+    tell_spared(rt, "Log::read")?;
+    Ok(Outcome::Done)
+}
+
+// An observer reads the seven entries, of which one is a gift. Where memory was refused, it goes on from what it has read.
+fn watches<N: Name, R: Abort + Print>(rt: &R, alloc: Global, table: &Table<N>) -> Result<(), Fail> {
+    let mut observer = Observer::<N, Gifts>::new(alloc, Gifts, 0);
+    match observer.catch_up(table.log()) {
+        Ok(_) => tell(rt, "Observer::catch_up", Outcome::Done)?,
+        Err(ObserverFault::OutOfMemory) => {
+            tell(rt, "Observer::catch_up", Outcome::Memory)?;
+            let read = observer.count();
+            assert_eq!(rt; observer.catch_up(table.log())?.saturating_add(read), 7);
+        }
+    }
+    assert_eq!(rt; (observer.count(), *observer.state()), (7, 1));
+    Ok(())
+}
+
+// The table is closed, and its history read.
+fn closes<N: Name, R: Abort + Print>(
+    rt: &R,
+    alloc: Global,
+    table: Table<N>,
+    seats: Vec<Seat<N>>,
+) -> Result<Outcome, Fail> {
+    let wanted = replies(table.start().graph())?;
+    let audit = table.close(seats).ok().ok_or("an audit")?;
+    tell_spared(rt, "Table::close")?;
+    assert_eq!(rt; (audit.entries, audit.gifts), (7, 1));
+    let history = match audit.history(alloc) {
+        Ok(history) => {
+            tell(rt, "Audit::history", Outcome::Done)?;
+            history
+        }
+        Err(_) => {
+            tell(rt, "Audit::history", Outcome::Memory)?;
+            audit.history(alloc)?
+        }
+    };
+    assert_eq!(rt; history.len(), wanted.len());
+    for (entry, reply) in history.iter().zip(wanted.iter()) {
+        assert!(rt; entry.reply == *reply);
+    }
+    Ok(Outcome::Done)
+}
+
+// What is answered to what the seats do: after the look a lends, by which all debts are cleared and the verdict on the look
+// has no script any more; one dollar can't be lost then, at c; and b is given one.
+fn replies(graph: &Graph) -> Result<[Reply; 7], Fail> {
+    let even = Divisor::new(graph, &[0, 0, 0])?;
+    let verdict = Verdict {
+        winnable: true,
+        script: Script::new(graph, &[0, 0, 0])?,
+        reduced: Wide::new(graph, &[0, 0, 0])?,
+        order: [0, 1, 2, 0, 0, 0, 0, 0, 0, 0, 0, 0, 0, 0, 0, 0],
+    };
+    Ok([
+        Reply::Looked(0, Divisor::new(graph, &[2, -1, -1])?, *graph),
+        Reply::Moved(even),
+        Reply::Verdict(verdict),
+        Reply::Looked(0, even, *graph),
+        Reply::Rank(RankVerdict::Below(1, Divisor::new(graph, &[0, 0, 1])?)),
+        Reply::Won,
+        Reply::Given(1, Divisor::new(graph, &[0, 1, 0])?),
+    ])
+}
+
+// Two turns in which a lends. Entries that were made before a refusal stay.
+fn plays<N: Name>(rt: &impl Wait, alloc: Global, table: &Table<N>, seat: &mut Seat<N>) -> Outcome {
+    match play(rt, alloc, table, seat, &Strategy::new(LendFirst), 2) {
+        Ok(ended) => done_if(!ended.is_settled() && seat.calls() == 2),
+        Err(fault) if seat.calls() < 2 => refused(fault),
+        Err(_) => Outcome::Wrong,
+    }
+}
+
+// The vertices b and c borrow, and then nobody is in debt.
+fn settles<N: Name>(
+    rt: &impl Wait,
+    alloc: Global,
+    table: &Table<N>,
+    seat: &mut Seat<N>,
+) -> Outcome {
+    match settle_out(rt, alloc, table, seat, &greedy_settler(), 5) {
+        Ok(ended) => done_if(ended.is_settled() && seat.calls() == 3),
+        Err(fault) if seat.calls() < 3 => refused(fault),
+        Err(_) => Outcome::Wrong,
+    }
+}
+
+// A session, which writes whole lines.
+fn serves<N: Name, R: Threads + Wait>(
+    rt: &R,
+    alloc: Global,
+    table: &Table<N>,
+    seat: &mut Seat<N>,
+    names: &Names,
+) -> Outcome
+    requires { length names.now ≡ N.start.graph.size }
+{
+    let Ok(written) = Vec::with_capacity(alloc, 1_000) else {
+        return Outcome::Memory;
+    };
+    let mut reader = Input::new(TEXT);
+    let mut writer = Output::new(written);
+    let ended = serve(rt, alloc, table, seat, names, &mut reader, &mut writer, 1);
+    let written = writer.into_inner();
+    match ended {
+        Ok(count) => done_if(count == 7 && written.as_slice() == ANSWER),
+        Err(_) if !are_lines(written.as_slice()) => Outcome::Wrong,
+        Err(SessionEnd::Table(fault)) => refused(fault),
+        Err(SessionEnd::Memory) => Outcome::Memory,
+        Err(SessionEnd::Spawn) => Outcome::Thread,
+        Err(_) => Outcome::Wrong,
+    }
+}
+
+// Whether these are the first lines of the answer.
+fn are_lines(written: &[u8]) -> bool {
+    ANSWER.starts_with(written) && (written.is_empty() || written.ends_with(b"\n"))
+}
