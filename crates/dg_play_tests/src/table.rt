@@ -1,4 +1,5 @@
 //! Small tables, reckoned by hand, and many threads on one table.
+pub(crate) mod crowded;
 pub(crate) mod filled;
 pub(crate) mod meetings;
 pub(crate) mod pens;

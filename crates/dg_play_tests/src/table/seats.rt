@@ -80,7 +80,7 @@ pub(crate) fn calls_are_entries<N: Name, R: Wait + Abort>(
     seats: Vec<Seat<N>>,
     calls: &Calls<'_>,
 ) -> Result<(), Fail> {
-    let (table, mut seats) = is_closed_with_all(rt, table, seats)?;
+    let (table, mut seats) = is_closed_with_all(rt, alloc, table, seats)?;
     fill_the_row(rt, alloc, &table, seats.as_mut_slice(), calls.made)?;
     let count = calls.made.len();
     let audit = table.close(seats).ok().ok_or("an audit")?;
@@ -130,13 +130,16 @@ fn is_found<N: Name>(
     Ok(())
 }
 
-// Without any one of the seats the table is not closed, and comes back with the others.
+// Without any seat, or any one of them, the table is not closed, and comes back with the others.
 fn is_closed_with_all<N: Name>(
     rt: &impl Abort,
+    alloc: Global,
     table: Table<N>,
     seats: Vec<Seat<N>>,
 ) -> Result<(Table<N>, Vec<Seat<N>>), Fail> {
-    let (mut table, mut seats) = (table, seats);
+    let fault = table.close(Vec::new(alloc)).err().ok_or("no seats")?;
+    assert!(rt; fault.missing == 1 && fault.seats.is_empty());
+    let (mut table, mut seats) = (fault.table, seats);
     for _ in 0..seats.len() {
         let seat = seats.pop().ok_or("a seat")?;
         let fault = table.close(seats).err().ok_or("a seat that is missing")?;
