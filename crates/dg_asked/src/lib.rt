@@ -4,9 +4,11 @@
 mod asked;
 mod limits;
 mod numbered;
+mod question;
 mod words;
 
 pub use asked::{Asked, PartyTask, ServeTask, Task};
 pub use limits::{MAX_CAPACITY, MAX_TURNS, MAX_WORKERS};
 pub use numbered::{GreedyTask, RankTask};
+pub use question::Question;
 pub use words::{Words, WordsFault};

@@ -1,0 +1,199 @@
+-- Taking what was read.
+--   answers_none, answers_one, answers_more   no line is answered; one; some lines and then others
+--   begins_none, begins_both   a stream that begins with no line, and one that is read on
+--   so_far_none, so_far_line, so_far_rest   lines of bytes are answered one after another
+--   takes_part, takes_lines    bytes without a newline, and with one
+--   nothing                    a list of length 0
+--   takes_no_end, takes_end    the end
+use Rattle.std.proofs.Common.{◌≡◌, ◌≢◌, ℕ, ◌+◌, ◌≤◌, inl, inr, List, [], ◌∷◌, ◌++◌, length, refl, sym, ap, subst, ◌∙◌, arith, append_assoc, append-nil, length-append, flat_map}
+use Rattle.std.proofs.lemmas.List.Elements.{All-append, All-nil, All-cons}
+use Rattle.std.proofs.lemmas.Grind.{flat_map-append}
+use Rattle.dg_sweep.specs.Answers.{AnswersLine, Answers}
+use Rattle.dg_sweep.specs.Streams.{HasNoNewline, Begins, with_newline}
+use Rattle.dg_sweep.specs.Steps.{StandsFor, KeepsPart, AnswersFront, TakesBytes, TakesEnd, last_line}
+use Rattle.dg_asked.specs.declared.question.Question.{Question}
+
+pub answers_none : (question : Question) → Answers question [] []
+unfolding Answers
+answers_none question = refl
+
+pub answers_more : (question : Question) (ls ls' : List (List ℕ)) (t t' : List ℕ)
+    → Answers question ls t → Answers question ls' t' → Answers question (ls ++ ls') (t ++ t')
+unfolding Answers
+answers_more question [] ls' t t' p q = subst (λ text. Answers question ls' text) (sym (ap (λ text. text ++ t') p)) q
+answers_more question (line ∷ ls) ls' t t' p q =
+    let (front, back, answer, more, text) = p in (
+      front,
+      back ++ t',
+      answer,
+      answers_more question ls ls' back t' more q,
+      ap (λ l. l ++ t') text ∙ append_assoc front back t',
+    )
+
+pub answers_one : (question : Question) (line t : List ℕ) → AnswersLine question line t → Answers question (line ∷ []) t
+unfolding Answers
+answers_one question line t p = (t, [], p, refl, sym (append-nil t))
+
+pub begins_none : (bytes : List ℕ) → Begins bytes [] bytes
+begins_none bytes = record { whole = refl; each = All-nil HasNoNewline }
+
+pub begins_both : (stream bytes part rest : List ℕ) (ls ls1 : List (List ℕ)) → Begins stream ls part → Begins (part ++ bytes) ls1 rest
+    → Begins (stream ++ bytes) (ls ++ ls1) rest
+begins_both stream bytes part rest ls ls1 p q = record {
+  whole = ap (λ l. l ++ bytes) p.whole ∙ append_assoc (flat_map with_newline ls) part bytes
+      ∙ ap (λ l. flat_map with_newline ls ++ l) q.whole
+      ∙ sym (append_assoc (flat_map with_newline ls) (flat_map with_newline ls1) rest)
+      ∙ ap (λ l. l ++ rest) (sym (flat_map-append with_newline ls ls1));
+  each = All-append HasNoNewline ls ls1 p.each q.each;
+}
+
+-- one line, and what follows it
+begins_line : (bytes line rest : List ℕ) → HasNoNewline line → bytes ≡ line ++ 10 ∷ rest → Begins bytes (line ∷ []) rest
+begins_line bytes line rest none e = record {
+  whole = e ∙ sym (ap (λ l. l ++ rest) (append-nil (line ++ 10 ∷ [])) ∙ append_assoc line (10 ∷ []) rest);
+  each = All-cons HasNoNewline line [] none (All-nil HasNoNewline);
+}
+
+-- some lines are read from the front of what is left
+begins_more : (bytes rest rest' : List ℕ) (ls ls1 : List (List ℕ)) → Begins bytes ls rest → Begins rest ls1 rest' → Begins bytes (ls ++ ls1) rest'
+begins_more bytes rest rest' ls ls1 p q = record {
+  whole = p.whole ∙ ap (λ l. flat_map with_newline ls ++ l) q.whole
+      ∙ sym (append_assoc (flat_map with_newline ls) (flat_map with_newline ls1) rest')
+      ∙ ap (λ l. l ++ rest') (sym (flat_map-append with_newline ls ls1));
+  each = All-append HasNoNewline ls ls1 p.each q.each;
+}
+
+-- the lines of bytes, up to what is left of them
+pub record IsSoFar (question : Question) (bytes rest old new : List ℕ) : Type 0 where
+  pub ls : List (List ℕ)
+  pub cut : Begins bytes ls rest
+  pub few : length ls + length rest ≤ length bytes
+  pub said : List ℕ
+  pub answers : Answers question ls said
+  pub text : new ≡ old ++ said
+
+pub so_far_none : (question : Question) (bytes text : List ℕ) → IsSoFar question bytes bytes text text
+so_far_none question bytes text = record {
+  ls = [];
+  cut = begins_none bytes;
+  few = omega arith;
+  said = [];
+  answers = answers_none question;
+  text = sym (append-nil text);
+}
+
+pub so_far_line : (question : Question) (bytes rest old new line rest' answer new' : List ℕ) → IsSoFar question bytes rest old new
+    → HasNoNewline line → rest ≡ line ++ 10 ∷ rest' → AnswersLine question line answer → new' ≡ new ++ answer
+    → IsSoFar question bytes rest' old new'
+so_far_line question bytes rest old new line rest' answer new' far none e answered grown = record {
+  ls = far.ls ++ line ∷ [];
+  cut = begins_more bytes rest rest' far.ls (line ∷ []) far.cut (begins_line rest line rest' none e);
+  few = let size = length-append far.ls (line ∷ []) in let left = length-append line (10 ∷ rest') in
+      omega (arith, size, left, ap length e, far.few);
+  said = far.said ++ answer;
+  answers = answers_more question far.ls (line ∷ []) far.said answer far.answers (answers_one question line answer answered);
+  text = grown ∙ ap (λ l. l ++ answer) far.text ∙ append_assoc old far.said answer;
+}
+
+pub so_far_rest : (question : Question) (bytes rest old new line : List ℕ) → IsSoFar question bytes rest old new
+    → HasNoNewline line → rest ≡ line ++ [] → (said : List ℕ) × AnswersFront question bytes line said × (new ≡ old ++ said)
+so_far_rest question bytes rest old new line far none e = (
+  far.said,
+  record {
+    ls = far.ls;
+    cut = subst (λ l. Begins bytes far.ls l) (e ∙ append-nil line) far.cut;
+    no_newline = none;
+    few = omega (arith, far.few);
+    answers = far.answers;
+  },
+  far.text,
+)
+
+-- what is pending still stands for the part of the line, with more of it
+stands_more : (old more new part : List ℕ) → StandsFor old part → HasNoNewline more → KeepsPart old more new → StandsFor new (part ++ more)
+stands_more old more new part stands none kept = record {
+  no_newline = All-append (λ byte. byte ≢ 10) part more stands.no_newline none;
+  same =
+      let size = length-append part more in
+      let size' = length-append old more in
+      elim kept [
+        | inl grown ↦ elim stands.same [
+          | inl e ↦ inl (grown ∙ ap (λ l. l ++ more) e)
+          | inr long ↦ inr (omega (arith, size', ap length grown, long.0), omega (arith, size, long.1))
+        ]
+        | inr full ↦ elim stands.same [
+          | inl e ↦ inr (omega (arith, ap length full.1, full.0), omega (arith, size, ap length e, full.0))
+          | inr long ↦ inr (omega (arith, ap length full.1, full.0), omega (arith, size, long.1))
+        ]
+      ];
+}
+
+-- what stands for a line is answered as it
+same_answer : (question : Question) (pending part text : List ℕ) → StandsFor pending part → AnswersLine question pending text
+    → AnswersLine question part text
+same_answer question pending part text stands answered = elim stands.same [
+  | inl e ↦ subst (λ l. AnswersLine question l text) e answered
+  | inr long ↦ elim answered [
+    | inl refused ↦ inl (long.1, refused.1)
+    | inr short ↦ absurd (omega (arith, long.0, short.0))
+  ]
+]
+
+pub takes_part : (question : Question) (old bytes part new text : List ℕ) → text ≡ [] → HasNoNewline part → bytes ≡ part ++ [] → KeepsPart old part new
+    → TakesBytes question old bytes new text
+takes_part question old bytes part new text unsaid none e kept p stands =
+    let whole : part ≡ bytes = sym (e ∙ append-nil part) in
+    record {
+      ls = [];
+      part = p ++ bytes;
+      cut = begins_none (p ++ bytes);
+      stands = subst (λ l. StandsFor new (p ++ l)) whole (stands_more old part new p stands none kept);
+      few = omega arith;
+      answers = subst (Answers question []) (sym unsaid) (answers_none question);
+    }
+
+pub takes_lines : (question : Question) (old bytes part after mid first text rest new : List ℕ) → HasNoNewline part → bytes ≡ part ++ 10 ∷ after
+    → KeepsPart old part mid → (line : List ℕ) → line ≡ mid → AnswersLine question line first
+    → (said : List ℕ) × AnswersFront question after rest said × (text ≡ first ++ said) → (empty : List ℕ) → empty ≡ [] → KeepsPart empty rest new
+    → TakesBytes question old bytes new text
+takes_lines question old bytes part after mid first text rest new none e kept shown is_mid answered lines empty is_empty kept' p stands =
+    let (said, front, grown) = lines in
+    let line = p ++ part in
+    let is_line : StandsFor mid line = stands_more old part mid p stands none kept in
+    let cut : p ++ bytes ≡ line ++ 10 ∷ after = ap (λ l. p ++ l) e ∙ sym (append_assoc p part (10 ∷ after)) in
+    record {
+      ls = line ∷ front.ls;
+      part = rest;
+      cut = begins_more (p ++ bytes) after rest (line ∷ []) front.ls (begins_line (p ++ bytes) line after is_line.no_newline cut) front.cut;
+      stands = stands_alone rest new front.no_newline (subst (λ l. KeepsPart l rest new) is_empty kept');
+      few = let size = length-append part (10 ∷ after) in omega (arith, ap length e, size, front.few);
+      answers = subst (Answers question (line ∷ front.ls)) (sym grown)
+          (answers_more question (line ∷ []) front.ls first said
+          (answers_one question line first (same_answer question mid line first is_line (subst (λ l. AnswersLine question l first) is_mid answered))) front.answers);
+    }
+  where
+    stands_alone : (rest new : List ℕ) → HasNoNewline rest → KeepsPart [] rest new → StandsFor new rest
+    stands_alone rest new none kept = record {
+      no_newline = none;
+      same = elim kept [ inl grown ↦ inl grown | inr full ↦ absurd (omega (arith, full.0)) ];
+    }
+
+pub nothing : (xs : List ℕ) → length xs ≡ 0 → xs ≡ []
+nothing [] e = refl
+nothing (x ∷ xs) e = absurd (omega (arith, e))
+
+pub takes_no_end : (question : Question) (pending text : List ℕ) → text ≡ [] → pending ≡ [] → TakesEnd question pending text
+takes_no_end question pending text unsaid e part stands = elim stands.same [
+  | inl same ↦ subst (λ l. Answers question (last_line l) text) (sym e ∙ same) (subst (Answers question []) (sym unsaid) (answers_none question))
+  | inr long ↦ absurd (omega (arith, ap length e, long.0))
+]
+
+pub takes_end : (question : Question) (pending text shown : List ℕ) → pending ≢ [] → shown ≡ pending → AnswersLine question shown text
+    → TakesEnd question pending text
+takes_end question pending text shown some is_pending answered [] stands = elim stands.same [
+  | inl same ↦ absurd (some same)
+  | inr long ↦ absurd (omega (arith, long.1))
+]
+takes_end question pending text shown some is_pending answered (byte ∷ part) stands =
+    answers_one question (byte ∷ part) text
+    (same_answer question pending (byte ∷ part) text stands (subst (λ l. AnswersLine question l text) is_pending answered))

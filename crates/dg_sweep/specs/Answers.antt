@@ -1,0 +1,109 @@
+-- What the line of a table is answered.
+--   IsVerdict o names text == the text is that of a verdict which is right for the amounts of the opening o, reckoned from its
+--                             vertex q, and a newline
+--   IsTested o k names text == the text is that of a rank verdict of degree k which is right for the amounts of o, and a newline
+--   IsBelow o k text       == the rank of the amounts is below k, and that the text says; there are too many trials to name the
+--                             first loss
+--   IsUntested o k text    == the rank test is past the limits, as is that of the dual, and that the text says
+--   AnswersRank o k names text == one of these
+--   number_after label z   == the label and the number
+--   numbers_text o         == the degree of the amounts and the genus of the graph
+--   AreRanks o text        == the text is that of the rank of the amounts and that of their dual
+--   AreUntested o text     == all rank tests are passed up to one that is past the limits, as is that of the dual; the text has
+--                             marks in the place of the ranks
+--   AnswersTable question o names text == the text answers the question for the opening o with these names
+--   refusal words          == `refused`, the words and a newline
+--   IsRefused line text    == the line is refused as a table for a fault, and the text says for which
+--   IsOfTable question line text == the line describes a table, and the text answers the question for it
+--   AnswersLine question line text == the text is the answer to the line: a longer one than a line may be is refused unread
+--   Answers question ls text == the text is the answers to the lines ls, one after another
+use Rattle.std.specs.Prelude.{◌≡◌, ◌≢◌, ℕ, ◌<◌, ◌≤◌, ◌⊎◌, ℤ, List, [], ◌∷◌, ◌++◌, length, codes, decimal}
+use Rattle.std.specs.Fmt.{signed_decimal}
+use Rattle.dg_theory.specs.Multigraph.{genus}
+use Rattle.dg_theory.specs.Firing.{degree}
+use Rattle.dg_theory.specs.Rank.{less, canonical, HasRankAtLeast, IsRank}
+use Rattle.dg_chips.specs.Opening.{Opening}
+use Rattle.dg_chips.specs.Vector.{at}
+use Rattle.dg_verdict.specs.declared.verdict.Verdict.{Verdict}
+use Rattle.dg_verdict.specs.Right.{IsRight}
+use Rattle.dg_rank.specs.Limits.{IsPastLimits}
+use Rattle.dg_rank.specs.Ranks.{IsRankTest, BothArePast, NeedsPastTests}
+use Rattle.dg_rank.specs.declared.rank_verdict.RankVerdict.{RankVerdict}
+use Rattle.dg_game.specs.declared.entry.Reply.TheVariants.{Verdict as Found, Rank as Tested}
+use Rattle.dg_lines.specs.Texts.{text_of}
+use Rattle.dg_file.specs.TableFiles.{IsTableFile}
+use Rattle.dg_file.specs.FileFaults.{RefusesFile}
+use Rattle.dg_file.specs.declared.fault.FileFault.{FileFault}
+use Rattle.dg_file.specs.declared.fault.FileFault.TheVariants.{OutOfMemory}
+use Rattle.dg_sweep.specs.FaultTexts.{fault_text}
+use Rattle.dg_asked.specs.declared.question.Question.{Question}
+use Rattle.dg_asked.specs.declared.question.Question.TheVariants.{Judge, Rank, RiemannRoch}
+use Rattle.dg_sweep.specs.declared.ends.TheConstants.{MAX_LINE}
+
+pub record IsVerdict (o : Opening) (names : List (List ℕ)) (text : List ℕ) : Type 0 where
+  pub verdict : Verdict
+  pub right : IsRight o.graph o.q (at o.divisor) verdict
+  pub printed : text ≡ text_of names (Found verdict) ++ codes "\n"
+
+pub record IsTested (o : Opening) (k : ℕ) (names : List (List ℕ)) (text : List ℕ) : Type 0 where
+  pub verdict : RankVerdict
+  pub right : IsRankTest o.graph (at o.divisor) k verdict
+  pub printed : text ≡ text_of names (Tested verdict) ++ codes "\n"
+
+pub record IsBelow (o : Opening) (k : ℕ) (text : List ℕ) : Type 0 where
+  pub past : IsPastLimits o.graph.size k
+  pub below : ¬ HasRankAtLeast o.graph (at o.divisor) k
+  pub printed : text ≡ codes "rank below " ++ decimal k ++ codes " at ?\n"
+
+pub record IsUntested (o : Opening) (k : ℕ) (text : List ℕ) : Type 0 where
+  pub past : BothArePast o.graph (at o.divisor) k
+  pub printed : text ≡ codes "refused too many trials\n"
+
+abbrev pub AnswersRank : Opening → ℕ → List (List ℕ) → List ℕ → Type 0
+AnswersRank o k names text = IsTested o k names text ⊎ IsBelow o k text ⊎ IsUntested o k text
+
+abbrev pub number_after : List ℕ → ℤ → List ℕ
+number_after label z = label ++ signed_decimal z
+
+abbrev pub numbers_text : Opening → List ℕ
+numbers_text o = number_after (codes "degree ") (degree o.graph.size (at o.divisor)) ++ number_after (codes " genus ") (genus o.graph)
+
+pub record AreRanks (o : Opening) (text : List ℕ) : Type 0 where
+  pub rank : ℤ
+  pub of_divisor : IsRank o.graph (at o.divisor) rank
+  pub dual_rank : ℤ
+  pub of_dual : IsRank o.graph (less (canonical o.graph) (at o.divisor)) dual_rank
+  pub printed : text ≡ numbers_text o ++ number_after (codes " rank ") rank ++ number_after (codes " dual ") dual_rank ++ codes "\n"
+
+pub record AreUntested (o : Opening) (text : List ℕ) : Type 0 where
+  pub past : NeedsPastTests o.graph (at o.divisor)
+  pub printed : text ≡ numbers_text o ++ codes " rank ? dual ?\n"
+
+abbrev pub AnswersTable : Question → Opening → List (List ℕ) → List ℕ → Type 0
+AnswersTable Judge o names text = IsVerdict o names text
+AnswersTable (Rank k) o names text = AnswersRank o k names text
+AnswersTable RiemannRoch o names text = AreRanks o text ⊎ AreUntested o text
+
+abbrev pub refusal : List ℕ → List ℕ
+refusal words = codes "refused " ++ words ++ codes "\n"
+
+pub record IsRefused (line text : List ℕ) : Type 0 where
+  pub fault : FileFault
+  pub found : fault ≢ OutOfMemory
+  pub refuses : RefusesFile line fault
+  pub printed : text ≡ refusal (fault_text fault)
+
+pub record IsOfTable (question : Question) (line text : List ℕ) : Type 0 where
+  pub opening : Opening
+  pub names : List (List ℕ)
+  pub table : IsTableFile line opening names
+  pub answer : AnswersTable question opening names text
+
+abbrev pub AnswersLine : Question → List ℕ → List ℕ → Type 0
+AnswersLine question line text = ((MAX_LINE < length line) × (text ≡ refusal (codes "file too long")))
+    ⊎ ((length line ≤ MAX_LINE) × (IsRefused line text ⊎ IsOfTable question line text))
+
+unfoldable pub Answers : Question → List (List ℕ) → List ℕ → Type 0
+Answers question [] text = text ≡ []
+Answers question (line ∷ ls) text =
+    (front back : List ℕ) × AnswersLine question line front × Answers question ls back × (text ≡ front ++ back)

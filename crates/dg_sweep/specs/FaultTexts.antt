@@ -1,0 +1,44 @@
+-- What is said of bytes that are refused as a table.
+--   shape_text shape == of a part that has another shape than it should
+--   graph_text fault == of vertices and edges that are no graph
+--   chip_text fault  == of amounts that are no divisor
+--   fault_text fault == of any fault of a table
+use Rattle.std.specs.Prelude.{ℕ, List, ◌++◌, codes, decimal}
+use Rattle.dg_graph.specs.declared.fault.GraphFault.{GraphFault}
+use Rattle.dg_graph.specs.declared.fault.GraphFault.TheVariants.{Size, NoVertex, Loop, Multiplicity, Valence, NotConnected}
+use Rattle.dg_chips.specs.declared.divisor.ChipFault.{ChipFault}
+use Rattle.dg_chips.specs.declared.divisor.ChipFault.TheVariants.{Length, Range}
+use Rattle.dg_file.specs.declared.fault.Shape.{Shape}
+use Rattle.dg_file.specs.declared.fault.Shape.TheVariants.{Top, Vertices, Edges, Edge, Amounts, Q}
+use Rattle.dg_file.specs.declared.fault.FileFault.{FileFault}
+use Rattle.dg_file.specs.declared.fault.FileFault.TheVariants.{Json, Shape as OfShape, Graph, Name, Twice, Chip, NoQ, OutOfMemory}
+
+abbrev pub shape_text : Shape → List ℕ
+shape_text Top = codes "shape of top"
+shape_text Vertices = codes "shape of vertices"
+shape_text Edges = codes "shape of edges"
+shape_text (Edge i) = codes "shape of edge " ++ decimal i
+shape_text Amounts = codes "shape of amounts"
+shape_text Q = codes "shape of q"
+
+abbrev pub graph_text : GraphFault → List ℕ
+graph_text Size = codes "number of vertices"
+graph_text (NoVertex i) = (codes "edge " ++ decimal i) ++ codes " has no vertex"
+graph_text (Loop i) = (codes "edge " ++ decimal i) ++ codes " is a loop"
+graph_text (Multiplicity i) = (codes "edge " ++ decimal i) ++ codes " is empty"
+graph_text (Valence v) = codes "valence of vertex " ++ decimal v
+graph_text NotConnected = codes "not connected"
+
+abbrev pub chip_text : ChipFault → List ℕ
+chip_text Length = codes "number of amounts"
+chip_text (Range v) = codes "amount of vertex " ++ decimal v
+
+abbrev pub fault_text : FileFault → List ℕ
+fault_text Json = codes "not JSON"
+fault_text (OfShape shape) = shape_text shape
+fault_text (Graph fault) = graph_text fault
+fault_text (Name v) = codes "name of vertex " ++ decimal v
+fault_text (Twice v) = (codes "vertex " ++ decimal v) ++ codes " named twice"
+fault_text (Chip fault) = chip_text fault
+fault_text NoQ = codes "no vertex q"
+fault_text OutOfMemory = codes "out of memory"

@@ -1,0 +1,18 @@
+//! The limits of sweeps, and how they end early.
+
+/// The most bytes that the line of a table may have before its newline, as many as a table file may have.
+pub const MAX_LINE: usize = 1_048_576;
+
+/// The most bytes that are read at once.
+pub const READ_SIZE: usize = 65_536;
+
+/// Why a sweep ends before its input does.
+#[derive(Clone, Copy, Debug, PartialEq, Eq)]
+pub enum SweepEnd {
+    /// The reader failed.
+    Read,
+    /// The writer failed, or took no byte.
+    Write,
+    /// Memory was refused.
+    Memory,
+}

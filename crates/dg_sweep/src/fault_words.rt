@@ -1,0 +1,85 @@
+//! What is said of bytes that are refused as a table.
+ghost use Rattle.std.specs.Prelude.{◌≡◌, ◌++◌, decimal, OnOk};
+ghost use Rattle.dg_sweep.specs.FaultTexts.{fault_text, shape_text, graph_text, chip_text};
+
+use dg_chips::ChipFault;
+use dg_file::{FileFault, Shape};
+use dg_graph::GraphFault;
+use itoa::Buffer;
+use std::alloc::AllocError;
+
+/// What is said of a fault, after the text.
+pub(crate) fn push_fault(text: &mut Vec<u8>, fault: &FileFault) -> Result<(), AllocError>
+    ensures { OnOk result (text.new.items ≡ text.old.items ++ fault_text fault.now) }
+{
+    match fault {
+        FileFault::Json => text.extend_from_slice(b"not JSON")?,
+        FileFault::Shape(shape) => push_shape(text, *shape)?,
+        FileFault::Graph(fault) => push_graph_fault(text, *fault)?,
+        FileFault::Name(v) => push_labelled(text, b"name of vertex ", *v)?,
+        FileFault::Twice(v) => {
+            push_labelled(text, b"vertex ", *v)?;
+            text.extend_from_slice(b" named twice")?;
+        }
+        FileFault::Chip(fault) => push_chip_fault(text, *fault)?,
+        FileFault::NoQ => text.extend_from_slice(b"no vertex q")?,
+        FileFault::OutOfMemory => text.extend_from_slice(b"out of memory")?,
+    }
+    Ok(())
+}
+
+fn push_shape(text: &mut Vec<u8>, shape: Shape) -> Result<(), AllocError>
+    ensures { OnOk result (text.new.items ≡ text.old.items ++ shape_text shape) }
+{
+    match shape {
+        Shape::Top => text.extend_from_slice(b"shape of top")?,
+        Shape::Vertices => text.extend_from_slice(b"shape of vertices")?,
+        Shape::Edges => text.extend_from_slice(b"shape of edges")?,
+        Shape::Edge(i) => push_labelled(text, b"shape of edge ", i)?,
+        Shape::Amounts => text.extend_from_slice(b"shape of amounts")?,
+        Shape::Q => text.extend_from_slice(b"shape of q")?,
+    }
+    Ok(())
+}
+
+fn push_graph_fault(text: &mut Vec<u8>, fault: GraphFault) -> Result<(), AllocError>
+    ensures { OnOk result (text.new.items ≡ text.old.items ++ graph_text fault) }
+{
+    match fault {
+        GraphFault::Size => text.extend_from_slice(b"number of vertices")?,
+        GraphFault::NoVertex(i) => {
+            push_labelled(text, b"edge ", i)?;
+            text.extend_from_slice(b" has no vertex")?;
+        }
+        GraphFault::Loop(i) => {
+            push_labelled(text, b"edge ", i)?;
+            text.extend_from_slice(b" is a loop")?;
+        }
+        GraphFault::Multiplicity(i) => {
+            push_labelled(text, b"edge ", i)?;
+            text.extend_from_slice(b" is empty")?;
+        }
+        GraphFault::Valence(v) => push_labelled(text, b"valence of vertex ", v)?,
+        GraphFault::NotConnected => text.extend_from_slice(b"not connected")?,
+    }
+    Ok(())
+}
+
+fn push_chip_fault(text: &mut Vec<u8>, fault: ChipFault) -> Result<(), AllocError>
+    ensures { OnOk result (text.new.items ≡ text.old.items ++ chip_text fault) }
+{
+    match fault {
+        ChipFault::Length => text.extend_from_slice(b"number of amounts")?,
+        ChipFault::Range(v) => push_labelled(text, b"amount of vertex ", v)?,
+    }
+    Ok(())
+}
+
+/// A label and a number, after the text.
+fn push_labelled(text: &mut Vec<u8>, label: &[u8], number: usize) -> Result<(), AllocError>
+    ensures { OnOk result (text.new.items ≡ text.old.items ++ (label.now ++ decimal number)) }
+{
+    text.extend_from_slice(label)?;
+    text.extend_from_slice(Buffer::new().format(number).as_bytes())?;
+    Ok(())
+}

@@ -1,0 +1,13 @@
+//! Sweeps: tables come in on a stream, one on each line, and each line is answered.
+#![tactic(auto)]
+
+mod answering;
+mod ends;
+mod fault_words;
+mod ranking;
+mod sweeping;
+mod taking;
+
+pub use answering::answer_line;
+pub use ends::{MAX_LINE, READ_SIZE, SweepEnd};
+pub use sweeping::sweep;

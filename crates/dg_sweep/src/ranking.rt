@@ -1,0 +1,111 @@
+//! Rank tests, and the four numbers of Riemann-Roch: laws come before limits.
+ghost use Rattle.std.specs.Prelude.{◌≡◌, ◌++◌, ◌⊎◌, [], codes, decimal, OnOk};
+ghost use Rattle.dg_sweep.specs.Answers.{AnswersRank, AreRanks, AreUntested, number_after, numbers_text};
+
+use crate::answering::push_line;
+use dg_chips::Start;
+use dg_file::TableFile;
+use dg_game::Reply;
+use dg_rank::{RankVerdict, both_ranks, has_rank, rank_at_least};
+use itoa::Buffer;
+use std::alloc::AllocError;
+
+/// Whether the rank of a table's amounts is at least k, into an empty buffer. Where there are too many trials to name the first
+/// loss, a law or the trials of the dual may still tell.
+pub(crate) fn push_rank(table: &TableFile, k: u32, answer: &mut Vec<u8>) -> Result<(), AllocError>
+    requires { answer.old.items ≡ [] }
+    ensures { OnOk result (AnswersRank table.now.start k table.now.names answer.new.items) }
+{
+    let start = table.start();
+    let q = usize::from(start.q());
+    let (graph, divisor) = (start.graph(), start.divisor());
+    if let Ok(verdict) = rank_at_least(graph, q, divisor, k) {
+        push_line(answer, &Reply::Rank(verdict), table.names())?;
+        return Ok(());
+    }
+    let Ok(passes) = has_rank(graph, q, divisor, k) else {
+        answer.extend_from_slice(b"refused too many trials\n")?;
+        return Ok(());
+    };
+    if passes {
+        let verdict = RankVerdict::AtLeast(k);
+        push_line(answer, &Reply::Rank(verdict), table.names())?;
+        return Ok(());
+    }
+    push_below(k, answer)?;
+    Ok(())
+}
+
+/// That the rank is below k, with a mark in the place of the first loss.
+fn push_below(k: u32, answer: &mut Vec<u8>) -> Result<(), AllocError>
+    requires { answer.old.items ≡ [] }
+    ensures { OnOk result (answer.new.items ≡ codes "rank below " ++ decimal k ++ codes " at ?\n") }
+{
+    answer.extend_from_slice(b"rank below ")?;
+    answer.extend_from_slice(Buffer::new().format(k).as_bytes())?;
+    answer.extend_from_slice(b" at ?\n")?;
+    Ok(())
+}
+
+/// The degree, the genus and the two ranks of a start, into an empty buffer; with marks in the place of ranks that no test
+/// within the limits tells.
+pub(crate) fn push_ranks(start: &Start, answer: &mut Vec<u8>) -> Result<(), AllocError>
+    requires { answer.old.items ≡ [] }
+    ensures { OnOk result (AreRanks start.now answer.new.items ⊎ AreUntested start.now answer.new.items) }
+{
+    let graph = start.graph();
+    let q = usize::from(start.q());
+    let Some((rank, dual_rank)) = both_ranks(graph, q, start.divisor()) else {
+        push_untold(start, answer)?;
+        return Ok(());
+    };
+    push_told(start, rank, dual_rank, answer)?;
+    Ok(())
+}
+
+/// The line of a start with these two ranks, into an empty buffer.
+fn push_told(
+    start: &Start,
+    rank: i64,
+    dual_rank: i64,
+    answer: &mut Vec<u8>,
+) -> Result<(), AllocError>
+    requires { answer.old.items ≡ [] }
+    ensures { OnOk result (answer.new.items ≡ numbers_text start.now
+        ++ number_after (codes " rank ") rank ++ number_after (codes " dual ") dual_rank ++ codes "\n") }
+{
+    push_numbers(start, answer)?;
+    push_number(answer, " rank ", rank)?;
+    push_number(answer, " dual ", dual_rank)?;
+    answer.push(b'\n')?;
+    Ok(())
+}
+
+/// The line of a start with marks in the place of the two ranks, into an empty buffer.
+fn push_untold(start: &Start, answer: &mut Vec<u8>) -> Result<(), AllocError>
+    requires { answer.old.items ≡ [] }
+    ensures { OnOk result (answer.new.items ≡ numbers_text start.now ++ codes " rank ? dual ?\n") }
+{
+    push_numbers(start, answer)?;
+    answer.extend_from_slice(b" rank ? dual ?\n")?;
+    Ok(())
+}
+
+/// The degree and the genus of a start, into an empty buffer.
+fn push_numbers(start: &Start, answer: &mut Vec<u8>) -> Result<(), AllocError>
+    requires { answer.old.items ≡ [] }
+    ensures { OnOk result (answer.new.items ≡ numbers_text start.now) }
+{
+    push_number(answer, "degree ", start.divisor().degree())?;
+    push_number(answer, " genus ", i64::from(start.graph().genus()))?;
+    Ok(())
+}
+
+/// A label and a number, after the text.
+fn push_number(text: &mut Vec<u8>, label: &str, number: i64) -> Result<(), AllocError>
+    ensures { OnOk result (text.new.items ≡ text.old.items ++ number_after label.now number) }
+{
+    text.extend_from_slice(label.as_bytes())?;
+    text.extend_from_slice(Buffer::new().format(number).as_bytes())?;
+    Ok(())
+}

@@ -1,0 +1,67 @@
+//! Sweeping a stream of tables.
+ghost use Rattle.std.specs.Prelude.{◌≡◌, ◌<◌, ◌≤◌, length, take, Err, None, IfSome, true};
+ghost use Rattle.std.specs.Io.KnownBytes.{Consumes, IsAtEnd, Keeps};
+ghost use Rattle.dg_sweep.specs.Sweeps.{IsSweep};
+
+use crate::ends::{READ_SIZE, SweepEnd};
+use crate::taking::Progress;
+use dg_asked::Question;
+use dg_streams::{Input, Output};
+use std::alloc::Global;
+use std::io::{Read, Write};
+use std::sync::Wait;
+
+/// Answers the lines that the reader gives, each as `answer_line` does, in order, until there are no more: all whole lines that
+/// were read are answered, and the answers written and flushed, before more is read. There may be any number of lines; what is
+/// kept in memory does not grow with it.
+///
+/// It ends before the input does with `Read` where the reader fails, `Write` where the writer fails or takes no byte, and
+/// `Memory`, which leaves the answers to lines of the last read unwritten.
+pub fn sweep<R: Wait, I: Read, O: Write>(
+    rt: &R,
+    alloc: Global,
+    question: Question,
+    reader: &mut Input<I>,
+    writer: &mut Output<O>,
+) -> Result<(), SweepEnd>
+    ensures swept { IsSweep question reader.old.remaining reader.new.remaining writer.old.contents writer.new.contents result }
+    ensures read { result ≡ Err SweepEnd.Read → reader.new.has_failed ≡ true }
+    ensures write { result ≡ Err SweepEnd.Write → writer.new.has_failed ≡ true }
+{
+    let Ok(mut buffer) = vec![in alloc; 0u8; READ_SIZE] else {
+        return Err(SweepEnd::Memory);
+    };
+    let mut progress = Progress::new(alloc);
+    'reads: for _ in rt.forever() {
+        let Some(size) = read_some(reader, &mut buffer) else {
+            return Err(SweepEnd::Read);
+        };
+        if size == 0 {
+            match progress.pass_end(alloc, question, writer) {
+                Ok(()) => return Ok(()),
+                Err(end) => return Err(end),
+            }
+        }
+        match progress.pass_bytes(alloc, question, writer, &buffer[..size]) {
+            Ok(()) => {}
+            Err(end) => return Err(end),
+        }
+    }
+    unreachable!()
+}
+
+/// Reads into the buffer, and says how many bytes came; `None` where the reader failed.
+fn read_some<I: Read>(reader: &mut Input<I>, buffer: &mut Vec<u8>) -> Option<usize>
+    ensures bytes { IfSome result (λ size. Consumes reader.old.remaining reader.new.remaining
+        (take size buffer.new.items)) }
+    ensures end { IfSome result (λ size. size ≡ 0 → 0 < length buffer.old.items → IsAtEnd reader.new.remaining) }
+    ensures bound { IfSome result (λ size. size ≤ length buffer.new.items) }
+    ensures size { length buffer.new.items ≡ length buffer.old.items }
+    ensures kept { result ≡ None → Keeps reader.old.remaining reader.new.remaining }
+    ensures failed { result ≡ None → reader.new.has_failed ≡ true }
+{
+    match reader.read(buffer) {
+        Ok(size) => Some(size),
+        Err(_) => None,
+    }
+}

@@ -1,0 +1,144 @@
+//! Taking what was read: bytes that are cut into lines, and the end.
+ghost use Rattle.std.specs.Prelude.{◌≡◌, ◌++◌, ℕ, List, [], true, IfOk, OnOk, Err};
+ghost use Rattle.dg_sweep.specs.Steps.{AnswersFront, KeepsPart, Passes, TakesBytes, TakesEnd};
+ghost use Rattle.dg_sweep.specs.declared.ends.SweepEnd.TheVariants.{Write as WriteEnd};
+
+use crate::answering::answer_line;
+use crate::ends::{MAX_LINE, SweepEnd};
+use dg_asked::Question;
+use dg_lines::cut;
+use dg_streams::Output;
+use std::alloc::{AllocError, Global};
+use std::io::Write;
+
+/// How far a sweep is.
+#[derive(Drop)]
+pub(crate) struct Progress {
+    /// What came after the last newline; no more is put to it once it is longer than a line may be.
+    pub(crate) pending: Vec<u8>,
+    /// The answers to what was taken last.
+    text: Vec<u8>,
+    /// Where the answer to a line is made.
+    answer: Vec<u8>,
+}
+
+impl Progress {
+    /// That of a sweep which has read nothing.
+    pub(crate) fn new(alloc: Global) -> Progress
+        ensures pending { result.pending.items ≡ [] }
+    {
+        Progress {
+            pending: Vec::new(alloc),
+            text: Vec::new(alloc),
+            answer: Vec::new(alloc),
+        }
+    }
+
+    /// Takes bytes that were read, and writes the answers to the lines that end in them.
+    pub(crate) fn pass_bytes<O: Write>(
+        &mut self,
+        alloc: Global,
+        question: Question,
+        writer: &mut Output<O>,
+        bytes: &[u8],
+    ) -> Result<(), SweepEnd>
+        ensures passed { Passes (TakesBytes question self.old.pending.items bytes.now self.new.pending.items)
+            writer.old.contents writer.new.contents result }
+        ensures write { result ≡ Err WriteEnd → writer.new.has_failed ≡ true }
+    {
+        match self.take_bytes(alloc, question, bytes) {
+            Ok(()) => match writer.write_whole(&self.text) {
+                Ok(()) => Ok(()),
+                Err(_) => Err(SweepEnd::Write),
+            },
+            Err(_) => Err(SweepEnd::Memory),
+        }
+    }
+
+    /// Takes the end, and writes the answer to the last line, if there is one.
+    pub(crate) fn pass_end<O: Write>(
+        &mut self,
+        alloc: Global,
+        question: Question,
+        writer: &mut Output<O>,
+    ) -> Result<(), SweepEnd>
+        ensures passed { Passes (TakesEnd question self.old.pending.items)
+            writer.old.contents writer.new.contents result }
+        ensures write { result ≡ Err WriteEnd → writer.new.has_failed ≡ true }
+    {
+        match self.take_end(alloc, question) {
+            Ok(()) => match writer.write_whole(&self.text) {
+                Ok(()) => Ok(()),
+                Err(_) => Err(SweepEnd::Write),
+            },
+            Err(_) => Err(SweepEnd::Memory),
+        }
+    }
+
+    /// Takes bytes that were read: answers the lines that end in them, and keeps the part of a line that follows.
+    fn take_bytes(
+        &mut self,
+        alloc: Global,
+        question: Question,
+        bytes: &[u8],
+    ) -> Result<(), AllocError>
+        ensures { OnOk result (TakesBytes question self.old.pending.items bytes.now self.new.pending.items self.new.text.items) }
+    {
+        self.text.clear();
+        let (part, after) = cut(bytes, b'\n');
+        keep_part(&mut self.pending, part)?;
+        let Some(after) = after else {
+            return Ok(());
+        };
+        answer_line(alloc, question, &self.pending, &mut self.text)?;
+        self.pending.clear();
+        let part = answer_lines(alloc, question, after, &mut self.text, &mut self.answer)?;
+        keep_part(&mut self.pending, part)?;
+        Ok(())
+    }
+
+    /// Takes the end: answers what is pending as the last line, if it has a byte.
+    fn take_end(&mut self, alloc: Global, question: Question) -> Result<(), AllocError>
+        ensures { OnOk result (TakesEnd question self.old.pending.items self.new.text.items) }
+    {
+        self.text.clear();
+        if self.pending.is_empty() {
+            return Ok(());
+        }
+        answer_line(alloc, question, &self.pending, &mut self.text)?;
+        Ok(())
+    }
+}
+
+/// Keeps a part of a line, unless what is pending is longer already than a line may be.
+fn keep_part(pending: &mut Vec<u8>, part: &[u8]) -> Result<(), AllocError>
+    ensures { OnOk result (KeepsPart pending.old.items part.now pending.new.items) }
+{
+    if pending.len() <= MAX_LINE {
+        pending.extend_from_slice(part)?;
+    }
+    Ok(())
+}
+
+/// Puts the answers to the lines of the bytes after the text, and gives what follows the last newline.
+fn answer_lines<'a>(
+    alloc: Global,
+    question: Question,
+    bytes: &'a [u8],
+    text: &mut Vec<u8>,
+    answer: &mut Vec<u8>,
+) -> Result<&'a [u8], AllocError>
+    ensures { IfOk result (λ rest. (said : List ℕ) × AnswersFront question bytes.now rest.now said
+        × (text.new.items ≡ text.old.items ++ said)) }
+{
+    let mut rest = bytes;
+    'lines: loop {
+        let (line, after) = cut(rest, b'\n');
+        let Some(after) = after else {
+            return Ok(line);
+        };
+        answer_line(alloc, question, line, answer)?;
+        text.extend_from_slice(answer)?;
+        rest = after;
+    }
+}
