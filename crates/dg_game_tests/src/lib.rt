@@ -10,4 +10,6 @@ mod lines;
 #[cfg(test)]
 mod rank;
 #[cfg(test)]
+mod sweeps;
+#[cfg(test)]
 mod verdict;

@@ -1,0 +1,103 @@
+//! Sweeps over lines: what stands in no clause, that they end well, and laws before limits on tables reckoned by hand.
+
+use dg_asked::Question;
+use dg_streams::{Input, Output};
+use dg_sweep::{SweepEnd, sweep};
+use std::io;
+use std::io::{ErrorKind, Read};
+use std::test::Fail;
+
+// The triangle twice, once as the last line; the beginning of a file; an empty line; and a triangle whose q is no vertex.
+const LINES: &str =
+    r#"{"vertices":["a","b","c"],"edges":[["a","b",1],["b","c",1],["a","c",1]],"amounts":[2,-1,-1],"q":"a"}
+{"vertices":["a"]
+
+{"vertices":["a","b","c"],"edges":[["a","b",1],["b","c",1],["a","c",1]],"amounts":[2,-1,-1],"q":"d"}
+{"vertices":["a","b","c"],"edges":[["a","b",1],["b","c",1],["a","c",1]],"amounts":[2,-1,-1],"q":"a"}"#;
+
+const JUDGED: &str =
+    "winnable by a=0 b=-1 c=-1 to a=0 b=0 c=0\nrefused not JSON\nrefused not JSON\nrefused no vertex q\nwinnable by a=0 b=-1 c=-1 to a=0 b=0 c=0\n";
+
+const TESTED: &str =
+    "rank below 1 at a=0 b=0 c=1\nrefused not JSON\nrefused not JSON\nrefused no vertex q\nrank below 1 at a=0 b=0 c=1\n";
+
+const NUMBERED: &str =
+    "degree 0 genus 1 rank 0 dual 0\nrefused not JSON\nrefused not JSON\nrefused no vertex q\ndegree 0 genus 1 rank 0 dual 0\n";
+
+// A path of ten vertices with 20 dollars, and with 11; and a ring of 16 with 31 edges between two neighbours, where each vertex
+// holds 30 dollars, half of what the canonical divisor has there. On a tree the rank is the degree. There are 293,930 ways to
+// lose 12 dollars at ten vertices, and 490,314 to lose 8 at sixteen.
+const LARGE: &str =
+    r#"{"vertices":["a","b","c","d","e","f","g","h","i","j"],"edges":[["a","b",1],["b","c",1],["c","d",1],["d","e",1],["e","f",1],["f","g",1],["g","h",1],["h","i",1],["i","j",1]],"amounts":[20,0,0,0,0,0,0,0,0,0],"q":"a"}
+{"vertices":["a","b","c","d","e","f","g","h","i","j"],"edges":[["a","b",1],["b","c",1],["c","d",1],["d","e",1],["e","f",1],["f","g",1],["g","h",1],["h","i",1],["i","j",1]],"amounts":[11,0,0,0,0,0,0,0,0,0],"q":"a"}
+{"vertices":["a","b","c","d","e","f","g","h","i","j","k","l","m","n","o","p"],"edges":[["a","b",31],["b","c",31],["c","d",31],["d","e",31],["e","f",31],["f","g",31],["g","h",31],["h","i",31],["i","j",31],["j","k",31],["k","l",31],["l","m",31],["m","n",31],["n","o",31],["o","p",31],["p","a",31]],"amounts":[30,30,30,30,30,30,30,30,30,30,30,30,30,30,30,30],"q":"a"}
+"#;
+
+// Gives the text, so many bytes a read at most; then it ends, or fails.
+#[derive(Drop)]
+struct Flow<'a> {
+    text: &'a [u8],
+    most: usize,
+    fails: bool,
+}
+
+impl<'a> Read for Flow<'a> {
+    fn read(&mut self, buffer: &mut [u8]) -> io::Result<usize> {
+        if self.text.is_empty() && self.fails {
+            return Err(io::Error::from(ErrorKind::Other));
+        }
+        let size = buffer.len().min(self.most).min(self.text.len());
+        let (given, left) = self.text.split_at(size);
+        buffer[..size].copy_from_slice(given);
+        self.text = left;
+        Ok(size)
+    }
+}
+
+#[test]
+fn lines_are_answered_however_they_come(rt: HostRuntime) -> Result<(), Fail> {
+    let long = vec![in rt.alloc(); b'x'; 1_048_577]?;
+    let most = &long[..1_048_576];
+    for (question, text, answers) in [
+        (Question::Judge, LINES.as_bytes(), JUDGED),
+        (Question::Rank(1), LINES.as_bytes(), TESTED),
+        (Question::RiemannRoch, LINES.as_bytes(), NUMBERED),
+        (
+            Question::Rank(12),
+            LARGE.as_bytes(),
+            "rank at least 12\nrank below 12 at ?\nrefused too many trials\n",
+        ),
+        (
+            Question::RiemannRoch,
+            LARGE.as_bytes(),
+            "degree 20 genus 0 rank 20 dual -1\ndegree 11 genus 0 rank 11 dual -1\ndegree 480 genus 481 rank ? dual ?\n",
+        ),
+        (Question::Judge, b"".as_slice(), ""),
+        (Question::Judge, b"\n".as_slice(), "refused not JSON\n"),
+        (Question::Judge, most, "refused not JSON\n"),
+        (Question::Judge, long.as_slice(), "refused file too long\n"),
+    ] {
+        for most in [7, 2_000_000] {
+            let mut input = Input::new(Flow {
+                text,
+                most,
+                fails: false,
+            });
+            let mut output = Output::new(Vec::new(rt.alloc()));
+            let end = sweep(&rt, rt.alloc(), question, &mut input, &mut output);
+            assert!(rt; end.is_ok());
+            assert_eq!(rt; output.into_inner().as_slice(), answers.as_bytes());
+        }
+    }
+    let mut input = Input::new(Flow {
+        text: LINES.as_bytes(),
+        most: 7,
+        fails: true,
+    });
+    let mut output = Output::new(Vec::new(rt.alloc()));
+    let end = sweep(&rt, rt.alloc(), Question::Judge, &mut input, &mut output);
+    assert!(rt; end == Err(SweepEnd::Read));
+    let said = output.into_inner();
+    assert!(rt; JUDGED.as_bytes().starts_with(&said) && said.ends_with(b"no vertex q\n"));
+    Ok(())
+}
