@@ -162,6 +162,16 @@ def greedy(table, turns, program=None):
     return history(lines[:-1]) + [answer(lines[-1])] if lines[-1] == "turns" else history(lines)
 
 
+def one_line(line):
+    """The bytes of a line, which is given without its newline. A ValueError where that is no line of a session."""
+    if "\n" in line:
+        raise ValueError("a line has a newline in it")
+    sent = line.encode()
+    if len(sent) > 1024:
+        raise ValueError("a line has more than 1024 bytes")
+    return sent
+
+
 class Session:
     """A session of `serve`, as a context manager. Each line is answered before the next is asked.
 
@@ -196,9 +206,22 @@ class Session:
         return self
 
     def ask(self, line):
-        """The answer to a line, which is given without its newline."""
+        """The answer to a line, which is given without its newline. A line with a newline in it would be two, and have two
+        answers, and one with more than 1,024 bytes would end the session: both are a ValueError, and nothing is sent.
+
+            >>> with Session(example("triangle")) as session:
+            ...     for line in "look\\nclaim", "x" * 1025, "claim":
+            ...         try:
+            ...             print(session.ask(line))
+            ...         except ValueError as refused:
+            ...             print(refused)
+            a line has a newline in it
+            a line has more than 1024 bytes
+            ('not won',)
+        """
+        sent = one_line(line)
         with contextlib.suppress(BrokenPipeError):
-            self.child.stdin.write(line.encode() + b"\n")
+            self.child.stdin.write(sent + b"\n")
             self.child.stdin.flush()
         got = self.child.stdout.readline().decode()
         if not got.endswith("\n"):

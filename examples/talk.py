@@ -20,6 +20,16 @@ class Ended(Exception):
         self.status, self.fault = status, fault
 
 
+def one_line(line):
+    """The bytes of a line, which is given without its newline. A ValueError where that is no line of a session."""
+    if "\n" in line:
+        raise ValueError("a line has a newline in it")
+    sent = line.encode()
+    if len(sent) > 1024:
+        raise ValueError("a line has more than 1024 bytes")
+    return sent
+
+
 class Session:
     """A session of PROGRAM on the table of a file. Options are those of `serve`, as "--cap", "100"."""
 
@@ -29,9 +39,16 @@ class Session:
                                       stdout=subprocess.PIPE, stderr=subprocess.PIPE)
 
     def ask(self, line):
-        """The answer to a line, both without a newline. Raises Ended where the session ends instead."""
+        """The answer to a line, both without a newline. Raises Ended where the session ends instead.
+
+        A line with a newline in it would be two, and have two answers, of which the second would be taken for that of the next
+        line; and one with more than 1,024 bytes would end the session. So both raise ValueError, and nothing is sent."""
+        return self.ask_bytes(one_line(line))
+
+    def ask_bytes(self, line):
+        """The same of a line as bytes, whatever it is."""
         try:
-            self.child.stdin.write(line.encode() + b"\n")
+            self.child.stdin.write(line + b"\n")
             self.child.stdin.flush()
         except BrokenPipeError:
             pass  # it has ended: there is no answer to be read, and the fault is on standard error
@@ -73,7 +90,7 @@ def play(name, session, lines, end):
     try:
         for line, answer in lines:
             try:
-                check("%s, %.20r" % (name, line), session.ask(line), answer)
+                check("%s, %.20r" % (name, line), session.ask_bytes(line.encode()), answer)
             except Ended as early:
                 check("%s, %.20r" % (name, line), None, answer)
                 check("%s, the end" % name, (early.status, early.fault), end)
@@ -138,6 +155,15 @@ def main(program):
     play("a long line", Session(program, triangle), [("x" * 1024, "bad word"), ("x" * 1025, None)],
          (3, "dollar: long line"))
     play("no line", Session(program, triangle), [], (0, ""))
+
+    # A tool that hands on what a stranger wrote is refused what is no line, and the next answer is that to the next line.
+    session = Session(program, triangle)
+    for line, refused in (("look\nclaim", "a line has a newline in it"), ("x" * 1025, "a line has more than 1024 bytes")):
+        try:
+            check("no line of a session, %.20r" % line, session.ask(line), None)
+        except ValueError as fault:
+            check("no line of a session, %.20r" % line, str(fault), refused)
+    play("after what is no line", session, [("claim", "0 not won")], (0, ""))
 
     print("%d passed, %d failed" % (results.count(True), results.count(False)))
     return results.count(False) > 0
