@@ -3,6 +3,7 @@ ghost use Rattle.std.specs.Prelude.{◌≡◌, OnOk, OnErr, true, false};
 ghost use Rattle.std.specs.Io.{ReadsAtMost};
 ghost use Rattle.std.specs.Io.KnownBytes.{ReadConsumes};
 
+use crate::again::read_again;
 use std::io;
 use std::io::Read;
 use std::marker::Model;
@@ -41,16 +42,16 @@ impl<I: Read> Input<I> {
         self.has_failed
     }
 
-    /// One read, into a front of the buffer.
+    /// One read, into a front of the buffer; asked for again as long as it is interrupted.
     ///
-    /// Refused as the reader refuses it.
+    /// Refused as the reader refuses it otherwise.
     pub fn read(&mut self, buffer: &mut [u8]) -> io::Result<usize>
         ensures bound { ReadsAtMost result buffer.new }
         ensures bytes { ReadConsumes self.old.remaining self.new.remaining result buffer.new }
         ensures failed { OnErr result (self.new.has_failed ≡ true) }
         ensures kept { OnOk result (self.new.has_failed ≡ self.old.has_failed) }
     {
-        match self.inner.read(buffer) {
+        match read_again(&mut self.inner, buffer) {
             Ok(size) => Ok(size),
             Err(error) => {
                 self.has_failed = true;

@@ -1,6 +1,7 @@
 //! Streams that remember whether they failed.
 #![tactic(auto)]
 
+mod again;
 mod input;
 mod output;
 

@@ -3,6 +3,7 @@ ghost use Rattle.std.specs.Prelude.{◌≡◌, OnOk, OnErr, true, false, []};
 ghost use Rattle.std.specs.Io.KnownBytes.{Appends};
 ghost use Rattle.dg_streams.specs.Streams.{AppendsFront};
 
+use crate::again::{flush_again, write_again};
 use std::io::Write;
 use std::marker::Model;
 
@@ -51,9 +52,9 @@ impl<O: Write> Output<O> {
         self.inner
     }
 
-    /// Writes and flushes the whole text.
+    /// Writes and flushes the whole text. A write or a flush is asked for again as long as it is interrupted.
     ///
-    /// Refused with `WriteFailed` where the writer fails, or takes no byte; it has then taken a front of the text.
+    /// Refused with `WriteFailed` where the writer fails otherwise, or takes no byte; it has then taken a front of the text.
     pub fn write_whole(&mut self, text: &[u8]) -> Result<(), WriteFailed>
         ensures written { OnOk result (Appends self.old.contents self.new.contents text.now) }
         ensures front { OnErr result (AppendsFront self.old.contents self.new.contents [] text.now) }
@@ -62,7 +63,7 @@ impl<O: Write> Output<O> {
     {
         let mut at = 0;
         'writes: while at < text.len() {
-            match self.inner.write(&text[at..]) {
+            match write_again(&mut self.inner, &text[at..]) {
                 Ok(size) => {
                     if size == 0 {
                         self.has_failed = true;
@@ -76,7 +77,7 @@ impl<O: Write> Output<O> {
                 }
             }
         }
-        match self.inner.flush() {
+        match flush_again(&mut self.inner) {
             Ok(()) => Ok(()),
             Err(_) => {
                 self.has_failed = true;
