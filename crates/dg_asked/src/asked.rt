@@ -5,6 +5,7 @@ ghost use Rattle.dg_asked.specs.declared.limits.TheConstants.{MAX_CAPACITY, MAX_
 ghost use Rattle.dg_asked.specs.Files.{file_of};
 
 use crate::numbered::{GreedyTask, RankTask};
+use crate::question::SweepTask;
 
 /// What is answered by one text on one table.
 #[derive(Drop)]
@@ -82,6 +83,8 @@ pub enum Asked<'a> {
     Serve(ServeTask<'a>),
     /// Scripts to play, and the history that they make to print.
     Party(PartyTask<'a>),
+    /// The lines of a file to answer, each of which is a table.
+    Sweep(SweepTask<'a>),
     /// A text to print, as after `--help`.
     Text(String),
 }

@@ -10,5 +10,5 @@ mod words;
 pub use asked::{Asked, PartyTask, ServeTask, Task};
 pub use limits::{MAX_CAPACITY, MAX_TURNS, MAX_WORKERS};
 pub use numbered::{GreedyTask, RankTask};
-pub use question::Question;
+pub use question::{Question, SweepTask};
 pub use words::{Words, WordsFault};

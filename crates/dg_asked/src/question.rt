@@ -10,3 +10,12 @@ pub enum Question {
     /// The four numbers of Riemann-Roch for its position.
     RiemannRoch,
 }
+
+/// A sweep over the lines of a file, each of which is a table.
+#[derive(Drop)]
+pub struct SweepTask<'a> {
+    /// The name of the file.
+    pub file: &'a str,
+    /// What is asked of each table.
+    pub question: Question,
+}

@@ -1,3 +1,4 @@
 -- What is known of files.
 pub mod Held
 pub mod AllHeld
+pub mod Streams

@@ -1,8 +1,10 @@
 //! Where the bytes of files come from.
 ghost use Rattle.std.specs.Prelude.{◌≡◌, ◌≢◌, ◌<◌, ◌≤◌, ℕ, List, length, map, vec_len, IfOk, IfErr, IfSome};
 ghost use Rattle.dg_sources.specs.Held.{Held, MayHold, RefusesHeld, held_among, held_by};
+ghost use Rattle.dg_sources.specs.Streams.{MayGive, RefusesStream, stream_remaining};
 ghost use Rattle.std.specs.Option.{option_copied};
 
+use crate::stream::Stream;
 use std::alloc::Global;
 use std::fs;
 use std::io::{self, Read};
@@ -51,6 +53,13 @@ pub trait Sources {
     fn bytes<R: Files + AllocGlobal>(&self, rt: &R, name: &str) -> Result<Vec<u8>, SourceFault>
         ensures read { IfOk result (λ bytes. MayHold (held self.now name.now) bytes.items) }
         ensures refused { IfErr result (RefusesHeld (held self.now name.now)) };
+
+    /// The file with this name, to be read as it comes; it may have any number of bytes, and need have no end.
+    ///
+    /// Refused with `Unreadable` where there is no such file, and with `OutOfMemory`.
+    fn open<'s, R: Files>(&'s self, rt: &R, name: &str) -> Result<Stream<'s, R::File>, SourceFault>
+        ensures opened { IfOk result (λ s. MayGive (held self.now name.now) (stream_remaining R.File.remaining s)) }
+        ensures refused { IfErr result (RefusesStream (held self.now name.now)) };
 }
 
 /// The files of the machine.
@@ -64,6 +73,14 @@ impl Sources for Disk {
 
     fn bytes<R: Files + AllocGlobal>(&self, rt: &R, name: &str) -> Result<Vec<u8>, SourceFault> {
         read_within(rt.alloc(), fs::open(rt, name)?)
+    }
+
+    fn open<'s, R: Files>(
+        &'s self,
+        rt: &R,
+        name: &str,
+    ) -> Result<Stream<'s, R::File>, SourceFault> {
+        Ok(Stream::Opened(fs::open(rt, name)?))
     }
 }
 
@@ -83,6 +100,17 @@ impl Sources for Shelf<'_> {
     fn bytes<R: Files + AllocGlobal>(&self, rt: &R, name: &str) -> Result<Vec<u8>, SourceFault> {
         match found(self.files, name) {
             Some(bytes) => copied(rt.alloc(), bytes),
+            None => Err(SourceFault::Unreadable),
+        }
+    }
+
+    fn open<'s, R: Files>(
+        &'s self,
+        _rt: &R,
+        name: &str,
+    ) -> Result<Stream<'s, R::File>, SourceFault> {
+        match found(self.files, name) {
+            Some(bytes) => Ok(Stream::Kept(bytes)),
             None => Err(SourceFault::Unreadable),
         }
     }
