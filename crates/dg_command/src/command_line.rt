@@ -4,13 +4,15 @@ ghost use Rattle.std.specs.Vec.{vec_len};
 ghost use Rattle.dg_asked.specs.declared.limits.TheConstants.{MAX_CAPACITY, MAX_TURNS, MAX_WORKERS};
 
 use crate::help_texts::{
-    CAPACITY_HELP, DEGREE_HELP, FILE_HELP, GREEDY_MORE, JUDGE_MORE, MORE, PARTY_MORE, RANK_MORE,
-    REHEARSE_MORE, RIEMANN_ROCH_MORE, SCRIPT_HELP, SERVE_MORE, STEPS_HELP, TURNS_HELP, VERSION,
-    WORKERS_HELP,
+    CAPACITY_HELP, DEGREE_HELP, FILE_HELP, GREEDY_MORE, JUDGE_MORE, LINES_HELP, MORE, PARTY_MORE,
+    RANK_MORE, REHEARSE_MORE, RIEMANN_ROCH_MORE, SCRIPT_HELP, SERVE_MORE, STEPS_HELP, TURNS_HELP,
+    VERSION, WORKERS_HELP,
 };
 use clap::error::ErrorKind;
-use clap::{Arg, ArgMatches, Command};
-use dg_asked::{Asked, GreedyTask, PartyTask, RankTask, ServeTask, Task, Words, WordsFault};
+use clap::{Arg, ArgAction, ArgMatches, Command};
+use dg_asked::{
+    Asked, GreedyTask, PartyTask, Question, RankTask, ServeTask, SweepTask, Task, Words, WordsFault,
+};
 use dg_numbers::natural;
 use std::alloc::{AllocError, Global};
 use std::rt::Env;
@@ -167,10 +169,27 @@ fn command_in<'a>(alloc: Global, matches: &ArgMatches<'a>) -> Result<Asked<'a>, 
                 capacity,
             }))
         }
+        _ if inner.get_flag("lines") => {
+            let question = question_in(name, inner)?;
+            Ok(Asked::Sweep(SweepTask { file, question }))
+        }
         _ => match task_in(name, file, inner) {
             Ok(task) => Ok(Asked::Task(task)),
             Err(refusal) => Err(refusal),
         },
+    }
+}
+
+/// What a command with `--lines` asks of each table.
+fn question_in<'a>(name: &str, inner: &ArgMatches<'a>) -> Result<Question, Refusal<'a>> {
+    match name {
+        "judge" => Ok(Question::Judge),
+        "rank" => {
+            let word = inner.get_str("degree").ok_or(Refusal::Command)?;
+            Ok(Question::Rank(degree_in(word)?))
+        }
+        "rr" => Ok(Question::RiemannRoch),
+        _ => Err(Refusal::Command),
     }
 }
 
@@ -290,7 +309,8 @@ fn judge<'a>(alloc: Global) -> Result<Command<'a>, AllocError> {
     Command::new(alloc, "judge")
         .about("Tells whether a table is winnable, and prints what shows it")
         .after_help(JUDGE_MORE)
-        .arg(table_file(alloc))
+        .arg(table_file(alloc))?
+        .arg(lines(alloc))
 }
 
 fn rank<'a>(alloc: Global) -> Result<Command<'a>, AllocError> {
@@ -303,6 +323,7 @@ fn rank<'a>(alloc: Global) -> Result<Command<'a>, AllocError> {
         .about("Tests whether a table stays winnable wherever K dollars are lost")
         .after_help(RANK_MORE)
         .arg(table_file(alloc))?
+        .arg(lines(alloc).conflicts_with("workers")?)?
         .arg(degree)?
         .arg(workers(alloc))
 }
@@ -311,7 +332,8 @@ fn riemann_roch<'a>(alloc: Global) -> Result<Command<'a>, AllocError> {
     Command::new(alloc, "rr")
         .about("Prints the four numbers of Riemann-Roch for a table")
         .after_help(RIEMANN_ROCH_MORE)
-        .arg(table_file(alloc))
+        .arg(table_file(alloc))?
+        .arg(lines(alloc))
 }
 
 fn greedy<'a>(alloc: Global) -> Result<Command<'a>, AllocError> {
@@ -368,6 +390,13 @@ fn workers<'a>(alloc: Global) -> Arg<'a> {
         .value_name("N")
         .allow_negative_numbers(true)
         .help(WORKERS_HELP)
+}
+
+fn lines<'a>(alloc: Global) -> Arg<'a> {
+    Arg::new(alloc, "lines")
+        .long("lines")
+        .action(ArgAction::SetTrue)
+        .help(LINES_HELP)
 }
 
 fn capacity<'a>(alloc: Global) -> Arg<'a> {

@@ -28,6 +28,8 @@ pub(crate) const SCRIPT_HELP: &str = "Text files with the lines of a session eac
 
 pub(crate) const WORKERS_HELP: &str = "How many threads share the trials, 1 to 16; default 1";
 
+pub(crate) const LINES_HELP: &str = "FILE has a table on each line, and each line is answered";
+
 pub(crate) const CAPACITY_HELP: &str = "How many entries there may be, 1 to 65536; default 65536";
 
 pub(crate) const MORE: &str =
@@ -58,8 +60,8 @@ vertices and edges from 0, and lines and steps from 1: `edge 0 is empty` tells
 of the first edge, and `line 1: bad seat` of the first line.
 
 A run that fails prints nothing but a line that says why, on standard error; but
-`serve` has answered the lines before, and `party` prints the history where a
-session ended early. The status is
+`serve` and `--lines` have answered the lines before, and `party` prints the
+history where a session ended early. The status is
 
     0  where there is an answer, also `unwinnable` and `rank below ..`
     2  where the command line is refused
@@ -80,6 +82,18 @@ in debt then, and no vertices other than q could lend together without one of
 them falling into debt. The table is winnable exactly where q is not in debt
 either; the answer is `unwinnable by .. to ..` where q is, with the status 0 as
 well.
+
+With --lines, FILE has a table on each line, and is read as it comes. A line
+that is no table is answered by the fault of such a file:
+
+    $ cat tables.txt
+    {\"vertices\":[\"a\",\"b\"],\"edges\":[[\"a\",\"b\",2]],\"amounts\":[2,-2],\"q\":\"a\"}
+    {\"vertices\":[\"a\",\"b\"],\"edges\":[[\"a\",\"b\",2]],\"amounts\":[1,-1],\"q\":\"a\"}
+    {\"vertices\":[\"a\",\"b\"]}
+    $ dollar judge --lines tables.txt
+    winnable by a=0 b=-1 to a=0 b=0
+    unwinnable by a=0 b=-1 to a=-1 b=1
+    refused shape of top
 ";
 
 pub(crate) const RANK_MORE: &str = "\
@@ -99,6 +113,21 @@ the first that does not is shown. The status is 0 for both answers.
 
 K may be at most 1000, and there may be at most 200000 trials; a test past that
 is refused with `too many trials`. The workers change no answer.
+
+With --lines, FILE has a table on each line, and is read as it comes. A line
+that is no table is answered by the fault of such a file:
+
+    $ cat tables.txt
+    {\"vertices\":[\"a\",\"b\"],\"edges\":[[\"a\",\"b\",2]],\"amounts\":[2,-2],\"q\":\"a\"}
+    {\"vertices\":[\"a\",\"b\"],\"edges\":[[\"a\",\"b\",2]],\"amounts\":[1,-1],\"q\":\"a\"}
+    {\"vertices\":[\"a\",\"b\"]}
+    $ dollar rank --lines tables.txt 0
+    rank at least 0
+    rank below 0 at a=0 b=0
+    refused shape of top
+
+There a test past the limits is answered where a law or the trials of the dual
+settle it, without the first loss: `rank below 12 at ?`.
 ";
 
 pub(crate) const RIEMANN_ROCH_MORE: &str = "\
@@ -122,6 +151,21 @@ By Riemann-Roch, rank - dual = degree + 1 - genus.
 Each rank must be one that tests tell which have the limits of `dollar rank`;
 `too many trials` does not say which of the two was too great. With 16 vertices
 each may be at most 6.
+
+With --lines, FILE has a table on each line, and is read as it comes. A line
+that is no table is answered by the fault of such a file:
+
+    $ cat tables.txt
+    {\"vertices\":[\"a\",\"b\"],\"edges\":[[\"a\",\"b\",2]],\"amounts\":[2,-2],\"q\":\"a\"}
+    {\"vertices\":[\"a\",\"b\"],\"edges\":[[\"a\",\"b\",2]],\"amounts\":[1,-1],\"q\":\"a\"}
+    {\"vertices\":[\"a\",\"b\"]}
+    $ dollar rr --lines tables.txt
+    degree 0 genus 1 rank 0 dual 0
+    degree 0 genus 1 rank -1 dual -1
+    refused shape of top
+
+There one rank may be told by the other, and each of them is `?` only where both
+would need a test past the limits.
 ";
 
 pub(crate) const GREEDY_MORE: &str = "\

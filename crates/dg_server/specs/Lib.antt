@@ -1,7 +1,8 @@
--- Sessions and parties of the program; faults and exit statuses; and when what is asked for is done.
+-- Sessions, parties and sweeps of the program; faults and exit statuses; and when what is asked for is done.
 pub mod OfTasks
 pub mod Sessions
 pub mod Parties
+pub mod Sweeping
 pub mod Status
 pub mod Performed
 pub mod Runs

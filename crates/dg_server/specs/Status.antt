@@ -6,16 +6,19 @@
 --   status_of_table fault  == the status where a call of a table is refused so
 --   status_of_task fault   == the status where a task is not done so
 --   status_of_end end      == the status where a session ends so
+--   status_of_sweep end    == the status where a sweep ends so
 --   status fault           == 2 for a refused command line, 3 for refused input, 4 for want of memory, 5 for reading and writing
 use Rattle.std.specs.Prelude.{◌≡◌, ℕ, ◌≤◌, ◌⊎◌}
 use Rattle.dg_asked.specs.declared.words.WordsFault.{WordsFault}
 use Rattle.dg_asked.specs.declared.words.WordsFault.TheVariants.{OutOfMemory as NoMemoryForWords}
 use Rattle.dg_server.specs.declared.fault.Fault.{Fault}
-use Rattle.dg_server.specs.declared.fault.Fault.TheVariants.{Words, Task, OutOfMemory, Session, Sessions, Seats, NoThread, History, Write}
+use Rattle.dg_server.specs.declared.fault.Fault.TheVariants.{Words, Task, OutOfMemory, Session, Sessions, Sweep, Seats, NoThread, History, Write}
 use Rattle.dg_tasks.specs.declared.fault.TaskFault.{TaskFault}
 use Rattle.dg_tasks.specs.declared.fault.TaskFault.TheVariants as task
 use Rattle.dg_session.specs.declared.ends.SessionEnd.{SessionEnd}
 use Rattle.dg_session.specs.declared.ends.SessionEnd.TheVariants as end
+use Rattle.dg_sweep.specs.declared.ends.SweepEnd.{SweepEnd}
+use Rattle.dg_sweep.specs.declared.ends.SweepEnd.TheVariants as sweep
 use Rattle.dg_table.specs.declared.fault.Fault.{Fault as TableFault}
 use Rattle.dg_table.specs.declared.fault.Fault.TheVariants.{OutOfMemory as NoMemoryForCall, Full as FullHistory, Log}
 use Rattle.dg_sources.specs.declared.sources.SourceFault.{SourceFault}
@@ -50,6 +53,11 @@ status_of_end (end.Table fault) = status_of_table fault
 status_of_end end.Memory = 4
 status_of_end end.Spawn = 4
 
+abbrev pub status_of_sweep : SweepEnd → ℕ
+status_of_sweep sweep.Read = 5
+status_of_sweep sweep.Write = 5
+status_of_sweep sweep.Memory = 4
+
 abbrev pub status_of_task : TaskFault → ℕ
 status_of_task (task.Source fault) = status_of_source fault
 status_of_task (task.File fault) = status_of_file fault
@@ -69,6 +77,7 @@ status (Task fault) = status_of_task fault
 status OutOfMemory = 4
 status (Session end) = status_of_end end
 status (Sessions least all) = status_of_end least
+status (Sweep end) = status_of_sweep end
 status Seats = 3
 status NoThread = 4
 status History = 4

@@ -9,6 +9,7 @@ use dg_party::PartyRefusal;
 use dg_session::SessionEnd;
 use dg_sources::SourceFault;
 use dg_streams::WriteFailed;
+use dg_sweep::SweepEnd;
 use dg_tasks::{TaskFault, call_text};
 use std::io::{self, Write};
 use thiserror::Error;
@@ -36,6 +37,9 @@ pub enum Fault {
         /// Each such seat, and how its session ended.
         all: Vec<(usize, SessionEnd)>,
     },
+    /// A sweep ended before its input did.
+    #[error("{}", sweep_end_text(*.0))]
+    Sweep(SweepEnd),
     /// A party has more than 64 scripts.
     #[error("too many seats")]
     Seats,
@@ -86,6 +90,7 @@ pub fn status_of(fault: &Fault) -> u8
         Fault::Words(_) => 2,
         Fault::Task(fault) => status_of_task(fault),
         Fault::Session(end) | Fault::Sessions { least: end, .. } => status_of_end(*end),
+        Fault::Sweep(end) => status_of_sweep(*end),
         Fault::Seats => 3,
         Fault::OutOfMemory | Fault::NoThread | Fault::History => 4,
         Fault::Write => 5,
@@ -124,6 +129,16 @@ fn status_of_end(end: SessionEnd) -> u8
     }
 }
 
+/// The exit status where a sweep ends so.
+fn status_of_sweep(end: SweepEnd) -> u8
+    ensures { result ≡ Rattle.dg_server.specs.Status.status_of_sweep end }
+{
+    match end {
+        SweepEnd::Memory => 4,
+        SweepEnd::Read | SweepEnd::Write => 5,
+    }
+}
+
 /// The exit status where a call of a table is refused so.
 fn status_of_table(fault: dg_table::Fault) -> u8
     ensures { result ≡ Rattle.dg_server.specs.Status.status_of_table fault }
@@ -144,6 +159,15 @@ fn end_text(end: SessionEnd) -> &'static str {
         SessionEnd::Table(fault) => call_text(fault),
         SessionEnd::Memory => "out of memory",
         SessionEnd::Spawn => "no thread",
+    }
+}
+
+/// What is said of a sweep that ends so.
+fn sweep_end_text(end: SweepEnd) -> &'static str {
+    match end {
+        SweepEnd::Read => "read fault",
+        SweepEnd::Write => "write fault",
+        SweepEnd::Memory => "out of memory",
     }
 }
 

@@ -1,4 +1,4 @@
-//! What the commands of the program `dollar` do: sessions, parties and tasks, their faults, and a run of the program.
+//! What the commands of the program `dollar` do: sessions, parties, sweeps and tasks, their faults, and a run of the program.
 #![tactic(auto)]
 
 mod fault;
@@ -6,6 +6,7 @@ mod parties;
 mod program;
 mod running;
 mod sessions;
+mod sweeps;
 
 pub use fault::{Fault, report, status_of};
 pub use program::perform;

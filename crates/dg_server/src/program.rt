@@ -5,10 +5,12 @@ ghost use Rattle.dg_server.specs.Performed.{Performs, Refuses};
 use crate::fault::Fault;
 use crate::parties::play_party;
 use crate::sessions::serve_input;
+use crate::sweeps::sweep_file;
 use dg_asked::Asked;
 use dg_session::SessionEnd;
 use dg_sources::Sources;
 use dg_streams::Output;
+use dg_sweep::SweepEnd;
 use dg_tasks::answer;
 use std::io::{BufRead, Write};
 use std::rt::Files;
@@ -16,8 +18,8 @@ use std::sync::Wait;
 use std::thread::Threads;
 
 /// Does what is asked for. The whole text of an answer is made before its first byte is written, so that `output` gets
-/// nothing where another fault than `Write` comes; but a session answers as its lines come, and the history of a party
-/// is printed also where sessions of it ended early.
+/// nothing where another fault than `Write` comes; but a session and a sweep answer as their lines come, and the history of a
+/// party is printed also where sessions of it ended early.
 pub fn perform<R, S, I, O>(
     rt: &R,
     asked: Asked<'_>,
@@ -35,6 +37,7 @@ where
     ensures refused { IfErr result (λ fault. fault ≢ Fault.Write →
         Refuses (S.held sources.now) (I.remaining input) asked.entry fault output.old.contents output.new.contents) }
     ensures failed { result ≡ Err Fault.Write → output.new.has_failed ≡ true }
+    ensures unswept { result ≡ Err (Fault.Sweep SweepEnd.Write) → output.new.has_failed ≡ true }
     ensures unheard { result ≡ Err (Fault.Session SessionEnd.Write) → output.new.has_failed ≡ true }
 {
     match asked {
@@ -44,6 +47,10 @@ where
             Err(fault) => Err(Fault::Task(fault)),
         },
         Asked::Serve(task) => match serve_input(rt, &task, sources, input, output) {
+            Ok(()) => Ok(()),
+            Err(fault) => Err(fault),
+        },
+        Asked::Sweep(task) => match sweep_file(rt, &task, sources, output) {
             Ok(()) => Ok(()),
             Err(fault) => Err(fault),
         },
