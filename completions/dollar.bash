@@ -49,7 +49,7 @@ _dollar() {
                 i=$((i + 1))
                 if [ "$i" -ge "$COMP_CWORD" ]; then return; fi
                 ;;
-            --cap=* | --workers=*) ;;
+            --cap=* | --workers=* | --lines) ;;
             -h | --help | -V | --version) return ;;
             *)
                 if [ "$command" ]; then place=$((place + 1)); else command=${COMP_WORDS[i]}; fi
@@ -58,9 +58,9 @@ _dollar() {
     done
     case $command in
         '') arguments=(COMMAND) options=(--help --version) ;;
-        judge) arguments=(FILE) ;;
-        rank) arguments=(FILE K) options=(--workers --help) ;;
-        rr) arguments=(FILE) ;;
+        judge) arguments=(FILE) options=(--lines --help) ;;
+        rank) arguments=(FILE K) options=(--lines --workers --help) ;;
+        rr) arguments=(FILE) options=(--lines --help) ;;
         greedy) arguments=(FILE TURNS) ;;
         rehearse) arguments=(FILE STEPS) ;;
         serve) arguments=(FILE) options=(--cap --workers --help) ;;
