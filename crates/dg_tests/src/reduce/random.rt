@@ -128,7 +128,7 @@ fn blunted(times: i64) -> i64
 }
 
 /// A script that is 0 at q and near to another, but off by some lendings at each vertex.
-fn blunt(graph: &Graph, q: usize, script: &Script) -> Script
+pub(super) fn blunt(graph: &Graph, q: usize, script: &Script) -> Script
     requires size { script.now.size ≡ graph.now.size }
     requires vertex { q < graph.now.size }
     ensures size { result.size ≡ graph.now.size }
