@@ -24,6 +24,7 @@ fn an_output_that_is_refused_is_a_fault(rt: HostRuntime) -> Result<(), Fail> {
             most: 3,
             fails_at,
             refuses: false,
+            is_interrupted: false,
         });
         let asked = asked(alloc, Command::Rehearse)?;
         let got = perform(&rt, asked, &shelf, b"".as_slice(), &mut output);
@@ -47,6 +48,7 @@ fn a_read_that_fails_is_a_fault(rt: HostRuntime) -> Result<(), Fail> {
             text: &bytes,
             most: 2_000_000,
             fault: Some(kind),
+            is_interrupted: false,
         };
         assert!(rt; read_within(alloc, torn).err() == Some(fault), "{size}");
     }

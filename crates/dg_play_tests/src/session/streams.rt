@@ -20,16 +20,21 @@ const TEXT: &[u8] = b"look\nlend a\ncommit\ncommit\nlend z\ngift a 0\nclaim\n";
 const ANSWER: &[u8] =
     b"0 looked 0 a=2 b=-1 c=-1\n1 moved a=0 b=0 c=0\n2 winnable by a=0 b=0 c=0 to a=0 b=0 c=0\nbad look\nbad name\n3 refused gift\n4 won\n";
 
-// Gives the text, so many bytes a read at most; then it fails so, or ends.
+// Gives the text, so many bytes a read at most; then it fails so, or ends. Each other read is interrupted.
 #[derive(Drop)]
 pub(crate) struct Flow<'a> {
     pub(crate) text: &'a [u8],
     pub(crate) most: usize,
     pub(crate) fault: Option<ErrorKind>,
+    pub(crate) is_interrupted: bool,
 }
 
 impl<'a> Read for Flow<'a> {
     fn read(&mut self, buffer: &mut [u8]) -> io::Result<usize> {
+        self.is_interrupted = !self.is_interrupted;
+        if self.is_interrupted {
+            return Err(io::Error::from(ErrorKind::Interrupted));
+        }
         if let (true, Some(kind)) = (self.text.is_empty(), self.fault) {
             return Err(io::Error::from(kind));
         }
@@ -41,17 +46,23 @@ impl<'a> Read for Flow<'a> {
     }
 }
 
-// Takes so many bytes a write, and fails where it holds so many; or takes none from there on.
+// Takes so many bytes a write, and fails where it holds so many; or takes none from there on. Each other write is
+// interrupted.
 #[derive(Drop)]
 pub(crate) struct Sip {
     pub(crate) held: Vec<u8>,
     pub(crate) most: usize,
     pub(crate) fails_at: usize,
     pub(crate) refuses: bool,
+    pub(crate) is_interrupted: bool,
 }
 
 impl Write for Sip {
     fn write(&mut self, text: &[u8]) -> io::Result<usize> {
+        self.is_interrupted = !self.is_interrupted;
+        if self.is_interrupted {
+            return Err(io::Error::from(ErrorKind::Interrupted));
+        }
         if self.held.len() >= self.fails_at {
             if self.refuses {
                 return Ok(0);
@@ -88,12 +99,14 @@ fn sessions_end_where_reads_fail(rt: HostRuntime) -> Result<(), Fail> {
             text,
             most: 1,
             fault,
+            is_interrupted: false,
         };
         let writer = Sip {
             held: Vec::new(alloc),
             most: 1,
             fails_at: 1_000,
             refuses: false,
+            is_interrupted: false,
         };
         let scene = Scene::Session(reader, writer, front(lines), end);
         on_a_table(&rt, alloc, 9, &owing, 1, scene)?;
@@ -128,12 +141,14 @@ fn sessions_end_where_writes_fail(rt: HostRuntime) -> Result<(), Fail> {
             text: TEXT,
             most: 1,
             fault: None,
+            is_interrupted: false,
         };
         let writer = Sip {
             held: Vec::new(alloc),
             most: 1,
             fails_at,
             refuses: fails_at % 2 == 1,
+            is_interrupted: false,
         };
         let end = Err(SessionEnd::Write);
         let scene = Scene::Session(reader, writer, &ANSWER[..fails_at], end);
@@ -158,12 +173,14 @@ fn long_lines_are_answered(rt: HostRuntime) -> Result<(), Fail> {
         text: &text,
         most: 100_000,
         fault: None,
+        is_interrupted: false,
     };
     let writer = Sip {
         held: Vec::new(alloc),
         most: 100_000,
         fails_at: 100_000,
         refuses: false,
+        is_interrupted: false,
     };
     let scene = Scene::Session(reader, writer, &answer, Ok(1_000));
     on_a_table(&rt, alloc, 1, &zero, 1, scene)
@@ -187,12 +204,14 @@ fn a_million_lines_are_answered(rt: HostRuntime) -> Result<(), Fail> {
             text: &text,
             most: 100_000,
             fault: None,
+            is_interrupted: false,
         };
         let writer = Sip {
             held: Vec::new(alloc),
             most: 100_000,
             fails_at: 10_000_000,
             refuses: false,
+            is_interrupted: false,
         };
         let scene = Scene::Session(reader, writer, &answer, end);
         on_a_table(&rt, alloc, 1, &zero, 1, scene)?;
