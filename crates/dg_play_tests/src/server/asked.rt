@@ -1,6 +1,6 @@
 //! What the tests ask for, in place of the words of a command line.
 
-use dg_asked::{Asked, GreedyTask, PartyTask, RankTask, ServeTask, Task};
+use dg_asked::{Asked, GreedyTask, PartyTask, Question, RankTask, ServeTask, SweepTask, Task};
 use std::alloc::Global;
 use std::test::Fail;
 
@@ -18,6 +18,8 @@ pub(super) enum Command {
     Serve(u32, u32),
     // The names of the scripts, and how many entries there may be.
     Party(&'static [&'static str], u32),
+    // What is asked of the table on each line.
+    Sweep(Question),
     // A text that is printed as it stands.
     Text(&'static str),
 }
@@ -55,6 +57,7 @@ pub(super) fn asked(alloc: Global, command: Command) -> Result<Asked<'static>, F
                 capacity,
             }));
         }
+        Command::Sweep(question) => return Ok(Asked::Sweep(SweepTask { file, question })),
         Command::Text(text) => return Ok(Asked::Text(String::from_str(alloc, text)?)),
         _ => return Err(Fail::from("a number past its limits")),
     };

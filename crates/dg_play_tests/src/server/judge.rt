@@ -4,10 +4,11 @@ use crate::server::asked::Command;
 use crate::server::runs::{
     ABSENT, ONE_VERTEX, Run, SECOND_OF_THREE, TRIANGLE, TWICE_JOINED, all_run,
 };
+use dg_asked::Question;
 use std::test::Fail;
 
-// Tables that are judged, or refused; and a text.
-static JUDGED: [Run; 11] = [
+// Tables that are judged, or refused; lines of tables; and a text.
+static JUDGED: [Run; 14] = [
     (
         TRIANGLE,
         Command::Judge,
@@ -78,6 +79,31 @@ static JUDGED: [Run; 11] = [
     ),
     ("[]", Command::Judge, "", "", "dollar: shape of top\n", 3),
     (ABSENT, Command::Judge, "", "", "dollar: read fault\n", 5),
+    // A line that is no table does not end a sweep; nor does one without a newline at the end of the file.
+    (
+        "[]\n\n{\"vertices\":[\"a\"],\"edges\":[],\"amounts\":[-1],\"q\":\"a\"}",
+        Command::Sweep(Question::Judge),
+        "",
+        "refused shape of top\nrefused not JSON\nunwinnable by a=0 to a=-1\n",
+        "",
+        0,
+    ),
+    (
+        "{\"vertices\":[\"a\"],\"edges\":[],\"amounts\":[2],\"q\":\"a\"}\n",
+        Command::Sweep(Question::RiemannRoch),
+        "",
+        "degree 2 genus 0 rank 2 dual -1\n",
+        "",
+        0,
+    ),
+    (
+        ABSENT,
+        Command::Sweep(Question::Rank(1)),
+        "",
+        "",
+        "dollar: read fault\n",
+        5,
+    ),
     (ABSENT, Command::Text("just so\n"), "", "just so\n", "", 0),
 ];
 
