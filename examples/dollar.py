@@ -33,13 +33,23 @@ tuple: its word, its numbers, and its lists of amounts as dicts.
     >>> greedy(triangle, 1), greedy(triangle, 3)[-1]
     ([('moved', {'a': 1, 'b': 1, 'c': -2}), ('turns',)], ('won',))
 
-What the program refuses is a Fault, with the text on standard error and the exit status."""
-import contextlib, doctest, functools, json, os, re, subprocess, sys, tempfile
+What the program refuses is a Fault, with the text on standard error and the exit status.
+
+Many tables are answered by one run, as they come; one that is refused has a Fault in the place of its answer.
+
+    >>> tables = [dict(triangle, amounts=[d, -d, 0]) for d in range(4)]
+    >>> [word for word, *_ in judge_all(tables)]
+    ['winnable', 'unwinnable', 'unwinnable', 'winnable']
+    >>> list(rank_all(tables[3:], 1)), next(rr_all(tables))
+    ([('rank below', 1, {'a': 0, 'b': 0, 'c': 1})], {'degree': 0, 'genus': 1, 'rank': 0, 'dual': 0})
+    >>> [(fault.table, fault.text) for fault in judge_all([triangle, dict(triangle, q="z")]) if isinstance(fault, Fault)]
+    [(1, 'no vertex q')]"""
+import collections, contextlib, doctest, functools, json, os, re, subprocess, sys, tempfile, threading
 
 HERE = os.path.dirname(os.path.abspath(__file__))
 FORMS = [form.replace("P", r"(\w+=-?\d+(?: \w+=-?\d+)*)").replace("N", r"(\d+)") for form in (
     "(moved) P", "(given) N P", "(joined) N P", "(looked) N P", "(won|not won)", "(winnable|unwinnable) by P to P",
-    "(rank at least) N", "(rank below) N at P", "(stale) N", r"(refused \w+)", r"(bad \w+)", "(turns)")]
+    "(rank at least) N", "(rank below) N at P", r"(rank below) N at \?", "(stale) N", r"(refused \w+)", r"(bad \w+)", "(turns)")]
 
 
 class Fault(Exception):
@@ -52,9 +62,9 @@ class Fault(Exception):
         no vertex q - 3
     """
 
-    def __init__(self, text, status):
+    def __init__(self, text, status, table=None):
         super().__init__("%s (status %d)" % (text, status))
-        self.text, self.status = text, status
+        self.text, self.status, self.table = text, status, table
 
 
 def example(name):
@@ -160,6 +170,97 @@ def greedy(table, turns, program=None):
     """The answers of a greedy game; the last is 'won', or 'turns' where its turns were used up."""
     lines = run("greedy", table, turns, program=program)
     return history(lines[:-1]) + [answer(lines[-1])] if lines[-1] == "turns" else history(lines)
+
+
+def lines_answered(command, tables, *given, program=None):
+    """The answers of one run of a command with --lines to any number of tables, as they come; for a table that is refused its
+    Fault, whose `table` is the number of the table, from 0. Tables are taken as they are needed, and numbers of numpy for
+    their amounts.
+
+        >>> def endless():
+        ...     while True:
+        ...         yield example("triangle")
+        >>> next(lines_answered("judge", endless()))
+        'winnable by a=0 b=-1 c=-1 to a=0 b=0 c=0'
+    """
+    words = [program or os.environ.get("DOLLAR") or script(), command, "--lines", "/dev/stdin", *map(str, given)]
+    child = subprocess.Popen(words, stdin=subprocess.PIPE, stdout=subprocess.PIPE, stderr=subprocess.PIPE)
+    sent, broken = 0, []
+
+    def send():
+        nonlocal sent
+        try:
+            with contextlib.suppress(BrokenPipeError), child.stdin:
+                for table in tables:
+                    child.stdin.write(json.dumps(table, default=int).encode() + b"\n")
+                    sent += 1
+        except BaseException as error:
+            broken.append(error)
+
+    sender = threading.Thread(target=send, daemon=True)
+    sender.start()
+    got = 0
+    try:
+        for got, line in enumerate(child.stdout, 1):
+            text = line.decode()[:-1]
+            refused = text[len("refused "):] if text.startswith("refused ") else None
+            yield text if refused is None else Fault(refused, 3, got - 1)
+        sender.join()
+        said, status = child.stderr.read(), child.wait()
+        if broken:
+            raise broken[0]
+        if status or got != sent:
+            raise fault(said, status)
+    finally:
+        child.kill()
+        child.wait()
+        child.stdout.close()
+        child.stderr.close()
+
+
+def judge_all(tables, program=None):
+    """The verdict on each table, as `judge` has it, or its Fault."""
+    for text in lines_answered("judge", tables, program=program):
+        yield text if isinstance(text, Fault) else answer(text)
+
+
+def rank_all(tables, degree, program=None):
+    """The rank test of each table, as `rank` has it, or its Fault; without a first loss where there are too many trials.
+
+        >>> path = {"vertices": ["a", "b"], "edges": [["a", "b", 1]], "amounts": [20, 0], "q": "a"}
+        >>> list(rank_all([path, dict(path, amounts=[0, 5])], 2000))
+        [('rank below', 2000), ('rank below', 2000)]
+    """
+    for text in lines_answered("rank", tables, degree, program=program):
+        yield text if isinstance(text, Fault) else answer(text)
+
+
+def rr_all(tables, program=None):
+    """The four numbers of each table by their words, or its Fault; None for a rank past the limits."""
+    for text in lines_answered("rr", tables, program=program):
+        parts = text if isinstance(text, Fault) else text.split(" ")
+        yield parts if isinstance(parts, Fault) else {
+            word: None if number == "?" else int(number) for word, number in zip(parts[::2], parts[1::2])}
+
+
+def table_of(graph, amounts, q=None):
+    """The table of a graph of networkx, or of whatever has its `nodes` and `edges`; amounts are by node, and 0 where there is
+    none. The names are the texts of the nodes; q is the first, unless it is given.
+
+        >>> import types
+        >>> twice = types.SimpleNamespace(nodes=[0, 1], edges=[(0, 1), (1, 0)])
+        >>> judge(table_of(twice, {0: -1, 1: 3}))
+        ('winnable', {'0': 0, '1': 1}, {'0': 1, '1': 1})
+    """
+    nodes = list(graph.nodes)
+    place = {node: at for at, node in enumerate(nodes)}
+    counts = collections.Counter(tuple(sorted(edge[:2], key=place.get)) for edge in graph.edges)
+    return {
+        "vertices": [str(node) for node in nodes],
+        "edges": [[str(u), str(v), count] for (u, v), count in counts.items()],
+        "amounts": [int(amounts.get(node, 0)) for node in nodes],
+        "q": str(nodes[0] if q is None else q),
+    }
 
 
 def one_line(line):
