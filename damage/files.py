@@ -140,7 +140,7 @@ def large():
         ("a million NULs", b"\0" * 1000000, b"not JSON", 10),
         ("a NUL after the text", TRIANGLE + b"\0" * 1000000, b"not JSON", 10),
         ("a byte order mark", b"\xef\xbb\xbf" + TRIANGLE.ljust(1000000), b"not JSON", 10),
-        ("100,000 vertices", member("vertices", b"[" + b",".join(b'"v%d"' % i for i in range(100000)) + b"]"), b"number of vertices", 12),
+        ("100,000 vertices", member("vertices", b"[" + b",".join(b'"v%d"' % i for i in range(100000)) + b"]"), b"number of vertices", 14),
         ("100,000 vertices and a number", many("vertices", b'"a"', 100000, b"1"), b"shape of vertices", 30),
         ("100,000 edges without names", many("edges", b'["","",1]', 100000), b"edge 0 has no vertex", 30),
         ("80,000 edges between two", many("edges", b'["a","b",1]', 80000), b"valence of vertex 0", 30),
