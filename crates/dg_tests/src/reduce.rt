@@ -1,5 +1,4 @@
 //! Reductions, guesses, and what the guesses leave.
-mod extremes;
 mod guesses;
 mod random;
 mod reductions;

