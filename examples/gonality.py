@@ -17,10 +17,10 @@ degree one run of the program, over all of them.
     >>> gonality(graph(2, [(0, 1)] * 7)), gonality(graph(6, [(u, v) for u in range(3) for v in range(3, 6)]))
     (2, 3)
     >>> gonality(dollar.example("cube")), gonality(dollar.example("petersen"))
-    (4, 6)
+    (4, 4)
 
 Trees have 1, cycles 2, complete graphs one less than vertices, two vertices joined more than once 2, complete bipartite graphs
-the lesser part, the cube 4 and Petersen's graph 6."""
+the lesser part, and the cube and Petersen's graph 4."""
 import doctest, itertools, json, os, sys, types
 
 sys.path.insert(0, os.path.dirname(os.path.abspath(__file__)))
