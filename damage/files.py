@@ -168,7 +168,20 @@ def large_files(checks):
         checks.same("%s, in %d times its length" % (what, times), wanted, limited)
 
 
+def damaged_lines(checks):
+    """The damaged texts as the lines of one file: the answers of a sweep, where the faults have the same texts."""
+    forms = [(what, data) for what, data in damaged(TRIANGLE) if b"\n" not in data]
+    run = checks.run("judge", "--lines", checks.put("lines", b"".join(data + b"\n" for _, data in forms)))
+    answers = run.output.split(b"\n")
+    checks.same("damaged lines: the end", (0, b"", len(forms) + 1), (run.status, run.faults, len(answers)))
+    for (what, data), answer in zip(forms, answers):
+        fault, table = expected_fault(data)
+        fine = answer == b"refused " + fault if fault else is_judged(table, Run(0, answer + b"\n", b""))
+        checks.holds("in a line, " + what, fine, answer)
+
+
 def check(checks):
     small_damage(checks)
+    damaged_lines(checks)
     large_files(checks)
     single_bytes(checks)

@@ -57,7 +57,7 @@ impl<'a> Read for Flow<'a> {
 #[test]
 fn lines_are_answered_however_they_come(rt: HostRuntime) -> Result<(), Fail> {
     let long = vec![in rt.alloc(); b'x'; 1_048_577]?;
-    let most = &long[..1_048_576];
+    let most = vec![in rt.alloc(); b'x'; 1_048_576]?;
     for (question, text, answers) in [
         (Question::Judge, LINES.as_bytes(), JUDGED),
         (Question::Rank(1), LINES.as_bytes(), TESTED),
@@ -74,7 +74,7 @@ fn lines_are_answered_however_they_come(rt: HostRuntime) -> Result<(), Fail> {
         ),
         (Question::Judge, b"".as_slice(), ""),
         (Question::Judge, b"\n".as_slice(), "refused not JSON\n"),
-        (Question::Judge, most, "refused not JSON\n"),
+        (Question::Judge, most.as_slice(), "refused not JSON\n"),
         (Question::Judge, long.as_slice(), "refused file too long\n"),
     ] {
         for most in [7, 2_000_000] {

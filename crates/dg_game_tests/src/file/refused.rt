@@ -1,8 +1,6 @@
-//! Table files that are refused, and why; and lines of a sweep, which have the same texts.
+//! Table files that are refused, and why.
 
-use dg_asked::Question;
 use dg_file::{FileFault, read_table};
-use dg_sweep::answer_line;
 use std::test::Fail;
 
 // A line is a table file, and the text of the fault for which it is refused.
@@ -134,7 +132,6 @@ const TWO_FAULTS: &str = r#"{"vertices":["a","a"],"edges":[],"amounts":[0,0],"q"
 #[test]
 fn table_files_are_refused(rt: HostRuntime) -> Result<(), Fail> {
     let alloc = rt.alloc();
-    let mut answer = Vec::new(alloc);
     for lines in [REFUSED, TWO_FAULTS] {
         for line in lines.lines() {
             let (file, text) = line.split_once(" => ").unwrap_or((line, ""));
@@ -143,9 +140,6 @@ fn table_files_are_refused(rt: HostRuntime) -> Result<(), Fail> {
                 Err(fault) => format!(in alloc; "{fault}")?,
             };
             assert!(rt; !text.is_empty() && told.as_str() == text, "{line}");
-            answer_line(alloc, Question::Judge, file.as_bytes(), &mut answer)?;
-            let refusal = format!(in alloc; "refused {text}\n")?;
-            assert!(rt; answer.as_slice() == refusal.as_bytes(), "{line}");
         }
     }
     assert!(rt; read_table(alloc, b"\xff").err() == Some(FileFault::Json));
