@@ -168,9 +168,22 @@ def large_files(checks):
         checks.same("%s, in %d times its length" % (what, times), wanted, limited)
 
 
+# Tables with the faults that no single byte brings about.
+FAULTY = [
+    member("vertices", b'"a"'), member("vertices", b"[]"), member("vertices", b"[" + b",".join(b'"v%d"' % i for i in range(17)) + b"]"),
+    member("edges", b"{}"), member("edges", b'[["a","b"]]'), member("edges", b'[["a","b",1]]'), member("edges", b'[["a","b",63],["b","c",1]]'),
+    member("amounts", b'"a"'), member("amounts", b"[1,2]"), member("amounts", b"[0,0,1000001]"), member("q", b"0"),
+]
+FAULTS = {b"not JSON", b"shape of top", b"shape of vertices", b"shape of edges", b"shape of edge 0", b"shape of amounts", b"shape of q",
+          b"number of vertices", b"name of vertex 0", b"vertex 1 named twice", b"edge 0 has no vertex", b"edge 1 is a loop",
+          b"edge 2 is empty", b"valence of vertex 1", b"not connected", b"number of amounts", b"amount of vertex 2", b"no vertex q"}
+
+
 def damaged_lines(checks):
-    """The damaged texts as the lines of one file: the answers of a sweep, where the faults have the same texts."""
-    forms = [(what, data) for what, data in damaged(TRIANGLE) if b"\n" not in data]
+    """The damaged texts, and one with each other fault, as the lines of one file: the answers of a sweep, where the faults have
+    the same texts."""
+    forms = [(what, data) for what, data in damaged(TRIANGLE) if b"\n" not in data] + [("%r" % data, data) for data in FAULTY]
+    checks.same("faults that did not come", set(), FAULTS - {expected_fault(data)[0] for _, data in forms})
     run = checks.run("judge", "--lines", checks.put("lines", b"".join(data + b"\n" for _, data in forms)))
     answers = run.output.split(b"\n")
     checks.same("damaged lines: the end", (0, b"", len(forms) + 1), (run.status, run.faults, len(answers)))

@@ -174,8 +174,8 @@ def greedy(table, turns, program=None):
 
 def lines_answered(command, tables, *given, program=None):
     """The answers of one run of a command with --lines to any number of tables, as they come; for a table that is refused its
-    Fault, whose `table` is the number of the table, from 0. Tables are taken as they are needed, and numbers of numpy for
-    their amounts.
+    Fault, whose `table` is the number of the table, from 0. Tables are taken ahead of their answers, as many as the pipe to the
+    program holds, so that there may be no end to them; numbers of numpy will do for amounts.
 
         >>> def endless():
         ...     while True:
