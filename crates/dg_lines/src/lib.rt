@@ -15,7 +15,7 @@ mod text;
 pub use cuts::cut;
 pub use history::history_lines;
 pub use laws::{lines_have_one_meaning, numerals_are_decimals, steps_have_one_meaning};
-pub use line::{LineFault, parse_line, parse_step};
+pub use line::{LineFault, parse_line, parse_step, split_seat};
 pub use lines::Lines;
 pub use steps_file::{StepsFault, parse_steps};
 pub use text::{push_amounts, push_entry, push_reply, reply_text};

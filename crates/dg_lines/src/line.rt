@@ -1,10 +1,10 @@
 //! Lines: what a line spells, or why it is refused.
-ghost use Rattle.std.specs.Prelude.{◌≡◌, IfOk, IfErr, codes};
+ghost use Rattle.std.specs.Prelude.{◌≡◌, ℕ, List, None, IfOk, IfErr, IfSome, codes};
 ghost use Rattle.std.specs.Option.{option_copied};
 ghost use Rattle.dg_lines.specs.Cuts.{items, words_after};
 ghost use Rattle.dg_lines.specs.Commands.{IsCommandLine, IsScriptWord};
 ghost use Rattle.dg_lines.specs.LineFaults.{IsLineFault};
-ghost use Rattle.dg_lines.specs.Steps.{IsStepLine, IsStepFault};
+ghost use Rattle.dg_lines.specs.Steps.{IsSeated, IsStepLine, IsStepFault};
 ghost use Rattle.dg_lines.specs.Read.{only_word, lend_of, borrow_of, set_of, fire_of, bare, gift_of, join_of, rank_of, command_of, IsRead, IsRefusedPairs};
 
 use crate::cuts::cut;
@@ -35,6 +35,23 @@ pub enum LineFault {
     Number,
 }
 
+/// The seat, from 1 to 64, that stands before the first space of a line, and the text after that space. `None` where there is
+/// no space, or another text before it. It takes no memory.
+#[tactic(auto, using(crate::proofs::Stepping::no_seat_before, crate::proofs::Stepping::no_space_after))]
+pub fn split_seat(line: &[u8]) -> Option<(u8, &[u8])>
+    ensures seated { IfSome result (λ p. IsSeated p.0 p.1.now line.now) }
+    ensures none { result ≡ None → (seat : ℕ) (text : List ℕ) → ¬ IsSeated seat text line.now }
+{
+    let (text, rest) = cut(line, b' ');
+    match seat(text) {
+        Some(seat) => match rest {
+            Some(rest) => Some((seat, rest)),
+            None => None,
+        },
+        None => None,
+    }
+}
+
 /// The step that a line spells: a seat from 1 to 64, one space, and a command line. It takes no memory.
 ///
 /// Refused with `Seat` first, then as the command line is: with `Word`, `Form`, `Name`, `Number`.
@@ -42,11 +59,13 @@ pub fn parse_step(line: &[u8], names: &Names) -> Result<Step, LineFault>
     ensures step { IfOk result (λ step. IsStepLine names.now step line.now) }
     ensures refused { IfErr result (λ fault. IsStepFault names.now fault line.now) }
 {
-    let (text, rest) = cut(line, b' ');
-    let seat = seat(text).ok_or(LineFault::Seat)?;
-    let rest = rest.ok_or(LineFault::Seat)?;
-    let command = parse_line(rest, names)?;
-    Ok(Step { seat, command })
+    let Some((seat, rest)) = split_seat(line) else {
+        return Err(LineFault::Seat);
+    };
+    match parse_line(rest, names) {
+        Ok(command) => Ok(Step { seat, command }),
+        Err(fault) => Err(fault),
+    }
 }
 
 /// The command that a line spells: a command word and what belongs to it. It takes no memory.
