@@ -43,13 +43,13 @@ _dollar() {
                 if [ "$ended" ]; then place=$((place + 1)); fi
                 ended=yes
                 ;;
-            --cap | --workers)
+            --cap | --seats | --workers)
                 # The number is the next word, or the one after `=`; either may be the word that is asked for.
                 if [ "${COMP_WORDS[i + 1]}" = = ]; then i=$((i + 1)); fi
                 i=$((i + 1))
                 if [ "$i" -ge "$COMP_CWORD" ]; then return; fi
                 ;;
-            --cap=* | --workers=* | --lines) ;;
+            --cap=* | --seats=* | --workers=* | --lines) ;;
             -h | --help | -V | --version) return ;;
             *)
                 if [ "$command" ]; then place=$((place + 1)); else command=${COMP_WORDS[i]}; fi
@@ -63,7 +63,7 @@ _dollar() {
         rr) arguments=(FILE) options=(--lines --help) ;;
         greedy) arguments=(FILE TURNS) ;;
         rehearse) arguments=(FILE STEPS) ;;
-        serve) arguments=(FILE) options=(--cap --workers --help) ;;
+        serve) arguments=(FILE) options=(--seats --cap --workers --help) ;;
         party) arguments=(FILE SCRIPT SCRIPT..) options=(--cap --help) ;;
         help) arguments=(COMMAND) ;;
         *) return ;;

@@ -3,7 +3,7 @@
 
     examples/talk.py [PROGRAM]
 
-A session is the command `serve FILE`. It answers each line before it reads on, so that a tool may write one line, wait for
+A session is the command `serve FILE`, and a table with seats for many people `serve FILE --seats N`. It answers each line before it reads on, so that a tool may write one line, wait for
 its answer, and choose the next line by it; `Session` below does just that. The answers expected here were worked out by
 hand. The last line is 'N passed, M failed'; the status is 0 where none failed."""
 import os, subprocess, sys, threading
@@ -75,6 +75,20 @@ class Session:
             self.child.communicate()
             raise TimeoutError("the program said nothing for %s seconds, and was killed" % self.patience)
         return got
+
+
+class Table(Session):
+    """A table with so many seats, each with a look of its own, for a tool that many people use at once. Any thread may ask: a
+    line and its answer stay together."""
+
+    def __init__(self, program, table, seats, *options, patience=20):
+        super().__init__(program, table, "--seats", str(seats), *options, patience=patience)
+        self.turn = threading.Lock()
+
+    def ask_seat(self, seat, line):
+        """The answer to a line of the seat, a number from 1 on; it is `bad seat` where there is none. Raises as `ask` does."""
+        with self.turn:
+            return self.ask("%d %s" % (seat, line))
 
 
 def check(name, found, expected):
@@ -164,6 +178,14 @@ def main(program):
         except ValueError as fault:
             check("no line of a session, %.20r" % line, str(fault), refused)
     play("after what is no line", session, [("claim", "0 not won")], (0, ""))
+
+    # Two seats, each with its own look; the third line is that of no seat, and so is one without a number.
+    table = Table(program, triangle, 2)
+    for seat, line, answer in ((1, "look", "0 looked 0 a=2 b=-1 c=-1"), (2, "commit", "bad look"), (3, "look", "bad seat"),
+                               (2, "lend a", "1 moved a=0 b=0 c=0"),
+                               (1, "commit", "2 winnable by a=0 b=0 c=0 to a=0 b=0 c=0")):
+        check("a table, seat %d, %s" % (seat, line), table.ask_seat(seat, line), answer)
+    play("a table, the end", table, [("look", "bad seat")], (0, ""))
 
     print("%d passed, %d failed" % (results.count(True), results.count(False)))
     return results.count(False) > 0

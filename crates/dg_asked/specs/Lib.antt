@@ -1,2 +1,3 @@
 -- What is asked for.
 pub mod Files
+pub mod Seats

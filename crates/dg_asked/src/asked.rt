@@ -1,8 +1,9 @@
 //! What may be asked for.
 ghost use Rattle.std.specs.Prelude.{◌≡◌, ◌≤◌};
 ghost use Rattle.std.specs.Vec.{vec_len};
-ghost use Rattle.dg_asked.specs.declared.limits.TheConstants.{MAX_CAPACITY, MAX_WORKERS};
+ghost use Rattle.dg_asked.specs.declared.limits.TheConstants.{MAX_CAPACITY, MAX_SEATS, MAX_WORKERS};
 ghost use Rattle.dg_asked.specs.Files.{file_of};
+ghost use Rattle.dg_asked.specs.Seats.{count_of};
 
 use crate::numbered::{GreedyTask, RankTask};
 use crate::question::SweepTask;
@@ -48,15 +49,19 @@ impl Task<'_> {
     }
 }
 
-/// A session over the input, on a table with one seat.
+/// A session over the input, on a table with one seat or some.
 #[derive(Drop)]
 pub struct ServeTask<'a> {
     /// The name of the table file.
     pub file: &'a str,
+    /// How many seats there are, 1 to 64, where each line names the seat that it is for; `None` for one seat, which no line
+    /// names.
+    pub seats: Option<u8>,
     /// How many entries the history may have, 1 to 65,536.
     pub capacity: u32,
     /// How many workers a rank test has, 1 to 16.
     pub workers: u32,
+    ghost seated: { (1 ≤ count_of seats) × (count_of seats ≤ MAX_SEATS) },
     ghost room: { (1 ≤ capacity) × (capacity ≤ MAX_CAPACITY) },
     ghost helped: { (1 ≤ workers) × (workers ≤ MAX_WORKERS) },
 }

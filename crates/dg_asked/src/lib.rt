@@ -8,7 +8,7 @@ mod question;
 mod words;
 
 pub use asked::{Asked, PartyTask, ServeTask, Task};
-pub use limits::{MAX_CAPACITY, MAX_TURNS, MAX_WORKERS};
+pub use limits::{MAX_CAPACITY, MAX_SEATS, MAX_TURNS, MAX_WORKERS};
 pub use numbered::{GreedyTask, RankTask};
 pub use question::{Question, SweepTask};
 pub use words::{Words, WordsFault};

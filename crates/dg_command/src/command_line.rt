@@ -1,12 +1,13 @@
 //! The command line: what its words ask for, and what is said of them.
 ghost use Rattle.std.specs.Prelude.{◌≡◌, ◌≤◌, length, IfOk};
 ghost use Rattle.std.specs.Vec.{vec_len};
-ghost use Rattle.dg_asked.specs.declared.limits.TheConstants.{MAX_CAPACITY, MAX_TURNS, MAX_WORKERS};
+ghost use Rattle.dg_asked.specs.declared.limits.TheConstants.{MAX_CAPACITY, MAX_SEATS, MAX_TURNS, MAX_WORKERS};
+ghost use Rattle.dg_asked.specs.Seats.{count_of};
 
 use crate::help_texts::{
     CAPACITY_HELP, DEGREE_HELP, FILE_HELP, GREEDY_MORE, JUDGE_MORE, LINES_HELP, MORE, PARTY_MORE,
-    RANK_MORE, REHEARSE_MORE, RIEMANN_ROCH_MORE, SCRIPT_HELP, SERVE_MORE, STEPS_HELP, TURNS_HELP,
-    VERSION, WORKERS_HELP,
+    RANK_MORE, REHEARSE_MORE, RIEMANN_ROCH_MORE, SCRIPT_HELP, SEATS_HELP, SERVE_MORE, STEPS_HELP,
+    TURNS_HELP, VERSION, WORKERS_HELP,
 };
 use clap::error::ErrorKind;
 use clap::{Arg, ArgAction, ArgMatches, Command};
@@ -114,6 +115,8 @@ enum NumberArgument {
     Capacity,
     /// How many workers there are.
     Workers,
+    /// How many seats there are.
+    Seats,
     /// The degree of a rank test.
     Degree,
     /// How many turns there may be.
@@ -126,6 +129,7 @@ impl NumberArgument {
         match self {
             NumberArgument::Capacity => ("--cap <N>", "1 to 65536"),
             NumberArgument::Workers => ("--workers <N>", "1 to 16"),
+            NumberArgument::Seats => ("--seats <N>", "1 to 64"),
             NumberArgument::Degree => ("<K>", "0 to 4294967295"),
             NumberArgument::Turns => ("<TURNS>", "0 to 65536"),
         }
@@ -145,7 +149,7 @@ enum Refusal<'a> {
 
 /// What a command with its arguments asks for.
 ///
-/// Refused for the number of entries, then of workers, then for the degree or the number of turns; `Command` stands for
+/// Refused for the number of entries, then of workers, then of seats, then for the degree or the number of turns; `Command` stands for
 /// what the library refuses before.
 fn command_in<'a>(alloc: Global, matches: &ArgMatches<'a>) -> Result<Asked<'a>, Refusal<'a>> {
     let (name, inner) = matches.subcommand().ok_or(Refusal::Command)?;
@@ -154,8 +158,10 @@ fn command_in<'a>(alloc: Global, matches: &ArgMatches<'a>) -> Result<Asked<'a>, 
         "serve" => {
             let capacity = capacity_in(inner)?;
             let workers = workers_in(inner)?;
+            let seats = seats_in(inner)?;
             Ok(Asked::Serve(ServeTask {
                 file,
+                seats,
                 capacity,
                 workers,
             }))
@@ -244,6 +250,19 @@ fn workers_in<'a>(matches: &ArgMatches<'a>) -> Result<u32, Refusal<'a>>
             _ => Err(Refusal::Number(NumberArgument::Workers, number)),
         },
         None => Ok(1),
+    }
+}
+
+/// The number of seats, if one is given.
+fn seats_in<'a>(matches: &ArgMatches<'a>) -> Result<Option<u8>, Refusal<'a>>
+    ensures { IfOk result (λ seats. (1 ≤ count_of seats) × (count_of seats ≤ MAX_SEATS)) }
+{
+    match matches.get_str("seats") {
+        Some(number) => match natural(number.as_bytes()) {
+            Some(seats @ 1..=64) => Ok(Some(seats as u8)),
+            _ => Err(Refusal::Number(NumberArgument::Seats, number)),
+        },
+        None => Ok(None),
     }
 }
 
@@ -363,9 +382,10 @@ fn rehearse<'a>(alloc: Global) -> Result<Command<'a>, AllocError> {
 
 fn serve<'a>(alloc: Global) -> Result<Command<'a>, AllocError> {
     Command::new(alloc, "serve")
-        .about("Answers the lines of the standard input on a table with one seat")
+        .about("Answers the lines of the standard input on a table with one seat or more")
         .after_help(SERVE_MORE)
         .arg(table_file(alloc))?
+        .arg(seats(alloc))?
         .arg(capacity(alloc))?
         .arg(workers(alloc))
 }
@@ -390,6 +410,14 @@ fn workers<'a>(alloc: Global) -> Arg<'a> {
         .value_name("N")
         .allow_negative_numbers(true)
         .help(WORKERS_HELP)
+}
+
+fn seats<'a>(alloc: Global) -> Arg<'a> {
+    Arg::new(alloc, "seats")
+        .long("seats")
+        .value_name("N")
+        .allow_negative_numbers(true)
+        .help(SEATS_HELP)
 }
 
 fn lines<'a>(alloc: Global) -> Arg<'a> {

@@ -28,6 +28,9 @@ pub(crate) const SCRIPT_HELP: &str = "Text files with the lines of a session eac
 
 pub(crate) const WORKERS_HELP: &str = "How many threads share the trials, 1 to 16; default 1";
 
+pub(crate) const SEATS_HELP: &str =
+    "How many seats there are, 1 to 64; each line names its seat; default: one, unnamed";
+
 pub(crate) const LINES_HELP: &str = "FILE has a table on each line, and each line is answered";
 
 pub(crate) const CAPACITY_HELP: &str = "How many entries there may be, 1 to 65536; default 65536";
@@ -232,8 +235,10 @@ or else of the first such step.
 ";
 
 pub(crate) const SERVE_MORE: &str = "\
-A line of the input is a command, as `dollar rehearse --help` shows them, but
-without a seat: there is one. It is answered before the next is waited for.
+A line of the input is a command: lend V, borrow V, fire V,V,.., script V=x,..,
+gift V x, join V V, claim, look, commit or rank k, as `dollar rehearse --help`
+explains them, but without a seat: there is one. It is answered before the next
+is waited for.
 
     $ cat lines.txt
     look
@@ -253,6 +258,23 @@ it. A line that is no entry is answered with what is wrong with it: `bad word`,
 `bad form`, `bad name`, `bad number`; `bad look` where a commit or a rank test
 finds no look that is not used up; `bad trials` where a rank test is past the
 limits of `dollar rank`. The session goes on after it.
+
+With `--seats N` there are N seats on the table, from 1 on, and each line is a
+seat, one space and a command. Each seat keeps a look of its own, and all make
+one history. A line for no seat is answered with `bad seat`.
+
+    $ cat two.txt
+    1 look
+    2 lend a
+    1 commit
+    2 commit
+    3 look
+    $ dollar serve triangle.json --seats 2 < two.txt
+    0 looked 0 a=2 b=-1 c=-1
+    1 moved a=0 b=0 c=0
+    2 winnable by a=0 b=0 c=0 to a=0 b=0 c=0
+    bad look
+    bad seat
 
 A line has at most 1024 bytes, and a session at most 1000000 lines. Nothing is
 kept after the run.

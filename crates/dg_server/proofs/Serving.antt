@@ -1,17 +1,14 @@
--- The one seat of a new table, and the parties that may be.
---   fresh_seat     the seat of a new table with one is seat 1, and knows of no entry
---   served_alone   what the one seat of a table made is the history that it found
+-- Seats that are lent and come back, and the parties that may be.
+--   seats_back     seats that were lent whole come back whole
 --   held_count     files that are held are as many as their names
 --   may_play       scripts that are held are as many as may have seats
 --   party_on       a party over files that are held is that of the table that one of them describes
-use Rattle.std.proofs.Common.{◌≡◌, ℕ, suc, ◌≤◌, List, [], ◌∷◌, ◌++◌, length, map, arith, refl, sym, ap, ◌∙◌, slice_get, Some, Bor, Vec, Global}
+use Rattle.std.proofs.Common.{◌≡◌, ℕ, suc, ◌≤◌, List, [], ◌∷◌, ◌++◌, length, take, map, refl, sym, ap, ◌∙◌, Bor, Vec, Global}
 use Rattle.std.proofs.lemmas.List.{length-map}
+use Rattle.std.proofs.Math.Seq.{take-append_seam}
 use Rattle.dg_game.specs.declared.entry.TheConstants.{MAX_SEATS}
-use Rattle.dg_table.specs.Opened.{AreFresh, MayHaveSeats}
-use Rattle.std.specs.List.{enumerate_from}
-use Rattle.dg_table.specs.Histories.{HasPast}
-use Rattle.dg_table.proofs.Entries.{own_alone}
-use Rattle.dg_table.specs.Seats.{SeatView, entries_of}
+use Rattle.dg_table.specs.Opened.{MayHaveSeats}
+use Rattle.dg_table.specs.Seats.{SeatView}
 use Rattle.dg_sources.specs.Held.{Held}
 use Rattle.dg_chips.specs.Opening.{Opening}
 use Rattle.std.specs.Prelude.{Result}
@@ -23,21 +20,12 @@ use Rattle.dg_tasks.specs.Tasks.{DescribesTable}
 use Rattle.dg_sources.specs.AllHeld.{MayHoldAll}
 use Rattle.dg_server.specs.Parties.{names_in, IsPartyOn}
 
-pub fresh_seat : (n : ℕ) (xs ys : List SeatView) (x : SeatView) → n ≡ 1 → AreFresh n xs → xs ≡ ys ++ x ∷ [] →
-    (x.number ≡ 1) × (x.mine ≡ []) × (x.told ≡ [])
-fresh_seat n xs [] x one fresh whole =
-    let first : slice_get xs 0 ≡ Some x = ap (λ (zs : List SeatView). slice_get zs 0) whole in
-    (fresh.number 0 x first, fresh.mine 0 x first, fresh.told 0 x first)
-fresh_seat n xs (y ∷ []) x one fresh whole =
-    let count : length xs ≡ 2 = ap length whole in
-    absurd (omega (arith, count, fresh.count, one))
-fresh_seat n xs (y ∷ z ∷ ys) x one fresh whole =
-    let count : length xs ≡ suc (suc (length (ys ++ x ∷ []))) = ap length whole in
-    absurd (omega (arith, count, fresh.count, one))
-
-pub served_alone : (o : Opening) (cap : ℕ) (y : SeatView) → y.number ≡ 1 → HasPast o 1 cap y → y.mine ≡ enumerate_from 0 y.past
-served_alone o cap y one past =
-    sym past.own ∙ ap (λ s. entries_of s y.past) one ∙ own_alone y.past past.history.seated
+pub seats_back : (len : ℕ) (xs ys rest : List SeatView) → length xs ≡ len
+    → map (λ (x : SeatView). x.number) ys ≡ map (λ (x : SeatView). x.number) xs → take len (ys ++ rest) ≡ ys
+seats_back len xs ys rest whole numbers =
+    let number : SeatView → ℕ = λ x. x.number in
+    let all : length ys ≡ len = sym (length-map ys number) ∙ ap length numbers ∙ length-map xs number ∙ whole in
+    ap (λ k. take k (ys ++ rest)) (sym all) ∙ take-append_seam ys rest
 
 pub held_count : (held : List ℕ → Held) (names all : List (List ℕ)) → MayHoldAll held names all → length all ≡ length names
 held_count held [] [] known = refl

@@ -1,13 +1,15 @@
 //! Sessions over the input of the program.
 ghost use Rattle.std.specs.Prelude.{◌≡◌, ◌≢◌, ℕ, length, Ok, Err, true, IfErr, OnOk};
+ghost use Rattle.dg_asked.specs.Seats.{count_of};
 ghost use Rattle.dg_rank.specs.Ranks.{MayHaveWorkers};
-ghost use Rattle.dg_server.specs.Sessions.{Serves, EndsEarly, IsServed, RefusesServing};
+ghost use Rattle.dg_table.specs.Opened.{MayHaveSeats};
+ghost use Rattle.dg_server.specs.Sessions.{how_of, Serves, EndsEarly, IsServed, RefusesServing};
 
 use crate::fault::Fault;
 use dg_asked::ServeTask;
 use dg_file::TableFile;
 use dg_log::{Name, Row};
-use dg_session::{SessionEnd, serve};
+use dg_session::{Addressing, SessionEnd, serve_seats};
 use dg_sources::Sources;
 use dg_streams::{Input, Output};
 use dg_table::Table;
@@ -46,18 +48,31 @@ where
         Ok(row) => row,
         Err(_) => return Err(Fault::OutOfMemory),
     };
-    match serve_on::<Brand, R, I, O>(rt, row, &table, 1, task.workers, input, output) {
+    let (seats, how) = places_of(task.seats);
+    match serve_on::<Brand, R, I, O>(rt, row, &table, seats, how, task.workers, input, output) {
         Ok(()) => Ok(()),
         Err(fault) => Err(fault),
     }
 }
 
-/// Answers the lines of the input on a new table with one seat.
+/// How many seats there are, and how lines name them.
+fn places_of(seats: Option<u8>) -> (u8, Addressing)
+    ensures count { result.0 ≡ count_of seats }
+    ensures how { result.1 ≡ how_of seats }
+{
+    match seats {
+        Some(count) => (count, Addressing::BySeat),
+        None => (1, Addressing::OneSeat),
+    }
+}
+
+/// Answers the lines of the input on a new table with so many seats, which is closed at the end: there is one history of all.
 fn serve_on<N, R, I, O>(
     rt: &R,
     row: Row,
     table: &TableFile,
     seats: u8,
+    how: Addressing,
     workers: u32,
     input: I,
     output: &mut Output<O>,
@@ -70,37 +85,37 @@ where
     requires row { row ≡ N.cells }
     requires start { table.now.start ≡ N.start }
     requires seats { seats ≡ N.seats }
-    requires one { seats ≡ 1 }
+    requires some { MayHaveSeats seats }
     requires workers { MayHaveWorkers workers }
-    ensures done { OnOk result ((count : ℕ) × IsServed table.now.start (length row) table.now.names (I.remaining input)
-        output.old.contents output.new.contents (Ok count)) }
+    ensures done { OnOk result ((count : ℕ) × IsServed how table.now.start seats (length row) table.now.names
+        (I.remaining input) output.old.contents output.new.contents (Ok count)) }
     ensures no_write { IfErr result (λ fault. fault ≢ Fault.Write) }
     ensures failed { result ≡ Err (Fault.Session SessionEnd.Write) → output.new.has_failed ≡ true }
-    ensures early { IfErr result (λ fault. EndsEarly table.now.start (length row) table.now.names (I.remaining input) fault
-        output.old.contents output.new.contents) }
+    ensures early { IfErr result (λ fault. EndsEarly how table.now.start seats (length row) table.now.names
+        (I.remaining input) fault output.old.contents output.new.contents) }
 {
     let alloc = rt.alloc();
     let (opened, mut all) = match Table::<N>::open(alloc, row, table.start(), seats) {
         Ok(opened) => opened,
         Err(_) => return Err(Fault::OutOfMemory),
     };
-    let Some(mut seat) = all.pop() else {
-        unreachable!()
-    };
     let mut reader = Input::new(input);
-    let names = table.names();
-    let ended = serve(
+    let ended = serve_seats(
         rt,
         alloc,
         &opened,
-        &mut seat,
-        names,
+        &mut all,
+        table.names(),
         &mut reader,
         output,
         workers,
+        how,
     );
-    match ended {
-        Ok(_) => Ok(()),
-        Err(end) => Err(Fault::Session(end)),
+    match opened.close(all) {
+        Ok(_) => match ended {
+            Ok(_) => Ok(()),
+            Err(end) => Err(Fault::Session(end)),
+        },
+        Err(_) => Err(Fault::History),
     }
 }

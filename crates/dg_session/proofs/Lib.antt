@@ -2,7 +2,7 @@
 pub mod Cutting
 pub mod Made
 pub mod Lines
-pub mod Halting
+pub mod Runs
+pub mod Seated
 pub mod Parts
-pub mod Passing
 pub mod Sessions

@@ -9,7 +9,8 @@ use Rattle.dg_lines.specs.LineFaults.{IsLineFault}
 use Rattle.dg_lines.specs.declared.line.LineFault.{LineFault}
 use Rattle.dg_table.specs.Seats.{SeatView}
 use Rattle.dg_session.specs.Saying.{AnswersLine, fault_text}
-use Rattle.dg_session.specs.Steps.{IsDone, RefusesCommand, RefusesLine}
+use Rattle.dg_session.specs.Refusing.{RefusesCommand, RefusesLine}
+use Rattle.dg_session.specs.Steps.{IsDone}
 use Rattle.dg_session.specs.declared.ends.SessionEnd.{SessionEnd}
 use Rattle.dg_session.specs.declared.ends.SessionEnd.TheVariants as ends
 use Rattle.dg_session.proofs.Made.{gains_same}

@@ -42,11 +42,12 @@ use Rattle.dg_table.specs.Faults.{RefusesCall}
 use Rattle.dg_table.specs.declared.fault.Fault.{Fault}
 use Rattle.dg_table.specs.Answered.{IsEnteredAfter, IsAnswered}
 use Rattle.dg_table.specs.Settled.{IsSettled}
-use Rattle.dg_session.specs.Ends.{Gains}
-use Rattle.dg_session.specs.Saying.{Enters, kept_after, look_after, AnswersCommand}
+use Rattle.dg_session.specs.Saying.{Gains, Enters, kept_after, look_after, AnswersCommand}
 use Rattle.dg_session.specs.declared.ends.SessionEnd.{SessionEnd}
 use Rattle.dg_session.specs.declared.ends.SessionEnd.TheVariants.{Memory, Table, Spawn}
-use Rattle.dg_session.specs.Steps.{kept_number, IsDone, MadeAtMost, RefusesCommand}
+use Rattle.dg_session.specs.Speakers.{kept_number}
+use Rattle.dg_session.specs.Refusing.{MadeAtMost, RefusesCommand}
+use Rattle.dg_session.specs.Steps.{IsDone}
 
 pub gains_none : (x y : SeatView) → Keeps x y → Gains x y []
 gains_none x y keeps = record {

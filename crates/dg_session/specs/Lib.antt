@@ -1,6 +1,9 @@
--- Sessions: how a stream is cut into lines, how lines are answered, and how a session ends.
+-- Sessions: how a stream is cut into lines, how the lines of a seat are answered or end a session, whom lines are for, and how a
+-- session ends.
 pub mod Streams
 pub mod Saying
+pub mod Refusing
+pub mod Speakers
 pub mod Ends
 -- What serves the steps of a session alone.
 pub mod Steps

@@ -1,4 +1,4 @@
--- What a session says to lines. An entry that is made stands, with its number, in the one history that the seat has found
+-- What a session says to the lines of one seat. An entry that is made stands, with its number, in the one history that the seat has found
 -- (`HasPast`), and is answered there as the game answers it. `names` are the names of the vertices, and `kept` is the number of the look that the session
 -- keeps, if it keeps one.
 --   fault_text fault            == `bad` and what is wrong with the line, and a newline
@@ -9,7 +9,8 @@
 --   AnswersCommand o names kept command made after text == the command, with that look kept, makes these entries, leaves that look
 --                                  kept, and is answered with the text
 --   AnswersLine o names kept line made after text == so is the line: by what is wrong with it, or as its command
---   Answers o names kept ls made after text == so are the lines ls, one after another
+--   Gains x y made       == the seat is the same, has made these entries, and was told of what it was told, and perhaps more; the
+--                           history that it has found begins with the one that it had
 use Rattle.std.specs.Prelude.{◌≡◌, ℕ, ◌⊎◌, List, [], ◌∷◌, ◌++◌, Option, Some, None, codes}
 use Rattle.dg_chips.specs.Opening.{Opening}
 use Rattle.dg_rank.specs.Ranks.{IsWithin}
@@ -19,6 +20,8 @@ use Rattle.dg_game.specs.declared.entry.Request.{Request}
 use Rattle.dg_game.specs.declared.entry.Request.TheVariants.{Look, Judge, Rank as RankRequest}
 use Rattle.dg_game.specs.declared.step.Command.{Command}
 use Rattle.dg_game.specs.declared.step.Command.TheVariants.{Call, Commit, Rank}
+use Rattle.dg_log.specs.Numbered.{IsBeginning}
+use Rattle.dg_table.specs.Seats.{SeatView}
 use Rattle.dg_lines.specs.Commands.{IsCommandLine}
 use Rattle.dg_lines.specs.LineFaults.{IsLineFault}
 use Rattle.dg_lines.specs.Texts.{entry_text}
@@ -62,9 +65,9 @@ AnswersLine o names kept line made after text =
     ((fault : LineFault) × IsLineFault names fault line × Says kept (fault_text fault) made after text)
     ⊎ ((command : Command) × IsCommandLine names command line × AnswersCommand o names kept command made after text)
 
-unfoldable pub Answers : Opening → List (List ℕ) → Option ℕ → List (List ℕ) → List (ℕ × Entry) → Option ℕ → List ℕ → Type 0
-Answers o names kept [] made after text = (made ≡ []) × (after ≡ kept) × (text ≡ [])
-Answers o names kept (line ∷ ls) made after text =
-    (first rest : List (ℕ × Entry)) × (mid : Option ℕ) × (front back : List ℕ)
-    × AnswersLine o names kept line first mid front × Answers o names mid ls rest after back
-    × (made ≡ first ++ rest) × (text ≡ front ++ back)
+pub record Gains (x y : SeatView) (made : List (ℕ × Entry)) : Type 0 where
+  pub number : y.number ≡ x.number
+  pub mine : y.mine ≡ x.mine ++ made
+  pub heard : List (ℕ × Entry)
+  pub told : y.told ≡ x.told ++ heard
+  pub past : IsBeginning x.past y.past

@@ -1,11 +1,14 @@
-//! Answering one line.
+//! Answering one line of a seat.
 ghost use Rattle.std.specs.Prelude.{◌≡◌, ◌≢◌, ◌++◌, length, OnOk, OnErr, IfErr, codes};
 ghost use Rattle.dg_rank.specs.Ranks.{MayHaveWorkers};
 ghost use Rattle.dg_game.specs.declared.step.Command.TheVariants.{Call, Commit, Rank};
 ghost use Rattle.dg_lines.specs.Texts.{HasNames, entry_text};
 ghost use Rattle.dg_session.specs.Saying.{AnswersCommand, AnswersLine, fault_text};
-ghost use Rattle.dg_session.specs.Steps.{kept_number, IsDone, RefusesCommand, RefusesLine};
+ghost use Rattle.dg_session.specs.Refusing.{RefusesCommand, RefusesLine};
+ghost use Rattle.dg_session.specs.Speakers.{kept_number};
+ghost use Rattle.dg_session.specs.Steps.{IsDone};
 
+use crate::addressing::Addressing;
 use crate::ends::SessionEnd;
 use dg_analyst::{Look, commit, commit_rank, look, reckon_aimed, try_rank};
 use dg_file::Names;
@@ -26,6 +29,7 @@ pub(crate) struct Shared<'a, N: Name, R: Threads + Wait> {
     pub(crate) table: &'a Table<N>,
     pub(crate) names: &'a Names,
     pub(crate) workers: u32,
+    pub(crate) how: Addressing,
 }
 
 /// What was said and is not written yet: always whole lines.
@@ -38,7 +42,7 @@ pub(crate) struct Said {
 
 impl Said {
     /// Says the words. Where memory is refused, nothing more is said.
-    fn say(&mut self, words: &[u8]) -> Result<(), SessionEnd>
+    pub(crate) fn say(&mut self, words: &[u8]) -> Result<(), SessionEnd>
         ensures said { OnOk result (self.new.text.items ≡ self.old.text.items ++ words.now) }
         ensures unsaid { OnErr result (self.new.text.items ≡ self.old.text.items) }
         ensures refused { IfErr result (λ end. end ≡ SessionEnd.Memory) }
@@ -91,8 +95,8 @@ fn fault_words(fault: LineFault) -> &'static [u8]
     }
 }
 
-/// Answers a line: by what is wrong with it, or as its command.
-pub(crate) fn answer_line<N: Name, R: Threads + Wait>(
+/// Answers a line of a seat: by what is wrong with it, or as its command.
+pub(crate) fn answer_seat<N: Name, R: Threads + Wait>(
     shared: &Shared<N, R>,
     kept: &mut Option<Look<N>>,
     said: &mut Said,

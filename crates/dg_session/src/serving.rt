@@ -1,19 +1,22 @@
 //! Serving a stream of lines.
-ghost use Rattle.std.specs.Prelude.{◌≡◌, ◌<◌, ◌≤◌, length, take, Err, None, IfSome, true};
-ghost use Rattle.std.specs.Io.KnownBytes.{Consumes, IsAtEnd, Keeps};
+ghost use Rattle.std.specs.Prelude.{◌≡◌, ◌<◌, ◌≤◌, ◌⊎◌, [], length, take, map, Err, None, IfErr, IfSome, OnOk, All, true};
+ghost use Rattle.std.specs.Io.KnownBytes.{Appends, Consumes, IsAtEnd, Keeps};
 ghost use Rattle.dg_rank.specs.Ranks.{MayHaveWorkers};
 ghost use Rattle.dg_table.specs.Histories.{HasPast};
-ghost use Rattle.dg_session.specs.Ends.{IsSession};
+ghost use Rattle.dg_session.specs.Ends.{IsSession, IsSessionOf};
+ghost use Rattle.dg_session.specs.Steps.{IsWritten};
 
+use crate::addressing::Addressing;
 use crate::answering::Shared;
 use crate::ends::{READ_SIZE, SessionEnd};
-use crate::taking::{Progress, pass_bytes, pass_end};
+use crate::taking::{Progress, take_bytes, take_end};
 use dg_file::Names;
 use dg_log::Name;
 use dg_streams::{Input, Output};
 use dg_table::{Seat, Table};
 use std::alloc::Global;
 use std::io::{Read, Write};
+use std::slice;
 use std::sync::Wait;
 use std::thread::Threads;
 
@@ -44,58 +47,131 @@ pub fn serve<N: Name, R: Threads + Wait, I: Read, O: Write>(
     ensures read { result ≡ Err SessionEnd.Read → reader.new.has_failed ≡ true }
     ensures write { result ≡ Err SessionEnd.Write → writer.new.has_failed ≡ true }
 {
-    let ended = serve_lines(rt, alloc, table, seat, names, reader, writer, workers);
-    let _past = seat.past();
-    match ended {
+    match serve_seats(
+        rt,
+        alloc,
+        table,
+        slice::from_mut(seat),
+        names,
+        reader,
+        writer,
+        workers,
+        Addressing::OneSeat,
+    ) {
         Ok(count) => Ok(count),
         Err(end) => Err(end),
     }
 }
 
-/// The same, of which it is not said that the history which the seat finds is one of the table.
-fn serve_lines<N: Name, R: Threads + Wait, I: Read, O: Write>(
+/// The same for some seats: where the lines name seats, each line is that of the seat at its place, from 1, and each seat keeps
+/// a look of its own. A line for no seat is answered by `bad seat`. There is a seat or more.
+pub fn serve_seats<N: Name, R: Threads + Wait, I: Read, O: Write>(
     rt: &R,
     alloc: Global,
     table: &Table<N>,
-    seat: &mut Seat<N>,
+    seats: &mut [Seat<N>],
     names: &Names,
     reader: &mut Input<I>,
     writer: &mut Output<O>,
     workers: u32,
+    how: Addressing,
 ) -> Result<u32, SessionEnd>
     requires names { length names.now ≡ N.start.graph.size }
     requires workers { MayHaveWorkers workers }
-    ensures session { IsSession N.start N.seats (length N.cells) names.now reader.old.remaining reader.new.remaining
-        writer.old.contents writer.new.contents seat.old seat.new result }
-    ensures number { seat.new.number ≡ seat.old.number }
+    requires some { 1 ≤ length seats.old }
+    ensures session { IsSessionOf how N.start N.seats (length N.cells) names.now reader.old.remaining
+        reader.new.remaining writer.old.contents writer.new.contents seats.old seats.new result }
+    ensures histories { All (HasPast N.start N.seats (length N.cells)) seats.new }
+    ensures numbers { map (λ x. x.number) seats.new ≡ map (λ x. x.number) seats.old }
     ensures read { result ≡ Err SessionEnd.Read → reader.new.has_failed ≡ true }
     ensures write { result ≡ Err SessionEnd.Write → writer.new.has_failed ≡ true }
 {
-    let Ok(mut buffer) = vec![in alloc; 0u8; READ_SIZE] else {
-        return Err(SessionEnd::Memory);
-    };
-    let mut progress = Progress::new(alloc);
     let shared = Shared {
         rt,
         alloc,
         table,
         names,
         workers,
+        how,
+    };
+    let ended = serve_lines(&shared, seats, reader, writer);
+    have_pasts(seats);
+    match ended {
+        Ok(count) => Ok(count),
+        Err(end) => Err(end),
+    }
+}
+
+/// Each seat has found a history of its table. Nothing is done.
+fn have_pasts<N: Name>(seats: &[Seat<N>])
+    ensures { All (HasPast N.start N.seats (length N.cells)) seats.now }
+{
+    for seat in seats {
+        let _past = seat.past();
+    }
+}
+
+/// Answers the lines, of which it is not said that the histories which the seats find are those of the table.
+fn serve_lines<N: Name, R: Threads + Wait, I: Read, O: Write>(
+    shared: &Shared<N, R>,
+    seats: &mut [Seat<N>],
+    reader: &mut Input<I>,
+    writer: &mut Output<O>,
+) -> Result<u32, SessionEnd>
+    requires names { length shared.now.names.now ≡ N.start.graph.size }
+    requires workers { MayHaveWorkers shared.now.workers }
+    requires some { 1 ≤ length seats.old }
+    ensures session { IsSessionOf shared.now.how N.start N.seats (length N.cells) shared.now.names.now
+        reader.old.remaining reader.new.remaining writer.old.contents writer.new.contents seats.old seats.new result }
+    ensures read { result ≡ Err SessionEnd.Read → reader.new.has_failed ≡ true }
+    ensures write { result ≡ Err SessionEnd.Write → writer.new.has_failed ≡ true }
+{
+    let Ok(mut buffer) = vec![in shared.alloc; 0u8; READ_SIZE] else {
+        return Err(SessionEnd::Memory);
+    };
+    let Some(mut progress) = Progress::new(shared.alloc, seats) else {
+        return Err(SessionEnd::Memory);
     };
     'reads: loop {
         let Some(size) = read_some(reader, &mut buffer) else {
             return Err(SessionEnd::Read);
         };
         if size == 0 {
-            match pass_end(&shared, &mut progress, seat, writer) {
+            let taken = take_end(shared, &mut progress, seats);
+            match write_said(writer, &mut progress.said.text, taken) {
                 Ok(()) => return Ok(progress.count),
                 Err(end) => return Err(end),
             }
         }
-        match pass_bytes(&shared, &mut progress, seat, writer, &buffer[..size]) {
+        let taken = take_bytes(shared, &mut progress, seats, &buffer[..size]);
+        match write_said(writer, &mut progress.said.text, taken) {
             Ok(()) => {}
             Err(end) => return Err(end),
         }
+    }
+}
+
+/// Writes what was said, after which nothing is; and ends as what was taken did, if it did.
+fn write_said<O: Write>(
+    writer: &mut Output<O>,
+    text: &mut Vec<u8>,
+    taken: Result<(), SessionEnd>,
+) -> Result<(), SessionEnd>
+    ensures taken { OnOk result (taken ≡ result) }
+    ensures written { OnOk result (Appends writer.old.contents writer.new.contents text.old.items) }
+    ensures cleared { OnOk result (text.new.items ≡ []) }
+    ensures ended { IfErr result (IsWritten taken text.old.items writer.old.contents writer.new.contents) }
+    ensures write { result ≡ Err SessionEnd.Write → (taken ≡ Err SessionEnd.Write) ⊎ (writer.new.has_failed ≡ true) }
+{
+    match writer.write_whole(text) {
+        Ok(()) => {
+            text.clear();
+            match taken {
+                Ok(()) => Ok(()),
+                Err(end) => Err(end),
+            }
+        }
+        Err(_) => Err(SessionEnd::Write),
     }
 }
 

@@ -16,6 +16,8 @@ pub(super) enum Command {
     Greedy(u32),
     // How many entries there may be, and how many workers there are.
     Serve(u32, u32),
+    // How many seats there are, which the lines name, and how many entries there may be.
+    ServeSeats(u8, u32),
     // The names of the scripts, and how many entries there may be.
     Party(&'static [&'static str], u32),
     // What is asked of the table on each line.
@@ -43,8 +45,17 @@ pub(super) fn asked(alloc: Global, command: Command) -> Result<Asked<'static>, F
         Command::Serve(capacity @ 1..=65_536, workers @ 1..=16) => {
             return Ok(Asked::Serve(ServeTask {
                 file,
+                seats: None,
                 capacity,
                 workers,
+            }));
+        }
+        Command::ServeSeats(seats @ 1..=64, capacity @ 1..=65_536) => {
+            return Ok(Asked::Serve(ServeTask {
+                file,
+                seats: Some(seats),
+                capacity,
+                workers: 1,
             }));
         }
         Command::Party([first, more @ ..], capacity @ 1..=65_536) => {

@@ -5,7 +5,7 @@ use crate::server::runs::{ABSENT, CALM, Run, TRIANGLE, all_run};
 use std::test::Fail;
 
 // Sessions and parties that run.
-static ROWS: [Run; 25] = [
+static ROWS: [Run; 30] = [
     (
         TRIANGLE,
         Command::Serve(65_536, 1),
@@ -65,6 +65,47 @@ static ROWS: [Run; 25] = [
         0,
     ),
     (TRIANGLE, Command::Serve(65_536, 1), "", "", "", 0),
+    // Seats: each keeps a look of its own, and all make one history; a line for no seat says so.
+    (
+        TRIANGLE,
+        Command::ServeSeats(3, 65_536),
+        "2 look\n1 look\n1 lend a\n2 commit\n3 commit\n2 commit\n1 commit\n",
+        "0 looked 0 a=2 b=-1 c=-1\n1 looked 0 a=2 b=-1 c=-1\n2 moved a=0 b=0 c=0\n3 winnable by a=0 b=0 c=0 to a=0 b=0 c=0\nbad look\nbad look\n4 winnable by a=0 b=0 c=0 to a=0 b=0 c=0\n",
+        "",
+        0,
+    ),
+    (
+        TRIANGLE,
+        Command::ServeSeats(2, 65_536),
+        "look\n0 look\n3 look\n01 look\n65 look\n1look\n2 fly\n 1 look\n1\n2 lend z\n",
+        "bad seat\nbad seat\nbad seat\nbad seat\nbad seat\nbad seat\nbad word\nbad seat\nbad seat\nbad name\n",
+        "",
+        0,
+    ),
+    (
+        TRIANGLE,
+        Command::ServeSeats(64, 65_536),
+        "64 look\n2 gift b 1\n64 commit\n1 rank 0",
+        "0 looked 0 a=2 b=-1 c=-1\n1 given 1 a=2 b=0 c=-1\n2 stale 1\nbad look\n",
+        "",
+        0,
+    ),
+    (
+        CALM,
+        Command::ServeSeats(2, 1),
+        "2 claim\n1 claim\n",
+        "0 won\n",
+        "dollar: the history is full\n",
+        3,
+    ),
+    (
+        CALM,
+        Command::ServeSeats(1, 100),
+        "1 claim\n2 claim\nclaim\n",
+        "0 won\nbad seat\nbad seat\n",
+        "",
+        0,
+    ),
     (
         CALM,
         Command::Serve(1, 1),

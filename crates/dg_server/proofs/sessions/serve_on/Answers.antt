@@ -1,39 +1,43 @@
-use Rattle.std.proofs.Common.{◌≡◌, ◌∙◌, length, sym}
-use Rattle.dg_server.proofs.Serving.{fresh_seat, served_alone}
+use Rattle.std.proofs.Common.{rules, length, sym, subst}
+use Rattle.dg_table.specs.Opened.{AreFresh}
+use Rattle.dg_table.specs.Closing.{IsClosed}
+use Rattle.dg_server.proofs.Serving.{seats_back}
 use Rattle.dg_server.proofs.sessions.serve_on.Goals as goal
 
 pub returns-in-Ok-ended-clause-done : goal.returns-in-Ok-ended-clause-done
-returns-in-Ok-ended-clause-done g c =
-    let alone : g.N.Name.seats ≡ 1 = sym c.requires.seats ∙ c.requires.one in
-    let past = rw alone at c.serve-ended.ensures.history in
-    let fresh = fresh_seat c.args.seats _ c.pop.new.self.items c.in-Some.seat c.requires.one c.in-Ok.ensures c.in-Some.ensures.items in (
-      c.in-Ok-ended.field-0,
-      record {
-        rest = c.serve-ended.new.reader.remaining;
-        seat = c.in-Some.seat;
-        after = c.serve-ended.new.seat;
-        number = fresh.0;
-        mine = fresh.1;
-        told = fresh.2;
-        session = rw (c.requires.start, c.requires.row, ← c.names-names.ensures.value, ← c.new-reader.ensures.remaining) (rw alone at c.in-Ok-ended.ensures.session);
-        history = rw (c.requires.start, c.requires.row) past.history;
-        alone = served_alone g.N.Name.start (length g.N.Name.cells) c.serve-ended.new.seat (c.serve-ended.ensures.number ∙ fresh.0) past;
-      },
-    )
+returns-in-Ok-ended-clause-done g c = (
+  c.in-Ok-ended.field-0,
+  record {
+    heard = record {
+      rest = c.serve_seats-ended.new.reader.remaining;
+      seats = c.deref_mut.result.now;
+      fresh = subst (AreFresh c.args.seats) (sym c.deref_mut.ensures.value) c.in-Ok.ensures;
+      after = c.serve_seats-ended.new.seats;
+      session = rw (c.requires.start, c.requires.row, c.requires.seats, ← c.names.ensures.value, ← c.new-reader.ensures.remaining)
+          c.in-Ok-ended.ensures.session;
+    };
+    history = c.in-Ok-close.field-0.pen.entries;
+    closed = rw (c.requires.start, c.requires.row, c.requires.seats)
+        (subst (λ ys. IsClosed g.N.Name.start g.N.Name.seats (length g.N.Name.cells) ys c.in-Ok-close.field-0.pen.entries)
+        (seats_back c.in-Ok.opened.1.len c.deref_mut.result.now c.serve_seats-ended.new.seats _ (search rules)
+        c.serve_seats-ended.ensures.numbers) c.in-Ok-close.ensures.0);
+  },
+)
 
-pub returns-clause-early : goal.returns-clause-early
-returns-clause-early g c =
-    let alone : g.N.Name.seats ≡ 1 = sym c.requires.seats ∙ c.requires.one in
-    let past = rw alone at c.serve-ended.ensures.history in
-    let fresh = fresh_seat c.args.seats _ c.pop.new.self.items c.in-Some.seat c.requires.one c.in-Ok.ensures c.in-Some.ensures.items in
+pub returns-in-Ok-close-clause-early : goal.returns-in-Ok-close-clause-early
+returns-in-Ok-close-clause-early g c =
     record {
-      rest = c.serve-ended.new.reader.remaining;
-      seat = c.in-Some.seat;
-      after = c.serve-ended.new.seat;
-      number = fresh.0;
-      mine = fresh.1;
-      told = fresh.2;
-      session = rw (c.requires.start, c.requires.row, ← c.names-names.ensures.value, ← c.new-reader.ensures.remaining) (rw alone at c.in-Err-ended.ensures.session);
-      history = rw (c.requires.start, c.requires.row) past.history;
-      alone = served_alone g.N.Name.start (length g.N.Name.cells) c.serve-ended.new.seat (c.serve-ended.ensures.number ∙ fresh.0) past;
+      heard = record {
+        rest = c.serve_seats-ended.new.reader.remaining;
+        seats = c.deref_mut.result.now;
+        fresh = subst (AreFresh c.args.seats) (sym c.deref_mut.ensures.value) c.in-Ok.ensures;
+        after = c.serve_seats-ended.new.seats;
+        session = rw (c.requires.start, c.requires.row, c.requires.seats, ← c.names.ensures.value, ← c.new-reader.ensures.remaining)
+            c.in-Err-ended.ensures.session;
+      };
+      history = c.in-Ok-close.field-0.pen.entries;
+      closed = rw (c.requires.start, c.requires.row, c.requires.seats)
+          (subst (λ ys. IsClosed g.N.Name.start g.N.Name.seats (length g.N.Name.cells) ys c.in-Ok-close.field-0.pen.entries)
+          (seats_back c.in-Ok.opened.1.len c.deref_mut.result.now c.serve_seats-ended.new.seats _ (search rules)
+          c.serve_seats-ended.ensures.numbers) c.in-Ok-close.ensures.0);
     }

@@ -1,6 +1,6 @@
 use Rattle.std.proofs.Common.{length}
 use Rattle.dg_game.specs.Schedule.{asked}
-use Rattle.dg_session.specs.Steps.{kept_number}
+use Rattle.dg_session.specs.Speakers.{kept_number}
 use Rattle.dg_session.proofs.Made.{call_made, named, call_done, call_unsaid}
 use Rattle.dg_session.proofs.answering.call.Goals as goal
 

@@ -1,6 +1,7 @@
 use Rattle.std.proofs.Common.{◌∙◌, length, ap, sym, subst}
 use Rattle.dg_game.specs.declared.step.Command.TheVariants.{Call}
-use Rattle.dg_session.specs.Steps.{kept_number, RefusesCommand}
+use Rattle.dg_session.specs.Speakers.{kept_number}
+use Rattle.dg_session.specs.Refusing.{RefusesCommand}
 use Rattle.dg_session.proofs.answering.obey.Goals as goal
 
 pub returns-in-Err-clause-refused : goal.returns-in-Err-clause-refused

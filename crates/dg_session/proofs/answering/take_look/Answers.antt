@@ -1,7 +1,7 @@
 use Rattle.std.proofs.Common.{length}
 use Rattle.dg_game.specs.declared.entry.Request.TheVariants.{Look}
 use Rattle.dg_game.specs.declared.entry.Plain.TheVariants.{Look as PlainLook}
-use Rattle.dg_session.specs.Steps.{kept_number}
+use Rattle.dg_session.specs.Speakers.{kept_number}
 use Rattle.dg_session.proofs.Made.{call_made, look_done, call_unsaid}
 use Rattle.dg_session.proofs.answering.take_look.Goals as goal
 

@@ -1,6 +1,6 @@
 use Rattle.std.proofs.Common.{ap, ◌++◌, ◌∙◌}
 use Rattle.dg_session.proofs.Lines.{line_refused, line_bad}
-use Rattle.dg_session.proofs.answering.answer_line.Goals as goal
+use Rattle.dg_session.proofs.answering.answer_seat.Goals as goal
 
 pub returns-in-Err-obey-clause-refused : goal.returns-in-Err-obey-clause-refused
 returns-in-Err-obey-clause-refused g c =

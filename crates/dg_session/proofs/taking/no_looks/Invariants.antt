@@ -1,0 +1,7 @@
+-- There is no look for each seat so far.
+use Rattle.std.proofs.Common.{◌≡◌, map, take, None}
+use Rattle.dg_session.specs.Speakers.{kept_number}
+use Rattle.dg_session.proofs.taking.no_looks.Given as goal
+
+abbrev pub invariant-loop : goal.invariant-loop
+invariant-loop g l = map kept_number l.looks.items ≡ map (λ x. None) (take l.index l.fn.seats)

@@ -1,0 +1,92 @@
+#!/usr/bin/env python3
+"""Has a class of thirty play on one table, and checks that what they were told is one history of the game.
+
+    examples/class.py [PROGRAM]
+
+Each pupil has a seat, and a thread that asks what a pupil may ask, drawn from a fixed seed: moves, gifts, looks, commits, rank
+tests, and now and then what is no line. All go through one `serve --seats 30`, which answers them in the order in which they
+come. Then `rehearse` plays the lines that were entries again, in that order: it has to print what the pupils were told. The last
+line is 'N passed, M failed'; the status is 0 where none failed."""
+import json, os, random, subprocess, sys, tempfile, threading
+from talk import Table
+
+PUPILS, LINES = 30, 40
+TABLE = {
+    "vertices": ["ann", "bob", "cem", "dot", "eve"],
+    "edges": [["ann", "bob", 1], ["bob", "cem", 2], ["cem", "dot", 1], ["dot", "ann", 1], ["dot", "eve", 3]],
+    "amounts": [6, -3, 1, -2, -1],
+    "q": "ann",
+}
+
+
+def line_of(draw):
+    """A line that a pupil may ask."""
+    one, other = draw.choice(TABLE["vertices"]), draw.choice(TABLE["vertices"])
+    return draw.choice([
+        "look", "look", "commit", "commit", "rank 1", "claim", "lend " + one, "borrow " + one, "fire " + one,
+        "script %s=%d" % (one, draw.randint(-2, 2)), "gift %s %d" % (one, draw.randint(-2, 2)), "join %s %s" % (one, other),
+        "rank 5000", "lend zoe", "lent " + one, "look now",
+    ])
+
+
+def attend(table, seat, lines):
+    """Asks the pupil's lines. Each goes into the list of all, with the seat and the answer, in the order of the answers."""
+    draw = random.Random(seat)
+    for _ in range(LINES):
+        line = line_of(draw)
+        with table.turn:
+            lines.append((seat, line, table.ask("%d %s" % (seat, line))))
+
+
+def is_entry(answer):
+    """Whether the answer is that of an entry, which begins with its number."""
+    return answer[0].isdigit()
+
+
+def main(program):
+    results = []
+    with tempfile.TemporaryDirectory() as folder:
+        file, steps = os.path.join(folder, "table.json"), os.path.join(folder, "steps.txt")
+        with open(file, "w") as out:
+            json.dump(TABLE, out)
+        # The script ./dollar builds the program where it is not there yet, which no pupil should have to wait for.
+        subprocess.run([program, "judge", file], stdout=subprocess.DEVNULL)
+        table, lines = Table(program, file, PUPILS), []
+        pupils = [threading.Thread(target=attend, args=(table, seat, lines)) for seat in range(1, PUPILS + 1)]
+        for pupil in pupils:
+            pupil.start()
+        for pupil in pupils:
+            pupil.join()
+        results.append(table.close() == (0, ""))
+        results.append(len(lines) == PUPILS * LINES)
+        entries = [(seat, line, answer) for seat, line, answer in lines if is_entry(answer)]
+        results.append([int(answer.split(" ")[0]) for _, _, answer in entries] == list(range(len(entries))))
+        # What is no entry says what is wrong, and a pupil who looked before has a look, whatever the others did.
+        results.append({answer for _, _, answer in lines if not is_entry(answer)}
+                       <= {"bad word", "bad form", "bad name", "bad look", "bad trials"})
+        kept, own = set(), True
+        for seat, line, answer in lines:
+            if line == "commit" or line == "rank 1":
+                own = own and (answer != "bad look") == (seat in kept)
+                kept.discard(seat)
+            elif line == "rank 5000":
+                own = own and answer == ("bad trials" if seat in kept else "bad look")
+            elif line == "look":
+                kept.add(seat)
+        results.append(own)
+        with open(steps, "w") as out:
+            out.writelines("%d %s\n" % (seat, line) for seat, line, _ in entries)
+        again = subprocess.run([program, "rehearse", file, steps], capture_output=True, text=True)
+        results.append((again.returncode, again.stderr) == (0, ""))
+        results.append(again.stdout.splitlines() == [answer for _, _, answer in entries])
+    for number, passed in enumerate(results):
+        if not passed:
+            print("check %d failed" % number)
+    print("%d pupils asked %d lines, %d of them entries" % (PUPILS, len(lines), len(entries)))
+    print("%d passed, %d failed" % (results.count(True), results.count(False)))
+    return results.count(False) > 0
+
+
+if __name__ == "__main__":
+    here = os.path.dirname(os.path.abspath(__file__))
+    sys.exit(main(os.path.abspath(sys.argv[1] if len(sys.argv) > 1 else os.path.join(here, "..", "dollar"))))
