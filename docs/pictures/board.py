@@ -50,6 +50,11 @@ def amount_size(amount, radius):
     return round(min(AMOUNT_SIZE, room(radius, AMOUNT_AT) / width(amount)), 1)
 
 
+def fitted(text, wide, size):
+    """The size of letters, at most size, at which a text is no wider than this."""
+    return round(min(size, wide / max(width(text), 1)), 1)
+
+
 def span(places, radius):
     """By how much places are to be drawn apart for circles of this radius not to touch."""
     points = list(places.values())
