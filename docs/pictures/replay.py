@@ -5,7 +5,7 @@
     docs/pictures/replay.py FILE STEPS HISTORY > GAME.html    the history is that of a file, as it was printed
     docs/pictures/replay.py FILE --greedy TURNS > GAME.html   a game of `dollar greedy FILE TURNS`; its steps are those of the rule
 
-The page is one file, opens in any browser, and asks no network for anything. The table, the steps and the history are in it
+The page is one file for a browser, and asks no network for anything. The table, the steps and the history are in it
 unchanged. The page draws them, and compares the amounts after each step with what the step does; it reckons no verdict. The
 program is what the variable DOLLAR names, or the script `dollar`. The script needs Python 3 and nothing else."""
 import html, json, os, subprocess, sys
