@@ -8,7 +8,7 @@ const layout = JSON.parse(read("layout"));
 const names = table.vertices;
 const element = (id) => document.getElementById(id);
 const still = window.matchMedia("(prefers-reduced-motion: reduce)");
-const BETWEEN = 2200, TRAVEL = 1100;
+const BETWEEN = 2200, TRAVEL = 1100, MOST_DOTS = 60;
 let now = 0, timer = null, drawing = 0;
 
 /* What was written. */
@@ -172,8 +172,8 @@ function stepWords({ seat, word, given, script }) {
 }
 
 function flowWords(state, script) {
-  const told = flows(state, script).map(({ from, to, each, count }) => `${dollars(each * count)} from ${from} to ${to}`);
-  return told.length ? `What goes along the edges: ${listed(told)}.` : "Nothing goes along the edges.";
+  const told = flows(state, script).map(({ from, to, each, count }) => `${each * count} from ${from} to ${to}`);
+  return told.length ? `Dollars along the edges: ${listed(told)}.` : "No dollar goes along an edge.";
 }
 
 function debtWords(amounts) {
@@ -202,7 +202,7 @@ function replyWords(reply, state) {
     unwinnable: () => `It can't be won: the script below clears all debts but that of ${table.q}, which owes ${-reply.reduced[table.q]}.`,
     rank: () => (reply.loss ? `The rank is below ${reply.degree}: without ${lossWords(reply.loss)} it can't be won.`
       : `The rank is at least ${reply.degree}: wherever ${dollars(reply.degree)} are lost, it can still be won.`),
-    stale: () => `Stale: a gift, a levy or a new edge came after its look. There were ${reply.gifts} by now.`,
+    stale: () => `Stale: a gift, a levy or a new edge came after its look (${reply.gifts} in all by now).`,
     refused: () => `Refused: ${CAUSES[reply.cause] || reply.cause}. Nothing changes.`,
   }[reply.kind];
   return words ? words() : "";
@@ -437,17 +437,22 @@ function codeOf(line) {
   return code;
 }
 
+function markAt(index, step, reply) {
+  const mark = buttonTo(index, element("marks"), markOf(step, reply), reply.kind);
+  mark.style.left = `${(100 * index) / steps.length}%`;
+  mark.title = `Step ${index}: ${step.line}; ${reply.line}`;
+  mark.tabIndex = -1;
+  mark.setAttribute("aria-label", `Step ${index}: ${reply.kind}`);
+}
+
 function fillPage() {
   const list = document.querySelector("#whole ol");
   element("slider").max = steps.length;
   steps.forEach((step, i) => {
-    const kind = replies[i].kind, mark = buttonTo(i + 1, element("marks"), markOf(step, replies[i]), kind);
-    mark.style.left = `${(100 * (i + 1)) / steps.length}%`;
-    mark.title = `Step ${i + 1}: ${step.line}; ${replies[i].line}`;
-    mark.tabIndex = -1;
-    mark.setAttribute("aria-label", `Step ${i + 1}: ${kind}`);
+    const { kind, line } = replies[i];
+    if (kind !== "moved" || steps.length <= MOST_DOTS) markAt(i + 1, step, replies[i]);
     const item = document.createElement("li"), both = buttonTo(i + 1, item, "", kind);
-    for (const line of [step.line, replies[i].line]) both.append(codeOf(line), " ");
+    both.append(codeOf(step.line), " ", codeOf(line));
     list.append(item);
   });
   const flaws = states.filter((state) => state.flaw).length;

@@ -97,7 +97,7 @@ def main(words):
             lines = text_of(words[2]) if words[2:] else printed("rehearse", *words[:2])
         sys.stdout.write(page(words[0], title, asked, lines))
     except (OSError, ValueError, KeyError, TypeError, Fault) as error:
-        print("replay.py: %s" % error, file=sys.stderr)
+        print("replay.py: %s: %s" % (" ".join(words), error), file=sys.stderr)
         return 1
     return 0
 
