@@ -2,7 +2,6 @@
 import json, math, os, sys
 
 HERE = os.path.dirname(os.path.abspath(__file__))
-sys.dont_write_bytecode = True
 sys.path.insert(0, os.path.join(HERE, "..", "..", "examples"))
 
 LEAST_ROUND, MOST_ROUND, APART, LEAST_SIZE = 21, 46, 38, 82

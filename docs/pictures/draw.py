@@ -12,6 +12,7 @@ script needs Python 3 and nothing else. It reckons burnings, scripts and losses 
 which is what the variable DOLLAR names, or the script `dollar`."""
 import html, itertools, math, os, sys
 
+sys.dont_write_bytecode = True
 from board import (AMOUNT_AT, HERE, NAME_AT, STRANDS, amount_size, fitted, name_size, own_places, radius, ring, span, table_of,
                    width)
 from dollar import Fault, burnt, edges, example, fired, joined, judge

@@ -10,6 +10,7 @@ unchanged. The page draws them, and compares the amounts after each step with wh
 program is what the variable DOLLAR names, or the script `dollar`. The script needs Python 3 and nothing else."""
 import html, json, os, subprocess, sys
 
+sys.dont_write_bytecode = True
 from board import HERE, amount_size, name_size, own_places, radius, room, span, table_of, AMOUNT_AT, STRANDS
 from dollar import Fault, fault, history, script
 
