@@ -256,7 +256,7 @@ function drawVertex(board, name, amount, says) {
   draw("text", { class: "name inside", x, y: y - 6, "font-size": layout.sizes[name] }, group, name);
   const size = Math.min(16, layout.room / (0.7 * String(amount).length));
   draw("text", { class: "amount inside", x, y: y + 10, "font-size": size, "font-weight": "bold" }, group, amount);
-  if (says) draw("text", { class: "says plated", x, y: y + r + 14 }, group, says);
+  if (says) draw("text", { class: "says plated", x, y: y + r + 17 }, group, says);
 }
 
 function saysOf(index) {
