@@ -299,10 +299,10 @@ function pointOn({ path, back, length }, part) {
 
 function drawArrows(board, ways) {
   for (const way of ways) {
-    const middle = pointOn(way, 0.5), ahead = pointOn(way, 0.52);
-    const turn = (Math.atan2(ahead.y - middle.y, ahead.x - middle.x) * 180) / Math.PI;
-    draw("path", { class: "arrow", d: "M8 0 L-5 6 L-5 -6 Z", transform: `translate(${middle.x} ${middle.y}) rotate(${turn})` }, board);
-    if (way.label > 1) draw("text", { class: "says plated", x: middle.x, y: middle.y - 9 }, board, way.label);
+    const place = pointOn(way, 0.62), ahead = pointOn(way, 0.64);
+    const turn = (Math.atan2(ahead.y - place.y, ahead.x - place.x) * 180) / Math.PI;
+    draw("path", { class: "arrow", d: "M8 0 L-5 6 L-5 -6 Z", transform: `translate(${place.x} ${place.y}) rotate(${turn})` }, board);
+    if (way.label > 1) draw("text", { class: "says plated", x: place.x, y: place.y - 9 }, board, way.label);
   }
 }
 

@@ -68,7 +68,10 @@ def greedy_game(file, turns):
 def page(file, title, asked, lines):
     """The text of the page for a file, these steps, and what was printed of their history."""
     table, text = table_of(file)
-    answers = history(lines.splitlines())
+    try:
+        answers = history(lines.splitlines())
+    except ValueError as error:
+        raise ValueError("the history is none that the program prints") from error
     if len(answers) != len(asked.splitlines()):
         raise ValueError("%d answers to %d steps" % (len(answers), len(asked.splitlines())))
     if "<" in asked + lines:
