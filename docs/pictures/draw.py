@@ -1,27 +1,27 @@
 #!/usr/bin/env python3
-"""Draws the pictures in this folder from the tables of examples/, so that none can differ from its file.
+"""Draws tables, their verdicts, and the pictures in this folder, which are made from the tables of examples/.
 
-    docs/pictures/draw.py            writes the pictures
-    docs/pictures/draw.py --check    says which of them are not what it would write; the last line is 'N passed, M failed'
-    docs/pictures/draw.py FILE       prints a picture of a table of yours, its vertices in a ring, and of its verdict
+    docs/pictures/draw.py FILE > PICTURE.svg    a picture of a table of yours, its vertices in a ring, and of its verdict
+    docs/pictures/draw.py --check               says which pictures of this folder are not what it would write; the last
+                                                line is 'N passed, M failed'
+    docs/pictures/draw.py --write               writes the pictures of this folder anew
 
-A vertex has its name and its dollars; a red one is in debt, and q has a double ring. What burns is orange, with its
-number in the order of burning. An edge that was added is blue. The script needs Python 3 and nothing else. It reckons burnings, scripts and losses
-itself; but a verdict of yours is the program's."""
-import html, itertools, json, math, os, sys
+A vertex has its name and its dollars; one in debt is red and hatched, and q has a double ring. Below a vertex stands what the
+script has it lend or borrow. What burns is orange, with its number in the order of burning. An edge that was added is blue. The
+script needs Python 3 and nothing else. It reckons burnings, scripts and losses itself; but a verdict of yours is the program's,
+which is what the variable DOLLAR names, or the script `dollar`."""
+import html, itertools, math, os, sys
 
-HERE = os.path.dirname(os.path.abspath(__file__))
 sys.dont_write_bytecode = True
-sys.path.insert(0, os.path.join(HERE, "..", "..", "examples"))
+from board import (AMOUNT_AT, HERE, NAME_AT, STRANDS, amount_size, fitted, name_size, own_places, radius, ring, span, table_of,
+                   width)
 from dollar import Fault, burnt, edges, example, fired, joined, judge
 
-ROUND, MARGIN, FOOT = 21, 36, 46
-
-
-def ring(names, start, size=1.0):
-    """Places on a circle, clockwise from an angle in degrees; 0 is on the right, and -90 at the top."""
-    turns = [math.radians(start + 360 * i / len(names)) for i in range(len(names))]
-    return {name: (size * math.cos(turn), size * math.sin(turn)) for name, turn in zip(names, turns)}
+MARGIN, LINE_HIGH, ROW, LEAST_WIDE = 15, 18, 22, 296
+BURNING, ADDED, LINE = "#b35900", "#1a66cc", "#667"
+HATCH = ('<defs><pattern id="hatch" width="6" height="6" patternUnits="userSpaceOnUse" patternTransform="rotate(45)">'
+         '<path d="M0 0V6" stroke="#b3261e" stroke-opacity="0.45" stroke-width="1.3"/></pattern></defs>')
+PLATE = 'paint-order="stroke" stroke="%s" stroke-width="3" stroke-linejoin="round"'
 
 
 CUBE = {"a": (-0.95, -0.35), "b": (0.35, -0.35), "c": (0.35, 0.95), "d": (-0.95, 0.95),
@@ -71,58 +71,136 @@ def first_loss(table, amounts, degree):
     return None
 
 
-def frame(middle, size, table, places, amounts, lines, order=(), added=None):
+def strands(place, u, v, count, colour, added):
+    """The edges between two vertices: each a line, or one thick line with their number where they are many."""
+    (x, y), (z, w) = place[u], place[v]
+    drawn, long = 1 if count > STRANDS else count, math.hypot(z - x, w - y)
+    for i in range(drawn):
+        bow = (i - (drawn - 1) / 2) * min(36, 252 / drawn)
+        bent = (x + z) / 2 - bow * (w - y) / long, (y + w) / 2 + bow * (z - x) / long
+        yield ('<path d="M%.1f %.1f Q%.1f %.1f %.1f %.1f" fill="none" stroke="%s" stroke-width="%s"/>'
+               % (x, y, *bent, z, w, ADDED if added and i == 0 else colour, 1.8 if drawn == count else 5))
+    if drawn < count:
+        yield ('<text x="%.1f" y="%.1f" font-size="11" fill="#223" %s>%d edges</text>'
+               % ((x + z) / 2, (y + w) / 2 - 8, PLATE % "#fff", count))
+
+
+def circles(x, y, r, debt, burns, is_q):
+    """The circle of a vertex."""
+    fill, line = ("#fbd3cd", "#b3261e") if debt else ("#e6f2e6", "#2e6b34")
+    line, thick = (BURNING, 3) if burns else (line, 1.8)
+    if is_q:
+        yield '<circle cx="%.1f" cy="%.1f" r="%d" fill="#fff" stroke="%s" stroke-width="1.5"/>' % (x, y, r + 4, line)
+    yield '<circle cx="%.1f" cy="%.1f" r="%d" fill="%s" stroke="%s" stroke-width="%s"/>' % (x, y, r, fill, line, thick)
+    if debt:
+        yield '<circle cx="%.1f" cy="%.1f" r="%d" fill="url(#hatch)"/>' % (x, y, r)
+
+
+def badge(x, y, number):
+    """A number in the order of burning."""
+    yield '<circle cx="%.1f" cy="%.1f" r="9" fill="%s"/>' % (x, y, BURNING)
+    yield '<text x="%.1f" y="%.1f" font-size="12" font-weight="bold" fill="#fff">%d</text>' % (x, y + 4, number)
+
+
+def often(count):
+    """A number of a script in words."""
+    return "lends %d" % count if count > 0 else "borrows %d" % -count
+
+
+def vertex(x, y, r, name, amount, burns, is_q, count):
+    """A vertex with its name, its amount, and what a script has it lend."""
+    plate = PLATE % "#fbd3cd" if amount < 0 else ""
+    yield from circles(x, y, r, amount < 0, burns, is_q)
+    yield ('<text x="%.1f" y="%.1f" font-size="%s" fill="#334" %s>%s</text>'
+           % (x, y + NAME_AT, name_size(name, r), plate, name))
+    yield ('<text x="%.1f" y="%.1f" font-size="%s" font-weight="bold" fill="#111" %s>%d</text>'
+           % (x, y + AMOUNT_AT, amount_size(amount, r), plate, amount))
+    if count:
+        yield ('<text x="%.1f" y="%.1f" font-size="11" font-weight="bold" fill="#223" %s>%s</text>'
+               % (x, y + r + 15, PLATE % "#fff", often(count)))
+
+
+def frame(middle, wide, size, r, table, places, amounts, lines, order=(), added=None, script=None):
     """One drawing of a table around a place: edges, one of them blue if it was added between two vertices, the vertices, and
     lines of text below."""
     place = {v: (middle[0] + size * x, middle[1] + size * y) for v, (x, y) in places.items()}
     number = {v: i + 1 for i, v in enumerate(order)}
     yield '<g font-family="sans-serif" text-anchor="middle">'
     for u, v in itertools.combinations(table["vertices"], 2):
-        count = edges(table)[u].get(v, 0)
-        (x, y), (z, w) = place[u], place[v]
-        long = math.hypot(z - x, w - y)
-        colour = "#e07b00" if u in number and v in number else "#667"
-        for i in range(count):
-            bow = (i - (count - 1) / 2) * min(36, 252 / count)
-            bent = (x + z) / 2 - bow * (w - y) / long, (y + w) / 2 + bow * (z - x) / long
-            yield ('<path d="M%.1f %.1f Q%.1f %.1f %.1f %.1f" fill="none" stroke="%s" stroke-width="1.8"/>'
-                   % (x, y, *bent, z, w, "#1a66cc" if (u, v) == added and i == 0 else colour))
+        colour = BURNING if u in number and v in number else LINE
+        yield from strands(place, u, v, edges(table)[u].get(v, 0), colour, (u, v) == added)
     for v in table["vertices"]:
-        x, y = place[v]
-        fill, line = ("#fbd3cd", "#b3261e") if amounts[v] < 0 else ("#e6f2e6", "#2e6b34")
-        if v in number:
-            line = "#e07b00"
-        if v == table["q"]:
-            yield ('<circle cx="%.1f" cy="%.1f" r="%d" fill="#fff" stroke="%s" stroke-width="1.5"/>'
-                   % (x, y, ROUND + 4, line))
-        yield ('<circle cx="%.1f" cy="%.1f" r="%d" fill="%s" stroke="%s" stroke-width="%s"/>'
-               % (x, y, ROUND, fill, line, 3 if v in number else 1.8))
-        yield '<text x="%.1f" y="%.1f" font-size="11" fill="#445">%s</text>' % (x, y - 6, v)
-        yield '<text x="%.1f" y="%.1f" font-size="16" font-weight="bold" fill="#111">%d</text>' % (x, y + 10, amounts[v])
+        yield from vertex(*place[v], r, v, amounts[v], v in number, v == table["q"], (script or {}).get(v, 0))
     for v in order:
-        x, y = place[v][0] + 18, place[v][1] - 18
-        yield '<circle cx="%.1f" cy="%.1f" r="9" fill="#e07b00"/>' % (x, y)
-        yield '<text x="%.1f" y="%.1f" font-size="12" font-weight="bold" fill="#fff">%d</text>' % (x, y + 4, number[v])
+        yield from badge(place[v][0] + 0.86 * r, place[v][1] - 0.86 * r, number[v])
     for i, line in enumerate(lines):
-        yield ('<text x="%.1f" y="%d" font-size="13" fill="#223">%s</text>'
-               % (middle[0], middle[1] + size + MARGIN + 10 + 18 * i, line))
+        yield ('<text x="%.1f" y="%d" font-size="%s" fill="#223">%s</text>'
+               % (middle[0], middle[1] + size + r + MARGIN + LINE_HIGH * (i + 1), fitted(line, wide - 12, 13), html.escape(line)))
     yield "</g>"
+
+
+def signs(frames):
+    """Which signs some frames have, each with its words."""
+    amounts = [amount for _, _, held, *_ in frames for amount in held.values()]
+    orders, added, scripts = ([given[i] for given in frames if len(given) > i and given[i]] for i in (4, 5, 6))
+    yield "q", "q: verdicts are reckoned from here"
+    for there, sign, words in ((any(amount < 0 for amount in amounts), "debt", "in debt"), (orders, "burnt", "burns, as number 1"),
+                               (added, "added", "was added"), (scripts, "script", "what the script says")):
+        if there:
+            yield sign, words
+
+
+def sign(kind, x, y):
+    """A small sign of the legend."""
+    if kind in ("q", "debt"):
+        yield from circles(x, y, 7, kind == "debt", False, kind == "q")
+    elif kind == "burnt":
+        yield from badge(x, y, 1)
+    elif kind == "added":
+        yield '<path d="M%.1f %.1fh24" stroke="%s" stroke-width="1.8"/>' % (x - 12, y, ADDED)
+    else:
+        yield '<text x="%.1f" y="%.1f" font-size="11" font-weight="bold" fill="#223">lends 1</text>' % (x, y + 4)
+
+
+def legend(frames, wide):
+    """The rows of the legend: in each the signs, with their places from the left and their words."""
+    rows, right = [[]], 6
+    for kind, words in signs(frames):
+        before = 54 if kind == "script" else 32
+        needed = before + width(words) * 11 + 8
+        if rows[-1] and right + needed > wide - 8:
+            rows, right = rows + [[]], 6
+        rows[-1].append((kind, right + before / 2 - 2, right + before, words))
+        right += needed
+    return rows
 
 
 def picture(title, frames):
     """The SVG text for frames side by side."""
-    size = 82 if len(frames[0][0]["vertices"]) <= 8 else 136
-    wide, high = max(2 * (size + MARGIN), 296), 2 * (size + MARGIN)
-    whole = wide * len(frames), high + FOOT
+    names = {name for table, *_ in frames for name in table["vertices"]}
+    r = radius(names, [amount for _, _, held, *_ in frames for amount in held.values()])
+    size = max(span(places, r) for _, places, *_ in frames)
+    wide, high = max(2 * (size + r + MARGIN), LEAST_WIDE), 2 * (size + r + MARGIN)
+    rows = legend(frames, wide * len(frames))
+    foot = high + LINE_HIGH * (max(len(lines) for _, _, _, lines, *_ in frames) + 1)
+    whole = wide * len(frames), foot + ROW * len(rows)
     yield ('<svg xmlns="http://www.w3.org/2000/svg" viewBox="0 0 %d %d" width="%d" height="%d" role="img">'
            % (*whole, *whole))
-    yield "<title>%s</title>" % title
+    yield "<title>%s</title>" % html.escape(title)
+    yield HATCH
     yield '<rect width="%d" height="%d" rx="8" fill="#fff"/>' % whole
     for i, given in enumerate(frames):
         if i:
             yield ('<path d="M%d %d h22 m-7 -6 l7 6 l-7 6" fill="none" stroke="#223" stroke-width="1.8"/>'
                    % (wide * i - 11, high // 2))
-        yield from frame((wide * i + wide / 2, high / 2), size, *given)
+        yield from frame((wide * i + wide / 2, high / 2), wide, size, r, *given)
+    yield '<g font-family="sans-serif">'
+    for i, row in enumerate(rows):
+        y = foot + ROW * i + 4
+        for kind, x, after, words in row:
+            yield '<g text-anchor="middle">%s</g>' % "".join(sign(kind, x, y))
+            yield '<text x="%.1f" y="%.1f" font-size="11" fill="#445">%s</text>' % (after, y + 4, words)
+    yield "</g>"
     yield "</svg>"
 
 
@@ -140,10 +218,11 @@ def burning(name, places):
         order = burnt(table, amounts)
         left = [v for v in table["vertices"] if v not in order]
         says = "left: %s, which lend%s" % (", ".join(left), "s" * (len(left) == 1)) if left else "all burns: it is reduced"
-        frames.append((table, places, amounts, ["burnt: " + " ".join(order), says], order))
+        firing = {v: int(v in left) for v in amounts}
+        frames.append((table, places, amounts, ["burnt: " + " ".join(order), says], order, None, firing if left else None))
         if not left:
             return "Burning and firing on examples/%s.json until all burns" % name, frames
-        amounts = lent(table, amounts, {v: int(v in left) for v in amounts})
+        amounts = lent(table, amounts, firing)
 
 
 def verdict(name, places):
@@ -152,7 +231,7 @@ def verdict(name, places):
     script, end = reduced(table, held(table))
     says = "%s does not owe: it can be won" if end[table["q"]] >= 0 else "%s owes: it can't be won"
     return "The verdict on examples/%s.json, by the script %s" % (name, pairs(script)), [
-        (table, places, held(table), ["examples/%s.json" % name]),
+        (table, places, held(table), ["examples/%s.json" % name], (), None, script),
         (table, places, end, ["all burns, in this order;", says % table["q"]], burnt(table, end))]
 
 
@@ -200,13 +279,13 @@ def both_orders(name, places):
 
 def yours(place):
     """The table of a file and its verdict."""
-    with open(place) as file:
-        table = json.load(file)
+    table, _ = table_of(place)
     word, script, end = judge(table)
-    places, name, by = ring(table["vertices"], -90), html.escape(os.path.basename(place)), pairs(script)
-    return "%s, %s by %s" % (name, word, by), [
-        (table, places, held(table), [name, "script: " + by] if len(by) < 40 else [name]),
-        (table, places, end, ["all burns, in this order:", word], burnt(table, end))]
+    says = ["all burns, in this order;", "it can be won" if word == "winnable" else "it can't be won"]
+    places, name = own_places(table["vertices"]), os.path.basename(place)
+    return "%s, %s by %s" % (name, word, pairs(script)), [
+        (table, places, held(table), [name, "" if any(script.values()) else "no vertex need lend"], (), None, script),
+        (table, places, end, says, burnt(table, end))]
 
 
 PICTURES = {
@@ -247,10 +326,24 @@ def main(checking):
     return failed > 0
 
 
-if __name__ == "__main__":
-    if sys.argv[1:] in ([], ["--check"]):
-        sys.exit(main("--check" in sys.argv))
+def drawn(place):
+    """Prints the picture of a file. The status is 1 where there is none."""
     try:
-        print("\n".join(picture(*yours(sys.argv[1]))))
+        print("\n".join(picture(*yours(place))))
     except (OSError, ValueError, Fault) as fault:
-        sys.exit("draw.py: %s: %s" % (sys.argv[1], fault))
+        print("draw.py: %s: %s" % (place, fault), file=sys.stderr)
+        return 1
+    return 0
+
+
+if __name__ == "__main__":
+    given = sys.argv[1:]
+    if given in (["-h"], ["--help"]):
+        print(__doc__)
+        sys.exit(0)
+    if given in (["--check"], ["--write"]):
+        sys.exit(main(given == ["--check"]))
+    if len(given) != 1 or given[0].startswith("-"):
+        print(__doc__, file=sys.stderr)
+        sys.exit(2)
+    sys.exit(drawn(given[0]))

@@ -1,0 +1,129 @@
+"""Drives Chromium without a window, through the two pipes that it takes commands and gives answers by. For check-replay."""
+import base64, fcntl, json, os, pathlib, select, shutil, subprocess, tempfile, time
+
+NAMES = "chromium", "chromium-browser", "google-chrome", "chrome"
+PATIENCE = 30
+
+
+def found():
+    """Where Chromium is, or None."""
+    return next(filter(None, map(shutil.which, NAMES)), None)
+
+
+class Browser:
+    """One browser with one page, as a context manager. What it was told to ask the network for is in `asked`, and what its
+    pages have thrown in `thrown`."""
+
+    def __init__(self, program):
+        self.program, self.number, self.rest = program, 0, b""
+        self.asked, self.thrown, self.session = [], [], None
+
+    def __enter__(self):
+        self.folder = tempfile.mkdtemp()
+        (to_read, self.to), (self.back, to_write) = os.pipe(), os.pipe()
+        reading, writing = (fcntl.fcntl(end, fcntl.F_DUPFD_CLOEXEC, 10) for end in (to_read, to_write))
+
+        def hand_over():
+            os.dup2(reading, 3)
+            os.dup2(writing, 4)
+
+        words = [self.program, "--headless", "--remote-debugging-pipe", "--disable-gpu", "--no-first-run", "--hide-scrollbars",
+                 "--disable-background-networking", "--disable-component-update", "--disable-sync", "--host-resolver-rules=MAP * ~NOTFOUND",
+                 "--user-data-dir=" + self.folder, *(["--no-sandbox"] if os.geteuid() == 0 else [])]
+        self.child = subprocess.Popen(words, stdin=subprocess.DEVNULL, stdout=subprocess.DEVNULL, stderr=subprocess.DEVNULL,
+                                      close_fds=False, preexec_fn=hand_over)
+        for end in {to_read, to_write, reading, writing}:
+            os.close(end)
+        page = self.call("Target.createTarget", url="about:blank")["targetId"]
+        self.session = self.call("Target.attachToTarget", targetId=page, flatten=True)["sessionId"]
+        for domain in "Page", "Runtime", "Network":
+            self.call(domain + ".enable")
+        return self
+
+    def __exit__(self, *_):
+        try:
+            os.close(self.to)
+            self.child.terminate()
+            self.child.wait(PATIENCE)
+        except subprocess.TimeoutExpired:
+            self.child.kill()
+            self.child.wait()
+        os.close(self.back)
+        shutil.rmtree(self.folder, ignore_errors=True)
+
+    def message(self):
+        """The next message of the browser."""
+        end = time.monotonic() + PATIENCE
+        while b"\0" not in self.rest:
+            if not select.select([self.back], [], [], max(0, end - time.monotonic()))[0]:
+                raise TimeoutError("the browser says nothing")
+            got = os.read(self.back, 1 << 16)
+            if not got:
+                raise EOFError("the browser has ended")
+            self.rest += got
+        whole, self.rest = self.rest.split(b"\0", 1)
+        return json.loads(whole)
+
+    def note(self, message):
+        """Keeps what a message tells of the network and of errors."""
+        given = message.get("params", {})
+        if message.get("method") == "Network.requestWillBeSent":
+            self.asked.append(given["request"]["url"])
+        if message.get("method") == "Runtime.exceptionThrown":
+            self.thrown.append(given["exceptionDetails"].get("exception", {}).get("description", "an exception"))
+
+    def call(self, method, **given):
+        """What a command answers."""
+        self.number += 1
+        sent = {"id": self.number, "method": method, "params": given, **({"sessionId": self.session} if self.session else {})}
+        os.write(self.to, json.dumps(sent).encode() + b"\0")
+        while True:
+            message = self.message()
+            self.note(message)
+            if message.get("id") == self.number:
+                if "error" in message:
+                    raise ValueError("%s: %s" % (method, message["error"]))
+                return message["result"]
+
+    def value(self, expression):
+        """The value of an expression in the page."""
+        got = self.call("Runtime.evaluate", expression=expression, returnByValue=True, awaitPromise=True)
+        if "exceptionDetails" in got:
+            raise ValueError("%s: %s" % (expression, got["exceptionDetails"]))
+        return got["result"].get("value")
+
+    def open(self, place):
+        """Opens a file as a page, and waits until it is there."""
+        wanted = pathlib.Path(place).resolve().as_uri()
+        self.call("Page.navigate", url=wanted)
+        self.until("document.readyState === 'complete' && location.href === %s" % json.dumps(wanted))
+
+    def until(self, expression):
+        """Waits until an expression is true in the page."""
+        end = time.monotonic() + PATIENCE
+        while not self.value(expression):
+            if time.monotonic() > end:
+                raise TimeoutError(expression)
+            time.sleep(0.02)
+
+    def press(self, key, code=None, text=None):
+        """Presses a key and lets it go."""
+        code = code or {"ArrowLeft": 37, "ArrowRight": 39, "Home": 36, "End": 35, " ": 32, "Tab": 9}[key]
+        given = {"key": key, "code": "Space" if key == " " else key, "windowsVirtualKeyCode": code}
+        self.call("Input.dispatchKeyEvent", type="keyDown", **given, **({"text": text or key} if len(key) == 1 else {}))
+        self.call("Input.dispatchKeyEvent", type="keyUp", **given)
+
+    def size(self, wide, high):
+        """Sets the size of the window."""
+        self.call("Emulation.setDeviceMetricsOverride", width=wide, height=high, deviceScaleFactor=1, mobile=False)
+
+    def media(self, kind="", **features):
+        """Has the page be printed or shown, and sets what its reader prefers, as prefers_color_scheme='dark'."""
+        listed = [{"name": name.replace("_", "-"), "value": value} for name, value in features.items()]
+        self.call("Emulation.setEmulatedMedia", media=kind, features=listed)
+
+    def picture(self, place, whole=False):
+        """Writes a picture of the page to a PNG file: of what the window shows, or of the whole page."""
+        got = self.call("Page.captureScreenshot", format="png", captureBeyondViewport=whole)
+        with open(place, "wb") as file:
+            file.write(base64.b64decode(got["data"]))
