@@ -28,6 +28,11 @@ pub(crate) const SCRIPT_HELP: &str = "Text files with the lines of a session eac
 
 pub(crate) const WORKERS_HELP: &str = "How many threads share the trials, 1 to 16; default 1";
 
+pub(crate) const RANK_WORKERS_HELP: &str =
+    "How many threads share trials or lines, 1 to 16; default 1";
+
+pub(crate) const LINE_WORKERS_HELP: &str = "How many threads share the lines, 1 to 16; default 1";
+
 pub(crate) const LINES_HELP: &str = "FILE has a table on each line, and each line is answered";
 
 pub(crate) const CAPACITY_HELP: &str = "How many entries there may be, 1 to 65536; default 65536";
