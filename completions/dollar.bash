@@ -58,9 +58,9 @@ _dollar() {
     done
     case $command in
         '') arguments=(COMMAND) options=(--help --version) ;;
-        judge) arguments=(FILE) options=(--lines --help) ;;
+        judge) arguments=(FILE) options=(--lines --workers --help) ;;
         rank) arguments=(FILE K) options=(--lines --workers --help) ;;
-        rr) arguments=(FILE) options=(--lines --help) ;;
+        rr) arguments=(FILE) options=(--lines --workers --help) ;;
         greedy) arguments=(FILE TURNS) ;;
         rehearse) arguments=(FILE STEPS) ;;
         serve) arguments=(FILE) options=(--seats --cap --workers --help) ;;

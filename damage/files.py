@@ -184,7 +184,10 @@ def damaged_lines(checks):
     the same texts."""
     forms = [(what, data) for what, data in damaged(TRIANGLE) if b"\n" not in data] + [("%r" % data, data) for data in FAULTY]
     checks.same("faults that did not come", set(), FAULTS - {expected_fault(data)[0] for _, data in forms})
-    run = checks.run("judge", "--lines", checks.put("lines", b"".join(data + b"\n" for _, data in forms)))
+    place = checks.put("lines", b"".join(data + b"\n" for _, data in forms))
+    run = checks.run("judge", "--lines", place)
+    for workers in "2", "3", "16":
+        checks.same("damaged lines, %s workers" % workers, run, checks.run("judge", "--lines", "--workers", workers, place))
     answers = run.output.split(b"\n")
     checks.same("damaged lines: the end", (0, b"", len(forms) + 1), (run.status, run.faults, len(answers)))
     for (what, data), answer in zip(forms, answers):

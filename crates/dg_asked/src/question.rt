@@ -1,4 +1,6 @@
 //! What is asked of many tables.
+ghost use Rattle.std.specs.Prelude.{◌≤◌};
+ghost use Rattle.dg_asked.specs.declared.limits.TheConstants.{MAX_WORKERS};
 
 /// What is asked of each table of a sweep.
 #[derive(Clone, Copy, Debug, PartialEq, Eq)]
@@ -18,4 +20,7 @@ pub struct SweepTask<'a> {
     pub file: &'a str,
     /// What is asked of each table.
     pub question: Question,
+    /// How many workers share the lines, 1 to 16.
+    pub workers: u32,
+    ghost helped: { (1 ≤ workers) × (workers ≤ MAX_WORKERS) },
 }

@@ -5,9 +5,9 @@ ghost use Rattle.dg_asked.specs.declared.limits.TheConstants.{MAX_CAPACITY, MAX_
 ghost use Rattle.dg_asked.specs.Seats.{count_of};
 
 use crate::help_texts::{
-    CAPACITY_HELP, DEGREE_HELP, FILE_HELP, GREEDY_MORE, JUDGE_MORE, LINES_HELP, MORE, PARTY_MORE,
-    RANK_MORE, REHEARSE_MORE, RIEMANN_ROCH_MORE, SCRIPT_HELP, SEATS_HELP, SERVE_MORE, STEPS_HELP,
-    TURNS_HELP, VERSION, WORKERS_HELP,
+    CAPACITY_HELP, DEGREE_HELP, FILE_HELP, GREEDY_MORE, JUDGE_MORE, LINE_WORKERS_HELP, LINES_HELP,
+    MORE, PARTY_MORE, RANK_MORE, RANK_WORKERS_HELP, REHEARSE_MORE, RIEMANN_ROCH_MORE, SCRIPT_HELP,
+    SEATS_HELP, SERVE_MORE, STEPS_HELP, TURNS_HELP, VERSION, WORKERS_HELP,
 };
 use clap::error::ErrorKind;
 use clap::{Arg, ArgAction, ArgMatches, Command};
@@ -100,7 +100,9 @@ fn number_refused(
 /// The command that takes a number, as its usage shows it; any other name stands for the whole program.
 fn shown_command<'a>(alloc: Global, name: &str) -> Result<Command<'a>, AllocError> {
     match name {
+        "judge" => judge(alloc)?.bin_name("dollar judge"),
         "rank" => rank(alloc)?.bin_name("dollar rank"),
+        "rr" => riemann_roch(alloc)?.bin_name("dollar rr"),
         "greedy" => greedy(alloc)?.bin_name("dollar greedy"),
         "serve" => serve(alloc)?.bin_name("dollar serve"),
         "party" => party(alloc)?.bin_name("dollar party"),
@@ -176,8 +178,13 @@ fn command_in<'a>(alloc: Global, matches: &ArgMatches<'a>) -> Result<Asked<'a>, 
             }))
         }
         _ if inner.get_flag("lines") => {
+            let workers = workers_in(inner)?;
             let question = question_in(name, inner)?;
-            Ok(Asked::Sweep(SweepTask { file, question }))
+            Ok(Asked::Sweep(SweepTask {
+                file,
+                question,
+                workers,
+            }))
         }
         _ => match task_in(name, file, inner) {
             Ok(task) => Ok(Asked::Task(task)),
@@ -329,7 +336,8 @@ fn judge<'a>(alloc: Global) -> Result<Command<'a>, AllocError> {
         .about("Tells whether a table is winnable, and prints what shows it")
         .after_help(JUDGE_MORE)
         .arg(table_file(alloc))?
-        .arg(lines(alloc))
+        .arg(lines(alloc))?
+        .arg(line_workers(alloc)?)
 }
 
 fn rank<'a>(alloc: Global) -> Result<Command<'a>, AllocError> {
@@ -342,9 +350,9 @@ fn rank<'a>(alloc: Global) -> Result<Command<'a>, AllocError> {
         .about("Tests whether a table stays winnable wherever K dollars are lost")
         .after_help(RANK_MORE)
         .arg(table_file(alloc))?
-        .arg(lines(alloc).conflicts_with("workers")?)?
+        .arg(lines(alloc))?
         .arg(degree)?
-        .arg(workers(alloc))
+        .arg(workers(alloc).help(RANK_WORKERS_HELP))
 }
 
 fn riemann_roch<'a>(alloc: Global) -> Result<Command<'a>, AllocError> {
@@ -352,7 +360,8 @@ fn riemann_roch<'a>(alloc: Global) -> Result<Command<'a>, AllocError> {
         .about("Prints the four numbers of Riemann-Roch for a table")
         .after_help(RIEMANN_ROCH_MORE)
         .arg(table_file(alloc))?
-        .arg(lines(alloc))
+        .arg(lines(alloc))?
+        .arg(line_workers(alloc)?)
 }
 
 fn greedy<'a>(alloc: Global) -> Result<Command<'a>, AllocError> {
@@ -410,6 +419,10 @@ fn workers<'a>(alloc: Global) -> Arg<'a> {
         .value_name("N")
         .allow_negative_numbers(true)
         .help(WORKERS_HELP)
+}
+
+fn line_workers<'a>(alloc: Global) -> Result<Arg<'a>, AllocError> {
+    workers(alloc).help(LINE_WORKERS_HELP).requires_arg("lines")
 }
 
 fn seats<'a>(alloc: Global) -> Arg<'a> {

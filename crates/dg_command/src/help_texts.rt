@@ -28,6 +28,11 @@ pub(crate) const SCRIPT_HELP: &str = "Text files with the lines of a session eac
 
 pub(crate) const WORKERS_HELP: &str = "How many threads share the trials, 1 to 16; default 1";
 
+pub(crate) const RANK_WORKERS_HELP: &str =
+    "How many threads share trials or lines, 1 to 16; default 1";
+
+pub(crate) const LINE_WORKERS_HELP: &str = "How many threads share the lines, 1 to 16; default 1";
+
 pub(crate) const SEATS_HELP: &str =
     "How many seats there are, 1 to 64; each line names its seat; default: one, unnamed";
 

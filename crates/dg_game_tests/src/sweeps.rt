@@ -3,6 +3,7 @@
 use dg_asked::Question;
 use dg_streams::{Input, Output};
 use dg_sweep::{SweepEnd, sweep};
+use std::alloc::Global;
 use std::io;
 use std::io::{ErrorKind, Read};
 use std::test::Fail;
@@ -84,7 +85,7 @@ fn lines_are_answered_however_they_come(rt: HostRuntime) -> Result<(), Fail> {
                 fails: false,
             });
             let mut output = Output::new(Vec::new(rt.alloc()));
-            let end = sweep(&rt, rt.alloc(), question, &mut input, &mut output);
+            let end = sweep(&rt, rt.alloc(), question, 1, &mut input, &mut output);
             assert!(rt; end.is_ok());
             assert_eq!(rt; output.into_inner().as_slice(), answers.as_bytes());
         }
@@ -95,9 +96,51 @@ fn lines_are_answered_however_they_come(rt: HostRuntime) -> Result<(), Fail> {
         fails: true,
     });
     let mut output = Output::new(Vec::new(rt.alloc()));
-    let end = sweep(&rt, rt.alloc(), Question::Judge, &mut input, &mut output);
+    let end = sweep(&rt, rt.alloc(), Question::Judge, 1, &mut input, &mut output);
     assert!(rt; end == Err(SweepEnd::Read));
     let said = output.into_inner();
     assert!(rt; JUDGED.as_bytes().starts_with(&said) && said.ends_with(b"no vertex q\n"));
+    Ok(())
+}
+
+// Lines that differ from one part of the text to the next, so that parts in another order give other answers.
+fn many_lines(alloc: Global) -> Result<(Vec<u8>, Vec<u8>), Fail> {
+    let mut text = Vec::new(alloc);
+    let mut answers = Vec::new(alloc);
+    for count in 1..20 {
+        for _ in 0..count {
+            text.extend_from_slice(b"[]\n")?;
+            answers.extend_from_slice(b"refused shape of top\n")?;
+        }
+        text.extend_from_slice(LINES.as_bytes())?;
+        text.push(b'\n')?;
+        answers.extend_from_slice(JUDGED.as_bytes())?;
+    }
+    Ok((text, answers))
+}
+
+#[test]
+fn any_number_of_workers_answers_as_one(rt: HostRuntime) -> Result<(), Fail> {
+    let (text, answers) = many_lines(rt.alloc())?;
+    for workers in [1, 2, 3, 4, 16] {
+        for most in [1_000, 3_001, 2_000_000] {
+            let mut input = Input::new(Flow {
+                text: &text,
+                most,
+                fails: false,
+            });
+            let mut output = Output::new(Vec::new(rt.alloc()));
+            let end = sweep(
+                &rt,
+                rt.alloc(),
+                Question::Judge,
+                workers,
+                &mut input,
+                &mut output,
+            );
+            assert!(rt; end.is_ok());
+            assert!(rt; output.into_inner().as_slice() == answers.as_slice());
+        }
+    }
     Ok(())
 }

@@ -57,6 +57,7 @@ abbrev pub status_of_sweep : SweepEnd → ℕ
 status_of_sweep sweep.Read = 5
 status_of_sweep sweep.Write = 5
 status_of_sweep sweep.Memory = 4
+status_of_sweep sweep.Spawn = 4
 
 abbrev pub status_of_task : TaskFault → ℕ
 status_of_task (task.Source fault) = status_of_source fault

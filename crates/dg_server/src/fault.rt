@@ -134,7 +134,7 @@ fn status_of_sweep(end: SweepEnd) -> u8
     ensures { result ≡ Rattle.dg_server.specs.Status.status_of_sweep end }
 {
     match end {
-        SweepEnd::Memory => 4,
+        SweepEnd::Memory | SweepEnd::Spawn => 4,
         SweepEnd::Read | SweepEnd::Write => 5,
     }
 }
@@ -168,6 +168,7 @@ fn sweep_end_text(end: SweepEnd) -> &'static str {
         SweepEnd::Read => "read fault",
         SweepEnd::Write => "write fault",
         SweepEnd::Memory => "out of memory",
+        SweepEnd::Spawn => "no thread",
     }
 }
 

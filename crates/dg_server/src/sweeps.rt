@@ -11,6 +11,7 @@ use dg_tasks::TaskFault;
 use std::io::Write;
 use std::rt::Files;
 use std::sync::Wait;
+use std::thread::Threads;
 
 /// Answers the lines of the file that is named.
 pub(crate) fn sweep_file<R, S, O>(
@@ -20,7 +21,7 @@ pub(crate) fn sweep_file<R, S, O>(
     output: &mut Output<O>,
 ) -> Result<(), Fault>
 where
-    R: Files + AllocGlobal + Wait,
+    R: Files + AllocGlobal + Threads + Wait + Sync,
     S: Sources,
     O: Write,
     ensures done { OnOk result (Sweeps (S.held sources.now) task.now output.old.contents output.new.contents) }
@@ -34,7 +35,14 @@ where
         Err(fault) => return Err(Fault::Task(TaskFault::Source(fault))),
     };
     let mut reader = Input::new(stream);
-    match sweep(rt, rt.alloc(), task.question, &mut reader, output) {
+    match sweep(
+        rt,
+        rt.alloc(),
+        task.question,
+        task.workers,
+        &mut reader,
+        output,
+    ) {
         Ok(()) => Ok(()),
         Err(end) => Err(Fault::Sweep(end)),
     }

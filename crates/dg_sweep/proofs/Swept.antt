@@ -17,12 +17,12 @@ use Rattle.dg_streams.specs.Streams.{AppendsFront}
 use Rattle.dg_streams.proofs.Growing.{appends_none, appends_more}
 use Rattle.dg_sweep.specs.Answers.{Answers}
 use Rattle.dg_sweep.specs.Streams.{Begins}
-use Rattle.dg_sweep.specs.Sweeps.{IsSweep}
+use Rattle.dg_sweep.specs.Sweeps.{IsFront, IsSweep}
 use Rattle.dg_sweep.specs.Steps.{StandsFor, TakesBytes, TakesEnd, Passes, last_line}
 use Rattle.dg_asked.specs.declared.question.Question.{Question}
 use Rattle.dg_sweep.specs.declared.ends.TheConstants.{READ_SIZE}
 use Rattle.dg_sweep.specs.declared.ends.SweepEnd.{SweepEnd}
-use Rattle.dg_sweep.specs.declared.ends.SweepEnd.TheVariants.{Read, Write, Memory}
+use Rattle.dg_sweep.specs.declared.ends.SweepEnd.TheVariants.{Read, Write, Memory, Spawn}
 use Rattle.dg_sweep.proofs.Cutting.{one_cutting}
 use Rattle.dg_sweep.proofs.Taken.{answers_none, answers_more, begins_none, begins_both}
 
@@ -132,6 +132,19 @@ module _ (question : Question) (input rest : Option (List ℕ)) (old mid : Optio
   written_before : (new : Option (List ℕ)) → Appends mid new [] → Appends old new far.text
   written_before new none = subst (Appends old new) (append-nil far.text) (appends_more old mid new far.text [] far.written none)
 
+  -- how far it is, where nothing is written of what came last
+  answered_before : {ended : Type 0} (new : Option (List ℕ)) (bytes : List ℕ) → Appends mid new []
+      → IsFront question ended (far.stream ++ bytes) old new
+  answered_before new bytes none = record {
+    ls = far.ls;
+    came = inl (
+      far.part ++ bytes,
+      subst (λ ls. Begins (far.stream ++ bytes) ls (far.part ++ bytes)) (append-nil far.ls)
+          (begins_both far.stream bytes far.part (far.part ++ bytes) far.ls [] far.cut (begins_none (far.part ++ bytes))),
+    );
+    answered = (far.text, far.answers, written_before new none);
+  }
+
   -- what was written, where a front is written of what came last
   written_front : (new : Option (List ℕ)) (text : List ℕ) → AppendsFront mid new [] text → AppendsFront old new far.text text
   written_front new text front = (front.0, front.1, appends_more old mid new far.text (take front.0 text) far.written front.2)
@@ -160,15 +173,12 @@ module _ (question : Question) (input rest : Option (List ℕ)) (old mid : Optio
   sweep_halts rest' new bytes pending' Memory read small passed = record {
     stream = far.stream ++ bytes;
     read = consumes_more input rest rest' far.stream bytes far.read read;
-    ends = record {
-      ls = far.ls;
-      came = inl (
-        far.part ++ bytes,
-        subst (λ ls. Begins (far.stream ++ bytes) ls (far.part ++ bytes)) (append-nil far.ls)
-            (begins_both far.stream bytes far.part (far.part ++ bytes) far.ls [] far.cut (begins_none (far.part ++ bytes))),
-      );
-      answered = (far.text, far.answers, written_before new passed);
-    };
+    ends = answered_before new bytes passed;
+  }
+  sweep_halts rest' new bytes pending' Spawn read small passed = record {
+    stream = far.stream ++ bytes;
+    read = consumes_more input rest rest' far.stream bytes far.read read;
+    ends = answered_before new bytes passed;
   }
 
   pub sweep_halts_last : (rest' new : Option (List ℕ)) (end : SweepEnd) → Consumes rest rest' [] → IsAtEnd rest'
@@ -194,6 +204,11 @@ module _ (question : Question) (input rest : Option (List ℕ)) (old mid : Optio
       few_last [] = omega arith
       few_last (byte ∷ part) = omega arith
   sweep_halts_last rest' new Memory read over passed = record {
+    stream = far.stream;
+    read = read_end rest' read;
+    ends = record { ls = far.ls; came = inl (far.part, far.cut); answered = (far.text, far.answers, written_before new passed) };
+  }
+  sweep_halts_last rest' new Spawn read over passed = record {
     stream = far.stream;
     read = read_end rest' read;
     ends = record { ls = far.ls; came = inl (far.part, far.cut); answered = (far.text, far.answers, written_before new passed) };

@@ -2,15 +2,20 @@
 --   answers_none, answers_one, answers_more   no line is answered; one; some lines and then others
 --   begins_none, begins_both   a stream that begins with no line, and one that is read on
 --   so_far_none, so_far_line, so_far_rest   lines of bytes are answered one after another
+--   nothing_left               what follows the last newline of bytes that end with one is nothing
+--   front_ends                 what stands before the bytes that follow a newline ends with it
+--   pieces_both                what a piece comes to, and what follows it, is what both do
 --   takes_part, takes_lines    bytes without a newline, and with one
 --   nothing                    a list of length 0
 --   takes_no_end, takes_end    the end
-use Rattle.std.proofs.Common.{◌≡◌, ◌≢◌, ℕ, ◌+◌, ◌≤◌, inl, inr, List, [], ◌∷◌, ◌++◌, length, refl, sym, ap, subst, ◌∙◌, arith, append_assoc, append-nil, length-append, flat_map}
-use Rattle.std.proofs.lemmas.List.Elements.{All-append, All-nil, All-cons}
+use Rattle.std.proofs.Common.{◌≡◌, ◌≢◌, ℕ, ◌+◌, ◌-◌, ◌≤◌, take, drop, inl, inr, List, [], ◌∷◌, ◌++◌, length, refl, sym, ap, subst, ◌∙◌, arith, append_assoc, append-nil, length-append, flat_map}
+use Rattle.std.proofs.lemmas.List.Elements.{All-append, All-nil, All-cons, All-head, All-tail}
 use Rattle.std.proofs.lemmas.Grind.{flat_map-append}
+use Rattle.std.proofs.Math.Seq.{take-append_seam}
+use Rattle.std.proofs.lemmas.List.{take-append-drop}
 use Rattle.dg_sweep.specs.Answers.{AnswersLine, Answers}
 use Rattle.dg_sweep.specs.Streams.{HasNoNewline, Begins, with_newline}
-use Rattle.dg_sweep.specs.Steps.{StandsFor, KeepsPart, AnswersFront, TakesBytes, TakesEnd, last_line}
+use Rattle.dg_sweep.specs.Steps.{StandsFor, KeepsPart, AnswersFront, EndsLine, TakesBytes, TakesEnd, last_line}
 use Rattle.dg_asked.specs.declared.question.Question.{Question}
 
 pub answers_none : (question : Question) → Answers question [] []
@@ -108,6 +113,58 @@ so_far_rest question bytes rest old new line far none e = (
   },
   far.text,
 )
+
+-- what ends with a byte has it at the end of what stands last
+ends_with : (xs ys front : List ℕ) (y byte : ℕ) → xs ++ y ∷ ys ≡ front ++ byte ∷ [] → (more : List ℕ) × (y ∷ ys ≡ more ++ byte ∷ [])
+ends_with [] ys front y byte e = (front, e)
+ends_with (x ∷ xs) ys [] y byte e = let size = length-append xs (y ∷ ys) in absurd (omega (arith, ap length e, size))
+ends_with (x ∷ xs) ys (z ∷ front) y byte e = ends_with xs ys front y byte (ap tail e)
+  where
+    tail : List ℕ → List ℕ
+    tail [] = []
+    tail (h ∷ t) = t
+
+pub nothing_left : (bytes rest : List ℕ) (ls : List (List ℕ)) → Begins bytes ls rest → HasNoNewline rest → EndsLine bytes → rest ≡ []
+nothing_left bytes [] ls cut none ends = refl
+nothing_left bytes (y ∷ ys) ls cut none ends =
+    let (more, e) = ends_with (flat_map with_newline ls) ys ends.0 y 10 (sym cut.whole ∙ ends.1) in
+    absurd (not_newline more (subst HasNoNewline e none))
+  where
+    not_newline : (xs : List ℕ) → HasNoNewline (xs ++ 10 ∷ []) → ⊥
+    not_newline [] all = All-head (λ byte. byte ≢ 10) 10 [] all refl
+    not_newline (x ∷ xs) all = not_newline xs (All-tail (λ byte. byte ≢ 10) x (xs ++ 10 ∷ []) all)
+
+pub front_ends : (bytes early later part after : List ℕ) (n : ℕ) → early ≡ take n bytes → later ≡ drop n bytes → later ≡ part ++ 10 ∷ after
+    → (length after ≤ length bytes) × EndsLine (take (length bytes - length after) bytes)
+    × (bytes ≡ take (length bytes - length after) bytes ++ after)
+front_ends bytes early later part after n e1 e2 e =
+    let split : early ++ later ≡ bytes = ap (λ l. l ++ later) e1 ∙ ap (λ l. take n bytes ++ l) e2 ∙ take-append-drop n bytes in
+    let front = (early ++ part) ++ 10 ∷ [] in
+    let whole : bytes ≡ front ++ after =
+    sym split ∙ ap (λ l. early ++ l) e ∙ sym (append_assoc early part (10 ∷ after))
+    ∙ sym (append_assoc (early ++ part) (10 ∷ []) after) in
+    let sum = length-append front after in
+    let size : length bytes - length after ≡ length front = omega (arith, ap length whole, sum) in
+    let same : take (length bytes - length after) bytes ≡ front =
+    ap (λ n. take n bytes) size ∙ ap (take (length front)) whole ∙ take-append_seam front after in
+    (omega (arith, ap length whole, sum), (early ++ part, same), whole ∙ ap (λ l. l ++ after) (sym same))
+
+pub pieces_both : (question : Question) (bytes front back rest rest' last said said' text : List ℕ) → EndsLine front → bytes ≡ front ++ back
+    → AnswersFront question front rest said → AnswersFront question back rest' said' → last ≡ rest' → text ≡ said ++ said'
+    → AnswersFront question bytes last text
+pieces_both question bytes front back rest rest' last said said' text ends e here there left both =
+    let none : rest ≡ [] = nothing_left front rest here.ls here.cut here.no_newline ends in
+    let cut : Begins front here.ls [] = subst (λ l. Begins front here.ls l) none here.cut in
+    let cut' : Begins (front ++ back) (here.ls ++ there.ls) rest' = begins_both front back [] rest' here.ls there.ls cut there.cut in
+    record {
+      ls = here.ls ++ there.ls;
+      cut = subst (λ l. Begins l (here.ls ++ there.ls) last) (sym e) (subst (λ l. Begins (front ++ back) (here.ls ++ there.ls) l) (sym left) cut');
+      no_newline = subst HasNoNewline (sym left) there.no_newline;
+      few = let size = length-append front back in let lines = length-append here.ls there.ls in
+          omega (arith, ap length e, size, lines, here.few, there.few);
+      answers = subst (Answers question (here.ls ++ there.ls)) (sym both)
+          (answers_more question here.ls there.ls said said' here.answers there.answers);
+    }
 
 -- what is pending still stands for the part of the line, with more of it
 stands_more : (old more new part : List ℕ) → StandsFor old part → HasNoNewline more → KeepsPart old more new → StandsFor new (part ++ more)

@@ -3,11 +3,12 @@
 --   KeepsPart old part new == the part is put after what is pending, or that is longer already than a line may be
 --   AnswersFront question bytes rest text == the bytes are lines, each with its newline, and then the rest, which has none; and
 --                             the text is the answers to the lines
+--   EndsLine bytes           == the last of the bytes is a newline
 --   TakesBytes question old bytes new text == whatever part of a line was pending, it and the bytes are lines and then a part of a
 --                             line, which then is pending; there are no more lines than bytes; and the text is their answers
 --   TakesEnd question pending text == whatever part of a line was pending, it is the last line, if it has a byte, and the text its
 --                             answer
---   Passes T old new result == such a text, of which T holds, was written; or memory was refused, and nothing was written; or a
+--   Passes T old new result == such a text, of which T holds, was written; or memory or a thread was refused, and nothing was written; or a
 --                             front of it was written, and the writer took no more
 use Rattle.std.specs.Prelude.{◌≡◌, ℕ, ◌<◌, ◌≤◌, ◌⊎◌, List, [], ◌∷◌, ◌++◌, length, Option, Result, Ok, Err}
 use Rattle.std.specs.Io.KnownBytes.{Appends}
@@ -17,7 +18,7 @@ use Rattle.dg_sweep.specs.Streams.{HasNoNewline, Begins}
 use Rattle.dg_asked.specs.declared.question.Question.{Question}
 use Rattle.dg_sweep.specs.declared.ends.TheConstants.{MAX_LINE}
 use Rattle.dg_sweep.specs.declared.ends.SweepEnd.{SweepEnd}
-use Rattle.dg_sweep.specs.declared.ends.SweepEnd.TheVariants.{Read, Write, Memory}
+use Rattle.dg_sweep.specs.declared.ends.SweepEnd.TheVariants.{Read, Write, Memory, Spawn}
 
 pub record StandsFor (pending part : List ℕ) : Type 0 where
   pub no_newline : HasNoNewline part
@@ -32,6 +33,9 @@ pub record AnswersFront (question : Question) (bytes rest text : List ℕ) : Typ
   pub no_newline : HasNoNewline rest
   pub few : length ls ≤ length bytes
   pub answers : Answers question ls text
+
+abbrev pub EndsLine : List ℕ → Type 0
+EndsLine bytes = (front : List ℕ) × (bytes ≡ front ++ 10 ∷ [])
 
 pub record Taken (question : Question) (bytes new text : List ℕ) (n : ℕ) : Type 0 where
   pub ls : List (List ℕ)
@@ -56,4 +60,5 @@ abbrev pub Passes : (List ℕ → Type 0) → Option (List ℕ) → Option (List
 Passes T old new (Ok done) = (text : List ℕ) × T text × Appends old new text
 Passes T old new (Err Write) = (text : List ℕ) × T text × AppendsFront old new [] text
 Passes T old new (Err Memory) = Appends old new []
+Passes T old new (Err Spawn) = Appends old new []
 Passes T old new (Err Read) = ⊥

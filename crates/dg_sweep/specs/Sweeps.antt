@@ -6,7 +6,7 @@
 --   IsUnheard ..     == the lines of `told` and then those of `last` came; all answers to the first, and a front of the answers to
 --                       the last were written; these are no more than the bytes of one read
 --   Ends ..          == how the sweep ended: all lines of the stream are answered, and no more are to come; or, where reading failed,
---                       all whole lines that were read; or, where memory was refused, the first lines; or the writer took no more
+--                       all whole lines that were read; or, where memory or a thread was refused, the first lines; or the writer took no more
 --   IsSweep question input rest old new result == some bytes were read, on which the sweep ended so: those by which the reader's
 --                       bytes, where they are known, have become the rest
 use Rattle.std.specs.Prelude.{ℕ, ◌≤◌, List, ◌++◌, length, Option, Result, Ok, Err}
@@ -18,7 +18,7 @@ use Rattle.dg_sweep.specs.Streams.{HasNoNewline, Begins, Comes}
 use Rattle.dg_asked.specs.declared.question.Question.{Question}
 use Rattle.dg_sweep.specs.declared.ends.TheConstants.{READ_SIZE}
 use Rattle.dg_sweep.specs.declared.ends.SweepEnd.{SweepEnd}
-use Rattle.dg_sweep.specs.declared.ends.SweepEnd.TheVariants.{Read, Write, Memory}
+use Rattle.dg_sweep.specs.declared.ends.SweepEnd.TheVariants.{Read, Write, Memory, Spawn}
 
 abbrev pub AreAnswered : Question → List (List ℕ) → Option (List ℕ) → Option (List ℕ) → Type 0
 AreAnswered question ls old new = (text : List ℕ) × Answers question ls text × Appends old new text
@@ -51,6 +51,7 @@ Ends question ended stream old new (Ok done) = ended × AreAnswered question (li
 Ends question ended stream old new (Err Read) = IsPart question stream old new
 Ends question ended stream old new (Err Write) = IsUnheard question ended stream old new
 Ends question ended stream old new (Err Memory) = IsFront question ended stream old new
+Ends question ended stream old new (Err Spawn) = IsFront question ended stream old new
 
 pub record IsSweep (question : Question) (input rest : Option (List ℕ)) (old new : Option (List ℕ))
     (result : Result (Unit {0}) SweepEnd) : Type 0 where

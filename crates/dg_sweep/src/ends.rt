@@ -4,7 +4,7 @@
 pub const MAX_LINE: usize = 1_048_576;
 
 /// The most bytes that are read at once.
-pub const READ_SIZE: usize = 65_536;
+pub const READ_SIZE: usize = 262_144;
 
 /// Why a sweep ends before its input does.
 #[derive(Clone, Copy, Debug, PartialEq, Eq)]
@@ -15,4 +15,6 @@ pub enum SweepEnd {
     Write,
     /// Memory was refused.
     Memory,
+    /// A thread could not be started.
+    Spawn,
 }

@@ -7,6 +7,7 @@ mod fault_words;
 mod ranking;
 mod sweeping;
 mod taking;
+mod workers;
 
 pub use answering::answer_line;
 pub use ends::{MAX_LINE, READ_SIZE, SweepEnd};

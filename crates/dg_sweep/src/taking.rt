@@ -5,11 +5,14 @@ ghost use Rattle.dg_sweep.specs.declared.ends.SweepEnd.TheVariants.{Write as Wri
 
 use crate::answering::answer_line;
 use crate::ends::{MAX_LINE, SweepEnd};
+use crate::workers::{BatchFault, Room, answer_batch};
 use dg_asked::Question;
 use dg_lines::cut;
 use dg_streams::Output;
 use std::alloc::{AllocError, Global};
 use std::io::Write;
+use std::sync::Wait;
+use std::thread::Threads;
 
 /// How far a sweep is.
 #[derive(Drop)]
@@ -35,23 +38,24 @@ impl Progress {
     }
 
     /// Takes bytes that were read, and writes the answers to the lines that end in them.
-    pub(crate) fn pass_bytes<O: Write>(
+    pub(crate) fn pass_bytes<R: Threads + Wait + Sync, O: Write>(
         &mut self,
-        alloc: Global,
-        question: Question,
+        room: &Room<'_, R>,
         writer: &mut Output<O>,
         bytes: &[u8],
     ) -> Result<(), SweepEnd>
-        ensures passed { Passes (TakesBytes question self.old.pending.items bytes.now self.new.pending.items)
+        ensures passed { Passes
+            (TakesBytes room.now.question self.old.pending.items bytes.now self.new.pending.items)
             writer.old.contents writer.new.contents result }
         ensures write { result ≡ Err WriteEnd → writer.new.has_failed ≡ true }
     {
-        match self.take_bytes(alloc, question, bytes) {
+        match self.take_bytes(room, bytes) {
             Ok(()) => match writer.write_whole(&self.text) {
                 Ok(()) => Ok(()),
                 Err(_) => Err(SweepEnd::Write),
             },
-            Err(_) => Err(SweepEnd::Memory),
+            Err(BatchFault::Memory) => Err(SweepEnd::Memory),
+            Err(BatchFault::Spawn) => Err(SweepEnd::Spawn),
         }
     }
 
@@ -76,13 +80,13 @@ impl Progress {
     }
 
     /// Takes bytes that were read: answers the lines that end in them, and keeps the part of a line that follows.
-    fn take_bytes(
+    fn take_bytes<R: Threads + Wait + Sync>(
         &mut self,
-        alloc: Global,
-        question: Question,
+        room: &Room<'_, R>,
         bytes: &[u8],
-    ) -> Result<(), AllocError>
-        ensures { OnOk result (TakesBytes question self.old.pending.items bytes.now self.new.pending.items self.new.text.items) }
+    ) -> Result<(), BatchFault>
+        ensures { OnOk result (TakesBytes room.now.question
+            self.old.pending.items bytes.now self.new.pending.items self.new.text.items) }
     {
         self.text.clear();
         let (part, after) = cut(bytes, b'\n');
@@ -90,9 +94,9 @@ impl Progress {
         let Some(after) = after else {
             return Ok(());
         };
-        answer_line(alloc, question, &self.pending, &mut self.text)?;
+        answer_line(room.alloc, room.question, &self.pending, &mut self.text)?;
         self.pending.clear();
-        let part = answer_lines(alloc, question, after, &mut self.text, &mut self.answer)?;
+        let part = answer_batch(room, after, &mut self.text, &mut self.answer)?;
         keep_part(&mut self.pending, part)?;
         Ok(())
     }
@@ -121,7 +125,7 @@ fn keep_part(pending: &mut Vec<u8>, part: &[u8]) -> Result<(), AllocError>
 }
 
 /// Puts the answers to the lines of the bytes after the text, and gives what follows the last newline.
-fn answer_lines<'a>(
+pub(crate) fn answer_lines<'a>(
     alloc: Global,
     question: Question,
     bytes: &'a [u8],

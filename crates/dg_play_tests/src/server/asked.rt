@@ -20,8 +20,8 @@ pub(super) enum Command {
     ServeSeats(u8, u32),
     // The names of the scripts, and how many entries there may be.
     Party(&'static [&'static str], u32),
-    // What is asked of the table on each line.
-    Sweep(Question),
+    // What is asked of the table on each line, and how many workers there are.
+    Sweep(Question, u32),
     // A text that is printed as it stands.
     Text(&'static str),
 }
@@ -68,7 +68,13 @@ pub(super) fn asked(alloc: Global, command: Command) -> Result<Asked<'static>, F
                 capacity,
             }));
         }
-        Command::Sweep(question) => return Ok(Asked::Sweep(SweepTask { file, question })),
+        Command::Sweep(question, workers @ 1..=16) => {
+            return Ok(Asked::Sweep(SweepTask {
+                file,
+                question,
+                workers,
+            }));
+        }
         Command::Text(text) => return Ok(Asked::Text(String::from_str(alloc, text)?)),
         _ => return Err(Fail::from("a number past its limits")),
     };

@@ -82,7 +82,7 @@ static JUDGED: [Run; 14] = [
     // A line that is no table does not end a sweep; nor does one without a newline at the end of the file.
     (
         "[]\n\n{\"vertices\":[\"a\"],\"edges\":[],\"amounts\":[-1],\"q\":\"a\"}",
-        Command::Sweep(Question::Judge),
+        Command::Sweep(Question::Judge, 1),
         "",
         "refused shape of top\nrefused not JSON\nunwinnable by a=0 to a=-1\n",
         "",
@@ -90,7 +90,7 @@ static JUDGED: [Run; 14] = [
     ),
     (
         "{\"vertices\":[\"a\"],\"edges\":[],\"amounts\":[2],\"q\":\"a\"}\n",
-        Command::Sweep(Question::RiemannRoch),
+        Command::Sweep(Question::RiemannRoch, 2),
         "",
         "degree 2 genus 0 rank 2 dual -1\n",
         "",
@@ -98,7 +98,7 @@ static JUDGED: [Run; 14] = [
     ),
     (
         ABSENT,
-        Command::Sweep(Question::Rank(1)),
+        Command::Sweep(Question::Rank(1), 16),
         "",
         "",
         "dollar: read fault\n",

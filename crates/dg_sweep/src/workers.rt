@@ -1,0 +1,169 @@
+//! Lines answered among workers, each with a thread of its own.
+ghost use Rattle.std.specs.Prelude.{◌≡◌, ◌≤◌, ◌++◌, ℕ, List, IfOk, IfSome};
+ghost use Rattle.dg_sweep.specs.Steps.{AnswersFront, EndsLine};
+
+use crate::taking::answer_lines;
+use dg_asked::Question;
+use dg_beside::beside;
+use dg_lines::cut;
+use std::alloc::{AllocError, Global};
+use std::sync::Wait;
+use std::thread::Threads;
+
+/// The fewest bytes for which one more worker is asked.
+const PIECE_SIZE: usize = 1_024;
+
+/// What all workers of a sweep share.
+pub(crate) struct Room<'a, R> {
+    pub(crate) rt: &'a R,
+    pub(crate) alloc: Global,
+    pub(crate) question: Question,
+    /// How many workers there may be.
+    pub(crate) workers: usize,
+}
+
+impl<'a, R> Drop for Room<'a, R> {
+    fn drop(self) {
+        let Self {
+            rt: _,
+            alloc: _,
+            question: _,
+            workers: _,
+        } = self;
+    }
+}
+
+/// Why lines are not answered.
+#[derive(Clone, Copy, Debug, PartialEq, Eq)]
+pub(crate) enum BatchFault {
+    /// Memory was refused.
+    Memory,
+    /// A thread could not be started.
+    Spawn,
+}
+
+impl From<AllocError> for BatchFault {
+    fn from(_error: AllocError) -> BatchFault {
+        BatchFault::Memory
+    }
+}
+
+/// What bytes came to.
+#[derive(Drop)]
+struct Piece<'a> {
+    /// The answers to their lines.
+    text: Vec<u8>,
+    /// What follows the last newline.
+    rest: &'a [u8],
+}
+
+/// Puts the answers to the lines of the bytes after the text, and gives what follows the last newline. The lines are shared
+/// among the workers, where there are enough of them.
+pub(crate) fn answer_batch<'a, R: Threads + Wait + Sync>(
+    room: &Room<'_, R>,
+    bytes: &'a [u8],
+    text: &mut Vec<u8>,
+    answer: &mut Vec<u8>,
+) -> Result<&'a [u8], BatchFault>
+    ensures { IfOk result (λ rest. (said : List ℕ)
+        × AnswersFront room.now.question bytes.now rest.now said
+        × (text.new.items ≡ text.old.items ++ said)) }
+{
+    let pieces = room.workers.min(bytes.len() / PIECE_SIZE);
+    if pieces < 2 {
+        return match answer_lines(room.alloc, room.question, bytes, text, answer) {
+            Ok(rest) => Ok(rest),
+            Err(_) => Err(BatchFault::Memory),
+        };
+    }
+    match answer_among(room, pieces, bytes) {
+        Ok(piece) => match text.extend_from_slice(&piece.text) {
+            Ok(()) => Ok(piece.rest),
+            Err(_) => Err(BatchFault::Memory),
+        },
+        Err(fault) => Err(fault),
+    }
+}
+
+/// What bytes come to in so many pieces. The first has a thread of its own, and the others are answered beside it.
+fn answer_among<'a, R: Threads + Wait + Sync>(
+    room: &Room<'_, R>,
+    pieces: usize,
+    bytes: &'a [u8],
+) -> Result<Piece<'a>, BatchFault>
+    ensures { IfOk result (λ piece.
+        AnswersFront room.now.question bytes.now piece.rest.now piece.text.items) }
+{
+    if pieces < 2 {
+        return answer_piece(room, bytes);
+    }
+    let Some((front, back)) = first_piece(bytes, pieces) else {
+        return answer_piece(room, bytes);
+    };
+    let mut first = || -> Result<Piece, BatchFault>
+        ensures { IfOk result (λ piece. AnswersFront room.entry.now.question
+            front.entry.now piece.rest.now piece.text.items) }
+    { answer_piece(room, front) };
+    let mut others = || -> Result<Piece, BatchFault>
+        requires { 2 ≤ pieces }
+        ensures { IfOk result (λ piece. AnswersFront room.entry.now.question
+            back.entry.now piece.rest.now piece.text.items) }
+    { answer_among(room, pieces - 1, back) };
+    let Ok((here, there)) = beside(room.rt, &mut first, &mut others) else {
+        return Err(BatchFault::Spawn);
+    };
+    let here = match here {
+        Ok(here) => here,
+        Err(fault) => return Err(fault),
+    };
+    let there = match there {
+        Ok(there) => there,
+        Err(fault) => return Err(fault),
+    };
+    match both(here, there) {
+        Ok(piece) => Ok(piece),
+        Err(_) => Err(BatchFault::Memory),
+    }
+}
+
+/// What bytes come to in one piece.
+fn answer_piece<'a, R>(room: &Room<'_, R>, bytes: &'a [u8]) -> Result<Piece<'a>, BatchFault>
+    ensures { IfOk result (λ piece.
+        AnswersFront room.now.question bytes.now piece.rest.now piece.text.items) }
+{
+    let mut text = Vec::new(room.alloc);
+    let mut answer = Vec::new(room.alloc);
+    match answer_lines(room.alloc, room.question, bytes, &mut text, &mut answer) {
+        Ok(rest) => Ok(Piece { text, rest }),
+        Err(_) => Err(BatchFault::Memory),
+    }
+}
+
+/// The first of so many pieces, up to a newline, and what follows it; `None` where no newline is there to end it.
+fn first_piece(bytes: &[u8], pieces: usize) -> Option<(&[u8], &[u8])>
+    requires { 2 ≤ pieces }
+    ensures { IfSome result (λ r. EndsLine r.0.now × (bytes.now ≡ r.0.now ++ r.1.now)) }
+{
+    let (_, later) = bytes.split_at(bytes.len() / pieces);
+    let (_, after) = cut(later, b'\n');
+    let Some(after) = after else {
+        return None;
+    };
+    Some((&bytes[..bytes.len() - after.len()], after))
+}
+
+/// What a piece and those after it come to.
+fn both<'a>(here: Piece<'_>, there: Piece<'a>) -> Result<Piece<'a>, AllocError>
+    ensures text { IfOk result (λ piece.
+        piece.text.items ≡ here.entry.text.items ++ there.entry.text.items) }
+    ensures rest { IfOk result (λ piece. piece.rest.now ≡ there.entry.rest.now) }
+{
+    let mut text = here.text;
+    match text.extend_from_slice(&there.text) {
+        Ok(()) => Ok(Piece {
+            text,
+            rest: there.rest,
+        }),
+        Err(error) => Err(error),
+    }
+}

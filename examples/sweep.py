@@ -1,0 +1,128 @@
+#!/usr/bin/env python3
+"""Judges the tables of a file, one on each line, on the workers of a Dask cluster, and writes a CSV file.
+
+    examples/sweep.py [--scheduler ADDRESS | --processes N] [--program PROGRAM] [--chunk LINES] FILE CSV
+
+The cluster is the one whose scheduler has the address, or one of N processes on this machine, by default as many as there are
+processors. PROGRAM is the program as the workers find it; by default the one of this clone. Each worker hands its chunks, of
+1,000 lines by default, to one `dollar judge --lines /dev/stdin`. Dask is the Python module `distributed`, in Debian the package
+python3-distributed.
+
+The CSV file has a row for each line, in order: its number from 1 on, the answer (`winnable`, `unwinnable`, or `refused` and why),
+how often each vertex lends, and the amounts after that. Where the file is there already, the sweep goes on after its last whole
+row: so an interrupted sweep is started again by the same words. A chunk whose worker has died is done again by another. On a
+terminal the number of rows is shown as it grows.
+
+    >>> row(7, "winnable by a=0 b=-1 to a=0 b=1")
+    [7, 'winnable', 'a=0 b=-1', 'a=0 b=1']
+    >>> row(8, "refused no vertex q")
+    [8, 'refused no vertex q', '', '']"""
+import argparse, collections, csv, itertools, os, subprocess, sys, threading
+
+HEADER = ["line", "answer", "script", "amounts"]
+HERE = os.path.dirname(os.path.abspath(__file__))
+PROGRAM = os.path.join(HERE, "..", "crates", "dollar", "out", "dollar")
+
+
+def judged(program, lines):
+    """The answers to some lines, by the program that this thread of the worker has started, or starts now."""
+    from distributed import get_worker
+
+    worker, key = get_worker(), "dollar %s %d" % (program, threading.get_ident())
+    child = getattr(worker, key, None)
+    if child is None or child.poll() is not None:
+        child = subprocess.Popen([program, "judge", "--lines", "/dev/stdin"], stdin=subprocess.PIPE, stdout=subprocess.PIPE)
+        setattr(worker, key, child)
+    sender = threading.Thread(target=lambda: (child.stdin.write(b"".join(lines)), child.stdin.flush()))
+    sender.start()
+    answers = [child.stdout.readline() for _ in lines]
+    sender.join()
+    if not answers[-1].endswith(b"\n"):
+        raise RuntimeError("%s ended with status %d" % (program, child.wait()))
+    return [answer[:-1].decode() for answer in answers]
+
+
+def row(number, answer):
+    """The row of the line with that number."""
+    if answer.startswith("refused "):
+        return [number, answer, "", ""]
+    word, _, rest = answer.partition(" by ")
+    script, _, amounts = rest.partition(" to ")
+    return [number, word, script, amounts]
+
+
+def rows_kept(place):
+    """How many whole rows the file has; what follows the last of them is cut off."""
+    if not os.path.exists(place):
+        return 0
+    with open(place, "r+b") as file:
+        size = rows = 0
+        for line in file:
+            if line.endswith(b"\n"):
+                size, rows = size + len(line), rows + 1
+        file.truncate(size)
+    return max(rows - 1, 0)
+
+
+def chunks(lines, size):
+    """The lines, so many at once; each ends with a newline."""
+    while chunk := [line.rstrip(b"\n") + b"\n" for line in itertools.islice(lines, size)]:
+        yield chunk
+
+
+def answered(client, program, lines, size):
+    """The answers to the lines, in order. A few chunks for each thread of the cluster are under way at once."""
+    under_way = collections.deque()
+    most = 4 * max(sum(client.nthreads().values()), 1)
+    for chunk in chunks(lines, size):
+        under_way.append(client.submit(judged, program, chunk, pure=False, retries=3))
+        if len(under_way) >= most:
+            yield from under_way.popleft().result()
+    while under_way:
+        yield from under_way.popleft().result()
+
+
+def sweep(client, words):
+    """Writes the rows that the CSV file does not have yet."""
+    done = rows_kept(words.csv)
+    with open(words.file, "rb") as lines, open(words.csv, "a", newline="") as file:
+        for _ in itertools.islice(lines, done):
+            pass
+        writer = csv.writer(file, lineterminator="\n")
+        if file.tell() == 0:
+            writer.writerow(HEADER)
+        for number, answer in enumerate(answered(client, words.program, lines, words.chunk), done + 1):
+            writer.writerow(row(number, answer))
+            if number % words.chunk == 0:
+                file.flush()
+                if sys.stderr.isatty():
+                    print("\r%d rows" % number, end="", file=sys.stderr, flush=True)
+    if sys.stderr.isatty():
+        print(file=sys.stderr)
+
+
+def words_of(arguments):
+    parser = argparse.ArgumentParser(description=__doc__.partition("\n")[0])
+    where = parser.add_mutually_exclusive_group()
+    where.add_argument("--scheduler", metavar="ADDRESS", help="the cluster to use")
+    where.add_argument("--processes", metavar="N", type=int, default=os.cpu_count(), help="how many workers of its own")
+    parser.add_argument("--program", default=PROGRAM, type=os.path.abspath, help="the program, as the workers find it")
+    parser.add_argument("--chunk", metavar="LINES", type=int, default=1_000, help="how many lines a worker takes at once")
+    parser.add_argument("file", metavar="FILE")
+    parser.add_argument("csv", metavar="CSV")
+    return parser.parse_args(arguments)
+
+
+def main(arguments):
+    words = words_of(arguments)
+    from distributed import Client, LocalCluster
+
+    if words.scheduler:
+        with Client(words.scheduler) as client:
+            return sweep(client, words)
+    with LocalCluster(n_workers=words.processes, threads_per_worker=1, dashboard_address=None) as cluster, Client(cluster) as client:
+        return sweep(client, words)
+
+
+if __name__ == "__main__":
+    main(sys.argv[1:])
