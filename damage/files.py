@@ -120,7 +120,7 @@ def many(name, item, count, last=None):
 
 def large():
     """Large texts, the fault of each by the definitions, and how many times its length the memory may grow. A number, a text
-    or an array in an array takes more memory than bytes, and an object in an array far more."""
+    or an array in an array takes more memory than bytes, and an object far more, the most where objects stand in one another."""
     digits, letters = b"1" * 1000000, b"a" * 1000000
     return [
         ("padded with spaces to the limit", TRIANGLE.ljust(SIZE_LIMIT), None, 10),
@@ -152,6 +152,8 @@ def large():
         ("99,000 members", b"{" + b",".join(b'"%d":0' % i for i in range(99000)) + b"}", b"shape of top", 30),
         ("200,000 arrays of a number", many("q", b"[0]", 200000), b"shape of q", 60),
         ("130,000 objects of a number", many("q", b'{"":0}', 130000), b"shape of q", 140),
+        ("4,300 arrays, of 120 in one another each", many("q", b"[" * 120 + b"]" * 120, 4300), b"shape of q", 90),
+        ("1,700 objects, of 120 in one another each", many("q", b'{"":' * 120 + b"0" + b"}" * 120, 1700), b"shape of q", 190),
     ]
 
 

@@ -6,7 +6,7 @@ use crate::tables::triangle;
 use dg_chips::{Divisor, Move};
 use dg_file::TableFile;
 use dg_game::{Command, Entry, Plain, RehearseFault, Reply, Step, rehearse};
-use dg_lines::reply_text;
+use dg_lines::{StepsFault, parse_steps, reply_text};
 use dg_rank::{OpenGate, RankVerdict, rank_with};
 use std::alloc::Global;
 use std::sync::Wait;
@@ -15,6 +15,7 @@ use std::thread::Threads;
 
 #[derive(Clone, Copy)]
 enum Call {
+    ParseSteps,
     Rehearse,
     ReplyText,
     RankWith,
@@ -36,11 +37,14 @@ const STEPS: [Step; 3] = [
     },
 ];
 
+const TEXT: &[u8] = b"1 look\n2 lend a\n1 claim\n";
+
 #[test]
 fn calls_answer_or_refuse(rt: HostRuntime) -> Result<(), Fail> {
     let alloc = rt.alloc();
     let file = triangle(&rt, alloc)?;
     for (name, call) in [
+        ("parse_steps", Call::ParseSteps),
         ("rehearse", Call::Rehearse),
         ("reply_text", Call::ReplyText),
         ("rank_with", Call::RankWith),
@@ -62,6 +66,11 @@ fn called<R: Threads + Wait>(
     call: Call,
 ) -> Result<Outcome, Fail> {
     match call {
+        Call::ParseSteps => match parse_steps(alloc, TEXT, file.names()) {
+            Ok(steps) => Ok(done_if(steps.as_slice() == STEPS.as_slice())),
+            Err(StepsFault::OutOfMemory) => Ok(Outcome::Memory),
+            Err(_) => Ok(Outcome::Wrong),
+        },
         Call::Rehearse => match rehearse(alloc, file.start(), &STEPS) {
             Ok(history) => Ok(done_if(is_won(history.as_slice(), file)?)),
             Err(RehearseFault::OutOfMemory) => Ok(Outcome::Memory),

@@ -33,7 +33,7 @@ pub(crate) fn refused(fault: Fault) -> Outcome {
     }
 }
 
-// Says in one line what came of a call.
+// Says in one line what came of a call. A wrong answer is a failure.
 pub(crate) fn tell(rt: &impl Print, call: &str, outcome: Outcome) -> Result<(), Fail> {
     let said = match outcome {
         Outcome::Done => "done",
@@ -42,6 +42,9 @@ pub(crate) fn tell(rt: &impl Print, call: &str, outcome: Outcome) -> Result<(), 
         Outcome::Wrong => "another answer",
     };
     println!(rt; "{call}: {said}")?;
+    if outcome == Outcome::Wrong {
+        return Err(Fail::from("another answer"));
+    }
     Ok(())
 }
 

@@ -24,12 +24,12 @@ use std::test::Fail;
 use std::thread::Threads;
 
 // The triangle where a has two dollars, and b and c owe one each, seen from a.
-const TRIANGLE: &str =
+pub(crate) const TRIANGLE: &str =
     r#"{"vertices":["a","b","c"],"edges":[["a","b",1],["b","c",1],["a","c",1]],"amounts":[2,-1,-1],"q":"a"}"#;
 
-const TEXT: &[u8] = b"look\nlend a\ncommit\ncommit\nlend z\ngift a 0\nclaim\n";
+pub(crate) const TEXT: &[u8] = b"look\nlend a\ncommit\ncommit\nlend z\ngift a 0\nclaim\n";
 
-const ANSWER: &[u8] =
+pub(crate) const ANSWER: &[u8] =
     b"0 looked 0 a=2 b=-1 c=-1\n1 moved a=0 b=0 c=0\n2 winnable by a=0 b=0 c=0 to a=0 b=0 c=0\nbad look\nbad name\n3 refused gift\n4 won\n";
 
 // What is done at a table.
