@@ -47,7 +47,7 @@ impl<'a> Read for Flow<'a> {
 }
 
 // Takes so many bytes a write, and fails where it holds so many; or takes none from there on. Each other write is
-// interrupted.
+// interrupted, and the first flush after one that is not.
 #[derive(Drop)]
 pub(crate) struct Sip {
     pub(crate) held: Vec<u8>,
@@ -77,6 +77,10 @@ impl Write for Sip {
     }
 
     fn flush(&mut self) -> io::Result<()> {
+        self.is_interrupted = !self.is_interrupted;
+        if self.is_interrupted {
+            return Err(io::Error::from(ErrorKind::Interrupted));
+        }
         Ok(())
     }
 }
