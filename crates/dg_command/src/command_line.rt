@@ -391,7 +391,7 @@ fn rehearse<'a>(alloc: Global) -> Result<Command<'a>, AllocError> {
 
 fn serve<'a>(alloc: Global) -> Result<Command<'a>, AllocError> {
     Command::new(alloc, "serve")
-        .about("Answers the lines of the standard input on a table with one seat or more")
+        .about("Answers the lines of the standard input on a table with seats")
         .after_help(SERVE_MORE)
         .arg(table_file(alloc))?
         .arg(seats(alloc))?

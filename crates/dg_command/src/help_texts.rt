@@ -34,7 +34,7 @@ pub(crate) const RANK_WORKERS_HELP: &str =
 pub(crate) const LINE_WORKERS_HELP: &str = "How many threads share the lines, 1 to 16; default 1";
 
 pub(crate) const SEATS_HELP: &str =
-    "How many seats there are, 1 to 64; each line names its seat; default: one, unnamed";
+    "How many seats the lines name, 1 to 64; default: none, for one seat";
 
 pub(crate) const LINES_HELP: &str = "FILE has a table on each line, and each line is answered";
 
