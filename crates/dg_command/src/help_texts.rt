@@ -33,8 +33,7 @@ pub(crate) const RANK_WORKERS_HELP: &str =
 
 pub(crate) const LINE_WORKERS_HELP: &str = "How many threads share the lines, 1 to 16; default 1";
 
-pub(crate) const SEATS_HELP: &str =
-    "How many seats the lines name, 1 to 64; default: none, for one seat";
+pub(crate) const SEATS_HELP: &str = "How many seats lines name, 1 to 64; default one, unnamed";
 
 pub(crate) const LINES_HELP: &str = "FILE has a table on each line, and each line is answered";
 
