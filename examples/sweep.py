@@ -56,6 +56,9 @@ def rows_kept(place):
     if not os.path.exists(place):
         return 0
     with open(place, "r+b") as file:
+        if not (",".join(HEADER) + "\n").encode().startswith(file.readline()):
+            sys.exit("sweep.py: %s is there, and is no CSV file of a sweep; nothing was changed" % place)
+        file.seek(0)
         size = rows = 0
         for line in file:
             if line.endswith(b"\n"):
