@@ -21,7 +21,7 @@ degree one run of the program, over all of them.
 
 Trees have 1, cycles 2, complete graphs one less than vertices, two vertices joined more than once 2, complete bipartite graphs
 the lesser part, and the cube and Petersen's graph 4."""
-import doctest, itertools, json, os, sys, types
+import doctest, itertools, json, os, shutil, sys, types
 
 sys.path.insert(0, os.path.dirname(os.path.abspath(__file__)))
 import dollar
@@ -51,11 +51,14 @@ def gonality(table):
 
 if __name__ == "__main__":
     if len(sys.argv) > 1:
-        os.environ["DOLLAR"] = os.path.abspath(sys.argv[1])
+        program = shutil.which(sys.argv[1])
+        if not program:
+            sys.exit("gonality.py: %s is no program; the words are [PROGRAM [FILE]]" % sys.argv[1])
+        os.environ["DOLLAR"] = os.path.abspath(program)
     if len(sys.argv) > 2:
         with open(sys.argv[2]) as file:
             for line in file:
-                print(gonality(json.loads(line)))
+                print(gonality(json.loads(line)), flush=True)
         sys.exit()
     failed, tried = doctest.testmod()
     print("%d passed, %d failed" % (tried - failed, failed))

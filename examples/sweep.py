@@ -17,7 +17,7 @@ terminal the number of rows is shown as it grows.
     [7, 'winnable', 'a=0 b=-1', 'a=0 b=1']
     >>> row(8, "refused no vertex q")
     [8, 'refused no vertex q', '', '']"""
-import argparse, collections, csv, itertools, os, subprocess, sys, threading
+import argparse, collections, csv, itertools, os, signal, subprocess, sys, threading
 
 HEADER = ["line", "answer", "script", "amounts"]
 HERE = os.path.dirname(os.path.abspath(__file__))
@@ -56,6 +56,9 @@ def rows_kept(place):
     if not os.path.exists(place):
         return 0
     with open(place, "r+b") as file:
+        if not (",".join(HEADER) + "\n").encode().startswith(file.readline()):
+            sys.exit("sweep.py: %s is there, and is no CSV file of a sweep; nothing was changed" % place)
+        file.seek(0)
         size = rows = 0
         for line in file:
             if line.endswith(b"\n"):
@@ -101,13 +104,25 @@ def sweep(client, words):
         print(file=sys.stderr)
 
 
+def no_interrupts():
+    """Has a worker pay no heed to Ctrl-C, which at a terminal goes to all processes: it is this script that ends its workers."""
+    signal.signal(signal.SIGINT, signal.SIG_IGN)
+
+
+def count(word):
+    """A number of processes or lines."""
+    if not word.isdecimal() or int(word) == 0:
+        raise argparse.ArgumentTypeError("a whole number from 1 on")
+    return int(word)
+
+
 def words_of(arguments):
     parser = argparse.ArgumentParser(description=__doc__.partition("\n")[0])
     where = parser.add_mutually_exclusive_group()
     where.add_argument("--scheduler", metavar="ADDRESS", help="the cluster to use")
-    where.add_argument("--processes", metavar="N", type=int, default=os.cpu_count(), help="how many workers of its own")
+    where.add_argument("--processes", metavar="N", type=count, default=os.cpu_count(), help="how many workers of its own")
     parser.add_argument("--program", default=PROGRAM, type=os.path.abspath, help="the program, as the workers find it")
-    parser.add_argument("--chunk", metavar="LINES", type=int, default=1_000, help="how many lines a worker takes at once")
+    parser.add_argument("--chunk", metavar="LINES", type=count, default=1_000, help="how many lines a worker takes at once")
     parser.add_argument("file", metavar="FILE")
     parser.add_argument("csv", metavar="CSV")
     return parser.parse_args(arguments)
@@ -115,12 +130,16 @@ def words_of(arguments):
 
 def main(arguments):
     words = words_of(arguments)
-    from distributed import Client, LocalCluster
+    try:
+        from distributed import Client, LocalCluster
+    except ModuleNotFoundError as error:
+        sys.exit("sweep.py: this Python, %s, has %s" % (sys.executable, str(error).lower()))
 
     if words.scheduler:
         with Client(words.scheduler) as client:
             return sweep(client, words)
     with LocalCluster(n_workers=words.processes, threads_per_worker=1, dashboard_address=None) as cluster, Client(cluster) as client:
+        client.run(no_interrupts)
         return sweep(client, words)
 
 
