@@ -63,8 +63,11 @@ class Fault(Exception):
     """
 
     def __init__(self, text, status, table=None):
-        super().__init__("%s (status %d)" % (text, status))
+        super().__init__(text, status, table)
         self.text, self.status, self.table = text, status, table
+
+    def __str__(self):
+        return "%s (status %d)" % (self.text, self.status)
 
 
 def example(name):
@@ -286,13 +289,18 @@ class Session:
         ('moved', {'a': 1, 'b': 1, 'c': -2})
         ('moved', {'a': 0, 'b': 0, 'c': 0})
 
-    A line that is no command has an answer too. A session that ends in place of an answer, or not well, is a Fault.
+    A line that is no command has an answer too. A session that ends in place of an answer, or not well, is a Fault, and each
+    line that is asked after its end is that Fault again.
 
         >>> with Session(example("triangle"), "--cap", 1) as session:
-        ...     try:
-        ...         print(session.ask("jump"), session.ask("claim"), session.ask("claim"))
-        ...     except Fault as fault:
-        ...         print(fault.text, "-", fault.status)
+        ...     for line in "jump", "claim", "claim", "look":
+        ...         try:
+        ...             print(session.ask(line))
+        ...         except Fault as fault:
+        ...             print(fault.text, "-", fault.status)
+        ('bad word',)
+        ('not won',)
+        the history is full - 3
         the history is full - 3
 
     Who wants a session that says nothing for long to be ended finds a watchdog in talk.py."""
@@ -320,11 +328,12 @@ class Session:
             a line has more than 1024 bytes
             ('not won',)
         """
-        sent = one_line(line)
-        with contextlib.suppress(BrokenPipeError):
-            self.child.stdin.write(sent + b"\n")
-            self.child.stdin.flush()
-        got = self.child.stdout.readline().decode()
+        sent, got = one_line(line), ""
+        if self.child.returncode is None:
+            with contextlib.suppress(BrokenPipeError):
+                self.child.stdin.write(sent + b"\n")
+                self.child.stdin.flush()
+            got = self.child.stdout.readline().decode()
         if not got.endswith("\n"):
             self.end()
             raise self.fault or Fault("the session has ended", 0)
@@ -332,6 +341,8 @@ class Session:
 
     def end(self):
         """Ends the input, and with it the session, and keeps its fault if it has one."""
+        if self.child.returncode is not None:
+            return
         said = self.child.communicate()[1]
         self.files.close()
         if self.child.returncode:

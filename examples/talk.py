@@ -3,9 +3,10 @@
 
     examples/talk.py [PROGRAM]
 
-A session is the command `serve FILE`, and a table with seats for many people `serve FILE --seats N`. It answers each line before it reads on, so that a tool may write one line, wait for
-its answer, and choose the next line by it; `Session` below does just that. The answers expected here were worked out by
-hand. The last line is 'N passed, M failed'; the status is 0 where none failed."""
+A session is the command `serve FILE`, and a table with seats for many people `serve FILE --seats N`. It answers each line
+before it reads on, so that a tool may write one line, wait for its answer, and choose the next line by it; `Session` below does
+just that. The answers expected here were worked out by hand. The last line is 'N passed, M failed'; the status is 0 where none
+failed."""
 import os, subprocess, sys, threading
 
 
@@ -13,7 +14,7 @@ results = []
 
 
 class Ended(Exception):
-    """The session ended in place of an answer; `fault` is what the program said on standard error."""
+    """The session ended in place of an answer, or had ended before; `fault` is what the program said on standard error."""
 
     def __init__(self, status, fault):
         super().__init__("the session ended with status %s: %s" % (status, fault or "nothing was said"))
@@ -34,7 +35,7 @@ class Session:
     """A session of PROGRAM on the table of a file. Options are those of `serve`, as "--cap", "100"."""
 
     def __init__(self, program, table, *options, patience=20):
-        self.patience = patience
+        self.patience, self.end = patience, None
         self.child = subprocess.Popen([program, "serve", table, *options], stdin=subprocess.PIPE,
                                       stdout=subprocess.PIPE, stderr=subprocess.PIPE)
 
@@ -47,6 +48,8 @@ class Session:
 
     def ask_bytes(self, line):
         """The same of a line as bytes, whatever it is."""
+        if self.end:
+            raise Ended(*self.end)
         try:
             self.child.stdin.write(line + b"\n")
             self.child.stdin.flush()
@@ -58,9 +61,11 @@ class Session:
         return answer[:-1].decode()
 
     def close(self):
-        """Ends the input, which ends the session. Gives the exit status and the line on standard error."""
-        _, fault = self._watched(self.child.communicate)
-        return self.child.returncode, fault.decode().rstrip("\n")
+        """Ends the input, which ends the session. Gives the exit status and the line on standard error, the same at each call."""
+        if not self.end:
+            _, fault = self._watched(self.child.communicate)
+            self.end = self.child.returncode, fault.decode().rstrip("\n")
+        return self.end
 
     def _watched(self, wait):
         # A read from a pipe waits for ever. The watchdog kills a program that says nothing, which ends the read.
@@ -73,17 +78,19 @@ class Session:
             watchdog.cancel()
         if late.is_set():
             self.child.communicate()
+            self.end = self.child.returncode, "nothing for %s seconds, after which it was killed" % self.patience
             raise TimeoutError("the program said nothing for %s seconds, and was killed" % self.patience)
         return got
 
 
 class Table(Session):
     """A table with so many seats, each with a look of its own, for a tool that many people use at once. Any thread may ask: a
-    line and its answer stay together."""
+    line and its answer stay together. A thread that holds `turn` may ask too, and nobody else asks while it does: so it can write
+    down line and answer in the order of the game."""
 
     def __init__(self, program, table, seats, *options, patience=20):
         super().__init__(program, table, "--seats", str(seats), *options, patience=patience)
-        self.turn = threading.Lock()
+        self.turn = threading.RLock()
 
     def ask_seat(self, seat, line):
         """The answer to a line of the seat, a number from 1 on; it is `bad seat` where there is none. Raises as `ask` does."""
@@ -169,6 +176,16 @@ def main(program):
     play("a long line", Session(program, triangle), [("x" * 1024, "bad word"), ("x" * 1025, None)],
          (3, "dollar: long line"))
     play("no line", Session(program, triangle), [], (0, ""))
+
+    # Who asks on after the end is told of it each time.
+    session, told = Session(program, triangle, "--cap", "1"), []
+    for line in "claim", "claim", "look":
+        try:
+            told.append(session.ask(line))
+        except Ended as early:
+            told.append((early.status, early.fault))
+    full = (3, "dollar: the history is full")
+    check("after the end", told + [session.close(), session.close()], ["0 not won"] + [full] * 4)
 
     # A tool that hands on what a stranger wrote is refused what is no line, and the next answer is that to the next line.
     session = Session(program, triangle)
