@@ -5,12 +5,14 @@
 
 Each pupil has a seat, and a thread that asks what a pupil may ask, drawn from a fixed seed: moves, gifts, looks, commits, rank
 tests, and now and then what is no line. All go through one `serve --seats 30`, which answers them in the order in which they
-come. Then `rehearse` plays the lines that were entries again, in that order: it has to print what the pupils were told. The last
-line is 'N passed, M failed'; the status is 0 where none failed."""
-import json, os, random, subprocess, sys, tempfile, threading
+come. In the middle of the game the program is killed. A new one is asked the lines that were entries, in their order: it has to
+answer as the first did, and the class plays on where it was, each with the look that he had. At the end `rehearse` plays the
+entries once more, and has to print what the pupils were told. The last line is 'N passed, M failed'; the status is 0 where none
+failed."""
+import json, os, random, signal, subprocess, sys, tempfile, threading
 from talk import Table
 
-PUPILS, LINES = 30, 40
+PUPILS, LINES = 30, 20
 TABLE = {
     "vertices": ["ann", "bob", "cem", "dot", "eve"],
     "edges": [["ann", "bob", 1], ["bob", "cem", 2], ["cem", "dot", 1], ["dot", "ann", 1], ["dot", "eve", 3]],
@@ -29,18 +31,40 @@ def line_of(draw):
     ])
 
 
-def attend(table, seat, lines):
+def attend(table, seat, draw, lines):
     """Asks the pupil's lines. Each goes into the list of all, with the seat and the answer, in the order of the answers."""
-    draw = random.Random(seat)
     for _ in range(LINES):
         line = line_of(draw)
         with table.turn:
-            lines.append((seat, line, table.ask("%d %s" % (seat, line))))
+            lines.append((seat, line, table.ask_seat(seat, line)))
 
 
-def is_entry(answer):
-    """Whether the answer is that of an entry, which begins with its number."""
-    return answer[0].isdigit()
+def play(table, draws, lines):
+    """Has all pupils play at once, until each has asked his lines."""
+    pupils = [threading.Thread(target=attend, args=(table, seat, draw, lines)) for seat, draw in draws.items()]
+    for pupil in pupils:
+        pupil.start()
+    for pupil in pupils:
+        pupil.join()
+
+
+def entries_of(lines):
+    """The lines whose answers are entries, which begin with a number."""
+    return [(seat, line, answer) for seat, line, answer in lines if answer[0].isdigit()]
+
+
+def looks_kept(lines):
+    """Whether a pupil has a look just where he looked and has not used it up, whatever the others did."""
+    kept, right = set(), True
+    for seat, line, answer in lines:
+        if line == "commit" or line == "rank 1":
+            right = right and (answer != "bad look") == (seat in kept)
+            kept.discard(seat)
+        elif line == "rank 5000":
+            right = right and answer == ("bad trials" if seat in kept else "bad look")
+        elif line == "look":
+            kept.add(seat)
+    return right
 
 
 def main(program):
@@ -52,28 +76,20 @@ def main(program):
         # The script ./dollar builds the program where it is not there yet, which no pupil should have to wait for.
         subprocess.run([program, "judge", file], stdout=subprocess.DEVNULL)
         table, lines = Table(program, file, PUPILS), []
-        pupils = [threading.Thread(target=attend, args=(table, seat, lines)) for seat in range(1, PUPILS + 1)]
-        for pupil in pupils:
-            pupil.start()
-        for pupil in pupils:
-            pupil.join()
+        draws = {seat: random.Random(seat) for seat in range(1, PUPILS + 1)}
+        play(table, draws, lines)
+        table.child.kill()
+        results.append(table.close() == (-signal.SIGKILL, ""))
+        table = Table(program, file, PUPILS)
+        results.append(all(table.ask_seat(seat, line) == answer for seat, line, answer in entries_of(lines)))
+        play(table, draws, lines)
         results.append(table.close() == (0, ""))
-        results.append(len(lines) == PUPILS * LINES)
-        entries = [(seat, line, answer) for seat, line, answer in lines if is_entry(answer)]
+        results.append(len(lines) == 2 * PUPILS * LINES)
+        entries = entries_of(lines)
         results.append([int(answer.split(" ")[0]) for _, _, answer in entries] == list(range(len(entries))))
-        # What is no entry says what is wrong, and a pupil who looked before has a look, whatever the others did.
-        results.append({answer for _, _, answer in lines if not is_entry(answer)}
+        results.append({answer for _, _, answer in lines if not answer[0].isdigit()}
                        <= {"bad word", "bad form", "bad name", "bad look", "bad trials"})
-        kept, own = set(), True
-        for seat, line, answer in lines:
-            if line == "commit" or line == "rank 1":
-                own = own and (answer != "bad look") == (seat in kept)
-                kept.discard(seat)
-            elif line == "rank 5000":
-                own = own and answer == ("bad trials" if seat in kept else "bad look")
-            elif line == "look":
-                kept.add(seat)
-        results.append(own)
+        results.append(looks_kept(lines))
         with open(steps, "w") as out:
             out.writelines("%d %s\n" % (seat, line) for seat, line, _ in entries)
         again = subprocess.run([program, "rehearse", file, steps], capture_output=True, text=True)
