@@ -62,7 +62,10 @@ def span(places, radius):
 
 
 def table_of(place):
-    """The table of a file, and its text."""
+    """The table of a file, and its text. What is no object at all is refused here, with the words of the program."""
     with open(place, encoding="utf-8") as file:
         text = file.read()
-    return json.loads(text), text
+    table = json.loads(text)
+    if not isinstance(table, dict):
+        raise ValueError("shape of top")
+    return table, text

@@ -8,7 +8,7 @@ const layout = JSON.parse(read("layout"));
 const names = table.vertices;
 const element = (id) => document.getElementById(id);
 const still = window.matchMedia("(prefers-reduced-motion: reduce)");
-const BETWEEN = 2200, TRAVEL = 1100, MOST_DOTS = 60;
+const BETWEEN = 2200, TRAVEL = 1100;
 let now = 0, timer = null, drawing = 0;
 
 /* What was written. */
@@ -437,7 +437,12 @@ function codeOf(line) {
   return code;
 }
 
-function markAt(index, step, reply) {
+/* Marks stand where there is room: of steps that lie too near to each other, the one that tells most. */
+
+const TELLING = ["unread", "winnable", "unwinnable", "won", "refused", "stale", "rank", "joined", "given", "not-won", "looked", "moved"];
+
+function markAt(index) {
+  const step = steps[index - 1], reply = replies[index - 1];
   const mark = buttonTo(index, element("marks"), markOf(step, reply), reply.kind);
   mark.style.left = `${(100 * index) / steps.length}%`;
   mark.title = `Step ${index}: ${step.line}; ${reply.line}`;
@@ -445,12 +450,28 @@ function markAt(index, step, reply) {
   mark.setAttribute("aria-label", `Step ${index}: ${reply.kind}`);
 }
 
+function markedSteps() {
+  const wide = element("marks").clientWidth, each = parseFloat(getComputedStyle(element("marks")).fontSize);
+  const places = Math.max(1, Math.floor(wide / each)), best = [];
+  const telling = (index) => (states[index].flaw ? -1 : TELLING.indexOf(replies[index - 1].kind));
+  for (let index = 1; index <= steps.length; index++) {
+    const place = Math.floor(((index - 1) * places) / steps.length);
+    if (best[place] === undefined || telling(index) < telling(best[place])) best[place] = index;
+  }
+  return best.filter((index) => index !== undefined);
+}
+
+function fillMarks() {
+  element("marks").replaceChildren();
+  markedSteps().forEach(markAt);
+  showPlace(now);
+}
+
 function fillPage() {
   const list = document.querySelector("#whole ol");
   element("slider").max = steps.length;
   steps.forEach((step, i) => {
     const { kind, line } = replies[i];
-    if (kind !== "moved" || steps.length <= MOST_DOTS) markAt(i + 1, step, replies[i]);
     const item = document.createElement("li"), both = buttonTo(i + 1, item, "", kind);
     both.append(codeOf(step.line), " ", codeOf(line));
     list.append(item);
@@ -475,5 +496,7 @@ element("back").addEventListener("click", () => go(now - 1));
 element("on").addEventListener("click", () => go(now + 1));
 element("last").addEventListener("click", () => go(steps.length));
 element("play").addEventListener("click", play);
+window.addEventListener("resize", fillMarks);
 fillPage();
 show(0);
+fillMarks();
