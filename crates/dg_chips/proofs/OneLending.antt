@@ -7,7 +7,7 @@
 --                     to v, has the amounts after it
 --   held_gain         a machine's sum of an amount and what comes to it is the amount after it
 --   read_back         and is read as that, where it was written
-use Rattle.std.proofs.Common.{◌≡◌, ◌≢◌, ℕ, ◌<◌, ◌≤◌, List, length, slice_set, get_or-set_same, arith, refl, ◌∙◌, ⊎_elim, w64}
+use Rattle.std.proofs.Common.{◌≡◌, ◌≢◌, ℕ, ◌<◌, ◌≤◌, List, length, slice_set, get_or-set_same, arith, refl, ◌∙◌, ⊎_elim, w32}
 use Rattle.std.specs.Int.RustNames.{unsigned_abs}
 use Rattle.std.specs.List.{slice_index_or}
 use mir.Val.{to_z, of_z}
@@ -76,13 +76,13 @@ fired-lender g D E v x graph inside less same u =
     (cases_eq u v)
 
 pub held_gain : (a b got after : ℤ) → unsigned_abs a ≤ 1000255 → unsigned_abs b ≤ 255 → b ≡ got → a +ℤ got ≡ after →
-    to_z w64 (of_z w64 (to_z w64 (of_z w64 a) +ℤ to_z w64 (of_z w64 b))) ≡ after
+    to_z w32 (of_z w32 (to_z w32 (of_z w32 a) +ℤ to_z w32 (of_z w32 b))) ≡ after
 held_gain a b got after small few same sum =
     let (low, high) = within_abs a 1000255 small in
     let (low', high') = within_abs b 255 few in
     omega (arith, ints)
 
-pub read_back : (xs : List ℤ) (w : ℕ) (a after : ℤ) → w < length xs → to_z w64 (of_z w64 a) ≡ after →
-    to_z w64 (of_z w64 (slice_index_or (slice_set xs w (to_z w64 (of_z w64 a))) w (pos 0))) ≡ after
+pub read_back : (xs : List ℤ) (w : ℕ) (a after : ℤ) → w < length xs → to_z w32 (of_z w32 a) ≡ after →
+    to_z w32 (of_z w32 (slice_index_or (slice_set xs w (to_z w32 (of_z w32 a))) w (pos 0))) ≡ after
 read_back xs w a after within same =
-    rw (get_or-set_same xs w (to_z w64 (of_z w64 a)) (pos 0) within) (omega (arith, ints))
+    rw (get_or-set_same xs w (to_z w32 (of_z w32 a)) (pos 0) within) (omega (arith, ints))

@@ -8,9 +8,9 @@ ghost use Rattle.dg_theory.specs.Firing.{degree, IsEffective, only_at, fired};
 ghost use Rattle.dg_chips.specs.Vector.{at, HoldsNumbers, IsDivisor, IsInRange, IsOutOfRange};
 ghost use Rattle.dg_chips.specs.DivisorFaults.{IsFirstChipFault, IsFirstMinusFault};
 
-use crate::firing::carried;
+use crate::firing::carried_once;
 use crate::limits::MAX_AMOUNT;
-use crate::vector::{first_past, padded};
+use crate::vector::{first_past, narrowed};
 use dg_graph::{Graph, MAX_VERTICES};
 use std::marker::Model;
 use thiserror::Error;
@@ -29,8 +29,8 @@ pub enum ChipFault {
 /// An amount of dollars for each vertex of a graph, from -1,000,000 to 1,000,000; a negative one is a debt.
 #[derive(Clone, Copy, PartialEq, Eq)]
 pub struct Divisor {
-    size: usize,
-    amounts: [i64; 16],
+    size: u8,
+    amounts: [i32; 16],
 }
 
 impl Model for Divisor {
@@ -62,8 +62,7 @@ impl Divisor {
         if let Some(v) = first_past(amounts, MAX_AMOUNT) {
             return Err(ChipFault::Range(v));
         }
-        let amounts = padded(amounts, 0);
-        Ok(Divisor { size, amounts })
+        Ok(Divisor::sized(amounts))
     }
 
     /// The divisor with these amounts, in vertex order. The conditions are that there are at most 16, and that each is
@@ -75,8 +74,8 @@ impl Divisor {
         ensures { HoldsNumbers amounts.now result }
     {
         Divisor {
-            size: amounts.len(),
-            amounts: padded(amounts, 0),
+            size: amounts.len() as u8,
+            amounts: narrowed(amounts),
         }
     }
 
@@ -88,9 +87,12 @@ impl Divisor {
         let size = graph.size();
         let mut amounts = [0; 16];
         for v in 0..size {
-            amounts[v] = i64::from(graph.valence(v)) - 2;
+            amounts[v] = i32::from(graph.valence(v)) - 2;
         }
-        Divisor { size, amounts }
+        Divisor {
+            size: size as u8,
+            amounts,
+        }
     }
 
     /// The divisor less another one: at each vertex the difference of the amounts.
@@ -113,9 +115,12 @@ impl Divisor {
             if amount.unsigned_abs() > MAX_AMOUNT {
                 return Err(ChipFault::Range(v));
             }
-            amounts[v] = amount;
+            amounts[v] = amount as i32;
         }
-        Ok(Divisor { size, amounts })
+        Ok(Divisor {
+            size: size as u8,
+            amounts,
+        })
     }
 
     /// The number of vertices.
@@ -123,7 +128,7 @@ impl Divisor {
         ensures size { result ≡ self.now.size }
         ensures divisor { IsDivisor self.now }
     {
-        self.size
+        usize::from(self.size)
     }
 
     /// The sum of all amounts.
@@ -157,7 +162,7 @@ impl Divisor {
     {
         let _size = self.size;
         let amounts = &self.amounts;
-        amounts[v]
+        i64::from(amounts[v])
     }
 
     /// The divisor with so many dollars more at one vertex, at most 1,000,000 more or less; `None` where the vertex
@@ -176,13 +181,13 @@ impl Divisor {
         }
         let size = self.size;
         let mut amounts = self.amounts;
-        amounts[v] = amount;
+        amounts[v] = amount as i32;
         Some(Divisor { size, amounts })
     }
 
     /// The divisor after a vertex has lent once, or borrowed once where `times` is -1; `None` where an amount is then not within
     /// 1,000,000.
-    pub(crate) fn after_lending(&self, graph: &Graph, v: usize, times: i64) -> Option<Divisor>
+    pub(crate) fn after_lending(&self, graph: &Graph, v: usize, times: i32) -> Option<Divisor>
         requires size { self.now.size ≡ graph.now.size }
         requires vertex { v < graph.now.size }
         requires times { unsigned_abs times ≤ 1 }
@@ -195,13 +200,16 @@ impl Divisor {
         let size = graph.size();
         let row = graph.row(v);
         let mut amounts = self.amounts;
-        amounts[v] -= carried(graph.valence(v), times);
+        amounts[v] -= carried_once(graph.valence(v), times);
         for w in 0..16 {
-            amounts[w] += carried(row[w], times);
-            if amounts[w].unsigned_abs() > MAX_AMOUNT {
+            amounts[w] += carried_once(row[w], times);
+            if u64::from(amounts[w].unsigned_abs()) > MAX_AMOUNT {
                 return None;
             }
         }
-        Some(Divisor { size, amounts })
+        Some(Divisor {
+            size: size as u8,
+            amounts,
+        })
     }
 }

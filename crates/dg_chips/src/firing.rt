@@ -34,7 +34,7 @@ pub fn apply(graph: &Graph, divisor: &Divisor, play: &Move) -> Result<Divisor, M
 }
 
 /// The divisor after a vertex has lent once, or borrowed once where `times` is -1.
-fn lent(graph: &Graph, divisor: &Divisor, v: usize, times: i64) -> Result<Divisor, MoveFault>
+fn lent(graph: &Graph, divisor: &Divisor, v: usize, times: i32) -> Result<Divisor, MoveFault>
     requires divisor { divisor.now.size ≡ graph.now.size }
     requires times { unsigned_abs times ≤ 1 }
     ensures { MatchResult result
@@ -75,7 +75,7 @@ fn fired_amounts(graph: &Graph, divisor: &Divisor, script: &Script) -> [i64; 16]
     let lendings = script.entries();
     let mut amounts = [0; 16];
     for v in 0..graph.size() {
-        amounts[v] = divisor.get(v) + gained(graph, lendings, v);
+        amounts[v] = divisor.get(v) + gained(graph, &lendings, v);
     }
     amounts
 }
@@ -94,6 +94,15 @@ pub(crate) fn gained(graph: &Graph, lendings: &[i64; 16], v: usize) -> i64
         sum += carried(row[w], lendings[w]);
     }
     sum - carried(graph.valence(v), lendings[v])
+}
+
+/// What some edges carry together when each of them carries one dollar, or none, or one the other way.
+pub(crate) fn carried_once(edges: u8, each: i32) -> i32
+    requires { unsigned_abs each ≤ 1 }
+    ensures product { result ≡ pos edges *ℤ each }
+    ensures limit { unsigned_abs result ≤ 255 * unsigned_abs each }
+{
+    i32::from(edges) * each
 }
 
 /// What some edges carry together when each of them carries `each`.

@@ -12,7 +12,7 @@ use crate::divisor::Divisor;
 use crate::drift::Drift;
 use crate::firing::gained;
 use crate::limits::MAX_ENTRY;
-use crate::vector::{first_past, padded};
+use crate::vector::{first_past, narrowed, widened};
 use crate::wide::Wide;
 use dg_graph::{Graph, MAX_VERTICES, contains};
 use std::marker::Model;
@@ -29,8 +29,8 @@ pub enum ScriptFault {
 /// How often each vertex lends, from -1,000,000,000 to 1,000,000,000; a negative number is so many borrowings.
 #[derive(Clone, Copy, PartialEq, Eq)]
 pub struct Script {
-    size: usize,
-    entries: [i64; 16],
+    size: u8,
+    entries: [i32; 16],
 }
 
 impl Model for Script {
@@ -62,8 +62,7 @@ impl Script {
         if let Some(v) = first_past(entries, MAX_ENTRY) {
             return Err(ScriptFault::Limit(v));
         }
-        let entries = padded(entries, 0);
-        Ok(Script { size, entries })
+        Ok(Script::sized(entries))
     }
 
     /// The script with these entries, in vertex order. The conditions are that there are at most 16, and that each is
@@ -75,13 +74,13 @@ impl Script {
         ensures { HoldsNumbers entries.now result }
     {
         Script {
-            size: entries.len(),
-            entries: padded(entries, 0),
+            size: entries.len() as u8,
+            entries: narrowed(entries),
         }
     }
 
     /// The script that is so much at one vertex and 0 elsewhere.
-    pub(crate) fn only_at(size: usize, v: usize, entry: i64) -> Script
+    pub(crate) fn only_at(size: usize, v: usize, entry: i32) -> Script
         requires size { size ≤ MAX_VERTICES }
         requires vertex { v < size }
         requires limit { unsigned_abs entry ≤ 1 }
@@ -90,7 +89,10 @@ impl Script {
     {
         let mut entries = [0; 16];
         entries[v] = entry;
-        Script { size, entries }
+        Script {
+            size: size as u8,
+            entries,
+        }
     }
 
     /// The script by which each vertex of a set lends once.
@@ -105,7 +107,10 @@ impl Script {
                 entries[v] = 1;
             }
         }
-        Script { size, entries }
+        Script {
+            size: size as u8,
+            entries,
+        }
     }
 
     /// The script by which each vertex lends as often as its amount exceeds that of q.
@@ -119,9 +124,12 @@ impl Script {
         let size = lendings.size();
         let mut entries = [0; 16];
         for v in 0..size {
-            entries[v] = (lendings.get(v) - lendings.get(q)) as i64;
+            entries[v] = (lendings.get(v) - lendings.get(q)) as i32;
         }
-        Script { size, entries }
+        Script {
+            size: size as u8,
+            entries,
+        }
     }
 
     /// The script by which each vertex lends as often as by this one and another together.
@@ -135,9 +143,12 @@ impl Script {
         let size = self.size();
         let mut entries = [0; 16];
         for v in 0..size {
-            entries[v] = self.get(v) + other.get(v);
+            entries[v] = (self.get(v) + other.get(v)) as i32;
         }
-        Script { size, entries }
+        Script {
+            size: size as u8,
+            entries,
+        }
     }
 
     /// What this script lends more than a drift, with the drift's number for q added at each vertex: so q lends as often
@@ -154,9 +165,12 @@ impl Script {
         let size = self.size();
         let mut entries = [0; 16];
         for v in 0..size {
-            entries[v] = self.get(v) - drift.get(v) + drift.get(q);
+            entries[v] = (self.get(v) - drift.get(v) + drift.get(q)) as i32;
         }
-        Script { size, entries }
+        Script {
+            size: size as u8,
+            entries,
+        }
     }
 
     /// Whether firing by this script leads from a divisor to some amounts.
@@ -168,8 +182,9 @@ impl Script {
             (FiresTo graph.now (at self.now) (at from.now) (at to.now))
             (¬ FiresTo graph.now (at self.now) (at from.now) (at to.now)) }
     {
+        let entries = self.entries();
         for v in 0..graph.size() {
-            let amount = from.get(v) + gained(graph, &self.entries, v);
+            let amount = from.get(v) + gained(graph, &entries, v);
             if i128::from(amount) != to.get(v) {
                 return false;
             }
@@ -182,15 +197,15 @@ impl Script {
         ensures size { result ≡ self.now.size }
         ensures script { IsScript self.now }
     {
-        self.size
+        usize::from(self.size)
     }
 
     /// How often each vertex lends, and 0 past the last one.
-    pub(crate) fn entries(&self) -> &[i64; 16]
-        ensures entries { result.now ≡ self.now.numbers }
+    pub(crate) fn entries(&self) -> [i64; 16]
+        ensures entries { result ≡ self.now.numbers }
         ensures script { IsScript self.now }
     {
-        &self.entries
+        widened(&self.entries)
     }
 
     /// How often a vertex lends.
@@ -201,6 +216,6 @@ impl Script {
     {
         let _size = self.size;
         let entries = &self.entries;
-        entries[v]
+        i64::from(entries[v])
     }
 }

@@ -136,7 +136,7 @@ impl Wide {
         let lendings = script.entries();
         let mut amounts = [0; 16];
         for v in 0..size {
-            let gain = gained(graph, lendings, v);
+            let gain = gained(graph, &lendings, v);
             amounts[v] = self.get(v) + i128::from(gain);
         }
         Wide { size, amounts }

@@ -1,4 +1,4 @@
-use Rattle.std.proofs.Common.{◌≡◌, ◌≢◌, ℕ, ◌+◌, ◌<◌, ◌≤◌, List, length, length-set, slice_set, get_or-set_same, get_or-set_other, below_more, arith, inl, inr, sym, ap, subst, ◌∙◌, ⊎_elim, w64}
+use Rattle.std.proofs.Common.{◌≡◌, ◌≢◌, ℕ, ◌+◌, ◌<◌, ◌≤◌, List, length, length-set, slice_set, get_or-set_same, get_or-set_other, below_more, arith, inl, inr, sym, ap, subst, ◌∙◌, ⊎_elim, w32}
 use Rattle.std.specs.List.{slice_index_or}
 use Rattle.std.specs.Int.RustNames.{unsigned_abs}
 use Rattle.std.proofs.lemmas.Bool.{cases_eq, cases_lt}
@@ -16,18 +16,18 @@ use Rattle.dg_chips.proofs.divisor.Divisor.after_lending.Goals as goal
 
 pub loop-w-init : goal.loop-w-init
 loop-w-init c =
-    let x : ℤ = to_z w64 (of_z w64 c.args.times) in
+    let x : ℤ = to_z w32 (of_z w32 c.args.times) in
     let xs : List ℤ = c.self.inside.amounts in
-    let y : ℤ = to_z w64 (of_z w64 (to_z w64 (of_z w64 (slice_index_or xs c.args.v (pos 0))) -ℤ to_z w64 (of_z w64 c.carried.result))) in
+    let y : ℤ = to_z w32 (of_z w32 (to_z w32 (of_z w32 (slice_index_or xs c.args.v (pos 0))) -ℤ to_z w32 (of_z w32 c.carried_once.result))) in
     let same : (u : ℕ) → slice_index_or xs u (pos 0) ≡ at c.args.self.now u = λ u. ap (λ (d : Vector). at d u) c.self.view_is in
     let right : (u : ℕ) → unsigned_abs (slice_index_or xs u (pos 0)) ≤ 1000000 = within_all 1000000 _ c.self.invariant in
     let places : length xs ≡ 16 = omega arith in
     let within : c.args.v < length xs = omega arith in
-    let once : unsigned_abs x ≤ 1 = rw (to_z-of_z w64 c.args.times c.ranges.times) c.requires.times in
-    let lost : c.carried.result ≡ pos (valence c.args.graph.now c.args.v) *ℤ x =
-    c.carried.ensures.product ∙ ap (λ (k : ℕ). pos k *ℤ x) c.valence.ensures in
-    let few : unsigned_abs c.carried.result ≤ 255 = omega (arith, c.carried.ensures.limit) in
-    let (low, high) = within_abs c.carried.result 255 few in
+    let once : unsigned_abs x ≤ 1 = rw (to_z-of_z w32 c.args.times c.ranges.times) c.requires.times in
+    let lost : c.carried_once.result ≡ pos (valence c.args.graph.now c.args.v) *ℤ x =
+    c.carried_once.ensures.product ∙ ap (λ (k : ℕ). pos k *ℤ x) c.valence.ensures in
+    let few : unsigned_abs c.carried_once.result ≤ 255 = omega (arith, c.carried_once.ensures.limit) in
+    let (low, high) = within_abs c.carried_once.result 255 few in
     let (low', high') = within_abs (slice_index_or xs c.args.v (pos 0)) 1000000 (right c.args.v) in
     let here : y ≡ at c.args.self.now c.args.v -ℤ pos (valence c.args.graph.now c.args.v) *ℤ x = omega (arith, ints, same c.args.v) in
     let lent : slice_index_or (slice_set xs c.args.v y) c.args.v (pos 0) ≡ y = get_or-set_same xs c.args.v y (pos 0) within in
@@ -48,33 +48,33 @@ loop-w-init c =
 
 pub overflow_add-amounts : goal.overflow_add-amounts
 overflow_add-amounts c =
-    let x : ℤ = to_z w64 (of_z w64 c.args.times) in
-    let once : unsigned_abs x ≤ 1 = rw (to_z-of_z w64 c.args.times c.ranges.times) c.requires.times in
-    let few : unsigned_abs c.carried-in-loop-w.result ≤ 255 = omega (arith, c.carried-in-loop-w.ensures.limit) in
-    let (low, high) = within_abs c.carried-in-loop-w.result 255 few in
+    let x : ℤ = to_z w32 (of_z w32 c.args.times) in
+    let once : unsigned_abs x ≤ 1 = rw (to_z-of_z w32 c.args.times c.ranges.times) c.requires.times in
+    let few : unsigned_abs c.carried_once-in-loop-w.result ≤ 255 = omega (arith, c.carried_once-in-loop-w.ensures.limit) in
+    let (low, high) = within_abs c.carried_once-in-loop-w.result 255 few in
     let (low', high') = within_abs (slice_index_or c.loop-w.amounts c.loop-w.w (pos 0)) 1000255 (c.loop-w.invariant.small c.loop-w.w (omega arith)) in
     omega (arith, ints)
 
-pub returns-then-unsigned_abs-gt-MAX_AMOUNT : goal.returns-then-unsigned_abs-gt-MAX_AMOUNT
-returns-then-unsigned_abs-gt-MAX_AMOUNT c =
-    let x : ℤ = to_z w64 (of_z w64 c.args.times) in
+pub returns-then-from-gt-MAX_AMOUNT : goal.returns-then-from-gt-MAX_AMOUNT
+returns-then-from-gt-MAX_AMOUNT c =
+    let x : ℤ = to_z w32 (of_z w32 c.args.times) in
     let w : ℕ = c.loop-w.w in
     let xs : List ℤ = c.loop-w.amounts in
-    let sum : ℤ = to_z w64 (of_z w64 (slice_index_or xs w (pos 0))) +ℤ to_z w64 (of_z w64 c.carried-in-loop-w.result) in
-    let y : ℤ = to_z w64 (of_z w64 sum) in
-    let once : unsigned_abs x ≤ 1 = rw (to_z-of_z w64 c.args.times c.ranges.times) c.requires.times in
-    let few : unsigned_abs c.carried-in-loop-w.result ≤ 255 = omega (arith, c.carried-in-loop-w.ensures.limit) in
-    let got : c.carried-in-loop-w.result ≡ pos (edges_between c.args.graph.now c.args.v w) *ℤ x =
-    c.carried-in-loop-w.ensures.product ∙ ap (λ (k : ℕ). pos k *ℤ x) (c.row-row.ensures w) in
+    let sum : ℤ = to_z w32 (of_z w32 (slice_index_or xs w (pos 0))) +ℤ to_z w32 (of_z w32 c.carried_once-in-loop-w.result) in
+    let y : ℤ = to_z w32 (of_z w32 sum) in
+    let once : unsigned_abs x ≤ 1 = rw (to_z-of_z w32 c.args.times c.ranges.times) c.requires.times in
+    let few : unsigned_abs c.carried_once-in-loop-w.result ≤ 255 = omega (arith, c.carried_once-in-loop-w.ensures.limit) in
+    let got : c.carried_once-in-loop-w.result ≡ pos (edges_between c.args.graph.now c.args.v w) *ℤ x =
+    c.carried_once-in-loop-w.ensures.product ∙ ap (λ (k : ℕ). pos k *ℤ x) (c.row-row.ensures w) in
     let within : w < length xs = omega arith in
     let after : y ≡ fired c.args.graph.now (at c.args.self.now) (only_at c.args.v x) w =
     held_gain _ _ _ _ (c.loop-w.invariant.small w (omega arith)) few got (c.loop-w.invariant.ahead w (omega arith)) in
-    let kept : to_z w64 (of_z w64 (slice_index_or (slice_set xs w y) w (pos 0)))
+    let kept : to_z w32 (of_z w32 (slice_index_or (slice_set xs w y) w (pos 0)))
     ≡ fired c.args.graph.now (at c.args.self.now) (only_at c.args.v x) w =
     read_back xs w sum _ within after in
     let far : 1000000 < unsigned_abs (fired c.args.graph.now (at c.args.self.now) (only_at c.args.v x) w) =
     omega (arith, ap unsigned_abs kept, c.unsigned_abs.ensures.value) in
-    let held : x ≡ c.args.times = to_z-of_z w64 c.args.times c.ranges.times in
+    let held : x ≡ c.args.times = to_z-of_z w32 c.args.times c.ranges.times in
     let sized : c.self.inside.size ≡ c.args.self.now.size = ap (λ (d : Vector). d.size) c.self.view_is in
     elim (cases_lt w c.args.graph.now.size) [
       | inl below ↦
@@ -89,19 +89,19 @@ returns-then-unsigned_abs-gt-MAX_AMOUNT c =
 
 pub loop-w-preserved : goal.loop-w-preserved
 loop-w-preserved c =
-    let x : ℤ = to_z w64 (of_z w64 c.args.times) in
+    let x : ℤ = to_z w32 (of_z w32 c.args.times) in
     let w : ℕ = c.loop-w.w in
     let xs : List ℤ = c.loop-w.amounts in
-    let sum : ℤ = to_z w64 (of_z w64 (slice_index_or xs w (pos 0))) +ℤ to_z w64 (of_z w64 c.carried-in-loop-w.result) in
-    let y : ℤ = to_z w64 (of_z w64 sum) in
-    let once : unsigned_abs x ≤ 1 = rw (to_z-of_z w64 c.args.times c.ranges.times) c.requires.times in
-    let few : unsigned_abs c.carried-in-loop-w.result ≤ 255 = omega (arith, c.carried-in-loop-w.ensures.limit) in
-    let got : c.carried-in-loop-w.result ≡ pos (edges_between c.args.graph.now c.args.v w) *ℤ x =
-    c.carried-in-loop-w.ensures.product ∙ ap (λ (k : ℕ). pos k *ℤ x) (c.row-row.ensures w) in
+    let sum : ℤ = to_z w32 (of_z w32 (slice_index_or xs w (pos 0))) +ℤ to_z w32 (of_z w32 c.carried_once-in-loop-w.result) in
+    let y : ℤ = to_z w32 (of_z w32 sum) in
+    let once : unsigned_abs x ≤ 1 = rw (to_z-of_z w32 c.args.times c.ranges.times) c.requires.times in
+    let few : unsigned_abs c.carried_once-in-loop-w.result ≤ 255 = omega (arith, c.carried_once-in-loop-w.ensures.limit) in
+    let got : c.carried_once-in-loop-w.result ≡ pos (edges_between c.args.graph.now c.args.v w) *ℤ x =
+    c.carried_once-in-loop-w.ensures.product ∙ ap (λ (k : ℕ). pos k *ℤ x) (c.row-row.ensures w) in
     let within : w < length xs = omega arith in
     let after : y ≡ fired c.args.graph.now (at c.args.self.now) (only_at c.args.v x) w =
     held_gain _ _ _ _ (c.loop-w.invariant.small w (omega arith)) few got (c.loop-w.invariant.ahead w (omega arith)) in
-    let kept : to_z w64 (of_z w64 (slice_index_or (slice_set xs w y) w (pos 0)))
+    let kept : to_z w32 (of_z w32 (slice_index_or (slice_set xs w y) w (pos 0)))
     ≡ fired c.args.graph.now (at c.args.self.now) (only_at c.args.v x) w =
     read_back xs w sum _ within after in
     let near : unsigned_abs (fired c.args.graph.now (at c.args.self.now) (only_at c.args.v x) w) ≤ 1000000 =
@@ -118,7 +118,7 @@ loop-w-preserved c =
 
 pub invariant_of-result : goal.invariant_of-result
 invariant_of-result c =
-    let x : ℤ = to_z w64 (of_z w64 c.args.times) in
+    let x : ℤ = to_z w32 (of_z w32 c.args.times) in
     let sized : c.self.inside.size ≡ c.args.self.now.size = ap (λ (d : Vector). d.size) c.self.view_is in
     let empty : (u : ℕ) → c.args.graph.now.size ≤ u → at c.args.self.now u ≡ pos 0 =
     λ u past. sym (ap (λ (d : Vector). at d u) c.self.view_is) ∙ c.self.invariant.inside u (omega arith) in

@@ -6,6 +6,12 @@ use Rattle.dg_chips.specs.Vector.{at}
 use Rattle.dg_chips.proofs.VectorLaws.{filled-set, rest-set}
 use Rattle.dg_chips.proofs.script.Script.rebased.Goals as goal
 
+pub overflow_cast-entries : goal.overflow_cast-entries
+overflow_cast-entries c =
+    let near : unsigned_abs (at c.args.self.now c.loop-v.v -ℤ at c.args.drift.now c.loop-v.v +ℤ at c.args.drift.now c.args.q) ≤ 1000000000 =
+    c.requires.limit c.loop-v.v (omega arith) in
+    omega (arith, ints)
+
 pub loop-v-preserved : goal.loop-v-preserved
 loop-v-preserved c =
     let within : c.loop-v.v < length c.loop-v.entries = omega arith in

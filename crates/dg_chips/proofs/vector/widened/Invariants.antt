@@ -1,0 +1,10 @@
+use Rattle.std.proofs.Common.{◌≡◌, ℕ, ◌<◌, length}
+use Rattle.std.specs.List.{slice_index_or}
+use Rattle.std.proofs.Math.IntN.{pos}
+use Rattle.dg_chips.proofs.vector.widened.Given as goal
+
+abbrev pub invariant-loop-v : goal.invariant-loop-v
+invariant-loop-v l = record {
+  size : length l.widened ≡ 16;
+  same : (w : ℕ) → w < l.v → slice_index_or l.widened w (pos 0) ≡ slice_index_or l.numbers w (pos 0);
+}
