@@ -43,6 +43,10 @@ pub(crate) enum BatchFault {
 }
 
 impl From<AllocError> for BatchFault {
+    ghost use Rattle.dg_sweep.specs.declared.workers.BatchFault.{BatchFault};
+
+    ghost from_gives = { λ error fault. fault ≡ BatchFault.Memory };
+
     fn from(_error: AllocError) -> BatchFault {
         BatchFault::Memory
     }
