@@ -1,5 +1,6 @@
 -- However trials are numbered, there are as many.
 --   lower_number   of two numbered trials the one that comes before the other has the lower number
+--   no_lower       the trial of a number has no lower one in another numbering
 --   counted_once   two counts of the trials with one property are the same
 use Rattle.std.proofs.Common.{◌≡◌, ℕ, zero, suc, ◌<◌, ◌≤◌, List, arith, sym, subst, ⊎_elim}
 use Rattle.std.proofs.lemmas.Bool.{cases_lt}
@@ -19,8 +20,7 @@ lower_number n k P c nth i j numbers small before = ⊎_elim
     (cases_lt j i)))
     (cases_lt i j)
 
--- the trial of one number in the first numbering has no lower one in the second
-no_lower : (n k : ℕ) (P : List ℕ → Type 0) (c d : ℕ) (f g : ℕ → List ℕ) → IsNumbering n k P c f → IsNumbering n k P d g →
+pub no_lower : (n k : ℕ) (P : List ℕ → Type 0) (c d : ℕ) (f g : ℕ → List ℕ) → IsNumbering n k P c f → IsNumbering n k P d g →
     (i j : ℕ) → i < c → f i ≡ g j → i ≤ j
 no_lower n k P c d f g first second zero j small same = omega arith
 no_lower n k P c d f g first second (suc i) j small same =

@@ -7,6 +7,7 @@ pub mod Counts
 pub mod NextTrial
 pub mod Unranking
 pub mod Walk
+pub mod Leaps
 -- Trials and effective divisors.
 pub mod TrialLists
 -- What the search over all trials finds.
@@ -15,6 +16,7 @@ pub mod Search
 pub mod PieceLosses
 pub mod Gated
 pub mod Elsewhere
+pub mod LeapForms
 -- The reduced divisor in place of the one given.
 pub mod SmallAmounts
 -- Ranks and rank tests by the dual.

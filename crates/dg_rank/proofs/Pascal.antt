@@ -1,6 +1,8 @@
 -- The numbers of trials, by two identities of Pascal's triangle.
 --   one_place     on one place there is one trial of each degree
 --   count_more    trials are those that hold nothing at the first place and those that hold something there
+--   no_dollar     of degree 0 there is one trial
+--   count_one_more   on one place more there are no fewer trials
 --   count_grows   on more places there are no fewer trials
 --   count_grows_by_degree   of a greater degree there are no fewer trials, on one place or more
 --   count_next    on p + 1 places there are (k + p) / p times as many trials of degree k as on p places
@@ -18,12 +20,12 @@ pub count_more : (n k : ℕ) → trial_count (suc n) (suc k) ≡ trial_count n (
 unfolding one_place_more trial_count
 count_more n k = refl
 
-no_dollar : (n : ℕ) → trial_count n 0 ≡ 1
+pub no_dollar : (n : ℕ) → trial_count n 0 ≡ 1
 unfolding one_place_more trial_count
 no_dollar zero = refl
 no_dollar (suc n) = no_dollar n
 
-count_one_more : (n k : ℕ) → trial_count n k ≤ trial_count (suc n) k
+pub count_one_more : (n k : ℕ) → trial_count n k ≤ trial_count (suc n) k
 count_one_more n zero = omega (arith, no_dollar n, no_dollar (suc n))
 count_one_more n (suc k) = omega (arith, count_more n k)
 

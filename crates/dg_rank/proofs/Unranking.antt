@@ -4,6 +4,9 @@
 --                              a more at its first place
 --   IsLast n k i rest       == the trial number i of degree k on n + 1 places holds all k at its first place, and has the
 --                              number rest on the others
+--   nth_low, nth_high, nth_broke   the trial with a number, where its first amount is 0, where it is more, and where there is
+--                              no dollar
+--   count_broke             without a dollar one place more makes no more trials
 --   sought_first            each trial is sought from its own number, with nothing more at its first place
 --   sought_more             a trial is sought with one more, where its number is not below that of those that hold no more
 --   sought_here             where the number is below that, the first amount is found
@@ -37,21 +40,20 @@ unfolding raised
 more_raised a [] = refl
 more_raised a (x ∷ E) = ap (λ (y : ℕ). y ∷ E) (omega arith)
 
--- the first amount is 0 or more
-nth_low : (n k i : ℕ) → i < trial_count n (suc k) → nth_trial (suc n) (suc k) i ≡ 0 ∷ nth_trial n (suc k) i
+pub nth_low : (n k i : ℕ) → i < trial_count n (suc k) → nth_trial (suc n) (suc k) i ≡ 0 ∷ nth_trial n (suc k) i
 unfolding nth_trial with_place
 nth_low n k i low = sym (cond_below i (trial_count n (suc k)) (0 ∷ nth_trial n (suc k) i) _ low)
 
-nth_high : (n k i : ℕ) → trial_count n (suc k) ≤ i →
+pub nth_high : (n k i : ℕ) → trial_count n (suc k) ≤ i →
     nth_trial (suc n) (suc k) i ≡ raised (nth_trial (suc n) k (i - trial_count n (suc k)))
 unfolding nth_trial with_place
 nth_high n k i high = sym (cond_above i (trial_count n (suc k)) (0 ∷ nth_trial n (suc k) i) _ _ high refl)
 
-nth_broke : (n i : ℕ) → nth_trial (suc n) 0 i ≡ 0 ∷ nth_trial n 0 i
+pub nth_broke : (n i : ℕ) → nth_trial (suc n) 0 i ≡ 0 ∷ nth_trial n 0 i
 unfolding nth_trial with_place
 nth_broke n i = refl
 
-count_broke : (n : ℕ) → trial_count (suc n) 0 ≡ trial_count n 0
+pub count_broke : (n : ℕ) → trial_count (suc n) 0 ≡ trial_count n 0
 unfolding trial_count one_place_more
 count_broke n = refl
 

@@ -1,7 +1,8 @@
 //! The first trial whose loss can't be borne.
-ghost use Rattle.std.specs.Prelude.{◌≡◌, ℕ, ◌<◌, ◌≤◌, pos, ◌≤ℤ◌, MatchBool, MatchOption};
+ghost use Rattle.std.specs.Prelude.{◌≡◌, ℕ, ◌+◌, ◌<◌, ◌≤◌, pos, ◌≤ℤ◌, length, slice_index, MatchBool, MatchOption};
 ghost use Rattle.std.specs.Int.RustNames.{unsigned_abs};
-ghost use Rattle.dg_theory.specs.Firing.{degree, IsEffective};
+ghost use Rattle.dg_theory.specs.Multigraph.{Multigraph};
+ghost use Rattle.dg_theory.specs.Firing.{Amounts, degree, IsEffective};
 ghost use Rattle.dg_theory.specs.Play.{IsWinnable};
 ghost use Rattle.dg_theory.specs.Rank.{less};
 ghost use Rattle.dg_graph.specs.Graph.{IsGraph};
@@ -10,16 +11,19 @@ ghost use Rattle.dg_reduce.specs.Effective.{IsEffectiveForm};
 ghost use Rattle.dg_rank.specs.Divisors.{amounts_of};
 ghost use Rattle.dg_rank.specs.Limits.{IsWithinLimits};
 ghost use Rattle.dg_rank.specs.Trials.{IsTrial};
+ghost use Rattle.dg_rank.specs.Numbering.{nth_trial};
 ghost use Rattle.dg_rank.specs.Moves.{after_move};
-ghost use Rattle.dg_rank.specs.Losses.{WinsWithout, IsFound};
+ghost use Rattle.dg_rank.specs.Losses.{WinsWithout, IsFound, IsLeap};
 
+use crate::counting::count;
 use crate::enumeration::{Moved, Trial};
 use dg_chips::Wide;
 use dg_graph::Graph;
 use dg_reduce::{Form, reduce_wide};
 
 /// The first trial of degree k, of those from one number up to another, whose loss leaves what can't be won; `None`
-/// where there is none. What is left of one trial is not far from what is left of the next, so each starts from it.
+/// where there is none. What is left of one trial is not far from what is left of the next, so each starts from it; and those
+/// that are seen to win by what is left of one before them are passed over.
 pub fn first_loss(graph: &Graph, chips: &Wide, k: u32, from: u32, to: u32) -> Option<Trial>
     requires size { chips.now.size ≡ graph.now.size }
     requires range { (v : ℕ) → v < graph.now.size → unsigned_abs (at chips.now v) ≤ 1999000 }
@@ -33,11 +37,13 @@ pub fn first_loss(graph: &Graph, chips: &Wide, k: u32, from: u32, to: u32) -> Op
     let Some(mut left) = left_without(graph, chips, &trial) else {
         return Some(trial);
     };
-    'trials: for number in from + 1..to {
+    let mut number = from + leap(&mut trial, &mut left);
+    'trials: while number + 1 < to {
         let moved = trial.advance();
         if !lose_elsewhere(graph, &mut left, &moved) {
             return Some(trial);
         }
+        number += 1 + leap(&mut trial, &mut left);
     }
     None
 }
@@ -84,4 +90,46 @@ fn lose_elsewhere(graph: &Graph, left: &mut Form, moved: &Moved) -> bool
     }
     left.take(last, moved.others);
     left.repay(graph, last)
+}
+
+/// Goes on to the last of the trials that are seen to win at once: those that hold the dollars of the last place anywhere after the
+/// other places that hold some, where each vertex has as many left. Returns how many trials further that is.
+fn leap(trial: &mut Trial, left: &mut Form) -> u32
+    requires size { left.old.size ≡ length trial.old }
+    requires trial { (k : ℕ) × (c : ℕ) × (i : ℕ) × IsWithinLimits left.old.size k c × (i < c) ×
+        (trial.old ≡ nth_trial left.old.size k i) }
+    requires effective { IsEffective left.old.size (at left.old) }
+    requires degree { degree left.old.size (at left.old) ≤ℤ pos 32000000 }
+    ensures { (g : Multigraph) (D : Amounts) (k c i : ℕ) → IsWithinLimits g.size k c → i < c →
+        trial.old ≡ nth_trial g.size k i → IsEffectiveForm g (less D (amounts_of trial.old)) left.old →
+        IsLeap g D k c i result trial.new left.new }
+{
+    let last = trial.size() - 1;
+    let dollars = trial.get(last);
+    let place = first_rich(trial, left, dollars);
+    if place == last {
+        return 0;
+    }
+    trial.set(last, 0);
+    trial.set(place, dollars);
+    left.give(last, dollars);
+    left.take(place, dollars);
+    count(last + 1 - place, dollars) - 1
+}
+
+/// A place from which on the trial holds nothing before its last place, and each vertex before the last has at least so many
+/// dollars left.
+fn first_rich(trial: &Trial, left: &Form, dollars: u32) -> usize
+    requires some { 0 < length trial.now }
+    requires size { left.now.size ≡ length trial.now }
+    requires few { dollars ≤ 1000 }
+    ensures within { result < length trial.now }
+    ensures empty { (u : ℕ) → result ≤ u → u + 1 < length trial.now → slice_index trial.now u ≡ 0 }
+    ensures rich { (u : ℕ) → result ≤ u → u + 1 < length trial.now → pos dollars ≤ℤ at left.now u }
+{
+    let mut place = trial.size() - 1;
+    while place > 0 && trial.get(place - 1) == 0 && left.get(place - 1) >= dollars as i32 {
+        place -= 1;
+    }
+    place
 }

@@ -27,7 +27,7 @@ use Rattle.dg_theory.proofs.Range.{IsLed, clear_all, led_start, led_step, led-co
 use Rattle.dg_graph.specs.Graph.{IsGraph}
 use Rattle.dg_graph.specs.Sets.{in_set}
 use Rattle.dg_chips.specs.Vector.{at}
-use Rattle.dg_reduce.specs.declared.walk.Walk.{Walk}
+use Rattle.dg_reduce.specs.declared.fallback.walk.Walk.{Walk}
 use Rattle.dg_reduce.specs.States.{IsTied, IsFired, limit_at, IsCleared}
 use Rattle.dg_reduce.specs.Firings.{IsMost}
 use Rattle.dg_reduce.proofs.LevelLimits.{limit_at-small}

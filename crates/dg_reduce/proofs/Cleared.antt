@@ -9,7 +9,7 @@ use Rattle.dg_theory.proofs.Range.{clear_all}
 use Rattle.dg_theory.proofs.Reach.{distance_from, distance_from-is}
 use Rattle.dg_graph.specs.Graph.{IsGraph}
 use Rattle.dg_chips.specs.Vector.{at}
-use Rattle.dg_reduce.specs.declared.walk.Walk.{Walk}
+use Rattle.dg_reduce.specs.declared.fallback.walk.Walk.{Walk}
 use Rattle.dg_reduce.specs.States.{IsCleared, IsClearedOff}
 
 pub levels_cleared : (g : Multigraph) (q : ℕ) (level : ℕ → ℕ) (x : Walk) → IsDistance g q level → IsCleared g level 1 x →

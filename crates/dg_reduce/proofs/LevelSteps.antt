@@ -23,7 +23,7 @@ use Rattle.dg_theory.proofs.Debts.{nearer, fired_nearer}
 use Rattle.dg_theory.proofs.Range.{level_limit, level_paid, clear_step, clear_stays}
 use Rattle.dg_graph.specs.Graph.{IsGraph}
 use Rattle.dg_chips.specs.Vector.{at}
-use Rattle.dg_reduce.specs.declared.walk.Walk.{Walk}
+use Rattle.dg_reduce.specs.declared.fallback.walk.Walk.{Walk}
 use Rattle.dg_reduce.specs.States.{IsFired, limit_at, IsCleared, IsLargestDebt}
 use Rattle.dg_reduce.proofs.LevelLimits.{limit_at-next, limit_at-small}
 

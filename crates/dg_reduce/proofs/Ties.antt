@@ -11,7 +11,7 @@ use Rattle.dg_theory.specs.Distances.{IsDistance}
 use Rattle.dg_theory.proofs.FiringLaws.{fired-fired, fired-constant, fired-cong}
 use Rattle.dg_graph.specs.Graph.{IsGraph}
 use Rattle.dg_chips.specs.Vector.{at}
-use Rattle.dg_reduce.specs.declared.walk.Walk.{Walk}
+use Rattle.dg_reduce.specs.declared.fallback.walk.Walk.{Walk}
 use Rattle.dg_reduce.specs.States.{IsTied, limit_at, IsCleared}
 use Rattle.dg_reduce.proofs.LevelLimits.{limit_at-least}
 

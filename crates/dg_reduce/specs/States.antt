@@ -13,7 +13,7 @@ use Rattle.std.specs.Int.RustNames.{unsigned_abs}
 use Rattle.dg_theory.specs.Multigraph.{Multigraph}
 use Rattle.dg_theory.specs.Firing.{Amounts, fired, indicator, multiple, HasNoDebtOff, FiresTo}
 use Rattle.dg_chips.specs.Vector.{at}
-use Rattle.dg_reduce.specs.declared.walk.Walk.{Walk}
+use Rattle.dg_reduce.specs.declared.fallback.walk.Walk.{Walk}
 
 pub record IsTied (g : Multigraph) (x : Walk) : Type 0 where
   pub start_size : x.start.size ≡ g.size

@@ -51,7 +51,7 @@ impl Form {
     }
 
     /// The amount of a vertex.
-    fn get(&self, v: usize) -> i32
+    pub fn get(&self, v: usize) -> i32
         requires { v < self.now.size }
         ensures { result ≡ at self.now v }
     {

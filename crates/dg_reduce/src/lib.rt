@@ -3,24 +3,17 @@
 #![tactic(auto)]
 
 mod aim;
-mod burning_down;
 mod certificate;
-mod clearing;
+mod fallback;
 mod form;
 mod guessing;
-mod levels;
 mod limits;
-mod most_firings;
-mod next_firing;
 mod reducing;
-mod walk;
 
 pub use aim::Aim;
 pub use certificate::{Burning, is_solvent_off, order_if_reduced};
+pub use fallback::{is_within_start, reduce_after, reduce_by_levels};
 pub use form::Form;
 pub use guessing::{Guessed, guess};
 pub use limits::MAX_START;
-pub use reducing::{
-    Certified, Reduced, certified_by, is_within_start, reduce, reduce_after, reduce_by_levels,
-    reduce_certified, reduce_wide,
-};
+pub use reducing::{Certified, Reduced, certified_by, reduce, reduce_certified, reduce_wide};
