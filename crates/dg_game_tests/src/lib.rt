@@ -1,15 +1,9 @@
-//! The tests of verdicts, of ranks, of the one-player game and of what is read, which call only what those crates make public.
+//! The tests of verdicts, of ranks and of the one-player game, which call only what those crates make public.
 #![tactic(auto)]
 
 #[cfg(test)]
-mod file;
-#[cfg(test)]
 mod game;
 #[cfg(test)]
-mod lines;
-#[cfg(test)]
 mod rank;
-#[cfg(test)]
-mod sweeps;
 #[cfg(test)]
 mod verdict;

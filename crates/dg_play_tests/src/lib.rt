@@ -1,5 +1,5 @@
-//! The tests of the locked table, of who plays on it or watches it, of sessions and parties, and of what each command
-//! does. They call only what the libraries make public.
+//! The tests of the locked table, of who plays on it or watches it, of sessions and parties, and of files that are read. They
+//! call only what the libraries make public.
 #![tactic(auto)]
 
 #[cfg(test)]
@@ -13,9 +13,9 @@ mod openings;
 #[cfg(test)]
 mod party;
 #[cfg(test)]
-mod server;
-#[cfg(test)]
 mod session;
+#[cfg(test)]
+mod sources;
 #[cfg(test)]
 mod strategy;
 #[cfg(test)]

@@ -1,6 +1,6 @@
 //! Runs from the words of a command line to the exit status, whatever reads the words.
 
-use crate::tables::TRIANGLE;
+use crate::server::runs::TRIANGLE;
 use dg_asked::{Asked, Task, Words, WordsFault};
 use dg_server::run;
 use dg_sources::Shelf;

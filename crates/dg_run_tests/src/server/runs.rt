@@ -1,7 +1,6 @@
 //! Runs over files in memory, and tables that several of them are played on.
 
 use crate::server::asked::{Command, asked};
-pub(super) use crate::tables::TRIANGLE;
 use dg_server::{perform, report};
 use dg_sources::Shelf;
 use dg_streams::Output;
@@ -14,6 +13,10 @@ use std::thread::Threads;
 
 // The table file, what is asked of it, the steps or the input, what is printed, what is said of a fault, and the status.
 pub(super) type Run<'a> = (&'a str, Command, &'a str, &'a str, &'a str, u8);
+
+// The triangle where a has two dollars, and b and c owe one each, seen from a.
+pub(super) const TRIANGLE: &str =
+    r#"{"vertices":["a","b","c"],"edges":[["a","b",1],["b","c",1],["a","c",1]],"amounts":[2,-1,-1],"q":"a"}"#;
 
 // A file that is not there.
 pub(super) const ABSENT: &str = "absent";

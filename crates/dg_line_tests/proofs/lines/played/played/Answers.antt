@@ -1,7 +1,7 @@
 use Rattle.std.proofs.Common.{◌≡◌, length, arith, ap}
 use Rattle.dg_theory.specs.Multigraph.{Multigraph}
 use Rattle.dg_lines.proofs.Printing.{legal_named}
-use Rattle.dg_game_tests.proofs.lines.played.played.Goals as goal
+use Rattle.dg_line_tests.proofs.lines.played.played.Goals as goal
 
 pub history_lines-requires : goal.history_lines-requires
 history_lines-requires c =
