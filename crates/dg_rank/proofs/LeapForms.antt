@@ -71,26 +71,28 @@ pub wins_among : (g : Multigraph) (D : Amounts) (k c i d r j : ℕ) (E : List �
 wins_among g D k c i d r j E x split rich form low =
     let G : List ℕ = nth_trial g.size k (i + j) in
     let here : IsAmong g.size k c i d r j E = among g.size k c i d r E split j low in
-    (equivalent-winnable g (less D (amounts_of G)) (λ v. at x v +ℤ (amounts_of E v -ℤ amounts_of G v)) (moved_form g D E G x form)).1
-    ([], λ v inside. ⊎_elim
-    (λ (before : v < d).
-    let same : slice_index G v ≡ slice_index E v = held_before g.size k c i d r j v E split here before in
-    let some : pos 0 ≤ℤ at x v = form.effective v inside in
-    omega (arith, ints))
-    (λ (past : d ≤ v).
-    let few : slice_index G v ≤ r = held_after g.size k c i d r j v E split here low past inside in
-    ⊎_elim
-    (λ (inner : v + 1 < g.size).
-    let none : slice_index E v ≡ 0 = split.empty v past inner in
-    let some : pos r ≤ℤ at x v = rich v past inner in
-    omega (arith, ints))
-    (λ (end : g.size ≤ v + 1).
-    let last : v ≡ g.size - 1 = omega arith in
-    let all : slice_index E v ≡ r = ap (slice_index E) last ∙ split.last in
-    let some : pos 0 ≤ℤ at x v = form.effective v inside in
-    omega (arith, ints))
-    (cases_lt (v + 1) g.size))
-    (cases_lt v d))
+    (equivalent-winnable g (less D (amounts_of G)) (λ v. at x v +ℤ (amounts_of E v -ℤ amounts_of G v)) (moved_form g D E G x form)).1 (
+      [],
+      λ v inside. ⊎_elim
+          (λ (before : v < d).
+          let same : slice_index G v ≡ slice_index E v = held_before g.size k c i d r j v E split here before in
+          let some : pos 0 ≤ℤ at x v = form.effective v inside in
+          omega (arith, ints))
+          (λ (past : d ≤ v).
+          let few : slice_index G v ≤ r = held_after g.size k c i d r j v E split here low past inside in
+          ⊎_elim
+          (λ (inner : v + 1 < g.size).
+          let none : slice_index E v ≡ 0 = split.empty v past inner in
+          let some : pos r ≤ℤ at x v = rich v past inner in
+          omega (arith, ints))
+          (λ (end : g.size ≤ v + 1).
+          let last : v ≡ g.size - 1 = omega arith in
+          let all : slice_index E v ≡ r = ap (slice_index E) last ∙ split.last in
+          let some : pos 0 ≤ℤ at x v = form.effective v inside in
+          omega (arith, ints))
+          (cases_lt (v + 1) g.size))
+          (cases_lt v d),
+    )
 
 -- the last of the trials of a leap: what E holds at its last place is at place d
 abbrev pub landing : ℕ → ℕ → ℕ → List ℕ → List ℕ

@@ -141,8 +141,8 @@ begins n k c i d r E split =
     let one : suc (n - 1 - d) ≡ n - d = omega (arith, split.inside) in (
       places,
       rw (← one) (first_held (n - 1 - d) r (drop d E) (omega arith)
-      (λ u low. get_or-drop d E u 0 ∙ split.empty (d + u) (omega arith) (omega arith))
-      (get_or-drop d E (n - 1 - d) 0 ∙ ap (slice_index E) (omega (arith, split.inside)) ∙ split.last)),
+          (λ u low. get_or-drop d E u 0 ∙ split.empty (d + u) (omega arith) (omega arith))
+          (get_or-drop d E (n - 1 - d) 0 ∙ ap (slice_index E) (omega (arith, split.inside)) ∙ split.last)),
     )
 
 pub record IsAmong (n k c i d r j : ℕ) (E : List ℕ) : Type 0 where

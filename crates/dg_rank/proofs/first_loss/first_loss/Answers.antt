@@ -142,8 +142,14 @@ leap-requires-in-trials-clause-trial c =
     let (count, within, few) = c.requires.limits in
     let size : c.lose_elsewhere.new.left.size ≡ c.args.graph.now.size =
     (form (goal.at.leap-requires-in-trials-clause-trial c).Else-not-lose_elsewhere).size in
-    rw size (c.args.k, count, c.trials.number + 1, within, omega arith,
-    next (goal.at.leap-requires-in-trials-clause-trial c).After-advance-moved)
+    rw size (
+      c.args.k,
+      count,
+      c.trials.number + 1,
+      within,
+      omega arith,
+      next (goal.at.leap-requires-in-trials-clause-trial c).After-advance-moved,
+    )
 
 pub leap-requires-in-trials-clause-effective : goal.leap-requires-in-trials-clause-effective
 leap-requires-in-trials-clause-effective c =
