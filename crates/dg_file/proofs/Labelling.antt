@@ -8,13 +8,16 @@ use Rattle.dg_file.specs.declared.label.Label.{Label}
 use Rattle.dg_file.specs.Names.{added, is_new, name_at}
 use Rattle.dg_file.specs.Labels.{AreLabels, IsLabel}
 
-module _ (labels : List Label) (names : List (List ℕ)) (name : List ℕ) (next : ℕ) (l : Label) (last : length names ≡ next)
-    (inside : next < length labels) (is : IsLabel l name) (are : AreLabels labels names) where
+module _ (labels : List Label) (names : List (List ℕ)) (name : List ℕ) (next : ℕ) (l : Label)
+    (last : length names ≡ next) (inside : next < length labels) (is : IsLabel l name)
+    (are : AreLabels labels names) where
   before-next : AreLabels (set labels next l) names
   before-next v other below =
-      subst (λ (kept : Label). IsLabel kept (name_at names v)) (sym (get_or-set_other labels next v l other (λ same. omega arith))) (are v other below)
+      let kept = get_or-set_other labels next v l other (λ same. omega arith) in
+      subst (λ (own : Label). IsLabel own (name_at names v)) (sym kept) (are v other below)
 
-  at-next : (other : Label) → IsLabel (slice_index_or (set labels next l) next other) (name_at (names ++ name ∷ []) next)
+  at-next : (other : Label)
+      → IsLabel (slice_index_or (set labels next l) next other) (name_at (names ++ name ∷ []) next)
   at-next other = rw (get_or-set_same labels next l other inside, get_or_at names name [] [] next last) is
 
   AreLabels-pushed : AreLabels (set labels next l) (names ++ name ∷ [])
@@ -29,4 +32,5 @@ module _ (labels : List Label) (names : List (List ℕ)) (name : List ℕ) (next
 
   pub AreLabels-added : AreLabels (set labels next l) (added names name)
   AreLabels-added =
-      cond_both (is_new names name) (names ++ name ∷ []) names (AreLabels (set labels next l)) (λ new. AreLabels-pushed) (λ old. before-next)
+      cond_both (is_new names name) (names ++ name ∷ []) names (AreLabels (set labels next l))
+      (λ new. AreLabels-pushed) (λ old. before-next)

@@ -9,8 +9,8 @@
 --   parts-counted  an object of another number of members has no parts
 --   edge-three     an array of three values is an edge where they are two texts and a number of edges
 --   edge-others    an array of another number of values is no edge
-use Rattle.std.proofs.Common.{◌≡◌, ◌≢◌, ℕ, suc, ◌+◌, ◌<◌, ◌≤◌, List, [], ◌∷◌, ◌++◌, length, get_or, drop, Option, Some, None, Err, option_map, Bor, Vec, String, Global, refl, sym, ap, ◌∙◌, codes, inl, inr, arith}
-use Rattle.std.specs.Prelude.{IsSome, ok_or, option_and_then}
+use Rattle.std.proofs.Common.{◌≡◌, ◌≢◌, ℕ, suc, ◌+◌, ◌<◌, ◌≤◌, List, [], ◌∷◌, ◌++◌, length, get_or, drop, Option, Some, None, option_map, Bor, Vec, String, Global, refl, sym, ap, ◌∙◌, codes, inl, inr, arith}
+use Rattle.std.specs.Prelude.{IsSome, option_and_then}
 use Rattle.std.proofs.lemmas.Bool.{cases_order}
 use Rattle.std.proofs.lemmas.List.{append_assoc, append-nil, drop_more, drop_all}
 use Rattle.serde_json.specs.Data.{Data, null, boolean, number, string, array, object, Members}
@@ -18,7 +18,7 @@ use Rattle.serde_json.specs.Find.{get, get_member, get_item, as_object, as_array
 use Rattle.serde_json.specs.View.{view, items_view, members_view}
 use Rattle.serde_json.specs.declared.value.Value.{Value}
 use Rattle.serde_json.proofs.Views.{get_item_within}
-use Rattle.dg_file.specs.Content.{Parts, HasParts, member_count, each, edge_in, edge_of, edge_from, count_in, listed}
+use Rattle.dg_file.specs.Content.{Parts, HasParts, member_count, put_first, each, edge_in, edge_of, edge_from, count_in, listed}
 use Rattle.dg_file.specs.FileFaults.{IsEdgeFault}
 
 abbrev pub after : {A : Type 0} → List A → Option (List A) → Option (List A)
@@ -43,7 +43,7 @@ module _ {A : Type 0} (read : Data → Option A) (vs : List Value) (i : ℕ) (v 
   unfolding each
   each-more x below is some so_far =
       so_far ∙ ap (λ rest. after xs (each read (items_view rest))) (left below is)
-      ∙ ap (λ first. after xs (option_and_then (λ a. option_map (λ more. a ∷ more) (each read (items_view (drop (i + 1) vs)))) first)) some
+      ∙ ap (λ first. after xs (put_first first (each read (items_view (drop (i + 1) vs))))) some
       ∙ after-item xs x (each read (items_view (drop (i + 1) vs)))
 
   pub each-failed : i < length vs → v ≡ get_or vs i v → read (view v) ≡ None
@@ -52,7 +52,7 @@ module _ {A : Type 0} (read : Data → Option A) (vs : List Value) (i : ℕ) (v 
   unfolding each
   each-failed below is none so_far =
       so_far ∙ ap (λ rest. after xs (each read (items_view rest))) (left below is)
-      ∙ ap (λ first. after xs (option_and_then (λ a. option_map (λ more. a ∷ more) (each read (items_view (drop (i + 1) vs)))) first)) none
+      ∙ ap (λ first. after xs (put_first first (each read (items_view (drop (i + 1) vs))))) none
 
 pub each-all : {A : Type 0} (read : Data → Option A) (vs : List Value) (i : ℕ) (xs : List A) → length vs ≤ i
     → each read (items_view vs) ≡ after xs (each read (items_view (drop i vs)))
@@ -107,7 +107,8 @@ parts-given value es parts is four vertices edges amounts q = record {
 pub parts-counted : (value : Data) (es : List Entry) (parts : Parts) → Some (members_view es) ≡ as_object value
     → (length es ≡ 4 → ⊥) → ¬ HasParts value parts
 parts-counted value es parts is other has =
-    let same : members_view es ≡ has.members = let e : Some (members_view es) ≡ Some has.members = is ∙ has.object in cc in
+    let both : Some (members_view es) ≡ Some has.members = is ∙ has.object in
+    let same : members_view es ≡ has.members = cc in
     other (sym (member_count-view es) ∙ ap member_count same ∙ has.four)
 
 three : (vs : List Value) (one other count : Value) → length vs ≡ 3 → one ≡ get_or vs 0 one → other ≡ get_or vs 1 other
@@ -134,31 +135,23 @@ edge-others value (a ∷ b ∷ []) is different = rw (← is) refl
 edge-others value (a ∷ b ∷ c ∷ []) is different = absurd (different refl)
 edge-others value (a ∷ b ∷ c ∷ d ∷ vs) is different = rw (← is) refl
 
--- the fault that `ok_or` gives where there is nothing
-pub fault-given : {A E : Type 0} (o : Option A) (fault shape : E) → Err fault ≡ ok_or o shape → o ≡ None → fault ≡ shape
-fault-given None fault shape gives none = cc
-fault-given (Some x) fault shape gives none = cc
-
 -- an array, read item by item
 pub listed-each : {A : Type 0} (read : Data → Option A) (value : Data) (found : Option (Bor (Vec Value Global)))
     (vec : Bor (Vec Value Global)) (vs : List Value)
     → option_map (λ v. items_view v.now.items) found ≡ as_array value → found ≡ Some vec → vs ≡ vec.now.items
     → listed read value ≡ each read (items_view vs)
 listed-each read value found vec vs gives is same =
-    ap (option_and_then (each read)) (sym gives ∙ ap (option_map (λ (v : Bor (Vec Value Global)). items_view v.now.items)) is)
+    ap (option_and_then (each read))
+    (sym gives ∙ ap (option_map (λ (v : Bor (Vec Value Global)). items_view v.now.items)) is)
     ∙ ap (λ items. each read (items_view items)) (sym same)
 
 -- the first item that is no edge
-pub edge-fault : (value : Data) (found : Option (Bor (Vec Value Global))) (vec : Bor (Vec Value Global)) (vs : List Value)
-    (i : ℕ) (v : Value)
-    → option_map (λ v. items_view v.now.items) found ≡ as_array value → found ≡ Some vec → vs ≡ vec.now.items
-    → i < length vs → v ≡ get_or vs i v → edge_in (view v) ≡ None
+pub edge-fault : (vs : List Value) (i : ℕ) (v : Value) → i < length vs → v ≡ get_or vs i v → edge_in (view v) ≡ None
     → ((k : ℕ) → k < i → (d : Data) → get_item k (items_view vs) ≡ Some d → IsSome (edge_in d))
-    → IsEdgeFault value i
-edge-fault value found vec vs i v gives is same below at none before = record {
+    → IsEdgeFault (array (items_view vs)) i
+edge-fault vs i v below at none before = record {
   items = items_view vs;
-  array = sym gives ∙ ap (option_map (λ (v : Bor (Vec Value Global)). items_view v.now.items)) is
-      ∙ ap (λ (vs : List Value). Some (items_view vs)) (sym same);
+  array = refl;
   before = before;
   item = view v;
   there = sym (rw (← at) at (get_item_within vs i v below));

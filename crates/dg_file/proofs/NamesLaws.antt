@@ -117,7 +117,8 @@ unfolding IsDistinct
 first-at [] v distinct below = absurd (omega arith)
 first-at (x ∷ names) zero distinct below = rw (bytes_eq-refl x) refl
 first-at (x ∷ names) (suc v) distinct below =
-    let rest : prefix_len (λ own. not (bytes_eq own (name_at names v))) names ≡ v = first-at names v distinct.1 (omega arith) in
+    let rest : prefix_len (λ own. not (bytes_eq own (name_at names v))) names ≡ v =
+    first-at names v distinct.1 (omega arith) in
     rw (differ-at x names v distinct.0 (omega arith)) (omega arith)
 
 pub place_of-name_at : (names : List (List ℕ)) (v : ℕ) → AreNames names → v < length names

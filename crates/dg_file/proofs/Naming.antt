@@ -1,4 +1,5 @@
--- A set of texts seen as the list of their bytes: whether a name is in it, what `insert` leaves, and a name's first place.
+-- A set of texts seen as the list of their bytes: whether a name is in it, what `insert` leaves, and the first place of
+-- a name.
 use Rattle.std.proofs.Common.{◌≡◌, ℕ, ◌+◌, ◌||◌, cond, not, length, List, [], ◌∷◌, ◌++◌, Bool, true, false, refl, ap, ◌∙◌, map, string_bytes}
 use Rattle.std.specs.Prelude.{bytes_eq, String, string_eq, position}
 use Rattle.std.specs.List.{list_any, prefix_len}
@@ -26,8 +27,12 @@ pub insert_text : (keys : List (String Global)) (key : String Global) (names : L
 insert_text keys key names name is e f =
     rw (is_new-named names name is, ← has_text keys key names name e f)
     (elim (list_any (string_eq key) keys) as
-    (λ t. bytes_of (cond t keys (keys ++ key ∷ [])) ≡ cond (not t) (names ++ name ∷ []) names)
-    [ true ↦ e | false ↦ map-append string_bytes keys (key ∷ []) ∙ ap (λ front. front ++ string_bytes key ∷ []) e ∙ ap (λ last. names ++ last ∷ []) f ])
+    (λ t. bytes_of (cond t keys (keys ++ key ∷ [])) ≡ cond (not t) (names ++ name ∷ []) names) [
+      | true ↦ e
+      | false ↦
+          map-append string_bytes keys (key ∷ []) ∙ ap (λ front. front ++ string_bytes key ∷ []) e
+          ∙ ap (λ last. names ++ last ∷ []) f
+    ])
 
 prefix_len-map : (p : List ℕ → Bool) (keys : List (String Global))
     → prefix_len (λ key. p (string_bytes key)) keys ≡ prefix_len p (bytes_of keys)

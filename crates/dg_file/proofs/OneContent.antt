@@ -1,12 +1,13 @@
 -- What bytes say is one thing: one value, its four parts, one content.
 --   found-once     what is found is one
 --   none-or-some   nothing is found, or something, and not both
+--   first-once     two numbers of which none is below the other are one
 --   same-value     the value of bytes
 --   same-parts     the parts of a value
 --   same-content   the content of a value
-use Rattle.std.proofs.Common.{◌≡◌, ℕ, List, Option, Some, None, sym, ◌∙◌, codes}
+use Rattle.std.proofs.Common.{◌≡◌, ℕ, ◌<◌, List, Option, Some, None, inl, inr, sym, ◌∙◌, codes}
 use Rattle.std.specs.Prelude.{IsSome}
-use Rattle.std.proofs.lemmas.Bool.{false≢true}
+use Rattle.std.proofs.lemmas.Bool.{false≢true, cases_order}
 use Rattle.serde_json.specs.Data.{Data}
 use Rattle.serde_json.specs.Find.{get_member, as_object, as_str}
 use Rattle.dg_file.specs.Content.{Content, Parts, Reads, HasParts, IsContent, texts_in, edges_in, numbers_in}
@@ -20,6 +21,13 @@ none-or-some (Some x) some none = cc
 
 pub none-found : {A : Type 0} (o : Option A) (x : A) → o ≡ Some x → o ≡ None → ⊥
 none-found o x a b = let e : Some x ≡ None = sym a ∙ b in cc
+
+pub first-once : (i j : ℕ) → (i < j → ⊥) → (j < i → ⊥) → i ≡ j
+first-once i j before after = elim (cases_order i j) [
+  | inl same ↦ same
+  | inr (inl less) ↦ absurd (before less)
+  | inr (inr more) ↦ absurd (after more)
+]
 
 pub same-value : (bytes : List ℕ) (u v : Data) → Reads bytes u → Reads bytes v → u ≡ v
 same-value bytes u v a b = found-once _ u v a.1 b.1
@@ -36,7 +44,8 @@ same-parts value o p a b =
     (found-once (get_member (codes "amounts") b.members) o.amounts p.amounts (rw members at a.amounts) b.amounts)
     (found-once (get_member (codes "q") b.members) o.q p.q (rw members at a.q) b.q)
 
-content-equal : (o p : Content) → o.vertices ≡ p.vertices → o.edges ≡ p.edges → o.amounts ≡ p.amounts → o.q ≡ p.q → o ≡ p
+content-equal : (o p : Content) → o.vertices ≡ p.vertices → o.edges ≡ p.edges → o.amounts ≡ p.amounts → o.q ≡ p.q
+    → o ≡ p
 content-equal o p a b c d = λ i. record { vertices = a i; edges = b i; amounts = c i; q = d i }
 
 pub same-content : (value : Data) (o p : Content) → IsContent value o → IsContent value p → o ≡ p

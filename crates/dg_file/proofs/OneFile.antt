@@ -63,11 +63,12 @@ module _ (bytes : List ℕ) where
       shape-none file.value file.content file.says s (rw same at a)
   cause-none f o names (table g a) file =
       let value : a.value ≡ file.value = same-value bytes a.value file.value a.reads file.reads in
-      let content : a.content ≡ file.content = same-content file.value a.content file.content (rw value at a.says) file.says in
+      let content : a.content ≡ file.content =
+      same-content file.value a.content file.content (rw value at a.says) file.says in
       table-none file.content o names file.describes g (rw content at a.refused)
 
-pub file-one : (bytes : List ℕ) (one other : FileFault) → one ≢ OutOfMemory → other ≢ OutOfMemory → RefusesFile bytes one
-    → RefusesFile bytes other → one ≡ other
+pub file-one : (bytes : List ℕ) (one other : FileFault) → one ≢ OutOfMemory → other ≢ OutOfMemory
+    → RefusesFile bytes one → RefusesFile bytes other → one ≡ other
 file-one bytes one other known_one known_other a b =
     cause-one bytes one other (cause bytes one known_one a) (cause bytes other known_other b)
 

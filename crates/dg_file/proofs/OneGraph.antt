@@ -1,9 +1,8 @@
 -- A list of items has one fault at most, and none where it gives a graph.
 --   graph-one     one fault
 --   graph-none    no fault where there is a graph
-use Rattle.std.proofs.Common.{◌≡◌, ℕ, ◌<◌, ◌≤◌, List, inl, inr, ⊎_elim, refl, ap, arith}
+use Rattle.std.proofs.Common.{◌≡◌, ℕ, ◌<◌, ◌≤◌, List, ⊎_elim, refl, ap, arith}
 use Rattle.std.specs.Prelude.{slice_get}
-use Rattle.std.proofs.lemmas.Bool.{cases_order}
 use Rattle.std.proofs.lemmas.Option.{slice_get_within}
 use Rattle.dg_theory.specs.Multigraph.{Multigraph, edges_between}
 use Rattle.dg_theory.specs.Sums.{total_below}
@@ -13,11 +12,12 @@ use Rattle.dg_graph.specs.Items.{Item, IsItem, IsItems, IsRightBefore, HasItem, 
 use Rattle.dg_graph.specs.Faults.{NamesNoVertex, IsLoop, IsEmptyItem, IsFirstHigh, IsParted, IsFirstFault}
 use Rattle.dg_graph.specs.declared.fault.GraphFault.{GraphFault}
 use Rattle.dg_graph.specs.declared.fault.GraphFault.TheVariants.{Size, NoVertex, Loop, Multiplicity, Valence, NotConnected}
-use Rattle.dg_file.proofs.OneContent.{found-once}
+use Rattle.dg_file.proofs.OneContent.{found-once, first-once}
 
 module _ (n : ℕ) (wrong : Item) where
   lost : NamesNoVertex n wrong → ¬ IsItem n wrong
-  lost none right = ⊎_elim (λ (h : n ≤ wrong.0). let b = right.first in omega arith) (λ (h : n ≤ wrong.1). let b = right.second in omega arith) none
+  lost none right =
+      ⊎_elim (λ (h : n ≤ wrong.0). omega (arith, right.first)) (λ (h : n ≤ wrong.1). omega (arith, right.second)) none
 
   looped : IsLoop n wrong → ¬ IsItem n wrong
   looped loop right = right.different loop.same
@@ -27,7 +27,8 @@ module _ (n : ℕ) (wrong : Item) where
 
   lost-looped : NamesNoVertex n wrong → IsLoop n wrong → ⊥
   lost-looped none loop =
-      ⊎_elim (λ (h : n ≤ wrong.0). omega (arith, loop.vertex)) (λ (h : n ≤ wrong.1). omega (arith, loop.vertex, loop.same)) none
+      ⊎_elim (λ (h : n ≤ wrong.0). omega (arith, loop.vertex))
+      (λ (h : n ≤ wrong.1). omega (arith, loop.vertex, loop.same)) none
 
   lost-empty : NamesNoVertex n wrong → IsEmptyItem n wrong → ⊥
   lost-empty none edge =
@@ -43,16 +44,14 @@ module _ (n : ℕ) (items : List Item) where
 
   wrong-none : (i : ℕ) (P : Item → Type 0) → ((item : Item) → P item → ¬ IsItem n item) → HasItem items i P
       → IsItems n items → ⊥
-  wrong-none i P wrong (item, there, is) right = wrong item is (right i item (slice_get_within items i item there) there)
+  wrong-none i P wrong (item, there, is) right =
+      wrong item is (right i item (slice_get_within items i item there) there)
 
   wrong-one : (i j : ℕ) (P Q : Item → Type 0) → ((item : Item) → P item → ¬ IsItem n item)
       → ((item : Item) → Q item → ¬ IsItem n item) → IsRightBefore n items i → IsRightBefore n items j
       → HasItem items i P → HasItem items j Q → i ≡ j
-  wrong-one i j P Q one other right_i right_j a b = elim (cases_order i j) [
-    | inl same ↦ same
-    | inr (inl less) ↦ absurd (wrong-before i j P one a right_j less)
-    | inr (inr more) ↦ absurd (wrong-before j i Q other b right_i more)
-  ]
+  wrong-one i j P Q one other right_i right_j a b =
+      first-once i j (wrong-before i j P one a right_j) (wrong-before j i Q other b right_i)
 
   wrong-twice : (i j : ℕ) (P Q : Item → Type 0) → ((item : Item) → P item → ¬ IsItem n item)
       → ((item : Item) → Q item → ¬ IsItem n item) → ((item : Item) → P item → Q item → ⊥)
@@ -66,7 +65,8 @@ module _ (n : ℕ) (items : List Item) where
   lost-loop i j a b = wrong-twice i j (NamesNoVertex n) (IsLoop n) (lost n) (looped n) (lost-looped n) a.1 b.1 a.2 b.2
 
   lost-none : (i j : ℕ) → IsFirstFault n items (NoVertex i) → IsFirstFault n items (Multiplicity j) → ⊥
-  lost-none i j a b = wrong-twice i j (NamesNoVertex n) (IsEmptyItem n) (lost n) (empty n) (lost-empty n) a.1 b.1 a.2 b.2
+  lost-none i j a b =
+      wrong-twice i j (NamesNoVertex n) (IsEmptyItem n) (lost n) (empty n) (lost-empty n) a.1 b.1 a.2 b.2
 
   loop-none : (i j : ℕ) → IsFirstFault n items (Loop i) → IsFirstFault n items (Multiplicity j) → ⊥
   loop-none i j a b = wrong-twice i j (IsLoop n) (IsEmptyItem n) (looped n) (empty n) (looped-empty n) a.1 b.1 a.2 b.2
@@ -81,11 +81,8 @@ module _ (n : ℕ) (items : List Item) where
   none-right i a = wrong-none i (IsEmptyItem n) (empty n) a.2
 
   high-one : (u v : ℕ) → IsFirstHigh n items u → IsFirstHigh n items v → u ≡ v
-  high-one u v a b = elim (cases_order u v) [
-    | inl same ↦ same
-    | inr (inl less) ↦ absurd (let h = b.least u less in omega (arith, a.high))
-    | inr (inr more) ↦ absurd (let h = a.least v more in omega (arith, b.high))
-  ]
+  high-one u v a b = first-once u v (λ less. let h = b.least u less in omega (arith, a.high))
+      (λ more. let h = a.least v more in omega (arith, b.high))
 
   high-parted : (v : ℕ) → IsFirstHigh n items v → IsParted n items → ⊥
   high-parted v a b = let h = b.valences v a.vertex in omega (arith, a.high)
@@ -98,7 +95,8 @@ module _ (n : ℕ) (items : List Item) where
   graph-one Size (Valence v) a b = absurd (a b.0)
   graph-one Size NotConnected a b = absurd (a b.0)
   graph-one (NoVertex i) Size a b = absurd (b a.0)
-  graph-one (NoVertex i) (NoVertex j) a b = ap NoVertex (wrong-one i j (NamesNoVertex n) (NamesNoVertex n) (lost n) (lost n) a.1 b.1 a.2 b.2)
+  graph-one (NoVertex i) (NoVertex j) a b =
+      ap NoVertex (wrong-one i j (NamesNoVertex n) (NamesNoVertex n) (lost n) (lost n) a.1 b.1 a.2 b.2)
   graph-one (NoVertex i) (Loop j) a b = absurd (lost-loop i j a b)
   graph-one (NoVertex i) (Multiplicity j) a b = absurd (lost-none i j a b)
   graph-one (NoVertex i) (Valence v) a b = absurd (lost-right i a b.1)
@@ -112,7 +110,8 @@ module _ (n : ℕ) (items : List Item) where
   graph-one (Multiplicity i) Size a b = absurd (b a.0)
   graph-one (Multiplicity i) (NoVertex j) a b = absurd (lost-none j i b a)
   graph-one (Multiplicity i) (Loop j) a b = absurd (loop-none j i b a)
-  graph-one (Multiplicity i) (Multiplicity j) a b = ap Multiplicity (wrong-one i j (IsEmptyItem n) (IsEmptyItem n) (empty n) (empty n) a.1 b.1 a.2 b.2)
+  graph-one (Multiplicity i) (Multiplicity j) a b =
+      ap Multiplicity (wrong-one i j (IsEmptyItem n) (IsEmptyItem n) (empty n) (empty n) a.1 b.1 a.2 b.2)
   graph-one (Multiplicity i) (Valence v) a b = absurd (none-right i a b.1)
   graph-one (Multiplicity i) NotConnected a b = absurd (none-right i a b.1)
   graph-one (Valence u) Size a b = absurd (b a.0)
@@ -141,11 +140,12 @@ module _ (n : ℕ) (items : List Item) where
     joined : IsParted n items → ⊥
     joined fault =
         let chain = given.graph.multigraph.connected fault.one fault.other
-        (let s = given.size in omega (arith, fault.one_vertex)) (let s = given.size in omega (arith, fault.other_vertex)) in
+        (omega (arith, given.size, fault.one_vertex)) (omega (arith, given.size, fault.other_vertex)) in
         fault.parted (JoinedIn-cong (λ a b. given.edges a b) (rw given.size at chain))
 
     pub graph-none : (f : GraphFault) → IsFirstFault n items f → ⊥
-    graph-none Size fault = fault (let s = given.size in (omega (arith, given.graph.some), omega (arith, given.graph.few)))
+    graph-none Size fault =
+        fault (omega (arith, given.size, given.graph.some), omega (arith, given.size, given.graph.few))
     graph-none (NoVertex i) fault = lost-right i fault given.right
     graph-none (Loop i) fault = loop-right i fault given.right
     graph-none (Multiplicity i) fault = none-right i fault given.right

@@ -4,10 +4,10 @@
 --   stops-twice       a name that stood before
 --   stops-one         one place at which they stop
 --   name-or-twice     a name is at fault in one way
-use Rattle.std.proofs.Common.{◌≡◌, ℕ, zero, suc, ◌<◌, true, false, List, [], ◌∷◌, length, take, Some, inl, inr, refl, sym, ◌∙◌, ⊎_elim, arith}
+use Rattle.std.proofs.Common.{◌≡◌, ℕ, zero, suc, ◌<◌, true, false, List, [], ◌∷◌, length, take, Some, refl, sym, ◌∙◌, ⊎_elim, arith}
 use Rattle.std.specs.Prelude.{bytes_eq, slice_get}
 use Rattle.std.specs.List.{AllByRecursion, IsDistinct}
-use Rattle.std.proofs.lemmas.Bool.{false≢true, or_cases, cases_order}
+use Rattle.std.proofs.lemmas.Bool.{false≢true, or_cases}
 use Rattle.std.proofs.lemmas.List.{take-take, take_all}
 use Rattle.std.proofs.lemmas.List.Elements.{All-get_or}
 use Rattle.std.proofs.lemmas.Option.{slice_get_within, get_or_from_slice_get}
@@ -15,7 +15,7 @@ use Rattle.dg_file.specs.Names.{IsName, has}
 use Rattle.dg_file.specs.TableFiles.{AreNames}
 use Rattle.dg_file.specs.FileFaults.{IsNameFault, IsTwiceFault}
 use Rattle.dg_file.proofs.NamesLaws.{bytes_eq-swap}
-use Rattle.dg_file.proofs.OneContent.{found-once}
+use Rattle.dg_file.proofs.OneContent.{found-once, first-once}
 
 pub record Stops (names : List (List ℕ)) (i : ℕ) : Type 0 where
   pub before : AreNames (take i names)
@@ -31,10 +31,11 @@ slice_get-take (x ∷ names) (suc i) (suc j) below = slice_get-take names i j (o
 
 is-name : (names : List (List ℕ)) (i : ℕ) (name : List ℕ) → AreNames names → slice_get names i ≡ Some name → IsName name
 is-name names i name are there =
-    rw (get_or_from_slice_get names i name [] there) at (All-get_or IsName names i [] (slice_get_within names i name there) are.each)
+    rw (get_or_from_slice_get names i name [] there) at
+    (All-get_or IsName names i [] (slice_get_within names i name there) are.each)
 
-differs : (x : List ℕ) (names : List (List ℕ)) (i : ℕ) (name : List ℕ) → AllByRecursion (λ y. bytes_eq x y ≡ false) names
-    → slice_get names i ≡ Some name → bytes_eq x name ≡ false
+differs : (x : List ℕ) (names : List (List ℕ)) (i : ℕ) (name : List ℕ)
+    → AllByRecursion (λ y. bytes_eq x y ≡ false) names → slice_get names i ≡ Some name → bytes_eq x name ≡ false
 differs x [] i name others there = absurd (cc)
 differs x (y ∷ names) zero name others there = let same : y ≡ name = cc in rw same at others.0
 differs x (y ∷ names) (suc i) name others there = differs x names i name others.1 there
@@ -79,8 +80,5 @@ module _ (names : List (List ℕ)) (i : ℕ) where
       (rw name at bad.refused.2) old.refused.2.0
 
 pub stops-one : (names : List (List ℕ)) (i j : ℕ) → Stops names i → Stops names j → i ≡ j
-stops-one names i j a b = elim (cases_order i j) [
-  | inl same ↦ same
-  | inr (inl less) ↦ absurd (a.after j less b.before)
-  | inr (inr more) ↦ absurd (b.after i more a.before)
-]
+stops-one names i j a b =
+    first-once i j (λ less. a.after j less b.before) (λ more. b.after i more a.before)

@@ -2,18 +2,17 @@
 --   each-none     an item that cannot be read leaves nothing
 --   shape-one     one shape at fault
 --   shape-none    no shape at fault where there is a content
-use Rattle.std.proofs.Common.{◌≡◌, ℕ, zero, suc, ◌<◌, ◌⊎◌, inl, inr, List, ◌∷◌, Option, Some, None, option_map, refl, sym, ap, ◌∙◌}
+use Rattle.std.proofs.Common.{◌≡◌, ℕ, zero, suc, ◌<◌, ◌⊎◌, inl, inr, Option, Some, None, refl, sym, ap, ◌∙◌}
 use Rattle.std.specs.Prelude.{option_and_then}
-use Rattle.std.proofs.lemmas.Bool.{cases_order}
 use Rattle.serde_json.specs.Data.{Data, Items, no_items, item}
 use Rattle.serde_json.specs.Find.{get_item, as_array}
-use Rattle.dg_file.specs.Content.{Content, Parts, HasParts, IsContent, each, edge_in, edges_in}
+use Rattle.dg_file.specs.Content.{Content, Parts, HasParts, IsContent, put_first, each, edge_in, edges_in}
 use Rattle.dg_file.specs.FileFaults.{IsEdgeFault, IsShapeFaultOf, IsShapeFault}
 use Rattle.dg_file.specs.declared.fault.Shape.{Shape}
 use Rattle.dg_file.specs.declared.fault.Shape.TheVariants.{Top, Vertices, Edges, Edge, Amounts, Q}
-use Rattle.dg_file.proofs.OneContent.{found-once, none-or-some, none-found, same-parts}
+use Rattle.dg_file.proofs.OneContent.{found-once, first-once, none-or-some, none-found, same-parts}
 
-nothing : {A : Type 0} (o : Option A) → option_and_then (λ a. option_map (λ (more : List A). a ∷ more) None) o ≡ None
+nothing : {A : Type 0} (o : Option A) → put_first o None ≡ None
 nothing None = refl
 nothing (Some a) = refl
 
@@ -23,9 +22,9 @@ unfolding each
 each-none read no_items i d there none = absurd (cc)
 each-none read (item first rest) zero d there none =
     let same : first ≡ d = cc in
-    ap (option_and_then (λ a. option_map (λ more. a ∷ more) (each read rest))) (ap read same ∙ none)
+    ap (λ o. put_first o (each read rest)) (ap read same ∙ none)
 each-none read (item first rest) (suc i) d there none =
-    ap (λ left. option_and_then (λ a. option_map (λ more. a ∷ more) left) (read first)) (each-none read rest i d there none)
+    ap (put_first (read first)) (each-none read rest i d there none)
     ∙ nothing (read first)
 
 no-array : (value : Data) → as_array value ≡ None → edges_in value ≡ None
@@ -33,7 +32,8 @@ no-array value none = ap (option_and_then (each edge_in)) none
 
 no-edge : (value : Data) (i : ℕ) → IsEdgeFault value i → edges_in value ≡ None
 no-edge value i fault =
-    ap (option_and_then (each edge_in)) fault.array ∙ each-none edge_in fault.items i fault.item fault.there fault.no_edge
+    ap (option_and_then (each edge_in)) fault.array
+    ∙ each-none edge_in fault.items i fault.item fault.there fault.no_edge
 
 edge-before : (value : Data) (i j : ℕ) → IsEdgeFault value i → IsEdgeFault value j → i < j → ⊥
 edge-before value i j a b before =
@@ -41,11 +41,7 @@ edge-before value i j a b before =
     none-or-some (edge_in a.item) (b.before i before a.item (rw items at a.there)) a.no_edge
 
 edge-one : (value : Data) (i j : ℕ) → IsEdgeFault value i → IsEdgeFault value j → i ≡ j
-edge-one value i j a b = elim (cases_order i j) [
-  | inl same ↦ same
-  | inr (inl less) ↦ absurd (edge-before value i j a b less)
-  | inr (inr more) ↦ absurd (edge-before value j i b a more)
-]
+edge-one value i j a b = first-once i j (edge-before value i j a b) (edge-before value j i b a)
 
 of-one : (parts : Parts) (s t : Shape) → IsShapeFaultOf parts s → IsShapeFaultOf parts t → s ≡ t
 of-one parts Top t a b = absurd a
@@ -108,7 +104,8 @@ shape-one value s t a b = elim (kinds value s a) [
   ]
 ]
 
-of-none : (value : Data) (content : Content) (says : IsContent value content) (s : Shape) → IsShapeFaultOf says.parts s → ⊥
+of-none : (value : Data) (content : Content) (says : IsContent value content) (s : Shape)
+    → IsShapeFaultOf says.parts s → ⊥
 of-none value content says Top fault = fault
 of-none value content says Vertices fault = none-found _ content.vertices says.vertices fault
 of-none value content says Edges fault = none-found _ content.edges says.edges (no-array says.parts.edges fault.1)

@@ -3,7 +3,7 @@
 --   table-one     one fault
 --   table-none    no fault where there is a table
 use Rattle.std.proofs.Common.{◌≡◌, ℕ, ◌<◌, ℤ, List, length, inl, inr, refl, sym, ap, ◌∙◌, arith}
-use Rattle.std.proofs.lemmas.Bool.{cases_lt, cases_order}
+use Rattle.std.proofs.lemmas.Bool.{cases_lt}
 use Rattle.dg_graph.specs.Faults.{IsSize}
 use Rattle.dg_graph.specs.declared.fault.GraphFault.{GraphFault}
 use Rattle.dg_graph.specs.declared.fault.GraphFault.TheVariants.{Size, NoVertex, Loop, Multiplicity, Valence, NotConnected}
@@ -18,7 +18,7 @@ use Rattle.dg_file.specs.TableFiles.{AreNames, items_of, IsTable}
 use Rattle.dg_file.specs.FileFaults.{IsGraphFault, IsNameFault, IsTwiceFault, GivesGraph, GivesDivisor, RefusesTable}
 use Rattle.dg_file.specs.declared.fault.FileFault.{FileFault}
 use Rattle.dg_file.specs.declared.fault.FileFault.TheVariants.{Json, Shape as OfShape, Graph, Name, Twice, Chip, NoQ, OutOfMemory}
-use Rattle.dg_file.proofs.OneContent.{none-found}
+use Rattle.dg_file.proofs.OneContent.{none-found, first-once}
 use Rattle.dg_file.proofs.OneGraph.{graph-one, graph-none}
 use Rattle.dg_file.proofs.OneName.{stops-name, stops-twice, stops-one, name-or-twice}
 
@@ -31,11 +31,8 @@ at-one xs x y a b within_x within_y v = elim (cases_lt v (length xs)) [
 
 module _ (n : ℕ) (xs : List ℤ) where
   past-one : (limit u v : ℕ) → IsFirstPast limit xs u → IsFirstPast limit xs v → u ≡ v
-  past-one limit u v a b = elim (cases_order u v) [
-    | inl same ↦ same
-    | inr (inl less) ↦ absurd (let h = b.least u less in omega (arith, a.past))
-    | inr (inr more) ↦ absurd (let h = a.least v more in omega (arith, b.past))
-  ]
+  past-one limit u v a b = first-once u v (λ less. let h = b.least u less in omega (arith, a.past))
+      (λ more. let h = a.least v more in omega (arith, b.past))
 
   chip-one : (f h : ChipFault) → IsFirstChipFault n xs f → IsFirstChipFault n xs h → f ≡ h
   chip-one Length Length a b = refl
@@ -43,7 +40,8 @@ module _ (n : ℕ) (xs : List ℤ) where
   chip-one (Range v) Length a b = absurd (b a.0)
   chip-one (Range u) (Range v) a b = ap Range (past-one _ u v a.1 b.1)
 
-  chip-none : (x : Vector) → x.size ≡ n → HoldsNumbers xs x → IsDivisor x → (f : ChipFault) → IsFirstChipFault n xs f → ⊥
+  chip-none : (x : Vector) → x.size ≡ n → HoldsNumbers xs x → IsDivisor x → (f : ChipFault)
+      → IsFirstChipFault n xs f → ⊥
   chip-none x size holds within Length fault = fault (sym holds.size ∙ size)
   chip-none x size holds within (Range v) fault =
       let below : v < length xs = fault.1.place in
@@ -62,7 +60,8 @@ names-of content NotConnected fault size = fault.names (λ e. cc)
 
 module _ (content : Content) where
   graph-given : (f : GraphFault) → IsGraphFault content f → GivesGraph content → ⊥
-  graph-given f fault gives = graph-none (length content.vertices) (items_of content) gives.graph gives.given f fault.first
+  graph-given f fault gives =
+      graph-none (length content.vertices) (items_of content) gives.graph gives.given f fault.first
 
   chip-given : (f : ChipFault) → IsFirstChipFault (length content.vertices) content.amounts f → GivesDivisor content → ⊥
   chip-given f fault gives =
@@ -91,7 +90,8 @@ module _ (content : Content) where
   table-one OutOfMemory h a b = absurd a
   table-one (Graph f) Json a b = absurd b
   table-one (Graph f) (OfShape s) a b = absurd b
-  table-one (Graph f) (Graph h) a b = ap Graph (graph-one (length content.vertices) (items_of content) f h a.first b.first)
+  table-one (Graph f) (Graph h) a b =
+      ap Graph (graph-one (length content.vertices) (items_of content) f h a.first b.first)
   table-one (Graph f) (Name j) a b = absurd (graph-name f j a b)
   table-one (Graph f) (Twice j) a b = absurd (graph-twice f j a b)
   table-one (Graph f) (Chip h) a b = absurd (graph-given f a b.0)

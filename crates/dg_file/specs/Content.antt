@@ -6,6 +6,7 @@
 --   IsNotJson bytes          == the bytes are not UTF-8, or no JSON text with a value
 --   member_count members     == how many members there are
 --   HasParts value parts     == the value is an object of just four members, with the names of the parts
+--   put_first a rest         == the list of the first and the rest, where both are there
 --   each read items          == what the items are read as, where each can be read
 --   listed read value        == what the items of an array are read as, where it is one and each can be read
 --   whole value              == a whole number that 64 bits hold
@@ -59,9 +60,12 @@ pub record HasParts (value : Data) (parts : Parts) : Type 0 where
   pub amounts : get_member (codes "amounts") members ≡ Some parts.amounts
   pub q : get_member (codes "q") members ≡ Some parts.q
 
+abbrev pub put_first : {A : Type 0} → Option A → Option (List A) → Option (List A)
+put_first first rest = option_and_then (λ a. option_map (λ more. a ∷ more) rest) first
+
 unfoldable pub each : {A : Type 0} → (Data → Option A) → Items → Option (List A)
 each read no_items = Some []
-each read (item value rest) = option_and_then (λ a. option_map (λ more. a ∷ more) (each read rest)) (read value)
+each read (item value rest) = put_first (read value) (each read rest)
 
 abbrev pub listed : {A : Type 0} → (Data → Option A) → Data → Option (List A)
 listed read value = option_and_then (each read) (as_array value)
@@ -80,13 +84,15 @@ abbrev pub edge_from : Option (List ℕ) → Option (List ℕ) → Option ℕ �
 edge_from None other count = None
 edge_from (Some one) None count = None
 edge_from (Some one) (Some other) None = None
-edge_from (Some one) (Some other) (Some count) = Some (record { one = one; other = other; count = count })
+edge_from (Some one) (Some other) (Some count) =
+    Some (record { one = one; other = other; count = count })
 
 unfoldable pub edge_of : Items → Option Edge
 edge_of no_items = None
 edge_of (item one no_items) = None
 edge_of (item one (item other no_items)) = None
-edge_of (item one (item other (item count no_items))) = edge_from (as_str one) (as_str other) (count_in count)
+edge_of (item one (item other (item count no_items))) =
+    edge_from (as_str one) (as_str other) (count_in count)
 edge_of (item one (item other (item count (item more rest)))) = None
 
 abbrev pub edge_in : Data → Option Edge

@@ -33,7 +33,7 @@ use Rattle.dg_file.specs.declared.fault.FileFault.TheVariants.{Json, Shape as Of
 pub record IsEdgeFault (value : Data) (i : ℕ) : Type 0 where
   pub items : Items
   pub array : as_array value ≡ Some items
-  pub before : (k : ℕ) → k < i → (edge : Data) → get_item k items ≡ Some edge → IsSome (edge_in edge)
+  pub before : (k : ℕ) → k < i → (d : Data) → get_item k items ≡ Some d → IsSome (edge_in d)
   pub item : Data
   pub there : get_item i items ≡ Some item
   pub no_edge : edge_in item ≡ None
@@ -44,10 +44,11 @@ IsShapeFaultOf parts Vertices = texts_in parts.vertices ≡ None
 IsShapeFaultOf parts Edges = IsSome (texts_in parts.vertices) × (as_array parts.edges ≡ None)
 IsShapeFaultOf parts (Edge i) = IsSome (texts_in parts.vertices) × IsEdgeFault parts.edges i
 IsShapeFaultOf parts Amounts =
-    IsSome (texts_in parts.vertices) × IsSome (edges_in parts.edges) × (numbers_in parts.amounts ≡ None)
+    IsSome (texts_in parts.vertices) × IsSome (edges_in parts.edges)
+    × (numbers_in parts.amounts ≡ None)
 IsShapeFaultOf parts Q =
-    IsSome (texts_in parts.vertices) × IsSome (edges_in parts.edges) × IsSome (numbers_in parts.amounts)
-    × (as_str parts.q ≡ None)
+    IsSome (texts_in parts.vertices) × IsSome (edges_in parts.edges)
+    × IsSome (numbers_in parts.amounts) × (as_str parts.q ≡ None)
 
 abbrev pub IsShapeFault : Data → Shape → Type 0
 IsShapeFault value Top = (parts : Parts) → ¬ HasParts value parts
@@ -87,8 +88,10 @@ RefusesTable content (OfShape shape) = ⊥
 RefusesTable content (Graph fault) = IsGraphFault content fault
 RefusesTable content (Name i) = IsNameFault content.vertices i
 RefusesTable content (Twice i) = IsTwiceFault content.vertices i
-RefusesTable content (Chip fault) = GivesGraph content × IsFirstChipFault (length content.vertices) content.amounts fault
-RefusesTable content NoQ = GivesGraph content × GivesDivisor content × (place_of content.vertices content.q ≡ None)
+RefusesTable content (Chip fault) =
+    GivesGraph content × IsFirstChipFault (length content.vertices) content.amounts fault
+RefusesTable content NoQ =
+    GivesGraph content × GivesDivisor content × (place_of content.vertices content.q ≡ None)
 RefusesTable content OutOfMemory = ⊥
 
 pub record IsRefusedTable (bytes : List ℕ) (fault : FileFault) : Type 0 where

@@ -23,4 +23,5 @@ pub record FilesHaveOneMeaning : Type 0 where
   pub refused : (bytes : List ℕ) (fault : FileFault) (o : Opening) (names : List (List ℕ))
       → fault ≢ OutOfMemory → RefusesFile bytes fault → ¬ IsTableFile bytes o names
   pub fault : (bytes : List ℕ) (one other : FileFault)
-      → one ≢ OutOfMemory → other ≢ OutOfMemory → RefusesFile bytes one → RefusesFile bytes other → one ≡ other
+      → one ≢ OutOfMemory → other ≢ OutOfMemory → RefusesFile bytes one → RefusesFile bytes other
+      → one ≡ other

@@ -16,4 +16,6 @@ pub record IsLabel (l : Label) (name : List ℕ) : Type 0 where
   pub start : l.start + length (label name) ≡ MAX_LABEL
 
 abbrev pub AreLabels : List Label → List (List ℕ) → Type 0
-AreLabels labels names = (v : ℕ) (other : Label) → v < length names → IsLabel (slice_index_or labels v other) (name_at names v)
+AreLabels labels names =
+    (v : ℕ) (other : Label) → v < length names
+    → IsLabel (slice_index_or labels v other) (name_at names v)

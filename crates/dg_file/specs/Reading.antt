@@ -1,25 +1,23 @@
--- What serves the reading of a table file alone: what each step of it refuses.
---   parts_of members             == the values of the four members
---   RefusesValue value fault     == the value's shape is at fault, and that is the first such fault; of want of memory
---                                   nothing is said
---   RefusesContent content fault == the first fault of the content; of want of memory nothing is said
---   IsBadName names i fault      == the name i is the first at fault, and the fault names it; of want of memory nothing
---                                   is said
---   IsUnread shape fault read    == nothing is read, and the fault is that of the shape; of want of memory nothing is
---                                   said
---   IsUnreadEdge value fault     == the first item that is no edge is at fault, or the value is no array; of want of
---                                   memory nothing is said
-use Rattle.std.specs.Prelude.{◌≡◌, ℕ, List, Option, None, ⊤}
+-- What serves the reading of a table file alone: why a stage of it ends. Of want of memory nothing is said.
+--   parts_of members         == the values of the four members
+--   shape_fault_for fault    == the same as a fault of the file
+--   name_fault_for fault     == the same as a fault of the file
+--   RefusesShape value fault == that is the fault of the value's shape
+--   RefusesNames names fault == the number of names is at fault, or else that is the first name at fault
+use Rattle.std.specs.Prelude.{ℕ, List, length, ⊤}
 use Rattle.serde_json.specs.Data.{Data}
-use Rattle.serde_json.specs.Find.{as_array}
 use Rattle.serde_json.specs.View.{view}
-use Rattle.dg_file.specs.Content.{Content, Parts}
-use Rattle.dg_file.specs.FileFaults.{IsEdgeFault, IsShapeFault, IsNameFault, IsTwiceFault, RefusesTable}
-use Rattle.dg_file.specs.declared.shape.Members.{Members}
-use Rattle.dg_file.specs.declared.fault.Shape.{Shape}
-use Rattle.dg_file.specs.declared.fault.Shape.TheVariants.{Top, Vertices, Edges, Edge, Amounts, Q}
+use Rattle.dg_graph.specs.Faults.{IsSize}
+use Rattle.dg_graph.specs.declared.fault.GraphFault.TheVariants.{Size}
+use Rattle.dg_file.specs.Content.{Parts}
+use Rattle.dg_file.specs.FileFaults.{IsShapeFault, IsNameFault, IsTwiceFault}
 use Rattle.dg_file.specs.declared.fault.FileFault.{FileFault}
-use Rattle.dg_file.specs.declared.fault.FileFault.TheVariants.{Json, Shape as OfShape, Graph, Name, Twice, Chip, NoQ, OutOfMemory}
+use Rattle.dg_file.specs.declared.fault.FileFault.TheVariants as file
+use Rattle.dg_file.specs.declared.shape.Members.{Members}
+use Rattle.dg_file.specs.declared.shape.ShapeFault.{ShapeFault}
+use Rattle.dg_file.specs.declared.shape.ShapeFault.TheVariants as shape
+use Rattle.dg_file.specs.declared.table_file.NameFault.{NameFault}
+use Rattle.dg_file.specs.declared.table_file.NameFault.TheVariants as name
 
 abbrev pub parts_of : Members → Parts
 parts_of members = record {
@@ -29,57 +27,22 @@ parts_of members = record {
   q = view members.q.now;
 }
 
-abbrev pub RefusesValue : Data → FileFault → Type 0
-RefusesValue value Json = ⊥
-RefusesValue value (OfShape shape) = IsShapeFault value shape
-RefusesValue value (Graph fault) = ⊥
-RefusesValue value (Name i) = ⊥
-RefusesValue value (Twice i) = ⊥
-RefusesValue value (Chip fault) = ⊥
-RefusesValue value NoQ = ⊥
-RefusesValue value OutOfMemory = ⊤
+abbrev pub shape_fault_for : ShapeFault → FileFault
+shape_fault_for (shape.Shape part) = file.Shape part
+shape_fault_for shape.OutOfMemory = file.OutOfMemory
 
-abbrev pub RefusesContent : Content → FileFault → Type 0
-RefusesContent content Json = ⊥
-RefusesContent content (OfShape shape) = ⊥
-RefusesContent content (Graph fault) = RefusesTable content (Graph fault)
-RefusesContent content (Name i) = RefusesTable content (Name i)
-RefusesContent content (Twice i) = RefusesTable content (Twice i)
-RefusesContent content (Chip fault) = RefusesTable content (Chip fault)
-RefusesContent content NoQ = RefusesTable content NoQ
-RefusesContent content OutOfMemory = ⊤
+abbrev pub RefusesShape : Data → ShapeFault → Type 0
+RefusesShape value (shape.Shape part) = IsShapeFault value part
+RefusesShape value shape.OutOfMemory = ⊤
 
-abbrev pub IsBadName : List (List ℕ) → FileFault → Type 0
-IsBadName names Json = ⊥
-IsBadName names (OfShape shape) = ⊥
-IsBadName names (Graph fault) = ⊥
-IsBadName names (Name i) = IsNameFault names i
-IsBadName names (Twice i) = IsTwiceFault names i
-IsBadName names (Chip fault) = ⊥
-IsBadName names NoQ = ⊥
-IsBadName names OutOfMemory = ⊤
+abbrev pub name_fault_for : NameFault → FileFault
+name_fault_for name.Number = file.Graph Size
+name_fault_for (name.Name v) = file.Name v
+name_fault_for (name.Twice v) = file.Twice v
+name_fault_for name.OutOfMemory = file.OutOfMemory
 
-abbrev pub IsUnread : {A : Type 0} → Shape → FileFault → Option A → Type 0
-IsUnread shape Json read = ⊥
-IsUnread shape (OfShape fault) read = (fault ≡ shape) × (read ≡ None)
-IsUnread shape (Graph fault) read = ⊥
-IsUnread shape (Name i) read = ⊥
-IsUnread shape (Twice i) read = ⊥
-IsUnread shape (Chip fault) read = ⊥
-IsUnread shape NoQ read = ⊥
-IsUnread shape OutOfMemory read = ⊤
-
-abbrev pub IsUnreadEdge : Data → FileFault → Type 0
-IsUnreadEdge value Json = ⊥
-IsUnreadEdge value (OfShape Top) = ⊥
-IsUnreadEdge value (OfShape Vertices) = ⊥
-IsUnreadEdge value (OfShape Edges) = as_array value ≡ None
-IsUnreadEdge value (OfShape (Edge i)) = IsEdgeFault value i
-IsUnreadEdge value (OfShape Amounts) = ⊥
-IsUnreadEdge value (OfShape Q) = ⊥
-IsUnreadEdge value (Graph fault) = ⊥
-IsUnreadEdge value (Name i) = ⊥
-IsUnreadEdge value (Twice i) = ⊥
-IsUnreadEdge value (Chip fault) = ⊥
-IsUnreadEdge value NoQ = ⊥
-IsUnreadEdge value OutOfMemory = ⊤
+abbrev pub RefusesNames : List (List ℕ) → NameFault → Type 0
+RefusesNames names name.Number = ¬ IsSize (length names)
+RefusesNames names (name.Name v) = IsNameFault names v
+RefusesNames names (name.Twice v) = IsTwiceFault names v
+RefusesNames names name.OutOfMemory = ⊤

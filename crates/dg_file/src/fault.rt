@@ -2,7 +2,7 @@
 
 use dg_chips::ChipFault;
 use dg_graph::GraphFault;
-use std::alloc::{AllocError, AllocFailed};
+use std::alloc::AllocError;
 use thiserror::Error;
 
 /// The part of a table file that has another shape than it should. Edges are numbered from 0.
@@ -65,28 +65,6 @@ impl From<AllocError> for FileFault {
 
     fn from(_error: AllocError) -> FileFault {
         FileFault::OutOfMemory
-    }
-}
-
-impl<T: Drop> From<AllocFailed<T>> for FileFault {
-    ghost use Rattle.dg_file.specs.declared.fault.FileFault.TheVariants.{OutOfMemory};
-    ghost use Rattle.std.specs.Prelude.{◌≡◌};
-
-    ghost from_gives = { λ _ fault. fault ≡ OutOfMemory };
-
-    fn from(_error: AllocFailed<T>) -> FileFault {
-        FileFault::OutOfMemory
-    }
-}
-
-impl From<Shape> for FileFault {
-    ghost use Rattle.dg_file.specs.declared.fault.FileFault.TheVariants.{Shape as OfShape};
-    ghost use Rattle.std.specs.Prelude.{◌≡◌};
-
-    ghost from_gives = { λ shape fault. fault ≡ OfShape shape };
-
-    fn from(shape: Shape) -> FileFault {
-        FileFault::Shape(shape)
     }
 }
 

@@ -1,14 +1,14 @@
 //! The shape of a table file: the JSON value, its four members, and what they hold.
-ghost use Rattle.std.specs.Prelude.{◌≡◌, ◌<◌, Some, IfOk, IfErr, MatchOption, map};
-ghost use Rattle.serde_json.specs.View.{view};
-ghost use Rattle.dg_file.specs.Content.{Parts, HasParts, Reads, IsContent, texts_in, numbers_in, edges_in, edge_in, count_in};
-ghost use Rattle.dg_file.specs.FileFaults.{RefusesFile};
-ghost use Rattle.dg_file.specs.Reading.{parts_of, RefusesValue, IsUnread, IsUnreadEdge};
-ghost use Rattle.dg_file.specs.declared.fault.Shape.TheVariants.{Vertices, Amounts};
+ghost use Rattle.std.specs.Prelude.{◌≡◌, ◌<◌, Some, IfOk, IfErr, MatchOption, map, option_map};
+ghost use Rattle.serde_json.specs.Data.{array};
+ghost use Rattle.serde_json.specs.View.{view, items_view};
+ghost use Rattle.dg_file.specs.Content.{Parts, HasParts, Reads, IsNotJson, IsContent, texts_in, numbers_in, edges_in, edge_in, count_in};
+ghost use Rattle.dg_file.specs.FileFaults.{IsEdgeFault};
+ghost use Rattle.dg_file.specs.Reading.{parts_of, RefusesShape};
 
 use crate::fault::{FileFault, Shape};
 use serde_json::Value;
-use std::alloc::Global;
+use std::alloc::{AllocError, Global};
 use std::marker::Model;
 
 /// What a table file says, before names, graph and amounts are judged.
@@ -57,27 +57,70 @@ impl<'v> Model for Edge<'v> {
     ghost view = { λ e. record { one = e.one.now; other = e.other.now; count = e.count } };
 }
 
-/// The JSON value of the bytes.
-pub fn value_of(alloc: Global, bytes: &[u8]) -> Result<Value, FileFault>
-    ensures reads { IfOk result (λ value. Reads bytes.now (view value)) }
-    ensures refused { IfErr result (RefusesFile bytes.now) }
+/// The JSON value of the bytes, where they have one.
+pub fn value_of(alloc: Global, bytes: &[u8]) -> Result<Option<Value>, AllocError>
+    ensures { IfOk result (λ value. MatchOption value (IsNotJson bytes.now)
+        (λ value. Reads bytes.now (view value))) }
 {
     match Value::from_slice(alloc, bytes) {
-        Ok(value) => Ok(value),
-        Err(error) if error.is_memory() => Err(FileFault::OutOfMemory),
-        Err(_) => Err(FileFault::Json),
+        Ok(value) => Ok(Some(value)),
+        Err(error) if error.is_memory() => Err(AllocError),
+        Err(_) => Ok(None),
+    }
+}
+
+/// Why a JSON value says nothing as a table file.
+#[derive(Clone, Copy, Debug, PartialEq, Eq)]
+pub enum ShapeFault {
+    /// A part of it has another shape than it should.
+    Shape(Shape),
+    /// Memory was refused.
+    OutOfMemory,
+}
+
+impl From<Shape> for ShapeFault {
+    ghost use Rattle.dg_file.specs.declared.shape.ShapeFault.{ShapeFault};
+
+    ghost from_gives = { λ shape fault. fault ≡ ShapeFault.Shape shape };
+
+    fn from(shape: Shape) -> ShapeFault {
+        ShapeFault::Shape(shape)
+    }
+}
+
+impl From<AllocError> for ShapeFault {
+    ghost use Rattle.dg_file.specs.declared.shape.ShapeFault.{ShapeFault};
+
+    ghost from_gives = { λ _ fault. fault ≡ ShapeFault.OutOfMemory };
+
+    fn from(_error: AllocError) -> ShapeFault {
+        ShapeFault::OutOfMemory
+    }
+}
+
+impl From<ShapeFault> for FileFault {
+    ghost use Rattle.dg_file.specs.Reading.{shape_fault_for};
+
+    ghost from_gives = { λ shape fault. fault ≡ shape_fault_for shape };
+
+    fn from(fault: ShapeFault) -> FileFault {
+        match fault {
+            ShapeFault::Shape(shape) => FileFault::Shape(shape),
+            ShapeFault::OutOfMemory => FileFault::OutOfMemory,
+        }
     }
 }
 
 /// What a JSON value says as a table file. Its members are judged in the order of `Shape`.
-pub fn content_of<'v>(alloc: Global, value: &'v Value) -> Result<Content<'v>, FileFault>
+pub fn content_of<'v>(alloc: Global, value: &'v Value) -> Result<Content<'v>, ShapeFault>
     ensures says { IfOk result (IsContent (view value.now)) }
-    ensures refused { IfErr result (RefusesValue (view value.now)) }
+    ensures refused { IfErr result (RefusesShape (view value.now)) }
 {
     let members = members_of(value).ok_or(Shape::Top)?;
-    let vertices = vertices_of(alloc, members.vertices)?;
-    let edges = edges_of(alloc, members.edges)?;
-    let amounts = amounts_of(alloc, members.amounts)?;
+    let vertices = vertices_of(alloc, members.vertices)?.ok_or(Shape::Vertices)?;
+    let items = members.edges.as_array().ok_or(Shape::Edges)?;
+    let edges = edges_of(alloc, items)?.map_err(Shape::Edge)?;
+    let amounts = amounts_of(alloc, members.amounts)?.ok_or(Shape::Amounts)?;
     let q = members.q.as_str().ok_or(Shape::Q)?;
     Ok(Content {
         vertices,
@@ -112,29 +155,42 @@ fn members_of(value: &Value) -> Option<Members<'_>>
     })
 }
 
-fn vertices_of(alloc: Global, value: &Value) -> Result<Vec<&str>, FileFault>
-    ensures texts { IfOk result (λ texts.
-        texts_in (view value.now) ≡ Some (map (λ vertex. vertex.now) texts.items)) }
-    ensures refused { IfErr result (λ fault. IsUnread Vertices fault (texts_in (view value.now))) }
+/// The texts of an array of texts.
+fn vertices_of(alloc: Global, value: &Value) -> Result<Option<Vec<&str>>, AllocError>
+    ensures { IfOk result (λ texts. texts_in (view value.now)
+        ≡ option_map (λ texts. map (λ vertex. vertex.now) texts.items) texts) }
 {
+    let Some(items) = value.as_array() else {
+        return Ok(None);
+    };
     let mut vertices = Vec::new(alloc);
-    for vertex in value.as_array().ok_or(Shape::Vertices)? {
-        let name = vertex.as_str().ok_or(Shape::Vertices)?;
+    for vertex in items {
+        let Some(name) = vertex.as_str() else {
+            return Ok(None);
+        };
         vertices.push(name)?;
     }
-    Ok(vertices)
+    Ok(Some(vertices))
 }
 
-fn edges_of(alloc: Global, value: &Value) -> Result<Vec<Edge<'_>>, FileFault>
-    ensures edges { IfOk result (λ edges. edges_in (view value.now) ≡ Some edges.items) }
-    ensures refused { IfErr result (IsUnreadEdge (view value.now)) }
+/// The edges that the items are, or the first item that is none.
+fn edges_of<'v>(
+    alloc: Global,
+    items: &'v [Value],
+) -> Result<Result<Vec<Edge<'v>>, usize>, AllocError>
+    ensures edges { IfOk result (λ edges. IfOk edges (λ edges.
+        edges_in (array (items_view items.now)) ≡ Some edges.items)) }
+    ensures refused { IfOk result (λ edges. IfErr edges
+        (IsEdgeFault (array (items_view items.now)))) }
 {
     let mut edges = Vec::new(alloc);
-    for (i, item) in value.as_array().ok_or(Shape::Edges)?.iter().enumerate() {
-        let edge = edge_of(item).ok_or(Shape::Edge(i))?;
+    for (i, item) in items.iter().enumerate() {
+        let Some(edge) = edge_of(item) else {
+            return Ok(Err(i));
+        };
         edges.push(edge)?;
     }
-    Ok(edges)
+    Ok(Ok(edges))
 }
 
 fn edge_of(value: &Value) -> Option<Edge<'_>>
@@ -158,14 +214,20 @@ fn count_of(value: &Value) -> Option<u8>
     u8::try_from(value.as_i64()?).ok()
 }
 
-fn amounts_of(alloc: Global, value: &Value) -> Result<Vec<i64>, FileFault>
-    ensures numbers { IfOk result (λ amounts. numbers_in (view value.now) ≡ Some amounts.items) }
-    ensures refused { IfErr result (λ fault. IsUnread Amounts fault (numbers_in (view value.now))) }
+/// The numbers of an array of whole numbers.
+fn amounts_of(alloc: Global, value: &Value) -> Result<Option<Vec<i64>>, AllocError>
+    ensures { IfOk result (λ amounts. numbers_in (view value.now)
+        ≡ option_map (λ amounts. amounts.items) amounts) }
 {
+    let Some(items) = value.as_array() else {
+        return Ok(None);
+    };
     let mut amounts = Vec::new(alloc);
-    for item in value.as_array().ok_or(Shape::Amounts)? {
-        let amount = item.as_i64().ok_or(Shape::Amounts)?;
+    for item in items {
+        let Some(amount) = item.as_i64() else {
+            return Ok(None);
+        };
         amounts.push(amount)?;
     }
-    Ok(amounts)
+    Ok(Some(amounts))
 }

@@ -1,13 +1,12 @@
 //! Table files: the start of a game, and the names of its vertices.
 ghost use Rattle.std.specs.Prelude.{◌≡◌, length, map, IfOk, IfErr};
-ghost use Rattle.dg_graph.specs.Faults.{IsSize};
-ghost use Rattle.dg_file.specs.TableFiles.{AreNames, IsTable, IsTableFile, vertex_of, item_of};
-ghost use Rattle.dg_file.specs.FileFaults.{RefusesFile};
-ghost use Rattle.dg_file.specs.Reading.{RefusesContent, IsBadName};
+ghost use Rattle.dg_file.specs.TableFiles.{AreNames, IsTable, IsTableFile, vertex_of, items_of};
+ghost use Rattle.dg_file.specs.FileFaults.{RefusesTable, RefusesFile};
+ghost use Rattle.dg_file.specs.Reading.{RefusesNames};
 
 use crate::fault::FileFault;
 use crate::names::{Names, is_name};
-use crate::shape::{Content, Edge, content_of, value_of};
+use crate::shape::{Content, content_of, value_of};
 use dg_chips::{Divisor, Start};
 use dg_graph::{Graph, GraphFault, MAX_VERTICES};
 use std::alloc::{AllocError, Global};
@@ -46,73 +45,110 @@ pub fn read_table(alloc: Global, bytes: &[u8]) -> Result<TableFile, FileFault>
     ensures table { IfOk result (λ table. IsTableFile bytes.now table.start table.names) }
     ensures refused { IfErr result (RefusesFile bytes.now) }
 {
-    let value = value_of(alloc, bytes)?;
+    let value = value_of(alloc, bytes)?.ok_or(FileFault::Json)?;
     let content = content_of(alloc, &value)?;
-    table_of(alloc, &content)
-}
-
-fn table_of(alloc: Global, content: &Content<'_>) -> Result<TableFile, FileFault>
-    ensures table { IfOk result (λ table. IsTable content.now table.start table.names) }
-    ensures refused { IfErr result (RefusesContent content.now) }
-{
-    let vertices = content.vertices.as_slice();
-    if vertices.is_empty() || vertices.len() > MAX_VERTICES {
-        return Err(FileFault::Graph(GraphFault::Size));
-    }
-    let names = names_of(alloc, vertices)?;
-    let start = start_of(alloc, content, &names)?;
+    let names = names_of(alloc, content.vertices.as_slice())?;
+    let items = items_of(alloc, &content, &names)?;
+    let start = start_of(&content, &names, items.as_slice())?;
     Ok(TableFile { start, names })
 }
 
-fn start_of(alloc: Global, content: &Content<'_>, names: &Names) -> Result<Start, FileFault>
+/// Why texts do not name the vertices of a table.
+#[derive(Clone, Copy, Debug, PartialEq, Eq)]
+enum NameFault {
+    /// There are none, or more than there may be vertices.
+    Number,
+    /// The text is no name.
+    Name(usize),
+    /// The name stood before.
+    Twice(usize),
+    /// Memory was refused.
+    OutOfMemory,
+}
+
+impl From<AllocError> for NameFault {
+    ghost use Rattle.dg_file.specs.declared.table_file.NameFault.{NameFault};
+
+    ghost from_gives = { λ _ fault. fault ≡ NameFault.OutOfMemory };
+
+    fn from(_error: AllocError) -> NameFault {
+        NameFault::OutOfMemory
+    }
+}
+
+impl From<NameFault> for FileFault {
+    ghost use Rattle.dg_file.specs.Reading.{name_fault_for};
+
+    ghost from_gives = { λ names fault. fault ≡ name_fault_for names };
+
+    fn from(fault: NameFault) -> FileFault {
+        match fault {
+            NameFault::Number => FileFault::Graph(GraphFault::Size),
+            NameFault::Name(v) => FileFault::Name(v),
+            NameFault::Twice(v) => FileFault::Twice(v),
+            NameFault::OutOfMemory => FileFault::OutOfMemory,
+        }
+    }
+}
+
+/// The texts as names, from the first on.
+fn names_of(alloc: Global, vertices: &[&str]) -> Result<Names, NameFault>
+    ensures names { IfOk result (λ names. names ≡ map (λ vertex. vertex.now) vertices.now) }
+    ensures are_names { IfOk result AreNames }
+    ensures refused { IfErr result (RefusesNames (map (λ vertex. vertex.now) vertices.now)) }
+{
+    if vertices.is_empty() || vertices.len() > MAX_VERTICES {
+        return Err(NameFault::Number);
+    }
+    let mut names = Names::new(alloc);
+    for (v, vertex) in vertices.iter().enumerate() {
+        if !names.add(alloc, vertex)? {
+            if is_name(vertex.as_bytes()) {
+                return Err(NameFault::Twice(v));
+            }
+            return Err(NameFault::Name(v));
+        }
+    }
+    Ok(names)
+}
+
+/// The edges as items of a graph.
+fn items_of(
+    alloc: Global,
+    content: &Content<'_>,
+    names: &Names,
+) -> Result<Vec<(u8, u8, u8)>, AllocError>
+    requires { names.now ≡ content.now.vertices }
+    ensures { IfOk result (λ items. items.items ≡ items_of content.now) }
+{
+    let mut items = Vec::with_capacity(alloc, content.edges.len())?;
+    for edge in &content.edges {
+        let one = vertex_of(names, edge.one);
+        let other = vertex_of(names, edge.other);
+        items.push((one, other, edge.count))?;
+    }
+    Ok(items)
+}
+
+/// The start on the graph of the items.
+fn start_of(
+    content: &Content<'_>,
+    names: &Names,
+    items: &[(u8, u8, u8)],
+) -> Result<Start, FileFault>
     requires given { names.now ≡ content.now.vertices }
     requires are_names { AreNames names.now }
-    requires size { IsSize (length names.now) }
+    requires items { items.now ≡ items_of content.now }
     ensures table { IfOk result (λ start. IsTable content.now start names.now) }
-    ensures refused { IfErr result (RefusesContent content.now) }
+    ensures refused { IfErr result (RefusesTable content.now) }
 {
-    let items = items_of(alloc, content.edges.as_slice(), names)?;
-    let graph = Graph::new(names.len(), items.as_slice())?;
+    let graph = Graph::new(names.len(), items)?;
     let divisor = Divisor::new(&graph, content.amounts.as_slice())?;
     let q = names.place(content.q.as_bytes()).ok_or(FileFault::NoQ)?;
     match Start::new(graph, divisor, q) {
         Ok(start) => Ok(start),
         Err(_) => unreachable!(),
     }
-}
-
-fn names_of(alloc: Global, vertices: &[&str]) -> Result<Names, FileFault>
-    requires { IsSize (length vertices.now) }
-    ensures names { IfOk result (λ names. names ≡ map (λ vertex. vertex.now) vertices.now) }
-    ensures are_names { IfOk result AreNames }
-    ensures refused { IfErr result (IsBadName (map (λ vertex. vertex.now) vertices.now)) }
-{
-    let mut names = Names::new(alloc);
-    for (v, vertex) in vertices.iter().enumerate() {
-        if !is_name(vertex.as_bytes()) {
-            return Err(FileFault::Name(v));
-        }
-        if !names.add(alloc, vertex)? {
-            return Err(FileFault::Twice(v));
-        }
-    }
-    Ok(names)
-}
-
-fn items_of(
-    alloc: Global,
-    edges: &[Edge<'_>],
-    names: &Names,
-) -> Result<Vec<(u8, u8, u8)>, AllocError>
-    ensures { IfOk result (λ items. items.items ≡ map (item_of names.now) edges.now) }
-{
-    let mut items = Vec::with_capacity(alloc, edges.len())?;
-    for edge in edges {
-        let one = vertex_of(names, edge.one);
-        let other = vertex_of(names, edge.other);
-        items.push((one, other, edge.count))?;
-    }
-    Ok(items)
 }
 
 /// The vertex of that name, or the number of vertices, which is none of them.

@@ -9,10 +9,13 @@ use Rattle.dg_file.proofs.shape.edge_of.Goals.{After-index-3}
 
 parts : (c : After-index-3)
     → edge_in (view c.args.value.now)
-    ≡ edge_from (as_str (view c.index.result.now)) (as_str (view c.index-2.result.now)) (count_in (view c.index-3.result.now))
+    ≡ edge_from (as_str (view c.index.result.now)) (as_str (view c.index-2.result.now))
+    (count_in (view c.index-3.result.now))
 parts c =
-    edge-three (view c.args.value.now) c.in_ok-items.items.now.items c.index.result.now c.index-2.result.now c.index-3.result.now
-    c.in_ok-items.ensures (omega (arith, c.in_ok-items.items.now.ok.0, c.len.ensures, c.if-len-ne3.false)) c.index.ensures c.index-2.ensures c.index-3.ensures
+    edge-three (view c.args.value.now) c.in_ok-items.items.now.items c.index.result.now c.index-2.result.now
+    c.index-3.result.now c.in_ok-items.ensures
+    (omega (arith, c.in_ok-items.items.now.ok.0, c.len.ensures, c.if-len-ne3.false)) c.index.ensures c.index-2.ensures
+    c.index-3.ensures
 
 pub returns-then-len-ne3 : goal.returns-then-len-ne3
 returns-then-len-ne3 c =
@@ -26,14 +29,17 @@ returns-in_err-as_str c =
 
 pub returns-in_err-as_str-2 : goal.returns-in_err-as_str-2
 returns-in_err-as_str-2 c =
+    let read = parts (goal.at.returns-in_err-as_str-2 c).After-index-3 in
     c.from_residual-in_err-as_str-2.ensures
-    ∙ sym (rw (← c.in_ok-as_str.ensures, ← c.in_err-as_str-2.ensures) at (parts (goal.at.returns-in_err-as_str-2 c).After-index-3))
+    ∙ sym (rw (← c.in_ok-as_str.ensures, ← c.in_err-as_str-2.ensures) at read)
 
 pub returns-in_err-count_of : goal.returns-in_err-count_of
 returns-in_err-count_of c =
+    let read = parts (goal.at.returns-in_err-count_of c).After-index-3 in
     c.from_residual-in_err-count_of.ensures
-    ∙ sym (rw (← c.in_ok-as_str.ensures, ← c.in_ok-as_str-2.ensures, ← c.in_err-count_of.ensures) at (parts (goal.at.returns-in_err-count_of c).After-index-3))
+    ∙ sym (rw (← c.in_ok-as_str.ensures, ← c.in_ok-as_str-2.ensures, ← c.in_err-count_of.ensures) at read)
 
 pub returns : goal.returns
 returns c =
-    sym (rw (← c.in_ok-as_str.ensures, ← c.in_ok-as_str-2.ensures, ← c.in_ok-count_of.ensures) at (parts (goal.at.returns c).After-index-3))
+    let read = parts (goal.at.returns c).After-index-3 in
+    sym (rw (← c.in_ok-as_str.ensures, ← c.in_ok-as_str-2.ensures, ← c.in_ok-count_of.ensures) at read)

@@ -9,6 +9,6 @@ use Rattle.dg_file.proofs.shape.edges_of.Given as goal
 
 abbrev pub invariant-loop-i : goal.invariant-loop-i
 invariant-loop-i l = record {
-  read : each edge_in (items_view l.item-items) ≡ after l.edges.items (each edge_in (items_view (drop l.i l.item-items)));
-  before : (k : ℕ) → k < l.i → (d : Data) → get_item k (items_view l.item-items) ≡ Some d → IsSome (edge_in d);
+  read : each edge_in (items_view l.items) ≡ after l.edges.items (each edge_in (items_view (drop l.i l.items)));
+  before : (k : ℕ) → k < l.i → (d : Data) → get_item k (items_view l.items) ≡ Some d → IsSome (edge_in d);
 }

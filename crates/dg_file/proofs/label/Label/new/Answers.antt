@@ -5,6 +5,7 @@ use Rattle.dg_file.proofs.label.Label.new.Goals as goal
 
 pub returns : goal.returns
 returns c = record {
-  text = label_made c.args.name.now _ c.copy_from_slice.new.self (16 - length c.args.name.now) _ refl refl c.requires refl c.copy_from_slice.ensures.after refl;
+  text = label_made c.args.name.now _ c.copy_from_slice.new.self (16 - length c.args.name.now) _ refl refl c.requires
+      refl c.copy_from_slice.ensures.after refl;
   start = omega (arith, c.requires, length-append c.args.name.now (61 ∷ []));
 }

@@ -28,7 +28,8 @@ left c =
 
 pub returns-clause-added : goal.returns-clause-added
 returns-clause-added c =
-    c.in_ok-is_new.ensures.added ∙ ap not (has_text c.self.inside.set.keys c.in_ok-own.own _ _ c.self.view_is c.in_ok-own.ensures.ok)
+    c.in_ok-is_new.ensures.added
+    ∙ ap not (has_text c.self.inside.set.keys c.in_ok-own.own _ _ c.self.view_is c.in_ok-own.ensures.ok)
     ∙ sym (is_new-named c.args.self.now c.args.name.now (named c))
 
 pub returns-clause-names : goal.returns-clause-names
@@ -49,5 +50,7 @@ invariant_of-self-2 c =
     let size : length c.self.inside.labels ≡ 16 = search rules in (
       omega (arith, old, at_most_one c.in_ok-is_new.is_new, c.in_ok-is_new.ensures.len, c.requires),
       rw (left c) (AreNames-added c.args.self.now c.args.name.now (rw c.self.view_is at c.self.invariant.1)),
-      rw (left c) (AreLabels-added c.self.inside.labels c.args.self.now c.args.name.now c.len-next.result _ (omega (arith, old, c.len-next.ensures.len)) (omega (arith, c.requires, old, c.len-next.ensures.len, size)) (rw c.as_bytes-2.ensures.value at c.new.ensures) (rw c.self.view_is at c.self.invariant.2)),
+      rw (left c) (AreLabels-added c.self.inside.labels c.args.self.now c.args.name.now c.len-next.result _
+          (omega (arith, old, c.len-next.ensures.len)) (omega (arith, c.requires, old, c.len-next.ensures.len, size))
+          (rw c.as_bytes-2.ensures.value at c.new.ensures) (rw c.self.view_is at c.self.invariant.2)),
     )

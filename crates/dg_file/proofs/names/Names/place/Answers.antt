@@ -6,7 +6,8 @@ use Rattle.dg_file.proofs.names.Names.place.Goals as goal
 
 pub returns-in_err-place-clause-place : goal.returns-in_err-place-clause-place
 returns-in_err-place-clause-place c =
-    c.from_residual.ensures ∙ c.in_err-place.ensures.place ∙ position_text c.self.inside.set.keys _ c.args.name.now c.self.view_is
+    c.from_residual.ensures ∙ c.in_err-place.ensures.place
+    ∙ position_text c.self.inside.set.keys _ c.args.name.now c.self.view_is
 
 pub returns-clause-place : goal.returns-clause-place
 returns-clause-place c =
