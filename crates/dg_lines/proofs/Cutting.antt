@@ -122,6 +122,9 @@ pieces_left b rest text first more e front back =
 pub none_left : (b : ℕ) (rest : Option (Bor (List ℕ))) → rest ≡ None → pieces_after b (option_copied rest) ≡ []
 none_left b rest e = ap (λ (o : Option (Bor (List ℕ))). pieces_after b (option_copied o)) e
 
-pub line_cut : (line word : List ℕ) (rest : Option (List ℕ)) → word ≡ before 32 line → rest ≡ after 32 line → words line ≡ word ∷ words_after rest
-line_cut line word rest front back =
-    pieces_cut 32 line ∙ ap (λ first. first ∷ words_after (after 32 line)) (sym front) ∙ ap (λ more. word ∷ words_after more) (sym back)
+-- a line is its first word, which is a keyword, and the words after it
+pub line_words : (line word keyword : List ℕ) (rest : Option (List ℕ)) (others : List (List ℕ)) → word ≡ before 32 line → rest ≡ after 32 line
+    → word ≡ keyword → words_after rest ≡ others → words line ≡ keyword ∷ others
+line_words line word keyword rest others front back spelled follow =
+    pieces_cut 32 line ∙ ap (λ first. first ∷ words_after (after 32 line)) (sym front ∙ spelled)
+    ∙ ap (λ more. keyword ∷ words_after more) (sym back) ∙ ap (λ more. keyword ∷ more) follow

@@ -1,23 +1,22 @@
 -- The names that a word gives, and the set of the vertices that they name.
 --   same_bytes       equality of byte lists is an equivalence
---   given_decides    the test of names given tells whether they are given rightly
+--   given_or         names are given rightly, or not
 --   vertex_named     the place of a name is a vertex, and has that name
---   is_named         a name that has a place is among the names
---   not_named        a name that has no place is not among them
+--   placed           a name that is among the names has a place
 --   named_alone      a name that has a place is given rightly where it stands alone
 --   both_named       so are two names that have places, of which the second is left out where it is the first
+--   none_given       so is no name
 --   unnamed_among    names of which one has no place are not given rightly
+--   first_unnamed    so are the two words of a gift or a join of which the first has no place
 --   second_unnamed   so are two of which the second has none
---   twice_among      nor are those of which one stands twice
 --   set_members      the set of the vertices of names that are given rightly
 --   one_set          there is one such set
---   no_members       where no names are given it is empty
 --   other_name       the name of another vertex is another name
---   one_member       with one name more it has one vertex more
+--   IsNext names done name v      == the vertex v of the names, all different, is named next
+--   one_member       with one name more the set has one vertex more
 --   HasTaken names given left set == `left` are the last of the names given, and the set is that of the names before them
--- What a loop over the names does: none taken, one more, all, and where the next name refuses them; and the set that is read
--- of names.
-use Rattle.std.proofs.Common.{◌≡◌, ◌≢◌, ℕ, zero, suc, ◌+◌, ◌*◌, ◌/◌, ◌<◌, ◌==◌, ◌||◌, ◌&&◌, not, cond, Bool, true, false, List, [], ◌∷◌, ◌++◌, length, Option, Some, None, refl, ap, sym, ◌∙◌, subst, arith, Decides, append_assoc}
+-- What a loop over the names does: none taken, one more, all, and where the next name refuses them.
+use Rattle.std.proofs.Common.{◌⊎◌, inl, inr, ◌≡◌, ◌≢◌, ℕ, zero, suc, ◌+◌, ◌*◌, ◌/◌, ◌<◌, ◌==◌, ◌||◌, ◌&&◌, not, cond, Bool, true, false, List, [], ◌∷◌, ◌++◌, length, Option, Some, None, refl, ap, sym, ◌∙◌, subst, arith, Decides, append_assoc}
 use Rattle.std.specs.Prelude.{bytes_eq, IsTrue, All}
 use Rattle.std.specs.Cmp.{IsEquivalence, both_ways}
 use Rattle.std.specs.Int.{bit_at}
@@ -33,9 +32,11 @@ use Rattle.std.proofs.lemmas.Nat.Bits.{bit_at_lowest, bit_at-suc, bit_at-zero, b
 use Rattle.std.proofs.lemmas.Slice.Eq.{bytes_eq-Decides}
 use Rattle.dg_graph.specs.Sets.{in_set}
 use Rattle.dg_file.specs.Names.{has, place_of, name_at}
-use Rattle.dg_lines.specs.CommandWords.{AreGiven, others_than}
+use Rattle.dg_lines.specs.declared.keyword.Double.{Double}
+use Rattle.dg_lines.specs.declared.keyword.Double.TheVariants.{Gift, Join}
+use Rattle.dg_lines.specs.Keywords.{double}
+use Rattle.dg_lines.specs.CommandWords.{AreGiven, given_names, others_than}
 use Rattle.dg_lines.specs.Commands.{IsSetOf}
-use Rattle.dg_lines.specs.Read.{is_distinct, are_given, members, set_of}
 
 equal : (x y : List ℕ) → x ≡ y → bytes_eq x y ≡ true
 equal x y e = (bytes_eq-Decides x y).1 e
@@ -62,8 +63,12 @@ stands_once : (x : List ℕ) (xs : List (List ℕ)) → Decides (not (has xs x))
 stands_once x [] = (λ e. tt, λ p. refl)
 stands_once x (y ∷ ys) = apart (bytes_eq x y) (has ys x) (AllByRecursion (λ z. bytes_eq x z ≡ false) ys) (stands_once x ys)
 
+is_distinct : List (List ℕ) → Bool
+is_distinct [] = true
+is_distinct (name ∷ given) = not (has given name) && is_distinct given
+
 distinct_decides : (given : List (List ℕ)) → Decides (is_distinct given) (IsDistinct bytes_eq given)
-unfolding is_distinct IsDistinct
+unfolding IsDistinct is_distinct
 distinct_decides [] = (λ e. tt, λ p. refl)
 distinct_decides (x ∷ xs) = Decides-and (not (has xs x)) (is_distinct xs) (stands_once x xs) (distinct_decides xs)
 
@@ -71,11 +76,13 @@ named_decides : (names given : List (List ℕ)) → Decides (list_all (has names
 named_decides names given =
     Decides-by_and (has names) (λ name. IsTrue (has names name)) (list_all (has names)) (λ name. (λ e. e, λ e. e)) refl (λ _ _. refl) given
 
-pub given_decides : (names given : List (List ℕ)) → Decides (are_given names given) (AreGiven names given)
-unfolding are_given
-given_decides names given =
-    let both = Decides-and (list_all (has names) given) (is_distinct given) (named_decides names given) (distinct_decides given) in
-    (λ e. record { each = (both.0 e).0; different = (both.0 e).1 }, λ known. both.1 (known.each, known.different))
+pub given_or : (names given : List (List ℕ)) → AreGiven names given ⊎ (AreGiven names given → ⊥)
+given_or names given = go (list_all (has names) given) (is_distinct given) refl refl
+  where
+    go : (t u : Bool) → list_all (has names) given ≡ t → is_distinct given ≡ u → AreGiven names given ⊎ (AreGiven names given → ⊥)
+    go true true e f = inl (record { each = (named_decides names given).0 e; different = (distinct_decides given).0 f })
+    go true false e f = inr (λ known. let no : true ≡ false = sym ((distinct_decides given).1 known.different) ∙ f in cc)
+    go false u e f = inr (λ known. let no : true ≡ false = sym ((named_decides names given).1 known.each) ∙ e in cc)
 
 pub vertex_named : (names : List (List ℕ)) (name : List ℕ) (v : ℕ) → place_of names name ≡ Some v
     → (v < length names) × (name_at names v ≡ name)
@@ -84,7 +91,7 @@ vertex_named names name v e =
     let found = position-Some (λ own. bytes_eq own name) names v [] e in
     (found.0, is_equal (name_at names v) name found.1)
 
-pub is_named : (names : List (List ℕ)) (name : List ℕ) (v : ℕ) → place_of names name ≡ Some v → has names name ≡ true
+is_named : (names : List (List ℕ)) (name : List ℕ) (v : ℕ) → place_of names name ≡ Some v → has names name ≡ true
 is_named names name v e =
     let found = vertex_named names name v e in
     list_any_at (bytes_eq name) names v [] found.0 (equal name (name_at names v) (sym found.1))
@@ -99,14 +106,16 @@ some_place (own ∷ names) name e =
       | false ↦ λ found. omega (arith, some_place names name found)
     ]) (ap (λ t. t || has names name) (flips own name) ∙ e)
 
-pub not_named : (names : List (List ℕ)) (name : List ℕ) → place_of names name ≡ None → has names name ≡ true → ⊥
+pub placed : (names : List (List ℕ)) (name : List ℕ) → has names name ≡ true → (v : ℕ) × (place_of names name ≡ Some v)
 unfolding place_of
-not_named names name e found =
+placed names name found =
     let less = some_place names name found in
     let n : ℕ = position_or_len (λ own. bytes_eq own name) names in
     let there : Rattle.std.proofs.Common.nat_lt n (length names) ≡ true = grind (arith, nat_tests) in
-    let no : Some n ≡ None = sym (ap (λ t. cond t (Some n) None) there) ∙ e in
-    cc
+    (n, ap (λ t. cond t (Some n) None) there)
+
+not_named : (names : List (List ℕ)) (name : List ℕ) → place_of names name ≡ None → has names name ≡ true → ⊥
+not_named names name e found = let known = placed names name found in let no : Some known.0 ≡ None = sym known.1 ∙ e in cc
 
 pub named_alone : (names : List (List ℕ)) (name : List ℕ) (v : ℕ) → place_of names name ≡ Some v → AreGiven names (name ∷ [])
 unfolding IsDistinct
@@ -131,13 +140,18 @@ pub none_given : (names : List (List ℕ)) → AreGiven names []
 unfolding IsDistinct
 none_given names = record { each = All-nil (λ own. IsTrue (has names own)); different = tt }
 
-all_there : (P : List ℕ → Type 0) (done back : List (List ℕ)) (name : List ℕ) → All P (done ++ name ∷ back) → P name
+pub all_there : (P : List ℕ → Type 0) (done back : List (List ℕ)) (name : List ℕ) → All P (done ++ name ∷ back) → P name
 all_there P [] back name each = All-head P name back each
 all_there P (x ∷ done) back name each = all_there P done back name (All-tail P x (done ++ name ∷ back) each)
 
 pub unnamed_among : (names done back : List (List ℕ)) (name : List ℕ) → place_of names name ≡ None → AreGiven names (done ++ name ∷ back) → ⊥
 unnamed_among names done back name e known =
     not_named names name e (all_there (λ own. IsTrue (has names own)) done back name known.each)
+
+pub first_unnamed : (names : List (List ℕ)) (k : Double) (first second : List ℕ) → place_of names first ≡ None
+    → AreGiven names (given_names (double k) (first ∷ second ∷ [])) → ⊥
+first_unnamed names Gift first second e known = unnamed_among names [] [] first e known
+first_unnamed names Join first second e known = unnamed_among names [] (others_than first (second ∷ [])) first e known
 
 pub second_unnamed : (names : List (List ℕ)) (first second : List ℕ) (u : ℕ) → place_of names first ≡ Some u → place_of names second ≡ None
     → AreGiven names (first ∷ others_than first (second ∷ [])) → ⊥
@@ -159,9 +173,14 @@ stands_before (x ∷ done) back name known =
     let other : bytes_eq name x ≡ false = flips name x ∙ recursion_there (λ y. bytes_eq x y ≡ false) done back name known.0 in
     ap (λ t. t || has done name) other ∙ stands_before done back name known.1
 
-pub twice_among : (names done back : List (List ℕ)) (name : List ℕ) → has done name ≡ true → AreGiven names (done ++ name ∷ back) → ⊥
+twice_among : (names done back : List (List ℕ)) (name : List ℕ) → has done name ≡ true → AreGiven names (done ++ name ∷ back) → ⊥
 twice_among names done back name there known =
     let no : true ≡ false = sym there ∙ stands_before done back name known.different in cc
+
+-- the first vertex is the lowest bit
+unfoldable members : List (List ℕ) → List (List ℕ) → ℕ
+members [] given = 0
+members (name ∷ names) given = cond (has given name) 1 0 + 2 * members names given
 
 low_bit : (t : Bool) (m : ℕ) → (bit_at (cond t 1 0 + 2 * m) 0 == 1) ≡ t
 low_bit true m = let e : bit_at (1 + 2 * m) 0 ≡ 1 = omega (arith, bit_at_lowest (1 + 2 * m)) in ap (λ k. k == 1) e
@@ -186,12 +205,9 @@ members_within (name ∷ names) given (suc v) e =
     let below = members_within names given v (sym (ap (λ k. k == 1) (high_bit (has given name) (members names given) v)) ∙ e) in
     omega (arith, below)
 
-pub set_members : (names given : List (List ℕ)) → AreGiven names given → IsSetOf names given (members names given)
-set_members names given known = record {
-  are_given = known;
-  members = members_at names given;
-  within = members_within names given;
-}
+pub set_members : (names given : List (List ℕ)) → AreGiven names given → (set : ℕ) × IsSetOf names given set
+set_members names given known =
+    (members names given, record { are_given = known; members = members_at names given; within = members_within names given })
 
 same_bit : (a b w : ℕ) → in_set a w ≡ in_set b w → bit_at a w ≡ bit_at b w
 unfolding in_set
@@ -229,7 +245,7 @@ other_name names name v w distinct inside also named other = go (Rattle.std.proo
         flips (name_at names w) name ∙ ap (λ own. bytes_eq own (name_at names w)) (sym named)
         ∙ apart_from_distinct bytes_eq names v w [] distinct less also
 
-pub has_more : (done : List (List ℕ)) (name own : List ℕ) → has (done ++ name ∷ []) own ≡ (has done own || bytes_eq own name)
+has_more : (done : List (List ℕ)) (name own : List ℕ) → has (done ++ name ∷ []) own ≡ (has done own || bytes_eq own name)
 has_more done name own = list_any-append (bytes_eq own) done (name ∷ []) ∙ ap (λ t. has done own || t) (or_false (bytes_eq own name))
   where
     or_false : (t : Bool) → (t || false) ≡ t
@@ -297,10 +313,10 @@ pub record HasTaken (names given left : List (List ℕ)) (set : ℕ) : Type 0 wh
   pub whole : given ≡ done ++ left
   pub is_set : IsSetOf names done set
 
-pub none_taken : (names given : List (List ℕ)) → HasTaken names given given 0
+unfoldable pub none_taken : (names given : List (List ℕ)) → HasTaken names given given 0
 none_taken names given = record { done = []; whole = refl; is_set = no_members names }
 
-pub one_taken : (names given left back : List (List ℕ)) (name : List ℕ) (set more v : ℕ) → left ≡ name ∷ back
+unfoldable pub one_taken : (names given left back : List (List ℕ)) (name : List ℕ) (set more v : ℕ) → left ≡ name ∷ back
     → IsDistinct bytes_eq names → place_of names name ≡ Some v → in_set set v ≡ false
     → in_set more v ≡ true → ((w : ℕ) → w ≢ v → in_set more w ≡ in_set set w)
     → HasTaken names given left set → HasTaken names given back more
@@ -331,17 +347,3 @@ twice_taken names given left back name set v e place member known good =
     ap (has known.done) (sym found.1) ∙ sym (known.is_set.members v found.0) ∙ member in
     twice_among names known.done back name there
     (subst (AreGiven names) (known.whole ∙ ap (λ rest. known.done ++ rest) e) good)
-
-pub set_of-is : (names given : List (List ℕ)) (set : ℕ) → IsSetOf names given set → set_of names given ≡ Some set
-unfolding set_of
-set_of-is names given set known =
-    ap (λ t. cond t (Some (members names given)) None) ((given_decides names given).1 known.are_given)
-    ∙ ap Some (one_set names given (members names given) set (set_members names given known.are_given) known)
-
-pub set_of-none : (names given : List (List ℕ)) → (AreGiven names given → ⊥) → set_of names given ≡ None
-unfolding set_of
-set_of-none names given never = go (are_given names given) refl
-  where
-    go : (t : Bool) → are_given names given ≡ t → cond (are_given names given) (Some (members names given)) None ≡ None
-    go true e = absurd (never ((given_decides names given).0 e))
-    go false e = ap (λ t. cond t (Some (members names given)) None) e

@@ -1,6 +1,6 @@
 -- Each line spells one step or has one fault.
 --   steps_have_one_meaning
-use Rattle.std.proofs.Common.{◌≡◌, ℕ, ◌⊎◌, inl, inr, List, Option, Some, None, refl, sym, ◌∙◌, subst}
+use Rattle.std.proofs.Common.{◌≡◌, ℕ, ◌≤◌, ◌⊎◌, inl, inr, List, Option, Some, None, refl, sym, ◌∙◌, subst, decimal}
 use Rattle.dg_game.specs.declared.step.Command.{Command}
 use Rattle.dg_game.specs.declared.step.Step.{Step}
 use Rattle.dg_lines.specs.declared.line.LineFault.{LineFault}
@@ -9,10 +9,9 @@ use Rattle.dg_lines.specs.Cuts.{before, after}
 use Rattle.dg_lines.specs.Commands.{IsCommandLine}
 use Rattle.dg_lines.specs.LineFaults.{IsLineFault}
 use Rattle.dg_lines.specs.LineLaws.{AreAlike, StepsHaveOneMeaning}
-use Rattle.dg_lines.specs.Numbers.{seat_of}
 use Rattle.dg_lines.specs.Steps.{IsSeated, IsStepLine, IsTextFault, IsStepFault}
 use Rattle.dg_lines.proofs.Meaning.{lines_have_one_meaning}
-use Rattle.dg_lines.proofs.Stepping.{seated, seated_parts, no_seat_before, no_space_after, text_fault}
+use Rattle.dg_lines.proofs.Stepping.{seated, seated_parts, no_seat_before, no_space_after, seat_or, text_fault}
 
 abbrev IsStepOrFault : List (List ℕ) → List ℕ → Type 0
 IsStepOrFault names line = ((step : Step) × IsStepLine names step line) ⊎ ((fault : LineFault) × IsStepFault names fault line)
@@ -23,11 +22,13 @@ of_text names line seat text known (inl (command, means)) =
     inl (record { seat = seat; command = command }, record { text = text; seated = known; means = means })
 of_text names line seat text known (inr (fault, refused)) = inr (fault, text_fault names line seat text fault known refused)
 
-of_parts : (names : List (List ℕ)) (line : List ℕ) (seat : Option ℕ) (rest : Option (List ℕ)) → seat_of (before 32 line) ≡ seat
+of_parts : (names : List (List ℕ)) (line : List ℕ) (rest : Option (List ℕ))
+    → ((seat : ℕ) × (1 ≤ seat) × (seat ≤ 64) × (before 32 line ≡ decimal seat)) ⊎ ((seat : ℕ) → 1 ≤ seat → seat ≤ 64 → before 32 line ≡ decimal seat → ⊥)
     → after 32 line ≡ rest → IsStepOrFault names line
-of_parts names line None rest e f = inr (Seat, no_seat_before line e)
-of_parts names line (Some seat) None e f = inr (Seat, no_space_after line f)
-of_parts names line (Some seat) (Some text) e f = of_text names line seat text (seated line seat text e f) (lines_have_one_meaning.some names text)
+of_parts names line rest (inr none) f = inr (Seat, no_seat_before line none)
+of_parts names line None (inl seat) f = inr (Seat, no_space_after line f)
+of_parts names line (Some text) (inl seat) f =
+    of_text names line seat.0 text (seated line seat.0 text (seat.1, seat.2, seat.3) f) (lines_have_one_meaning.some names text)
 
 -- a line is that of one seat and one text
 one_seat : (line : List ℕ) (s t : ℕ) (a b : List ℕ) → IsSeated s a line → IsSeated t b line → (s ≡ t) × (a ≡ b)
@@ -74,7 +75,7 @@ one_step names line c d first second =
 
 pub steps_have_one_meaning : StepsHaveOneMeaning
 steps_have_one_meaning = record {
-  some = λ names line. of_parts names line (seat_of (before 32 line)) (after 32 line) refl refl;
+  some = λ names line. of_parts names line (after 32 line) (seat_or (before 32 line)) refl;
   not_both = λ names line step fault known refused. not_both names line step fault known (which names line fault refused);
   step = one_step;
   fault = λ names line one other first second. one_fault names line one other (which names line one first) (which names line other second);
