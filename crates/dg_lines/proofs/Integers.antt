@@ -1,10 +1,11 @@
 -- The decimals of whole numbers with a sign: what is none, and whether a text is that of a number within limits.
 --   no_utf8, no_number, no_decimal   a text that is not read is the decimal of no number of 64 bits
---   fits_within      numbers within the limits of 64 bits fit
+--   fits_within, within_fits   numbers within the limits of 64 bits fit, and no others
 --   large_entry      the decimal of a number past the limit is not that of an entry of a script
 --   other_degree     that of a number that is no degree is not that of a degree
 --   number_or        a text is the decimal of a number within limits, or is not
-use Rattle.std.proofs.Common.{◌<◌, ◌≤◌, ◌^◌, ◌-◌, ◌⊎◌, inl, inr, unsigned_abs, ◌≡◌, ℕ, suc, ◌==◌, ◌&&◌, ℤ, pos, negsuc, neg_ℤ, List, [], ◌∷◌, Option, Some, None, Result, Ok, Err, Bool, true, false, cond, refl, ap, sym, ◌∙◌, subst, arith, decimal, FitsSigned, w64, to_z, of_z, to_z-of_z}
+--   degree_or        so of a degree
+use Rattle.std.proofs.Common.{◌<◌, ◌^◌, ◌-◌, ◌⊎◌, inl, inr, unsigned_abs, ◌≡◌, ℕ, suc, ◌==◌, ℤ, pos, negsuc, neg_ℤ, List, [], ◌∷◌, Result, Ok, Err, Bool, true, false, refl, ap, sym, ◌∙◌, subst, arith, decimal, FitsSigned, w64, to_z, of_z, to_z-of_z}
 use Rattle.std.specs.Prelude.{bytes_eq, IsUtf8}
 use Rattle.std.specs.Fmt.{signed_decimal}
 use Rattle.std.specs.Str.Parse.{ParsesSigned, IsNumeral, digits_value, signed_digits_value}
@@ -16,15 +17,17 @@ use Rattle.std.proofs.lemmas.Bool.Decides.{nat_tests}
 use Rattle.std.proofs.lemmas.Fmt.{signed_decimal_injective}
 use Rattle.std.proofs.lemmas.Int.{ints, by_lt_z}
 use Rattle.std.specs.Int.{FitsUnsignedBits}
-use Rattle.std.specs.Int.Signed.{◌<ℤ◌, ◌≤ℤ◌, clash_ℤ}
+use Rattle.std.specs.Int.Signed.{◌≤ℤ◌, clash_ℤ}
 use Rattle.dg_chips.specs.declared.limits.TheConstants.{MAX_ENTRY}
 use Rattle.dg_lines.specs.CommandWords.{IsNumberWithin}
+use Rattle.dg_lines.proofs.Decided.{IsDecided}
 
 pub no_utf8 : (text : List ℕ) → (IsUtf8 text → ⊥) → (z : ℤ) → FitsSigned w64 z → text ≡ signed_decimal z → ⊥
-no_utf8 text never z fits e = never (subst IsUtf8 (sym e) (IsUtf8-from_ascii (signed_decimal z) (IsAscii-signed z fits.sfits)))
+no_utf8 text never z fits e =
+    never (subst IsUtf8 (sym e) (IsUtf8-from_ascii (signed_decimal z) (IsAscii-signed z fits.sfits)))
 
-pub no_number : {E : Type 0} (written text : List ℕ) (fault : E) → written ≡ text → ParsesSigned w64 10 written (Err fault)
-    → (z : ℤ) → FitsSigned w64 z → text ≡ signed_decimal z → ⊥
+pub no_number : {E : Type 0} (written text : List ℕ) (fault : E) → written ≡ text
+    → ParsesSigned w64 10 written (Err fault) → (z : ℤ) → FitsSigned w64 z → text ≡ signed_decimal z → ⊥
 no_number {E} written text fault same_text parses z fits e =
     let same : ◌≡◌ {A = Result ℤ E} (Err fault) (Ok z) =
     parse-signed_decimal w64 z written (Err fault) fits fits.sfits (same_text ∙ e) parses in
@@ -62,13 +65,18 @@ pub fits_within : (z : ℤ) → neg_ℤ (pos (2 ^ 63)) ≤ℤ z → z ≤ℤ pos
 fits_within (pos n) low high = record { sfits = omega (arith, ints) }
 fits_within (negsuc n) low high = record { sfits = omega (arith, ints) }
 
+pub within_fits : (z : ℤ) → FitsSigned w64 z → (neg_ℤ (pos (2 ^ 63)) ≤ℤ z) × (z ≤ℤ pos (2 ^ 63 - 1))
+within_fits (pos n) fits = (omega (arith, ints, fits.sfits), omega (arith, ints, fits.sfits))
+within_fits (negsuc n) fits = (omega (arith, ints, fits.sfits), omega (arith, ints, fits.sfits))
+
 pub entry_fits : (z : ℤ) → neg_ℤ (pos MAX_ENTRY) ≤ℤ z → z ≤ℤ pos MAX_ENTRY → FitsSigned w64 z
 entry_fits z low high = fits_within z (omega (arith, ints)) (omega (arith, ints))
 
 pub degree_fits : (z : ℤ) → pos 0 ≤ℤ z → z ≤ℤ pos (2 ^ 32 - 1) → FitsSigned w64 z
 degree_fits z low high = fits_within z (omega (arith, ints)) (omega (arith, ints))
 
-one_number : (text : List ℕ) (y z : ℤ) → FitsSigned w64 y → FitsSigned w64 z → text ≡ signed_decimal y → text ≡ signed_decimal z → y ≡ z
+one_number : (text : List ℕ) (y z : ℤ) → FitsSigned w64 y → FitsSigned w64 z → text ≡ signed_decimal y
+    → text ≡ signed_decimal z → y ≡ z
 one_number text y z first second e f = signed_decimal_injective y z first.sfits second.sfits (sym e ∙ f)
 
 pub large_entry : (text : List ℕ) (z : ℤ) → FitsSigned w64 z → text ≡ signed_decimal z → MAX_ENTRY < unsigned_abs z
@@ -92,7 +100,7 @@ other_degree text z fits e other known =
     other (subst (FitsUnsignedBits 32) same (within_degree known.number known.not_less known.not_more))
 
 pub number_or : (low high : ℤ) (text : List ℕ) → ((z : ℤ) → low ≤ℤ z → z ≤ℤ high → FitsSigned w64 z)
-    → IsNumberWithin low high text ⊎ (IsNumberWithin low high text → ⊥)
+    → IsDecided (IsNumberWithin low high text)
 number_or low high text fit = go (bytes_eq text (signed_decimal y)) refl
   where
     y : ℤ
@@ -100,12 +108,28 @@ number_or low high text fit = go (bytes_eq text (signed_decimal y)) refl
 
     same : (known : IsNumberWithin low high text) → known.number ≡ y
     same known =
-        sym (ap (signed_digits_value 10) known.spelled ∙ value_back known.number (fit known.number known.not_less known.not_more))
+        sym (ap (signed_digits_value 10) known.spelled
+        ∙ value_back known.number (fit known.number known.not_less known.not_more))
 
-    go : (t : Bool) → bytes_eq text (signed_decimal y) ≡ t → IsNumberWithin low high text ⊎ (IsNumberWithin low high text → ⊥)
+    go : (t : Bool) → bytes_eq text (signed_decimal y) ≡ t → IsDecided (IsNumberWithin low high text)
     go false e =
-        inr (λ known. let no : true ≡ false = sym ((bytes_eq-Decides text (signed_decimal y)).1 (known.spelled ∙ ap signed_decimal (same known))) ∙ e in cc)
+        inr (λ known.
+        let is = (bytes_eq-Decides text (signed_decimal y)).1 (known.spelled ∙ ap signed_decimal (same known)) in
+        let no : true ≡ false = sym is ∙ e in cc)
     go true e =
-        by_lt_z y low (λ less. inr (λ known. clash_ℤ less (subst (λ x. low ≤ℤ x) (same known) known.not_less))) (λ above.
-        by_lt_z high y (λ more. inr (λ known. clash_ℤ more (subst (λ x. x ≤ℤ high) (same known) known.not_more))) (λ below.
-        inl (record { number = y; spelled = (bytes_eq-Decides text (signed_decimal y)).0 e; not_less = above; not_more = below })))
+        let spelled = (bytes_eq-Decides text (signed_decimal y)).0 e in
+        by_lt_z y low (λ less. inr (λ known. clash_ℤ less (subst (λ x. low ≤ℤ x) (same known) known.not_less)))
+        (λ above. by_lt_z high y (λ more. inr (λ known. clash_ℤ more (subst (λ x. x ≤ℤ high) (same known) known.not_more)))
+        (λ below. inl (record { number = y; spelled = spelled; not_less = above; not_more = below })))
+
+pub degree_or : (text : List ℕ)
+    → ((k : ℕ) × (k < 2 ^ 32) × (text ≡ decimal k)) ⊎ (IsNumberWithin (pos 0) (pos (2 ^ 32 - 1)) text → ⊥)
+degree_or text = elim (number_or (pos 0) (pos (2 ^ 32 - 1)) text degree_fits) [
+  | inl known ↦ inl (there known.number known.not_less known.not_more known.spelled)
+  | inr never ↦ inr never
+]
+  where
+    there : (z : ℤ) → pos 0 ≤ℤ z → z ≤ℤ pos (2 ^ 32 - 1) → text ≡ signed_decimal z
+        → (k : ℕ) × (k < 2 ^ 32) × (text ≡ decimal k)
+    there (pos k) low high e = (k, omega (arith, ints), e)
+    there (negsuc k) low high e = absurd (omega (arith, ints))

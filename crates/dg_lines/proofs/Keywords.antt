@@ -7,7 +7,7 @@
 --   none_there, word_more, word_less   no words, one more and one less
 --   words_or                there are so many words, or not
 --   well_formed, ill_formed whether just the words follow that are wanted
-use Rattle.std.proofs.Common.{◌≡◌, ◌≢◌, ℕ, suc, ◌+◌, ◌==◌, ◌⊎◌, inl, inr, cond, Bool, true, false, List, [], ◌∷◌, length, Option, Some, None, refl, ap, sym, ◌∙◌, subst, arith, Bor}
+use Rattle.std.proofs.Common.{◌≡◌, ◌≢◌, ℕ, ◌+◌, ◌==◌, ◌⊎◌, inl, inr, cond, Bool, true, false, List, [], ◌∷◌, length, Option, Some, refl, ap, sym, ◌∙◌, subst, arith, Bor}
 use Rattle.std.specs.Prelude.{bytes_eq, All, IsSome, is_some}
 use Rattle.std.specs.List.{AllByRecursion}
 use Rattle.std.specs.Option.{option_copied}
@@ -25,6 +25,7 @@ use Rattle.dg_lines.specs.declared.keyword.Double.TheVariants.{Gift, Join}
 use Rattle.dg_lines.specs.CommandWords.{number_beside, words_wanted, IsWellFormed}
 use Rattle.dg_lines.specs.Keywords.{alone, single, double, AreWords}
 use Rattle.dg_lines.proofs.Cutting.{pieces_cut}
+use Rattle.dg_lines.proofs.Decided.{IsDecided}
 
 pub bytes_tell : (x y : List ℕ) → ((bytes_eq x y ≡ true) × (x ≡ y)) ⊎ ((bytes_eq x y ≡ false) × (x ≢ y))
 bytes_tell x y = go (bytes_eq x y) refl
@@ -66,16 +67,19 @@ each_row (row ∷ rows) P all word n e = go (bytes_eq word row.0) refl e (each_r
     go false other f later = later f
 
 -- ---- so many words
-pub empty_word : (n : ℕ) (word : List ℕ) (rest : List (List ℕ)) → true ≡ (length word == 0) → AreWords n (word ∷ rest) → ⊥
+pub empty_word : (n : ℕ) (word : List ℕ) (rest : List (List ℕ)) → true ≡ (length word == 0)
+    → AreWords n (word ∷ rest) → ⊥
 empty_word n [] rest e known = All-head (λ w. w ≢ []) [] rest known.filled refl
 empty_word n (x ∷ xs) rest e known = grind (arith, nat_tests)
 
-pub word_more : (n : ℕ) (word : List ℕ) (rest : List (List ℕ)) → false ≡ (length word == 0) → AreWords n rest → AreWords (n + 1) (word ∷ rest)
+pub word_more : (n : ℕ) (word : List ℕ) (rest : List (List ℕ)) → false ≡ (length word == 0) → AreWords n rest
+    → AreWords (n + 1) (word ∷ rest)
 word_more n [] rest e known = absurd (grind (arith, nat_tests))
 word_more n (x ∷ xs) rest e known =
     record { count = omega (arith, known.count); filled = All-cons (λ w. w ≢ []) (x ∷ xs) rest (λ no. cc) known.filled }
 
-pub some_words : (o : Option (Bor (List ℕ))) (text : Bor (List ℕ)) → o ≡ Some text → length (words_after (option_copied o)) ≡ 0 → ⊥
+pub some_words : (o : Option (Bor (List ℕ))) (text : Bor (List ℕ)) → o ≡ Some text
+    → length (words_after (option_copied o)) ≡ 0 → ⊥
 some_words o text e none =
     let more : length (words_after (option_copied o)) ≡ length (before 32 text.now ∷ words_after (after 32 text.now)) =
     ap (λ (p : Option (Bor (List ℕ))). length (words_after (option_copied p))) e ∙ ap length (pieces_cut 32 text.now) in
@@ -88,7 +92,7 @@ word_less n word rest known =
 pub none_there : AreWords 0 []
 none_there = record { count = refl; filled = All-nil (λ w. w ≢ []) }
 
-filled_or : (rest : List (List ℕ)) → All (λ w. w ≢ []) rest ⊎ (All (λ w. w ≢ []) rest → ⊥)
+filled_or : (rest : List (List ℕ)) → IsDecided (All (λ w. w ≢ []) rest)
 filled_or [] = inl (All-nil (λ w. w ≢ []))
 filled_or ([] ∷ rest) = inr (λ each. All-head (λ w. w ≢ []) [] rest each refl)
 filled_or ((x ∷ xs) ∷ rest) = elim (filled_or rest) [
@@ -96,25 +100,24 @@ filled_or ((x ∷ xs) ∷ rest) = elim (filled_or rest) [
   | inr never ↦ inr (λ each. never (All-tail (λ w. w ≢ []) (x ∷ xs) rest each))
 ]
 
-pub words_or : (n : ℕ) (rest : List (List ℕ)) → AreWords n rest ⊎ (AreWords n rest → ⊥)
+pub words_or : (n : ℕ) (rest : List (List ℕ)) → IsDecided (AreWords n rest)
 words_or n rest = go (length rest == n) refl (filled_or rest)
   where
-    go : (t : Bool) → (length rest == n) ≡ t → All (λ w. w ≢ []) rest ⊎ (All (λ w. w ≢ []) rest → ⊥)
-        → AreWords n rest ⊎ (AreWords n rest → ⊥)
+    go : (t : Bool) → (length rest == n) ≡ t → IsDecided (All (λ w. w ≢ []) rest) → IsDecided (AreWords n rest)
     go true e (inl each) = inl (record { count = eqb-true (length rest) n e; filled = each })
     go true e (inr never) = inr (λ known. never known.filled)
     go false e each = inr (λ known. let count : length rest ≡ n = known.count in grind (arith, nat_tests))
 
 -- ---- the words that are wanted
-pub well_formed : (keyword : List ℕ) (n : ℕ) (rest : List (List ℕ)) → words_wanted keyword ≡ Some n → AreWords n rest → IsWellFormed keyword rest
-well_formed keyword n rest wants known = record { wanted = wants ∙ ap Some (sym known.count); filled = known.filled }
+module _ (keyword : List ℕ) (n : ℕ) (rest : List (List ℕ)) (wants : words_wanted keyword ≡ Some n) where
+  pub well_formed : AreWords n rest → IsWellFormed keyword rest
+  well_formed known = record { wanted = wants ∙ ap Some (sym known.count); filled = known.filled }
 
-pub ill_formed : (keyword : List ℕ) (n : ℕ) (rest : List (List ℕ)) → words_wanted keyword ≡ Some n → (AreWords n rest → ⊥)
-    → IsSome (words_wanted keyword) × (IsWellFormed keyword rest → ⊥)
-ill_formed keyword n rest wants never = (
-  ap is_some wants,
-  λ formed.
-      let same : Some n ≡ Some (length rest) = sym wants ∙ formed.wanted in
-      let count : length rest ≡ n = cc in
-      never (record { count = count; filled = formed.filled }),
-)
+  pub ill_formed : (AreWords n rest → ⊥) → IsSome (words_wanted keyword) × (IsWellFormed keyword rest → ⊥)
+  ill_formed never = (
+    ap is_some wants,
+    λ formed.
+        let same : Some n ≡ Some (length rest) = sym wants ∙ formed.wanted in
+        let count : length rest ≡ n = cc in
+        never (record { count = count; filled = formed.filled }),
+  )

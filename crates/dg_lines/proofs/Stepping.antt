@@ -4,7 +4,7 @@
 --   no_seat_before, no_space_after   where there is no such seat, or no space, the line is that of no seat
 --   seat_or        a text is the decimal of a seat, or of none
 --   text_fault     the fault of the text is that of the line
-use Rattle.std.proofs.Common.{◌≡◌, ℕ, ◌<◌, ◌≤◌, ◌^◌, ℤ, pos, negsuc, ◌≤ℤ◌, ◌⊎◌, inl, inr, List, ◌∷◌, ◌++◌, Some, None, ap, sym, ◌∙◌, arith, codes, decimal, append_assoc}
+use Rattle.std.proofs.Common.{◌≡◌, ℕ, ◌<◌, ◌≤◌, ◌^◌, ℤ, pos, negsuc, ◌≤ℤ◌, ◌⊎◌, inl, inr, FitsSigned, w64, List, ◌∷◌, ◌++◌, Some, None, ap, sym, ◌∙◌, arith, codes, decimal, append_assoc}
 use Rattle.std.specs.Fmt.{signed_decimal}
 use Rattle.std.specs.Str.Parse.{digits_value}
 use Rattle.std.proofs.lemmas.Fmt.{decimal_is_IsNumeral}
@@ -12,14 +12,15 @@ use Rattle.std.proofs.lemmas.Int.{ints}
 use Rattle.dg_lines.specs.declared.line.LineFault.{LineFault}
 use Rattle.dg_lines.specs.declared.line.LineFault.TheVariants.{Seat, Word, Form, Name, Number}
 use Rattle.dg_lines.specs.Cuts.{before, after}
-use Rattle.dg_lines.specs.LineFaults.{IsLineFault}
-use Rattle.dg_lines.specs.CommandWords.{IsNumberWithin}
-use Rattle.dg_lines.specs.Steps.{IsSeated, IsStepFault}
+use Rattle.dg_lines.specs.Steps.{IsSeated, IsTextFault, IsStepFault}
 use Rattle.dg_lines.proofs.Joining.{cut_joined, before_joined, after_joined, no_space_in_digits}
 use Rattle.dg_lines.proofs.Integers.{fits_within, number_or}
 
 spaced : (front back : List ℕ) → front ++ 32 ∷ back ≡ front ++ codes " " ++ back
 spaced front back = sym (simp append_assoc)
+
+abbrev pub IsNoSeat : List ℕ → Type 0
+IsNoSeat text = (seat : ℕ) → 1 ≤ seat → seat ≤ 64 → text ≡ decimal seat → ⊥
 
 pub seated : (line : List ℕ) (seat : ℕ) (text : List ℕ) → (1 ≤ seat) × (seat ≤ 64) × (before 32 line ≡ decimal seat)
     → after 32 line ≡ Some text → IsSeated seat text line
@@ -30,7 +31,8 @@ seated line seat text front back = record {
 }
 
 pub seated_parts : (line : List ℕ) (seat : ℕ) (text : List ℕ) → IsSeated seat text line
-    → (before 32 line ≡ decimal seat) × (after 32 line ≡ Some text) × (Some (digits_value 10 (before 32 line)) ≡ Some seat)
+    → (before 32 line ≡ decimal seat) × (after 32 line ≡ Some text)
+    × (Some (digits_value 10 (before 32 line)) ≡ Some seat)
 seated_parts line seat text known =
     let small : seat < 2 ^ 64 = omega (arith, known.last) in
     let digits = decimal_is_IsNumeral seat small in
@@ -40,8 +42,10 @@ seated_parts line seat text known =
     let back : after 32 line ≡ Some text = ap (after 32) whole ∙ after_joined 32 (decimal seat) text no_space in
     (front, back, ap (λ ds. Some (digits_value 10 ds)) front ∙ ap Some digits.1)
 
-pub no_seat_before : (line : List ℕ) → ((seat : ℕ) → 1 ≤ seat → seat ≤ 64 → before 32 line ≡ decimal seat → ⊥)
-    → (seat : ℕ) (text : List ℕ) → IsSeated seat text line → ⊥
+abbrev pub IsUnseated : List ℕ → Type 0
+IsUnseated line = (seat : ℕ) (text : List ℕ) → IsSeated seat text line → ⊥
+
+pub no_seat_before : (line : List ℕ) → IsNoSeat (before 32 line) → IsUnseated line
 no_seat_before line none seat text known =
     none seat known.first known.last (seated_parts line seat text known).0
 
@@ -51,24 +55,25 @@ no_space_after line none seat text known =
     let no : Some text ≡ None = sym parts.1 ∙ none in
     cc
 
-pub seat_or : (text : List ℕ) → ((seat : ℕ) × (1 ≤ seat) × (seat ≤ 64) × (text ≡ decimal seat))
-    ⊎ ((seat : ℕ) → 1 ≤ seat → seat ≤ 64 → text ≡ decimal seat → ⊥)
-seat_or text = go (number_or (pos 1) (pos 64) text (λ z low high. fits_within z (omega (arith, ints)) (omega (arith, ints))))
+pub seat_or : (text : List ℕ) → ((seat : ℕ) × (1 ≤ seat) × (seat ≤ 64) × (text ≡ decimal seat)) ⊎ IsNoSeat text
+seat_or text = elim (number_or (pos 1) (pos 64) text fits) [
+  | inl known ↦ inl (there known.number known.not_less known.not_more known.spelled)
+  | inr never ↦ inr (λ seat first last e.
+      never (record { number = pos seat; spelled = e; not_less = omega (arith, ints); not_more = omega (arith, ints) }))
+]
   where
-    there : (z : ℤ) → pos 1 ≤ℤ z → z ≤ℤ pos 64 → text ≡ signed_decimal z → (seat : ℕ) × (1 ≤ seat) × (seat ≤ 64) × (text ≡ decimal seat)
+    fits : (z : ℤ) → pos 1 ≤ℤ z → z ≤ℤ pos 64 → FitsSigned w64 z
+    fits z low high = fits_within z (omega (arith, ints)) (omega (arith, ints))
+
+    there : (z : ℤ) → pos 1 ≤ℤ z → z ≤ℤ pos 64 → text ≡ signed_decimal z
+        → (seat : ℕ) × (1 ≤ seat) × (seat ≤ 64) × (text ≡ decimal seat)
     there (pos n) low high e = (n, omega (arith, ints), omega (arith, ints), e)
     there (negsuc n) low high e = absurd (omega (arith, ints))
 
-    go : IsNumberWithin (pos 1) (pos 64) text ⊎ (IsNumberWithin (pos 1) (pos 64) text → ⊥)
-        → ((seat : ℕ) × (1 ≤ seat) × (seat ≤ 64) × (text ≡ decimal seat)) ⊎ ((seat : ℕ) → 1 ≤ seat → seat ≤ 64 → text ≡ decimal seat → ⊥)
-    go (inl known) = inl (there known.number known.not_less known.not_more known.spelled)
-    go (inr never) = inr (λ seat first last e.
-        never (record { number = pos seat; spelled = e; not_less = omega (arith, ints); not_more = omega (arith, ints) }))
-
-pub text_fault : (names : List (List ℕ)) (line : List ℕ) (seat : ℕ) (text : List ℕ) (fault : LineFault) → IsSeated seat text line
-    → IsLineFault names fault text → IsStepFault names fault line
-text_fault names line seat text Seat known refused = absurd refused.refused
-text_fault names line seat text Word known refused = record { seat = seat; text = text; seated = known; refused = refused }
-text_fault names line seat text Form known refused = record { seat = seat; text = text; seated = known; refused = refused }
-text_fault names line seat text Name known refused = record { seat = seat; text = text; seated = known; refused = refused }
-text_fault names line seat text Number known refused = record { seat = seat; text = text; seated = known; refused = refused }
+pub text_fault : (names : List (List ℕ)) (line : List ℕ) (fault : LineFault) → IsTextFault names fault line
+    → IsStepFault names fault line
+text_fault names line Seat known = absurd known.refused.refused
+text_fault names line Word known = known
+text_fault names line Form known = known
+text_fault names line Name known = known
+text_fault names line Number known = known

@@ -12,76 +12,77 @@ pub returns-in_default-clause-refused : goal.returns-in_default-clause-refused
 returns-in_default-clause-refused c = record {
   keyword = c.cut.result.0.now;
   rest = words_after (option_copied c.cut.result.1);
-  cut =
-      line_words c.args.line.now c.cut.result.0.now c.cut.result.0.now (option_copied c.cut.result.1) (words_after (option_copied c.cut.result.1))
-      c.cut.ensures.before c.cut.ensures.after refl refl;
+  cut = line_words _ _ _ _ _ c.cut.ensures.before c.cut.ensures.after refl refl;
   refused = c.in_default.ensures;
 }
 
 pub returns-in-None-clause-command : goal.returns-in-None-clause-command
 returns-in-None-clause-command c =
-    let follow : words_after (option_copied c.cut.result.1) ≡ [] = ap (λ (o : Option (Bor (List ℕ))). words_after (option_copied o)) c.in-None.is in
+    let follow : words_after (option_copied c.cut.result.1) ≡ [] =
+    ap (λ (o : Option (Bor (List ℕ))). words_after (option_copied o)) c.in-None.is in
+    let spelled = c.in-Some.ensures ∙ ap spelling c.in-Alone.is in
     record {
       keyword = alone c.in-Alone.keyword;
       rest = [];
-      cut =
-          line_words c.args.line.now c.cut.result.0.now (alone c.in-Alone.keyword) (option_copied c.cut.result.1) []
-          c.cut.ensures.before c.cut.ensures.after (c.in-Some.ensures ∙ ap spelling c.in-Alone.is) follow;
+      cut = line_words _ _ _ _ _ c.cut.ensures.before c.cut.ensures.after spelled follow;
       formed = well_formed (alone c.in-Alone.keyword) 0 [] (wants_none c.in-Alone.keyword) none_there;
       means = c.with_none.ensures c.args.names.now;
     }
 
 pub returns-in-Some-rest-clause-refused : goal.returns-in-Some-rest-clause-refused
-returns-in-Some-rest-clause-refused c = record {
-  keyword = alone c.in-Alone.keyword;
-  rest = words_after (option_copied c.cut.result.1);
-  cut =
-      line_words c.args.line.now c.cut.result.0.now (alone c.in-Alone.keyword) (option_copied c.cut.result.1) (words_after (option_copied c.cut.result.1))
-      c.cut.ensures.before c.cut.ensures.after (c.in-Some.ensures ∙ ap spelling c.in-Alone.is) refl;
-  refused = ill_formed (alone c.in-Alone.keyword) 0 (words_after (option_copied c.cut.result.1)) (wants_none c.in-Alone.keyword) (λ known. some_words c.cut.result.1 c.in-Some-rest.field-0 c.in-Some-rest.is known.count);
-}
+returns-in-Some-rest-clause-refused c =
+    let spelled = c.in-Some.ensures ∙ ap spelling c.in-Alone.is in
+    record {
+      keyword = alone c.in-Alone.keyword;
+      rest = words_after (option_copied c.cut.result.1);
+      cut = line_words _ _ _ _ _ c.cut.ensures.before c.cut.ensures.after spelled refl;
+      refused = ill_formed _ 0 _ (wants_none c.in-Alone.keyword) (λ known.
+          some_words c.cut.result.1 c.in-Some-rest.field-0 c.in-Some-rest.is known.count);
+    }
 
 pub with_one-requires : goal.with_one-requires
-with_one-requires c =
-    well_formed (single c.in-Single.keyword) 1 (c.in-Some-one_word.word.now ∷ []) (wants_one c.in-Single.keyword) c.in-Some-one_word.ensures.0
+with_one-requires c = well_formed _ 1 _ (wants_one c.in-Single.keyword) c.in-Some-one_word.ensures.0
 
 pub returns-in-Some-one_word : goal.returns-in-Some-one_word
 returns-in-Some-one_word c =
-    let known = line_read c.args.names.now c.args.line.now (single c.in-Single.keyword) (c.in-Some-one_word.word.now ∷ []) c.with_one.result
-    (line_words c.args.line.now c.cut.result.0.now (single c.in-Single.keyword) (option_copied c.cut.result.1) (c.in-Some-one_word.word.now ∷ [])
-    c.cut.ensures.before c.cut.ensures.after (c.in-Some.ensures ∙ ap spelling c.in-Single.is) c.in-Some-one_word.ensures.1)
-    (well_formed (single c.in-Single.keyword) 1 (c.in-Some-one_word.word.now ∷ []) (wants_one c.in-Single.keyword) c.in-Some-one_word.ensures.0) c.with_one.ensures in
+    let spelled = c.in-Some.ensures ∙ ap spelling c.in-Single.is in
+    let (word, rest) = c.in-Some-one_word.ensures in
+    let known =
+    line_read c.args.names.now c.args.line.now (single c.in-Single.keyword) (c.in-Some-one_word.word.now ∷ [])
+    (line_words _ _ _ _ _ c.cut.ensures.before c.cut.ensures.after spelled rest)
+    c.with_one.result (well_formed _ 1 _ (wants_one c.in-Single.keyword) word) c.with_one.ensures in
     record { command = known.0; refused = known.1 }
 
 pub returns-in-None-one_word-clause-refused : goal.returns-in-None-one_word-clause-refused
-returns-in-None-one_word-clause-refused c = record {
-  keyword = single c.in-Single.keyword;
-  rest = words_after (option_copied c.cut.result.1);
-  cut =
-      line_words c.args.line.now c.cut.result.0.now (single c.in-Single.keyword) (option_copied c.cut.result.1) (words_after (option_copied c.cut.result.1))
-      c.cut.ensures.before c.cut.ensures.after (c.in-Some.ensures ∙ ap spelling c.in-Single.is) refl;
-  refused = ill_formed (single c.in-Single.keyword) 1 (words_after (option_copied c.cut.result.1)) (wants_one c.in-Single.keyword) (c.in-None-one_word.ensures);
-}
+returns-in-None-one_word-clause-refused c =
+    let spelled = c.in-Some.ensures ∙ ap spelling c.in-Single.is in
+    record {
+      keyword = single c.in-Single.keyword;
+      rest = words_after (option_copied c.cut.result.1);
+      cut = line_words _ _ _ _ _ c.cut.ensures.before c.cut.ensures.after spelled refl;
+      refused = ill_formed _ 1 _ (wants_one c.in-Single.keyword) c.in-None-one_word.ensures;
+    }
 
 pub with_two-requires : goal.with_two-requires
-with_two-requires c =
-    well_formed (double c.in-Double.keyword) 2 (c.in-Some-two_words.first.now ∷ c.in-Some-two_words.second.now ∷ [])
-    (wants_two c.in-Double.keyword) c.in-Some-two_words.ensures.0
+with_two-requires c = well_formed _ 2 _ (wants_two c.in-Double.keyword) c.in-Some-two_words.ensures.0
 
 pub returns-in-Some-two_words : goal.returns-in-Some-two_words
 returns-in-Some-two_words c =
-    let known = line_read c.args.names.now c.args.line.now (double c.in-Double.keyword) (c.in-Some-two_words.first.now ∷ c.in-Some-two_words.second.now ∷ []) c.with_two.result
-    (line_words c.args.line.now c.cut.result.0.now (double c.in-Double.keyword) (option_copied c.cut.result.1) (c.in-Some-two_words.first.now ∷ c.in-Some-two_words.second.now ∷ [])
-    c.cut.ensures.before c.cut.ensures.after (c.in-Some.ensures ∙ ap spelling c.in-Double.is) c.in-Some-two_words.ensures.1)
-    (well_formed (double c.in-Double.keyword) 2 (c.in-Some-two_words.first.now ∷ c.in-Some-two_words.second.now ∷ []) (wants_two c.in-Double.keyword) c.in-Some-two_words.ensures.0) c.with_two.ensures in
+    let spelled = c.in-Some.ensures ∙ ap spelling c.in-Double.is in
+    let (two, rest) = c.in-Some-two_words.ensures in
+    let known =
+    line_read c.args.names.now c.args.line.now (double c.in-Double.keyword)
+    (c.in-Some-two_words.first.now ∷ c.in-Some-two_words.second.now ∷ [])
+    (line_words _ _ _ _ _ c.cut.ensures.before c.cut.ensures.after spelled rest)
+    c.with_two.result (well_formed _ 2 _ (wants_two c.in-Double.keyword) two) c.with_two.ensures in
     record { command = known.0; refused = known.1 }
 
 pub returns-in-None-two_words-clause-refused : goal.returns-in-None-two_words-clause-refused
-returns-in-None-two_words-clause-refused c = record {
-  keyword = double c.in-Double.keyword;
-  rest = words_after (option_copied c.cut.result.1);
-  cut =
-      line_words c.args.line.now c.cut.result.0.now (double c.in-Double.keyword) (option_copied c.cut.result.1) (words_after (option_copied c.cut.result.1))
-      c.cut.ensures.before c.cut.ensures.after (c.in-Some.ensures ∙ ap spelling c.in-Double.is) refl;
-  refused = ill_formed (double c.in-Double.keyword) 2 (words_after (option_copied c.cut.result.1)) (wants_two c.in-Double.keyword) (c.in-None-two_words.ensures);
-}
+returns-in-None-two_words-clause-refused c =
+    let spelled = c.in-Some.ensures ∙ ap spelling c.in-Double.is in
+    record {
+      keyword = double c.in-Double.keyword;
+      rest = words_after (option_copied c.cut.result.1);
+      cut = line_words _ _ _ _ _ c.cut.ensures.before c.cut.ensures.after spelled refl;
+      refused = ill_formed _ 2 _ (wants_two c.in-Double.keyword) c.in-None-two_words.ensures;
+    }

@@ -1,6 +1,5 @@
 -- A number past the limit is no other number within it.
-use Rattle.std.proofs.Common.{◌<◌, rules, arith, FitsSigned, w64, to_z-of_z, unsigned_abs}
-use Rattle.dg_chips.specs.declared.limits.TheConstants.{MAX_ENTRY}
+use Rattle.std.proofs.Common.{rules, arith, FitsSigned, w64, to_z-of_z}
 use Rattle.dg_lines.proofs.Integers.{large_entry}
 use Rattle.dg_lines.proofs.number.entry.Goals as goal
 
