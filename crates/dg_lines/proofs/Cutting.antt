@@ -113,7 +113,8 @@ lines_step xs line o other rest some first follows none is =
 
 -- the pieces that are left begin with the one that is cut off next
 pub pieces_left : (b : ℕ) (rest : Option (Bor (List ℕ))) (text : Bor (List ℕ)) (first : List ℕ)
-    (more : Option (Bor (List ℕ))) → rest ≡ Some text → first ≡ before b text.now → option_copied more ≡ after b text.now
+    (more : Option (Bor (List ℕ)))
+    → rest ≡ Some text → first ≡ before b text.now → option_copied more ≡ after b text.now
     → pieces_after b (option_copied rest) ≡ first ∷ pieces_after b (option_copied more)
 pieces_left b rest text first more e front back =
     ap (λ (o : Option (Bor (List ℕ))). pieces_after b (option_copied o)) e ∙ pieces_cut b text.now
@@ -125,7 +126,8 @@ none_left b rest e = ap (λ (o : Option (Bor (List ℕ))). pieces_after b (optio
 
 -- a line is its first word, which is a keyword, and the words after it
 pub line_words : (line word keyword : List ℕ) (rest : Option (List ℕ)) (others : List (List ℕ))
-    → word ≡ before 32 line → rest ≡ after 32 line → word ≡ keyword → words_after rest ≡ others → words line ≡ keyword ∷ others
+    → word ≡ before 32 line → rest ≡ after 32 line
+    → word ≡ keyword → words_after rest ≡ others → words line ≡ keyword ∷ others
 line_words line word keyword rest others front back spelled follow =
     pieces_cut 32 line ∙ ap (λ first. first ∷ words_after (after 32 line)) (sym front ∙ spelled)
     ∙ ap (λ more. keyword ∷ words_after more) (sym back) ∙ ap (λ more. keyword ∷ more) follow

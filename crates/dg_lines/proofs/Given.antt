@@ -309,7 +309,8 @@ module _ (names : List (List ℕ)) where
       }
 
   pub one_member : (done : List (List ℕ)) (name : List ℕ) (set more v : ℕ) → IsNext names done name v
-      → IsSetOf names done set → in_set more v ≡ true → ((w : ℕ) → w ≢ v → in_set more w ≡ in_set set w) → IsSetOf names (done ++ name ∷ []) more
+      → IsSetOf names done set → in_set more v ≡ true
+      → ((w : ℕ) → w ≢ v → in_set more w ≡ in_set set w) → IsSetOf names (done ++ name ∷ []) more
   one_member done name set more v next known here others = record {
     are_given = record {
       each = All-push IsNamed done name known.are_given.each (is_named name v next.place);
@@ -359,7 +360,8 @@ module _ (names given left back : List (List ℕ)) (name : List ℕ) (set : ℕ)
   cut_off = known.whole ∙ ap (λ rest. known.done ++ rest) e
 
   unfoldable pub one_taken : (more v : ℕ) → IsDistinct bytes_eq names → place_of names name ≡ Some v
-      → in_set set v ≡ false → in_set more v ≡ true → ((w : ℕ) → w ≢ v → in_set more w ≡ in_set set w) → HasTaken names given back more
+      → in_set set v ≡ false → in_set more v ≡ true
+      → ((w : ℕ) → w ≢ v → in_set more w ≡ in_set set w) → HasTaken names given back more
   one_taken more v distinct place absent here others = record {
     done = known.done ++ name ∷ [];
     whole = cut_off ∙ sym (append_assoc known.done (name ∷ []) back);

@@ -87,8 +87,10 @@ module _ (names : List (List ℕ)) (keyword : List ℕ) (rest : List (List ℕ))
       rw (key, one)
       (known.script.are_given, told_numbers (map number_part (items word)) known.numbers known.spelled known.limit)
   means_good (Call (Gift v x)) (key, known) =
-      rw (key, known.given)
-      (named_alone names known.name v known.vertex, one_number (codes "gift") (signed_decimal x) (gift_number x known.fits))
+      rw (key, known.given) (
+        named_alone names known.name v known.vertex,
+        one_number (codes "gift") (signed_decimal x) (gift_number x known.fits),
+      )
   means_good (Call (Join u v)) (key, known) =
       rw (key, known.given)
       (both_named names known.first known.second u v known.from known.to, no_numbers (codes "join"))
@@ -297,14 +299,16 @@ module _ (names : List (List ℕ)) (word : List ℕ) where
 
   fire_reads : IsWellFormed (codes "fire") (word ∷ []) → Spells names (codes "fire") (word ∷ [])
   fire_reads formed = elim (given_or names (items word)) [
-    | inl known ↦ let (set, is) = set_members names (items word) known in (Ok (play (Fire set)), (word, refl, (refl, is)))
+    | inl known ↦
+        let (set, is) = set_members names (items word) known in (Ok (play (Fire set)), (word, refl, (refl, is)))
     | inr never ↦ (Err Name, (formed, never))
   ]
 
   script_reads : IsWellFormed (codes "script") (word ∷ []) → Spells names (codes "script") (word ∷ [])
   script_reads formed = go (given_or names (map name_part (items word))) (entries_or (map number_part (items word)))
     where
-      go : IsDecided (AreGiven names (map name_part (items word))) → IsDecided (All IsEntryText (map number_part (items word)))
+      go : IsDecided (AreGiven names (map name_part (items word)))
+          → IsDecided (All IsEntryText (map number_part (items word)))
           → Spells names (codes "script") (word ∷ [])
       go (inr never) each = (Err Name, (formed, never))
       go (inl known) (inr never) = (Err Number, (formed, known, never))
@@ -325,7 +329,8 @@ module _ (names : List (List ℕ)) (first second : List ℕ) where
   gift_reads : IsWellFormed (codes "gift") (first ∷ second ∷ []) → Spells names (codes "gift") (first ∷ second ∷ [])
   gift_reads formed = go (place_or names first) (number_or (neg_ℤ (pos (2 ^ 63))) (pos (2 ^ 63 - 1)) second fits_within)
     where
-      go : HasPlace names first → IsDecided (IsNumberFor (codes "gift") second) → Spells names (codes "gift") (first ∷ second ∷ [])
+      go : HasPlace names first → IsDecided (IsNumberFor (codes "gift") second)
+          → Spells names (codes "gift") (first ∷ second ∷ [])
       go (inr none) known = (Err Name, (formed, unnamed_among names [] [] first none))
       go (inl (v, place)) (inr never) =
           (Err Number, (formed, named_alone names first v place, λ all. never (only_one (codes "gift") second all)))

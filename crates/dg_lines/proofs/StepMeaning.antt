@@ -68,7 +68,8 @@ module _ (names : List (List ℕ)) (line : List ℕ) where
       lines_have_one_meaning.fault names second.text one other
       (subst (IsLineFault names one) same.1 first.refused) second.refused
 
-  one_step : (c d : Step) → IsStepLine names c line → IsStepLine names d line → (c.seat ≡ d.seat) × AreAlike c.command d.command
+  one_step : (c d : Step) → IsStepLine names c line → IsStepLine names d line
+      → (c.seat ≡ d.seat) × AreAlike c.command d.command
   one_step c d first second =
       let same = one_seat c.seat d.seat first.text second.text first.seated second.seated in
       let means = subst (IsCommandLine names c.command) same.1 first.means in

@@ -15,7 +15,8 @@ use std::str;
 /// The whole number from -2^63 to 2^63 - 1 whose decimal the text is. A decimal has no plus and no leading zero.
 pub fn integer(text: &[u8]) -> Option<i64>
     ensures { MatchOption result
-        ((z : ℤ) → FitsSigned w64 z → text.now ≢ signed_decimal z) (λ z. text.now ≡ signed_decimal z) }
+        ((z : ℤ) → FitsSigned w64 z → text.now ≢ signed_decimal z)
+        (λ z. text.now ≡ signed_decimal z) }
 {
     let Ok(written) = str::from_utf8(text) else {
         return None;

@@ -12,16 +12,14 @@ items-init c = none_taken c.args.names.now (items c.args.text.now)
 pub returns-in_default-place : goal.returns-in_default-place
 returns-in_default-place c =
     let next = pieces_left 44 _ _ _ c.cut.result.1 c.in-Some.is c.cut.ensures.before c.cut.ensures.after in
-    unnamed_taken c.args.names.now (items c.args.text.now) _ _ c.cut.result.0.now c.items.set next c.items.invariant
-    (sym c.in_default-place.ensures.place)
+    unnamed_taken _ _ _ _ _ _ next c.items.invariant (sym c.in_default-place.ensures.place)
 
 pub returns-then-contains : goal.returns-then-contains
 returns-then-contains c =
     let next = pieces_left 44 _ _ _ c.cut.result.1 c.in-Some.is c.cut.ensures.before c.cut.ensures.after in
     let place : place_of c.args.names.now c.cut.result.0.now ≡ Some c.from-v.result =
     sym c.in-Some-place.ensures.place ∙ ap Some (sym c.from-v.ensures) in
-    twice_taken c.args.names.now (items c.args.text.now) _ _ c.cut.result.0.now c.items.set next c.items.invariant c.from-v.result place
-    (sym c.contains.ensures ∙ c.if-contains.true)
+    twice_taken _ _ _ _ _ _ next c.items.invariant c.from-v.result place (sym c.contains.ensures ∙ c.if-contains.true)
 
 pub items-smaller : goal.items-smaller
 items-smaller c =
@@ -33,10 +31,9 @@ items-preserved c =
     let next = pieces_left 44 _ _ _ c.cut.result.1 c.in-Some.is c.cut.ensures.before c.cut.ensures.after in
     let place : place_of c.args.names.now c.cut.result.0.now ≡ Some c.from-v.result =
     sym c.in-Some-place.ensures.place ∙ ap Some (sym c.from-v.ensures) in
-    one_taken c.args.names.now (items c.args.text.now) _ _ c.cut.result.0.now c.items.set next c.items.invariant c.with_vertex-set.result
-    c.from-v.result c.len-size.ensures.names.different place (sym c.contains.ensures ∙ c.if-contains.false)
+    one_taken _ _ _ _ _ _ next c.items.invariant c.with_vertex-set.result c.from-v.result c.len-size.ensures.names.different place (sym c.contains.ensures ∙ c.if-contains.false)
     c.with_vertex-set.ensures.here c.with_vertex-set.ensures.others
 
 pub returns : goal.returns
 returns c =
-    all_taken c.args.names.now (items c.args.text.now) _ c.items.set c.items.invariant (none_left 44 c.items.rest c.in_default.is)
+    all_taken _ _ _ _ c.items.invariant (none_left 44 c.items.rest c.in_default.is)

@@ -7,13 +7,13 @@ use Rattle.dg_lines.proofs.line.with_one.Goals as goal
 
 pub returns-in-None : goal.returns-in-None
 returns-in-None c =
-    rw c.in-Lend.is
-    (rw c.in-Lend.is at c.requires, unnamed_among c.args.names.now [] [] c.args.word.now (sym c.in-None.ensures.place))
+    let none = sym c.in-None.ensures.place in
+    rw c.in-Lend.is (rw c.in-Lend.is at c.requires, unnamed_among c.args.names.now [] [] c.args.word.now none)
 
 pub returns-in-None-place : goal.returns-in-None-place
 returns-in-None-place c =
-    rw c.in-Borrow.is
-    (rw c.in-Borrow.is at c.requires, unnamed_among c.args.names.now [] [] c.args.word.now (sym c.in-None-place.ensures.place))
+    let none = sym c.in-None-place.ensures.place in
+    rw c.in-Borrow.is (rw c.in-Borrow.is at c.requires, unnamed_among c.args.names.now [] [] c.args.word.now none)
 
 pub returns-in-None-degree : goal.returns-in-None-degree
 returns-in-None-degree c =

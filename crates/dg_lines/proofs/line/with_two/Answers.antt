@@ -8,7 +8,8 @@ use Rattle.dg_lines.proofs.line.with_two.Goals as goal
 
 pub returns-in_default : goal.returns-in_default
 returns-in_default c =
-    (c.requires, first_unnamed c.args.names.now c.args.keyword c.args.first.now c.args.second.now (sym c.in_default.ensures.place))
+    let none = sym c.in_default.ensures.place in
+    (c.requires, first_unnamed c.args.names.now c.args.keyword c.args.first.now c.args.second.now none)
 
 pub returns-in-None : goal.returns-in-None
 returns-in-None c =
