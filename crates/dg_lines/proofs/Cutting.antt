@@ -37,7 +37,8 @@ before_take : (b : ℕ) (xs : List ℕ) → before b xs ≡ take (position_or_le
 unfolding before
 before_take b [] = refl
 before_take b (x ∷ xs) =
-    elim (x == b) as (λ t. cond t [] (x ∷ before b xs) ≡ take (cond (not t) (1 + position_or_len (λ x. x == b) xs) 0) (x ∷ xs))
+    elim (x == b) as (λ t. cond t [] (x ∷ before b xs)
+    ≡ take (cond (not t) (1 + position_or_len (λ x. x == b) xs) 0) (x ∷ xs))
     [ true ↦ refl | false ↦ rw one-add (ap (λ front. x ∷ front) (before_take b xs)) ]
 
 after_there : (b : ℕ) (xs : List ℕ) → position_or_len (λ x. x == b) xs < length xs
@@ -111,7 +112,8 @@ lines_step xs line o other rest some first follows none is =
     ∙ ap (λ back. line ∷ back) (lines_after-rest o other none ∙ ap (λ back. lines back.now) (sym is))
 
 -- the pieces that are left begin with the one that is cut off next
-pub pieces_left : (b : ℕ) (rest : Option (Bor (List ℕ))) (text : Bor (List ℕ)) (first : List ℕ) (more : Option (Bor (List ℕ)))
+pub pieces_left : (b : ℕ) (rest : Option (Bor (List ℕ))) (text : Bor (List ℕ)) (first : List ℕ)
+    (more : Option (Bor (List ℕ)))
     → rest ≡ Some text → first ≡ before b text.now → option_copied more ≡ after b text.now
     → pieces_after b (option_copied rest) ≡ first ∷ pieces_after b (option_copied more)
 pieces_left b rest text first more e front back =
@@ -122,6 +124,10 @@ pieces_left b rest text first more e front back =
 pub none_left : (b : ℕ) (rest : Option (Bor (List ℕ))) → rest ≡ None → pieces_after b (option_copied rest) ≡ []
 none_left b rest e = ap (λ (o : Option (Bor (List ℕ))). pieces_after b (option_copied o)) e
 
-pub line_cut : (line word : List ℕ) (rest : Option (List ℕ)) → word ≡ before 32 line → rest ≡ after 32 line → words line ≡ word ∷ words_after rest
-line_cut line word rest front back =
-    pieces_cut 32 line ∙ ap (λ first. first ∷ words_after (after 32 line)) (sym front) ∙ ap (λ more. word ∷ words_after more) (sym back)
+-- a line is its first word, which is a keyword, and the words after it
+pub line_words : (line word keyword : List ℕ) (rest : Option (List ℕ)) (others : List (List ℕ))
+    → word ≡ before 32 line → rest ≡ after 32 line
+    → word ≡ keyword → words_after rest ≡ others → words line ≡ keyword ∷ others
+line_words line word keyword rest others front back spelled follow =
+    pieces_cut 32 line ∙ ap (λ first. first ∷ words_after (after 32 line)) (sym front ∙ spelled)
+    ∙ ap (λ more. keyword ∷ words_after more) (sym back) ∙ ap (λ more. keyword ∷ more) follow

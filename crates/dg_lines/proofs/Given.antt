@@ -1,23 +1,23 @@
 -- The names that a word gives, and the set of the vertices that they name.
 --   same_bytes       equality of byte lists is an equivalence
---   given_decides    the test of names given tells whether they are given rightly
+--   given_or         names are given rightly, or not
 --   vertex_named     the place of a name is a vertex, and has that name
---   is_named         a name that has a place is among the names
---   not_named        a name that has no place is not among them
+--   place_or         a name has a place, or none
 --   named_alone      a name that has a place is given rightly where it stands alone
 --   both_named       so are two names that have places, of which the second is left out where it is the first
+--   none_given       so is no name
 --   unnamed_among    names of which one has no place are not given rightly
+--   first_unnamed    so are the two words of a gift or a join of which the first has no place
 --   second_unnamed   so are two of which the second has none
---   twice_among      nor are those of which one stands twice
 --   set_members      the set of the vertices of names that are given rightly
 --   one_set          there is one such set
---   no_members       where no names are given it is empty
 --   other_name       the name of another vertex is another name
---   one_member       with one name more it has one vertex more
---   HasTaken names given left set == `left` are the last of the names given, and the set is that of the names before them
--- What a loop over the names does: none taken, one more, all, and where the next name refuses them; and the set that is read
--- of names.
-use Rattle.std.proofs.Common.{◌≡◌, ◌≢◌, ℕ, zero, suc, ◌+◌, ◌*◌, ◌/◌, ◌<◌, ◌==◌, ◌||◌, ◌&&◌, not, cond, Bool, true, false, List, [], ◌∷◌, ◌++◌, length, Option, Some, None, refl, ap, sym, ◌∙◌, subst, arith, Decides, append_assoc}
+--   IsNext names done name v      == the vertex v of the names, all different, is named next
+--   one_member       with one name more the set has one vertex more
+--   HasPlace names name           == the name has a place among the names, or none
+--   HasTaken names given left set == `left` are the last of the names given, and the set has those before them
+-- What a loop over the names does: none taken, one more, all, and where the next name refuses them.
+use Rattle.std.proofs.Common.{◌⊎◌, inl, inr, ◌≡◌, ◌≢◌, ℕ, zero, suc, ◌+◌, ◌*◌, ◌/◌, ◌<◌, ◌==◌, ◌||◌, ◌&&◌, not, cond, Bool, true, false, List, [], ◌∷◌, ◌++◌, length, Option, Some, None, refl, ap, sym, ◌∙◌, subst, arith, Decides, append_assoc}
 use Rattle.std.specs.Prelude.{bytes_eq, IsTrue, All}
 use Rattle.std.specs.Cmp.{IsEquivalence, both_ways}
 use Rattle.std.specs.Int.{bit_at}
@@ -33,9 +33,12 @@ use Rattle.std.proofs.lemmas.Nat.Bits.{bit_at_lowest, bit_at-suc, bit_at-zero, b
 use Rattle.std.proofs.lemmas.Slice.Eq.{bytes_eq-Decides}
 use Rattle.dg_graph.specs.Sets.{in_set}
 use Rattle.dg_file.specs.Names.{has, place_of, name_at}
-use Rattle.dg_lines.specs.CommandWords.{AreGiven, others_than}
+use Rattle.dg_lines.specs.declared.keyword.Double.{Double}
+use Rattle.dg_lines.specs.declared.keyword.Double.TheVariants.{Gift, Join}
+use Rattle.dg_lines.specs.Keywords.{double}
+use Rattle.dg_lines.specs.CommandWords.{AreGiven, given_names, others_than}
 use Rattle.dg_lines.specs.Commands.{IsSetOf}
-use Rattle.dg_lines.specs.Read.{is_distinct, are_given, members, set_of}
+use Rattle.dg_lines.proofs.Decided.{IsDecided}
 
 equal : (x y : List ℕ) → x ≡ y → bytes_eq x y ≡ true
 equal x y e = (bytes_eq-Decides x y).1 e
@@ -44,7 +47,9 @@ is_equal : (x y : List ℕ) → bytes_eq x y ≡ true → x ≡ y
 is_equal x y e = (bytes_eq-Decides x y).0 e
 
 flips : (x y : List ℕ) → bytes_eq x y ≡ bytes_eq y x
-flips x y = both_ways (bytes_eq x y) (bytes_eq y x) (λ e. equal y x (sym (is_equal x y e))) (λ e. equal x y (sym (is_equal y x e)))
+flips x y =
+    both_ways (bytes_eq x y) (bytes_eq y x)
+    (λ e. equal y x (sym (is_equal x y e))) (λ e. equal x y (sym (is_equal y x e)))
 
 pub same_bytes : IsEquivalence bytes_eq
 same_bytes = record {
@@ -53,43 +58,56 @@ same_bytes = record {
   congr = λ x y z e. ap (λ w. bytes_eq w z) (is_equal x y e);
 }
 
+or_true : (t : Bool) → (t || true) ≡ true
+or_true true = refl
+or_true false = refl
+
+or_false : (t : Bool) → (t || false) ≡ t
+or_false true = refl
+or_false false = refl
+
+-- ---- names that stand once
 -- one name is given rightly after another test
 apart : (t u : Bool) (Q : Type 0) → Decides (not u) Q → Decides (not (t || u)) ((t ≡ false) × Q)
 apart true u Q known = (λ e. absurd (cc), λ p. absurd (let no : true ≡ false = p.0 in cc))
 apart false u Q known = (λ e. (refl, known.0 e), λ p. known.1 p.1)
 
-stands_once : (x : List ℕ) (xs : List (List ℕ)) → Decides (not (has xs x)) (AllByRecursion (λ y. bytes_eq x y ≡ false) xs)
+stands_once : (x : List ℕ) (xs : List (List ℕ))
+    → Decides (not (has xs x)) (AllByRecursion (λ y. bytes_eq x y ≡ false) xs)
 stands_once x [] = (λ e. tt, λ p. refl)
-stands_once x (y ∷ ys) = apart (bytes_eq x y) (has ys x) (AllByRecursion (λ z. bytes_eq x z ≡ false) ys) (stands_once x ys)
+stands_once x (y ∷ ys) =
+    apart (bytes_eq x y) (has ys x) (AllByRecursion (λ z. bytes_eq x z ≡ false) ys) (stands_once x ys)
+
+is_distinct : List (List ℕ) → Bool
+is_distinct [] = true
+is_distinct (name ∷ given) = not (has given name) && is_distinct given
 
 distinct_decides : (given : List (List ℕ)) → Decides (is_distinct given) (IsDistinct bytes_eq given)
-unfolding is_distinct IsDistinct
+unfolding IsDistinct is_distinct
 distinct_decides [] = (λ e. tt, λ p. refl)
 distinct_decides (x ∷ xs) = Decides-and (not (has xs x)) (is_distinct xs) (stands_once x xs) (distinct_decides xs)
 
-named_decides : (names given : List (List ℕ)) → Decides (list_all (has names) given) (All (λ name. IsTrue (has names name)) given)
-named_decides names given =
-    Decides-by_and (has names) (λ name. IsTrue (has names name)) (list_all (has names)) (λ name. (λ e. e, λ e. e)) refl (λ _ _. refl) given
+pub all_there : (P : List ℕ → Type 0) (done back : List (List ℕ)) (name : List ℕ) → All P (done ++ name ∷ back) → P name
+all_there P [] back name each = All-head P name back each
+all_there P (x ∷ done) back name each = all_there P done back name (All-tail P x (done ++ name ∷ back) each)
 
-pub given_decides : (names given : List (List ℕ)) → Decides (are_given names given) (AreGiven names given)
-unfolding are_given
-given_decides names given =
-    let both = Decides-and (list_all (has names) given) (is_distinct given) (named_decides names given) (distinct_decides given) in
-    (λ e. record { each = (both.0 e).0; different = (both.0 e).1 }, λ known. both.1 (known.each, known.different))
+recursion_there : (P : List ℕ → Type 0) (done back : List (List ℕ)) (name : List ℕ)
+    → AllByRecursion P (done ++ name ∷ back) → P name
+recursion_there P [] back name each = each.0
+recursion_there P (x ∷ done) back name each = recursion_there P done back name each.1
 
-pub vertex_named : (names : List (List ℕ)) (name : List ℕ) (v : ℕ) → place_of names name ≡ Some v
-    → (v < length names) × (name_at names v ≡ name)
-unfolding place_of
-vertex_named names name v e =
-    let found = position-Some (λ own. bytes_eq own name) names v [] e in
-    (found.0, is_equal (name_at names v) name found.1)
+stands_before : (done back : List (List ℕ)) (name : List ℕ) → IsDistinct bytes_eq (done ++ name ∷ back)
+    → has done name ≡ false
+unfolding IsDistinct
+stands_before [] back name known = refl
+stands_before (x ∷ done) back name known =
+    let other : bytes_eq name x ≡ false =
+    flips name x ∙ recursion_there (λ y. bytes_eq x y ≡ false) done back name known.0 in
+    ap (λ t. t || has done name) other ∙ stands_before done back name known.1
 
-pub is_named : (names : List (List ℕ)) (name : List ℕ) (v : ℕ) → place_of names name ≡ Some v → has names name ≡ true
-is_named names name v e =
-    let found = vertex_named names name v e in
-    list_any_at (bytes_eq name) names v [] found.0 (equal name (name_at names v) (sym found.1))
-
-some_place : (names : List (List ℕ)) (name : List ℕ) → has names name ≡ true → position_or_len (λ own. bytes_eq own name) names < length names
+-- ---- names and their places
+some_place : (names : List (List ℕ)) (name : List ℕ) → has names name ≡ true
+    → position_or_len (λ own. bytes_eq own name) names < length names
 some_place [] name e = absurd (cc)
 some_place (own ∷ names) name e =
     let n : ℕ = position_or_len (λ own. bytes_eq own name) names in
@@ -99,79 +117,23 @@ some_place (own ∷ names) name e =
       | false ↦ λ found. omega (arith, some_place names name found)
     ]) (ap (λ t. t || has names name) (flips own name) ∙ e)
 
-pub not_named : (names : List (List ℕ)) (name : List ℕ) → place_of names name ≡ None → has names name ≡ true → ⊥
-unfolding place_of
-not_named names name e found =
-    let less = some_place names name found in
-    let n : ℕ = position_or_len (λ own. bytes_eq own name) names in
-    let there : Rattle.std.proofs.Common.nat_lt n (length names) ≡ true = grind (arith, nat_tests) in
-    let no : Some n ≡ None = sym (ap (λ t. cond t (Some n) None) there) ∙ e in
-    cc
-
-pub named_alone : (names : List (List ℕ)) (name : List ℕ) (v : ℕ) → place_of names name ≡ Some v → AreGiven names (name ∷ [])
-unfolding IsDistinct
-named_alone names name v e = record {
-  each = All-cons (λ own. IsTrue (has names own)) name [] (is_named names name v e) (All-nil (λ own. IsTrue (has names own)));
-  different = (tt, tt);
-}
-
-pub both_named : (names : List (List ℕ)) (first second : List ℕ) (u v : ℕ) → place_of names first ≡ Some u → place_of names second ≡ Some v
-    → AreGiven names (first ∷ others_than first (second ∷ []))
-unfolding IsDistinct
-both_named names first second u v from to = go (bytes_eq first second) refl
-  where
-    go : (t : Bool) → bytes_eq first second ≡ t → AreGiven names (first ∷ cond (not t) (second ∷ []) [])
-    go true same = named_alone names first u from
-    go false differs = record {
-      each = All-cons (λ own. IsTrue (has names own)) first (second ∷ []) (is_named names first u from) (named_alone names second v to).each;
-      different = ((differs, tt), (tt, tt));
-    }
-
-pub none_given : (names : List (List ℕ)) → AreGiven names []
-unfolding IsDistinct
-none_given names = record { each = All-nil (λ own. IsTrue (has names own)); different = tt }
-
-all_there : (P : List ℕ → Type 0) (done back : List (List ℕ)) (name : List ℕ) → All P (done ++ name ∷ back) → P name
-all_there P [] back name each = All-head P name back each
-all_there P (x ∷ done) back name each = all_there P done back name (All-tail P x (done ++ name ∷ back) each)
-
-pub unnamed_among : (names done back : List (List ℕ)) (name : List ℕ) → place_of names name ≡ None → AreGiven names (done ++ name ∷ back) → ⊥
-unnamed_among names done back name e known =
-    not_named names name e (all_there (λ own. IsTrue (has names own)) done back name known.each)
-
-pub second_unnamed : (names : List (List ℕ)) (first second : List ℕ) (u : ℕ) → place_of names first ≡ Some u → place_of names second ≡ None
-    → AreGiven names (first ∷ others_than first (second ∷ [])) → ⊥
-second_unnamed names first second u from to = go (bytes_eq first second) refl
-  where
-    go : (t : Bool) → bytes_eq first second ≡ t → AreGiven names (first ∷ cond (not t) (second ∷ []) []) → ⊥
-    go true same known =
-        let no : Some u ≡ None = sym from ∙ ap (place_of names) (is_equal first second same) ∙ to in cc
-    go false differs known = unnamed_among names (first ∷ []) [] second to known
-
-recursion_there : (P : List ℕ → Type 0) (done back : List (List ℕ)) (name : List ℕ) → AllByRecursion P (done ++ name ∷ back) → P name
-recursion_there P [] back name each = each.0
-recursion_there P (x ∷ done) back name each = recursion_there P done back name each.1
-
-stands_before : (done back : List (List ℕ)) (name : List ℕ) → IsDistinct bytes_eq (done ++ name ∷ back) → has done name ≡ false
-unfolding IsDistinct
-stands_before [] back name known = refl
-stands_before (x ∷ done) back name known =
-    let other : bytes_eq name x ≡ false = flips name x ∙ recursion_there (λ y. bytes_eq x y ≡ false) done back name known.0 in
-    ap (λ t. t || has done name) other ∙ stands_before done back name known.1
-
-pub twice_among : (names done back : List (List ℕ)) (name : List ℕ) → has done name ≡ true → AreGiven names (done ++ name ∷ back) → ⊥
-twice_among names done back name there known =
-    let no : true ≡ false = sym there ∙ stands_before done back name known.different in cc
+-- the first vertex is the lowest bit
+unfoldable members : List (List ℕ) → List (List ℕ) → ℕ
+members [] given = 0
+members (name ∷ names) given = cond (has given name) 1 0 + 2 * members names given
 
 low_bit : (t : Bool) (m : ℕ) → (bit_at (cond t 1 0 + 2 * m) 0 == 1) ≡ t
 low_bit true m = let e : bit_at (1 + 2 * m) 0 ≡ 1 = omega (arith, bit_at_lowest (1 + 2 * m)) in ap (λ k. k == 1) e
 low_bit false m = let e : bit_at (0 + 2 * m) 0 ≡ 0 = omega (arith, bit_at_lowest (0 + 2 * m)) in ap (λ k. k == 1) e
 
 high_bit : (t : Bool) (m v : ℕ) → bit_at (cond t 1 0 + 2 * m) (suc v) ≡ bit_at m v
-high_bit true m v = let half : (1 + 2 * m) / 2 ≡ m = omega arith in bit_at-suc (1 + 2 * m) v ∙ ap (λ k. bit_at k v) half
-high_bit false m v = let half : (0 + 2 * m) / 2 ≡ m = omega arith in bit_at-suc (0 + 2 * m) v ∙ ap (λ k. bit_at k v) half
+high_bit true m v =
+    let half : (1 + 2 * m) / 2 ≡ m = omega arith in bit_at-suc (1 + 2 * m) v ∙ ap (λ k. bit_at k v) half
+high_bit false m v =
+    let half : (0 + 2 * m) / 2 ≡ m = omega arith in bit_at-suc (0 + 2 * m) v ∙ ap (λ k. bit_at k v) half
 
-members_at : (names given : List (List ℕ)) (v : ℕ) → v < length names → in_set (members names given) v ≡ has given (name_at names v)
+members_at : (names given : List (List ℕ)) (v : ℕ) → v < length names
+    → in_set (members names given) v ≡ has given (name_at names v)
 unfolding members in_set
 members_at [] given v less = absurd (omega arith)
 members_at (name ∷ names) given zero less = low_bit (has given name) (members names given)
@@ -183,58 +145,20 @@ unfolding members in_set
 members_within [] given v e = absurd (let no : false ≡ true = sym (ap (λ k. k == 1) (bit_at-zero v)) ∙ e in cc)
 members_within (name ∷ names) given zero e = omega arith
 members_within (name ∷ names) given (suc v) e =
-    let below = members_within names given v (sym (ap (λ k. k == 1) (high_bit (has given name) (members names given) v)) ∙ e) in
-    omega (arith, below)
-
-pub set_members : (names given : List (List ℕ)) → AreGiven names given → IsSetOf names given (members names given)
-set_members names given known = record {
-  are_given = known;
-  members = members_at names given;
-  within = members_within names given;
-}
+    let same = ap (λ k. k == 1) (high_bit (has given name) (members names given) v) in
+    omega (arith, members_within names given v (sym same ∙ e))
 
 same_bit : (a b w : ℕ) → in_set a w ≡ in_set b w → bit_at a w ≡ bit_at b w
 unfolding in_set
 same_bit a b w same = grind (arith, nat_tests, bit_at-lt a w, bit_at-lt b w)
 
-pub one_set : (names given : List (List ℕ)) (a b : ℕ) → IsSetOf names given a → IsSetOf names given b → a ≡ b
-one_set names given a b first second = same_from_bits a b (λ v. same_bit a b v (go v (in_set a v) (in_set b v) refl refl))
-  where
-    member : (v : ℕ) → v < length names → in_set a v ≡ in_set b v
-    member v less = first.members v less ∙ sym (second.members v less)
+has_more : (done : List (List ℕ)) (name own : List ℕ)
+    → has (done ++ name ∷ []) own ≡ (has done own || bytes_eq own name)
+has_more done name own =
+    list_any-append (bytes_eq own) done (name ∷ []) ∙ ap (λ t. has done own || t) (or_false (bytes_eq own name))
 
-    go : (v : ℕ) (s t : Bool) → in_set a v ≡ s → in_set b v ≡ t → in_set a v ≡ in_set b v
-    go v true t e f = member v (first.within v e)
-    go v false true e f = member v (second.within v f)
-    go v false false e f = e ∙ sym f
-
-pub no_members : (names : List (List ℕ)) → IsSetOf names [] 0
-unfolding in_set
-no_members names = record {
-  are_given = none_given names;
-  members = λ v less. ap (λ k. k == 1) (bit_at-zero v);
-  within = λ v e. absurd (let no : false ≡ true = sym (ap (λ k. k == 1) (bit_at-zero v)) ∙ e in cc);
-}
-
-pub other_name : (names : List (List ℕ)) (name : List ℕ) (v w : ℕ) → IsDistinct bytes_eq names → v < length names → w < length names
-    → name_at names v ≡ name → w ≢ v → bytes_eq (name_at names w) name ≡ false
-other_name names name v w distinct inside also named other = go (Rattle.std.proofs.Common.nat_lt w v) refl
-  where
-    go : (t : Bool) → Rattle.std.proofs.Common.nat_lt w v ≡ t → bytes_eq (name_at names w) name ≡ false
-    go true before =
-        let less : w < v = grind (arith, nat_tests) in
-        ap (bytes_eq (name_at names w)) (sym named) ∙ apart_from_distinct bytes_eq names w v [] distinct less inside
-    go false after =
-        let less : v < w = grind (arith, nat_tests) in
-        flips (name_at names w) name ∙ ap (λ own. bytes_eq own (name_at names w)) (sym named)
-        ∙ apart_from_distinct bytes_eq names v w [] distinct less also
-
-pub has_more : (done : List (List ℕ)) (name own : List ℕ) → has (done ++ name ∷ []) own ≡ (has done own || bytes_eq own name)
-has_more done name own = list_any-append (bytes_eq own) done (name ∷ []) ∙ ap (λ t. has done own || t) (or_false (bytes_eq own name))
-  where
-    or_false : (t : Bool) → (t || false) ≡ t
-    or_false true = refl
-    or_false false = refl
+abbrev pub HasPlace : List (List ℕ) → List ℕ → Type 0
+HasPlace names name = ((v : ℕ) × (place_of names name ≡ Some v)) ⊎ (place_of names name ≡ None)
 
 -- the vertex v of the names, all different, that is named next
 pub record IsNext (names done : List (List ℕ)) (name : List ℕ) (v : ℕ) : Type 0 where
@@ -242,106 +166,216 @@ pub record IsNext (names done : List (List ℕ)) (name : List ℕ) (v : ℕ) : T
   pub place : place_of names name ≡ Some v
   pub fresh : has done name ≡ false
 
-pub is_next : (names done : List (List ℕ)) (name : List ℕ) (set v : ℕ) → IsDistinct bytes_eq names → place_of names name ≡ Some v
-    → IsSetOf names done set → in_set set v ≡ false → IsNext names done name v
-is_next names done name set v distinct place known absent =
-    let found = vertex_named names name v place in
-    record {
-      distinct = distinct;
-      place = place;
-      fresh = ap (has done) (sym found.1) ∙ sym (known.members v found.0) ∙ absent;
-    }
-
-pub one_member : (names done : List (List ℕ)) (name : List ℕ) (set more v : ℕ) → IsNext names done name v → IsSetOf names done set
-    → in_set more v ≡ true → ((w : ℕ) → w ≢ v → in_set more w ≡ in_set set w) → IsSetOf names (done ++ name ∷ []) more
-one_member names done name set more v next known here others =
-    let found = vertex_named names name v next.place in
-    let at_v : in_set more v ≡ has (done ++ name ∷ []) (name_at names v) =
-    here ∙ sym (has_more done name (name_at names v) ∙ ap (λ t. has done (name_at names v) || t) (equal (name_at names v) name found.1) ∙ or_true (has done (name_at names v))) in
-    record {
-      are_given = record {
-        each = All-push (λ own. IsTrue (has names own)) done name known.are_given.each (is_named names name v next.place);
-        different = IsDistinct-push same_bytes done name known.are_given.different next.fresh;
-      };
-      members = λ w less. member w less at_v found (w == v) refl;
-      within = λ w e. inside w e found.0 (w == v) refl;
-    }
-  where
-    or_true : (t : Bool) → (t || true) ≡ true
-    or_true true = refl
-    or_true false = refl
-
-    or_false : (t : Bool) → (t || false) ≡ t
-    or_false true = refl
-    or_false false = refl
-
-    member : (w : ℕ) → w < length names → in_set more v ≡ has (done ++ name ∷ []) (name_at names v)
-        → (v < length names) × (name_at names v ≡ name) → (t : Bool) → (w == v) ≡ t → in_set more w ≡ has (done ++ name ∷ []) (name_at names w)
-    member w less at_v found true same =
-        subst (λ n. in_set more n ≡ has (done ++ name ∷ []) (name_at names n)) (sym (eqb-true w v same)) at_v
-    member w less at_v found false differs =
-        let other : w ≢ v = grind (arith, nat_tests) in
-        others w other ∙ known.members w less
-        ∙ sym (has_more done name (name_at names w)
-        ∙ ap (λ t. has done (name_at names w) || t) (other_name names name v w next.distinct found.0 less found.1 other)
-        ∙ or_false (has done (name_at names w)))
-
-    inside : (w : ℕ) → in_set more w ≡ true → v < length names → (t : Bool) → (w == v) ≡ t → w < length names
-    inside w e less true same = let is : w ≡ v = eqb-true w v same in omega arith
-    inside w e less false differs =
-        let other : w ≢ v = grind (arith, nat_tests) in
-        known.within w (sym (others w other) ∙ e)
-
 pub record HasTaken (names given left : List (List ℕ)) (set : ℕ) : Type 0 where
   pub done : List (List ℕ)
   pub whole : given ≡ done ++ left
   pub is_set : IsSetOf names done set
 
-pub none_taken : (names given : List (List ℕ)) → HasTaken names given given 0
-none_taken names given = record { done = []; whole = refl; is_set = no_members names }
+module _ (names : List (List ℕ)) where
+  abbrev IsNamed : List ℕ → Type 0
+  IsNamed name = IsTrue (has names name)
 
-pub one_taken : (names given left back : List (List ℕ)) (name : List ℕ) (set more v : ℕ) → left ≡ name ∷ back
-    → IsDistinct bytes_eq names → place_of names name ≡ Some v → in_set set v ≡ false
-    → in_set more v ≡ true → ((w : ℕ) → w ≢ v → in_set more w ≡ in_set set w)
-    → HasTaken names given left set → HasTaken names given back more
-one_taken names given left back name set more v e distinct place absent here others known = record {
-  done = known.done ++ name ∷ [];
-  whole = known.whole ∙ ap (λ rest. known.done ++ rest) e ∙ sym (append_assoc known.done (name ∷ []) back);
-  is_set =
-      one_member names known.done name set more v (is_next names known.done name set v distinct place known.is_set absent)
-      known.is_set here others;
-}
+  named_decides : (given : List (List ℕ)) → Decides (list_all (has names) given) (All IsNamed given)
+  named_decides given =
+      Decides-by_and (has names) IsNamed (list_all (has names)) (λ name. (λ e. e, λ e. e)) refl (λ _ _. refl) given
 
-pub all_taken : (names given left : List (List ℕ)) (set : ℕ) → left ≡ [] → HasTaken names given left set → IsSetOf names given set
-all_taken names given left set e known =
-    let same : known.done ≡ given = sym (known.whole ∙ ap (λ rest. known.done ++ rest) e ∙ append-nil known.done) in
-    subst (λ names_given. IsSetOf names names_given set) same known.is_set
+  pub given_or : (given : List (List ℕ)) → IsDecided (AreGiven names given)
+  given_or given = go (list_all (has names) given) (is_distinct given) refl refl
+    where
+      go : (t u : Bool) → list_all (has names) given ≡ t → is_distinct given ≡ u → IsDecided (AreGiven names given)
+      go true true e f = inl (record { each = (named_decides given).0 e; different = (distinct_decides given).0 f })
+      go true false e f =
+          inr (λ known. let no : true ≡ false = sym ((distinct_decides given).1 known.different) ∙ f in cc)
+      go false u e f = inr (λ known. let no : true ≡ false = sym ((named_decides given).1 known.each) ∙ e in cc)
 
-pub unnamed_taken : (names given left back : List (List ℕ)) (name : List ℕ) (set : ℕ) → left ≡ name ∷ back
-    → place_of names name ≡ None → HasTaken names given left set → AreGiven names given → ⊥
-unnamed_taken names given left back name set e place known good =
-    unnamed_among names known.done back name place
-    (subst (AreGiven names) (known.whole ∙ ap (λ rest. known.done ++ rest) e) good)
+  pub vertex_named : (name : List ℕ) (v : ℕ) → place_of names name ≡ Some v
+      → (v < length names) × (name_at names v ≡ name)
+  unfolding place_of
+  vertex_named name v e =
+      let found = position-Some (λ own. bytes_eq own name) names v [] e in
+      (found.0, is_equal (name_at names v) name found.1)
 
-pub twice_taken : (names given left back : List (List ℕ)) (name : List ℕ) (set v : ℕ) → left ≡ name ∷ back
-    → place_of names name ≡ Some v → in_set set v ≡ true → HasTaken names given left set → AreGiven names given → ⊥
-twice_taken names given left back name set v e place member known good =
-    let found = vertex_named names name v place in
-    let there : has known.done name ≡ true =
-    ap (has known.done) (sym found.1) ∙ sym (known.is_set.members v found.0) ∙ member in
-    twice_among names known.done back name there
-    (subst (AreGiven names) (known.whole ∙ ap (λ rest. known.done ++ rest) e) good)
+  is_named : (name : List ℕ) (v : ℕ) → place_of names name ≡ Some v → has names name ≡ true
+  is_named name v e =
+      let found = vertex_named name v e in
+      list_any_at (bytes_eq name) names v [] found.0 (equal name (name_at names v) (sym found.1))
 
-pub set_of-is : (names given : List (List ℕ)) (set : ℕ) → IsSetOf names given set → set_of names given ≡ Some set
-unfolding set_of
-set_of-is names given set known =
-    ap (λ t. cond t (Some (members names given)) None) ((given_decides names given).1 known.are_given)
-    ∙ ap Some (one_set names given (members names given) set (set_members names given known.are_given) known)
+  not_named : (name : List ℕ) → place_of names name ≡ None → has names name ≡ true → ⊥
+  unfolding place_of
+  not_named name e found =
+      let less = some_place names name found in
+      let n : ℕ = position_or_len (λ own. bytes_eq own name) names in
+      let there : Rattle.std.proofs.Common.nat_lt n (length names) ≡ true = grind (arith, nat_tests) in
+      let no : Some n ≡ None = sym (ap (λ t. cond t (Some n) None) there) ∙ e in
+      cc
 
-pub set_of-none : (names given : List (List ℕ)) → (AreGiven names given → ⊥) → set_of names given ≡ None
-unfolding set_of
-set_of-none names given never = go (are_given names given) refl
-  where
-    go : (t : Bool) → are_given names given ≡ t → cond (are_given names given) (Some (members names given)) None ≡ None
-    go true e = absurd (never ((given_decides names given).0 e))
-    go false e = ap (λ t. cond t (Some (members names given)) None) e
+  pub place_or : (name : List ℕ) → HasPlace names name
+  place_or name = go (place_of names name) refl
+    where
+      go : (o : Option ℕ) → place_of names name ≡ o → HasPlace names name
+      go None e = inr e
+      go (Some v) e = inl (v, e)
+
+  pub none_given : AreGiven names []
+  unfolding IsDistinct
+  none_given = record { each = All-nil IsNamed; different = tt }
+
+  pub named_alone : (name : List ℕ) (v : ℕ) → place_of names name ≡ Some v → AreGiven names (name ∷ [])
+  unfolding IsDistinct
+  named_alone name v e =
+      record { each = All-cons IsNamed name [] (is_named name v e) (All-nil IsNamed); different = (tt, tt) }
+
+  pub both_named : (first second : List ℕ) (u v : ℕ) → place_of names first ≡ Some u → place_of names second ≡ Some v
+      → AreGiven names (first ∷ others_than first (second ∷ []))
+  unfolding IsDistinct
+  both_named first second u v from to = go (bytes_eq first second) refl
+    where
+      go : (t : Bool) → bytes_eq first second ≡ t → AreGiven names (first ∷ cond (not t) (second ∷ []) [])
+      go true same = named_alone first u from
+      go false differs = record {
+        each = All-cons IsNamed first (second ∷ []) (is_named first u from) (named_alone second v to).each;
+        different = ((differs, tt), (tt, tt));
+      }
+
+  pub unnamed_among : (done back : List (List ℕ)) (name : List ℕ) → place_of names name ≡ None
+      → AreGiven names (done ++ name ∷ back) → ⊥
+  unnamed_among done back name e known = not_named name e (all_there IsNamed done back name known.each)
+
+  pub first_unnamed : (k : Double) (first second : List ℕ) → place_of names first ≡ None
+      → AreGiven names (given_names (double k) (first ∷ second ∷ [])) → ⊥
+  first_unnamed Gift first second e known = unnamed_among [] [] first e known
+  first_unnamed Join first second e known = unnamed_among [] (others_than first (second ∷ [])) first e known
+
+  pub second_unnamed : (first second : List ℕ) (u : ℕ) → place_of names first ≡ Some u → place_of names second ≡ None
+      → AreGiven names (first ∷ others_than first (second ∷ [])) → ⊥
+  second_unnamed first second u from to = go (bytes_eq first second) refl
+    where
+      go : (t : Bool) → bytes_eq first second ≡ t → AreGiven names (first ∷ cond (not t) (second ∷ []) []) → ⊥
+      go true same known =
+          let no : Some u ≡ None = sym from ∙ ap (place_of names) (is_equal first second same) ∙ to in cc
+      go false differs known = unnamed_among (first ∷ []) [] second to known
+
+  twice_among : (done back : List (List ℕ)) (name : List ℕ) → has done name ≡ true
+      → AreGiven names (done ++ name ∷ back) → ⊥
+  twice_among done back name there known =
+      let no : true ≡ false = sym there ∙ stands_before done back name known.different in cc
+
+  -- ---- sets of vertices
+  pub set_members : (given : List (List ℕ)) → AreGiven names given → (set : ℕ) × IsSetOf names given set
+  set_members given known =
+      let set = members_at names given in
+      (members names given, record { are_given = known; members = set; within = members_within names given })
+
+  pub one_set : (given : List (List ℕ)) (a b : ℕ) → IsSetOf names given a → IsSetOf names given b → a ≡ b
+  one_set given a b first second = same_from_bits a b (λ v. same_bit a b v (go v (in_set a v) (in_set b v) refl refl))
+    where
+      member : (v : ℕ) → v < length names → in_set a v ≡ in_set b v
+      member v less = first.members v less ∙ sym (second.members v less)
+
+      go : (v : ℕ) (s t : Bool) → in_set a v ≡ s → in_set b v ≡ t → in_set a v ≡ in_set b v
+      go v true t e f = member v (first.within v e)
+      go v false true e f = member v (second.within v f)
+      go v false false e f = e ∙ sym f
+
+  pub no_members : IsSetOf names [] 0
+  unfolding in_set
+  no_members = record {
+    are_given = none_given;
+    members = λ v less. ap (λ k. k == 1) (bit_at-zero v);
+    within = λ v e. absurd (let no : false ≡ true = sym (ap (λ k. k == 1) (bit_at-zero v)) ∙ e in cc);
+  }
+
+  pub other_name : (name : List ℕ) (v w : ℕ) → IsDistinct bytes_eq names → v < length names → w < length names
+      → name_at names v ≡ name → w ≢ v → bytes_eq (name_at names w) name ≡ false
+  other_name name v w distinct inside also named other = go (Rattle.std.proofs.Common.nat_lt w v) refl
+    where
+      go : (t : Bool) → Rattle.std.proofs.Common.nat_lt w v ≡ t → bytes_eq (name_at names w) name ≡ false
+      go true before =
+          let less : w < v = grind (arith, nat_tests) in
+          ap (bytes_eq (name_at names w)) (sym named) ∙ apart_from_distinct bytes_eq names w v [] distinct less inside
+      go false after =
+          let less : v < w = grind (arith, nat_tests) in
+          flips (name_at names w) name ∙ ap (λ own. bytes_eq own (name_at names w)) (sym named)
+          ∙ apart_from_distinct bytes_eq names v w [] distinct less also
+
+  pub is_next : (done : List (List ℕ)) (name : List ℕ) (set v : ℕ) → IsDistinct bytes_eq names
+      → place_of names name ≡ Some v → IsSetOf names done set → in_set set v ≡ false → IsNext names done name v
+  is_next done name set v distinct place known absent =
+      let found = vertex_named name v place in
+      record {
+        distinct = distinct;
+        place = place;
+        fresh = ap (has done) (sym found.1) ∙ sym (known.members v found.0) ∙ absent;
+      }
+
+  pub one_member : (done : List (List ℕ)) (name : List ℕ) (set more v : ℕ) → IsNext names done name v
+      → IsSetOf names done set → in_set more v ≡ true
+      → ((w : ℕ) → w ≢ v → in_set more w ≡ in_set set w) → IsSetOf names (done ++ name ∷ []) more
+  one_member done name set more v next known here others = record {
+    are_given = record {
+      each = All-push IsNamed done name known.are_given.each (is_named name v next.place);
+      different = IsDistinct-push same_bytes done name known.are_given.different next.fresh;
+    };
+    members = λ w less. member w less (w == v) refl;
+    within = λ w e. inside w e (w == v) refl;
+  }
+    where
+      found : (v < length names) × (name_at names v ≡ name)
+      found = vertex_named name v next.place
+
+      at_v : in_set more v ≡ has (done ++ name ∷ []) (name_at names v)
+      at_v =
+          here ∙ sym (has_more done name (name_at names v)
+          ∙ ap (λ t. has done (name_at names v) || t) (equal (name_at names v) name found.1)
+          ∙ or_true (has done (name_at names v)))
+
+      member : (w : ℕ) → w < length names → (t : Bool) → (w == v) ≡ t
+          → in_set more w ≡ has (done ++ name ∷ []) (name_at names w)
+      member w less true same =
+          subst (λ n. in_set more n ≡ has (done ++ name ∷ []) (name_at names n)) (sym (eqb-true w v same)) at_v
+      member w less false differs =
+          let other : w ≢ v = grind (arith, nat_tests) in
+          others w other ∙ known.members w less ∙ sym (has_more done name (name_at names w)
+          ∙ ap (λ t. has done (name_at names w) || t) (other_name name v w next.distinct found.0 less found.1 other)
+          ∙ or_false (has done (name_at names w)))
+
+      inside : (w : ℕ) → in_set more w ≡ true → (t : Bool) → (w == v) ≡ t → w < length names
+      inside w e true same = let is : w ≡ v = eqb-true w v same in omega (arith, found.0)
+      inside w e false differs =
+          let other : w ≢ v = grind (arith, nat_tests) in known.within w (sym (others w other) ∙ e)
+
+  -- ---- the loop
+  unfoldable pub none_taken : (given : List (List ℕ)) → HasTaken names given given 0
+  none_taken given = record { done = []; whole = refl; is_set = no_members }
+
+module _ (names given left : List (List ℕ)) (set : ℕ) (known : HasTaken names given left set) where
+  pub all_taken : left ≡ [] → IsSetOf names given set
+  all_taken e =
+      let same : known.done ≡ given = sym (known.whole ∙ ap (λ rest. known.done ++ rest) e ∙ append-nil known.done) in
+      subst (λ names_given. IsSetOf names names_given set) same known.is_set
+
+module _ (names given left back : List (List ℕ)) (name : List ℕ) (set : ℕ) (e : left ≡ name ∷ back)
+    (known : HasTaken names given left set) where
+  pub cut_off : given ≡ known.done ++ name ∷ back
+  cut_off = known.whole ∙ ap (λ rest. known.done ++ rest) e
+
+  unfoldable pub one_taken : (more v : ℕ) → IsDistinct bytes_eq names → place_of names name ≡ Some v
+      → in_set set v ≡ false → in_set more v ≡ true
+      → ((w : ℕ) → w ≢ v → in_set more w ≡ in_set set w) → HasTaken names given back more
+  one_taken more v distinct place absent here others = record {
+    done = known.done ++ name ∷ [];
+    whole = cut_off ∙ sym (append_assoc known.done (name ∷ []) back);
+    is_set =
+        one_member names known.done name set more v
+        (is_next names known.done name set v distinct place known.is_set absent) known.is_set here others;
+  }
+
+  pub unnamed_taken : place_of names name ≡ None → AreGiven names given → ⊥
+  unnamed_taken place good = unnamed_among names known.done back name place (subst (AreGiven names) cut_off good)
+
+  pub twice_taken : (v : ℕ) → place_of names name ≡ Some v → in_set set v ≡ true → AreGiven names given → ⊥
+  twice_taken v place member good =
+      let found = vertex_named names name v place in
+      let there : has known.done name ≡ true =
+      ap (has known.done) (sym found.1) ∙ sym (known.is_set.members v found.0) ∙ member in
+      twice_among names known.done back name there (subst (AreGiven names) cut_off good)

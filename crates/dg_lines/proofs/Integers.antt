@@ -1,5 +1,11 @@
--- The decimals of whole numbers with a sign: what is none, and the number that a text spells.
-use Rattle.std.proofs.Common.{◌≡◌, ℕ, suc, ◌==◌, ◌&&◌, ℤ, pos, negsuc, neg_ℤ, List, [], ◌∷◌, Option, Some, None, Result, Ok, Err, Bool, true, false, cond, refl, ap, sym, ◌∙◌, subst, arith, decimal, FitsSigned, w64, to_z, of_z, to_z-of_z}
+-- The decimals of whole numbers with a sign: what is none, and whether a text is that of a number within limits.
+--   no_utf8, no_number, no_decimal   a text that is not read is the decimal of no number of 64 bits
+--   fits_within, within_fits   numbers within the limits of 64 bits fit, and no others
+--   large_entry      the decimal of a number past the limit is not that of an entry of a script
+--   other_degree     that of a number that is no degree is not that of a degree
+--   number_or        a text is the decimal of a number within limits, or is not
+--   degree_or        so of a degree
+use Rattle.std.proofs.Common.{◌<◌, ◌^◌, ◌-◌, ◌⊎◌, inl, inr, unsigned_abs, ◌≡◌, ℕ, suc, ◌==◌, ℤ, pos, negsuc, neg_ℤ, List, [], ◌∷◌, Result, Ok, Err, Bool, true, false, refl, ap, sym, ◌∙◌, subst, arith, decimal, FitsSigned, w64, to_z, of_z, to_z-of_z}
 use Rattle.std.specs.Prelude.{bytes_eq, IsUtf8}
 use Rattle.std.specs.Fmt.{signed_decimal}
 use Rattle.std.specs.Str.Parse.{ParsesSigned, IsNumeral, digits_value, signed_digits_value}
@@ -8,13 +14,20 @@ use Rattle.std.proofs.lemmas.Str.{IsUtf8-from_ascii}
 use Rattle.std.proofs.lemmas.Str.Parse.{digit_from_value}
 use Rattle.std.proofs.lemmas.Slice.Eq.{bytes_eq-Decides}
 use Rattle.std.proofs.lemmas.Bool.Decides.{nat_tests}
-use Rattle.dg_lines.specs.Numbers.{is_within, integer_if, integer_of}
+use Rattle.std.proofs.lemmas.Fmt.{signed_decimal_injective}
+use Rattle.std.proofs.lemmas.Int.{ints, by_lt_z}
+use Rattle.std.specs.Int.{FitsUnsignedBits}
+use Rattle.std.specs.Int.Signed.{◌≤ℤ◌, clash_ℤ}
+use Rattle.dg_chips.specs.declared.limits.TheConstants.{MAX_ENTRY}
+use Rattle.dg_lines.specs.CommandWords.{IsNumberWithin}
+use Rattle.dg_lines.proofs.Decided.{IsDecided}
 
 pub no_utf8 : (text : List ℕ) → (IsUtf8 text → ⊥) → (z : ℤ) → FitsSigned w64 z → text ≡ signed_decimal z → ⊥
-no_utf8 text never z fits e = never (subst IsUtf8 (sym e) (IsUtf8-from_ascii (signed_decimal z) (IsAscii-signed z fits.sfits)))
+no_utf8 text never z fits e =
+    never (subst IsUtf8 (sym e) (IsUtf8-from_ascii (signed_decimal z) (IsAscii-signed z fits.sfits)))
 
-pub no_number : {E : Type 0} (written text : List ℕ) (fault : E) → written ≡ text → ParsesSigned w64 10 written (Err fault)
-    → (z : ℤ) → FitsSigned w64 z → text ≡ signed_decimal z → ⊥
+pub no_number : {E : Type 0} (written text : List ℕ) (fault : E) → written ≡ text
+    → ParsesSigned w64 10 written (Err fault) → (z : ℤ) → FitsSigned w64 z → text ≡ signed_decimal z → ⊥
 no_number {E} written text fault same_text parses z fits e =
     let same : ◌≡◌ {A = Result ℤ E} (Err fault) (Ok z) =
     parse-signed_decimal w64 z written (Err fault) fits fits.sfits (same_text ∙ e) parses in
@@ -48,39 +61,75 @@ value_back (negsuc n) fits =
     let known = decimal_is_IsNumeral (suc n) (omega (arith, fits.sfits)) in
     ap (λ m. neg_ℤ (pos m)) known.1
 
-within_of_fits : (z : ℤ) → FitsSigned w64 z → is_within z ≡ true
-within_of_fits (pos n) fits = grind (arith, nat_tests, fits.sfits)
-within_of_fits (negsuc n) fits = grind (arith, nat_tests, fits.sfits)
+pub fits_within : (z : ℤ) → neg_ℤ (pos (2 ^ 63)) ≤ℤ z → z ≤ℤ pos (2 ^ 63 - 1) → FitsSigned w64 z
+fits_within (pos n) low high = record { sfits = omega (arith, ints) }
+fits_within (negsuc n) low high = record { sfits = omega (arith, ints) }
 
-fits_of_within : (z : ℤ) → is_within z ≡ true → FitsSigned w64 z
-fits_of_within (pos n) e = record { sfits = grind (arith, nat_tests) }
-fits_of_within (negsuc n) e = record { sfits = grind (arith, nat_tests) }
+pub within_fits : (z : ℤ) → FitsSigned w64 z → (neg_ℤ (pos (2 ^ 63)) ≤ℤ z) × (z ≤ℤ pos (2 ^ 63 - 1))
+within_fits (pos n) fits = (omega (arith, ints, fits.sfits), omega (arith, ints, fits.sfits))
+within_fits (negsuc n) fits = (omega (arith, ints, fits.sfits), omega (arith, ints, fits.sfits))
 
-pub integer_is : (text : List ℕ) (z : ℤ) → FitsSigned w64 z → text ≡ signed_decimal z → integer_of text ≡ Some z
-unfolding integer_of
-integer_is text z fits e =
-    let value : signed_digits_value 10 text ≡ z = ap (signed_digits_value 10) e ∙ value_back z fits in
-    let equal : bytes_eq text (signed_decimal z) ≡ true = (bytes_eq-Decides text (signed_decimal z)).1 e in
-    ap (integer_if text) value ∙ ap (λ t. cond (t && bytes_eq text (signed_decimal z)) (Some z) None) (within_of_fits z fits)
-    ∙ ap (λ t. cond (true && t) (Some z) None) equal
+pub entry_fits : (z : ℤ) → neg_ℤ (pos MAX_ENTRY) ≤ℤ z → z ≤ℤ pos MAX_ENTRY → FitsSigned w64 z
+entry_fits z low high = fits_within z (omega (arith, ints)) (omega (arith, ints))
 
-kept : (a b : Bool) (y z : ℤ) → cond (a && b) (Some y) None ≡ Some z → (a ≡ true) × (b ≡ true) × (y ≡ z)
-kept true true y z e = let same : y ≡ z = cc in (refl, refl, same)
-kept true false y z e = cc
-kept false b y z e = cc
+pub degree_fits : (z : ℤ) → pos 0 ≤ℤ z → z ≤ℤ pos (2 ^ 32 - 1) → FitsSigned w64 z
+degree_fits z low high = fits_within z (omega (arith, ints)) (omega (arith, ints))
 
-pub is_integer : (text : List ℕ) (z : ℤ) → integer_of text ≡ Some z → FitsSigned w64 z × (text ≡ signed_decimal z)
-unfolding integer_of
-is_integer text z e =
-    let y : ℤ = signed_digits_value 10 text in
-    let found = kept (is_within y) (bytes_eq text (signed_decimal y)) y z e in (
-      subst (FitsSigned w64) found.2 (fits_of_within y found.0),
-      (bytes_eq-Decides text (signed_decimal y)).0 found.1 ∙ ap signed_decimal found.2,
-    )
+one_number : (text : List ℕ) (y z : ℤ) → FitsSigned w64 y → FitsSigned w64 z → text ≡ signed_decimal y
+    → text ≡ signed_decimal z → y ≡ z
+one_number text y z first second e f = signed_decimal_injective y z first.sfits second.sfits (sym e ∙ f)
 
-pub no_integer : (text : List ℕ) → ((z : ℤ) → FitsSigned w64 z → text ≡ signed_decimal z → ⊥) → integer_of text ≡ None
-no_integer text never = go (integer_of text) refl
+pub large_entry : (text : List ℕ) (z : ℤ) → FitsSigned w64 z → text ≡ signed_decimal z → MAX_ENTRY < unsigned_abs z
+    → IsNumberWithin (neg_ℤ (pos MAX_ENTRY)) (pos MAX_ENTRY) text → ⊥
+large_entry text z fits e large known =
+    let same : known.number ≡ z =
+    one_number text known.number z (entry_fits known.number known.not_less known.not_more) fits known.spelled e in
+    let low : neg_ℤ (pos MAX_ENTRY) ≤ℤ z = subst (λ x. neg_ℤ (pos MAX_ENTRY) ≤ℤ x) same known.not_less in
+    let high : z ≤ℤ pos MAX_ENTRY = subst (λ x. x ≤ℤ pos MAX_ENTRY) same known.not_more in
+    omega (arith, ints)
+
+within_degree : (z : ℤ) → pos 0 ≤ℤ z → z ≤ℤ pos (2 ^ 32 - 1) → FitsUnsignedBits 32 z
+within_degree (pos n) low high = omega (arith, ints)
+within_degree (negsuc n) low high = absurd (omega (arith, ints))
+
+pub other_degree : (text : List ℕ) (z : ℤ) → FitsSigned w64 z → text ≡ signed_decimal z → (FitsUnsignedBits 32 z → ⊥)
+    → IsNumberWithin (pos 0) (pos (2 ^ 32 - 1)) text → ⊥
+other_degree text z fits e other known =
+    let same : known.number ≡ z =
+    one_number text known.number z (degree_fits known.number known.not_less known.not_more) fits known.spelled e in
+    other (subst (FitsUnsignedBits 32) same (within_degree known.number known.not_less known.not_more))
+
+pub number_or : (low high : ℤ) (text : List ℕ) → ((z : ℤ) → low ≤ℤ z → z ≤ℤ high → FitsSigned w64 z)
+    → IsDecided (IsNumberWithin low high text)
+number_or low high text fit = go (bytes_eq text (signed_decimal y)) refl
   where
-    go : (o : Option ℤ) → integer_of text ≡ o → integer_of text ≡ None
-    go None e = e
-    go (Some z) e = let known = is_integer text z e in absurd (never z known.0 known.1)
+    y : ℤ
+    y = signed_digits_value 10 text
+
+    same : (known : IsNumberWithin low high text) → known.number ≡ y
+    same known =
+        sym (ap (signed_digits_value 10) known.spelled
+        ∙ value_back known.number (fit known.number known.not_less known.not_more))
+
+    go : (t : Bool) → bytes_eq text (signed_decimal y) ≡ t → IsDecided (IsNumberWithin low high text)
+    go false e =
+        inr (λ known.
+        let is = (bytes_eq-Decides text (signed_decimal y)).1 (known.spelled ∙ ap signed_decimal (same known)) in
+        let no : true ≡ false = sym is ∙ e in cc)
+    go true e =
+        let spelled = (bytes_eq-Decides text (signed_decimal y)).0 e in
+        by_lt_z y low (λ less. inr (λ known. clash_ℤ less (subst (λ x. low ≤ℤ x) (same known) known.not_less)))
+        (λ above. by_lt_z high y (λ more. inr (λ known. clash_ℤ more (subst (λ x. x ≤ℤ high) (same known) known.not_more)))
+        (λ below. inl (record { number = y; spelled = spelled; not_less = above; not_more = below })))
+
+pub degree_or : (text : List ℕ)
+    → ((k : ℕ) × (k < 2 ^ 32) × (text ≡ decimal k)) ⊎ (IsNumberWithin (pos 0) (pos (2 ^ 32 - 1)) text → ⊥)
+degree_or text = elim (number_or (pos 0) (pos (2 ^ 32 - 1)) text degree_fits) [
+  | inl known ↦ inl (there known.number known.not_less known.not_more known.spelled)
+  | inr never ↦ inr never
+]
+  where
+    there : (z : ℤ) → pos 0 ≤ℤ z → z ≤ℤ pos (2 ^ 32 - 1) → text ≡ signed_decimal z
+        → (k : ℕ) × (k < 2 ^ 32) × (text ≡ decimal k)
+    there (pos k) low high e = (k, omega (arith, ints), e)
+    there (negsuc k) low high e = absurd (omega (arith, ints))

@@ -1,12 +1,10 @@
 -- The lemmas that the proofs cite, each file over plain variables.
 pub mod Cutting
-pub mod Numerals
+pub mod Decided
 pub mod Integers
-pub mod Degrees
+pub mod Keywords
 pub mod Given
 pub mod Scripts
-pub mod Exits
-pub mod Reading
 pub mod Stepping
 pub mod Meaning
 pub mod StepMeaning

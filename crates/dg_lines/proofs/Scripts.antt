@@ -1,39 +1,44 @@
 -- Scripts that words spell: the numbers of their items, and the number that each name is given.
---   entry_decides     the test of a text as an entry tells whether it is a number that may stand in a script
---   values_spelled    texts that spell entries are the decimals of their values
---   values_within     the values of texts are entries
---   entries_decide    the test of texts as entries tells whether each is such a number
---   given_within      a number given is an entry, where all are
---   HasPairs ..       == `left` and `texts_left` are the last of the names given and of the texts of their numbers; the set
---                        has the vertices of the names before them, and each vertex its number; and the flag tells whether
---                        each text before them is an entry
--- What a loop over the pairs does: none read, one more, all; and the script that is read of names and texts.
-use Rattle.std.proofs.Common.{◌≡◌, ◌≢◌, ℕ, zero, suc, ◌+◌, ◌<◌, ◌≤◌, ◌==◌, ◌||◌, ◌&&◌, cond, Bool, true, false, ℤ, pos, negsuc, neg_ℤ, ◌≤ℤ◌, unsigned_abs, List, [], ◌∷◌, ◌++◌, length, take, map, Option, Some, None, refl, ap, sym, ◌∙◌, subst, arith, Decides, append_assoc, FitsSigned, w64, Bor}
-use Rattle.std.specs.Prelude.{bytes_eq, All, option_and_then, is_some, unwrap_or, leb, replicate}
+--   IsEntryText text      == the text is the decimal of an entry of a script
+--   IsSpelled text o      == o is the entry whose decimal the text is, where there is one
+--   numbers_told          texts that are those of entries are the decimals of a list of entries
+--   told_numbers          and the other way round
+--   one_list              of one list
+--   script_there          names given rightly, with entries for them, have a script
+--   AreRead names given texts entries flag   == the entries hold, at each vertex, the number given for its name; and the
+--                            flag tells whether all texts are those of entries
+--   HasPairs names all left set entries flag == `left` are the last of the items, and so much is read of those before
+-- What a loop over the pairs does: none read, one more, all; and what it comes to.
+use Rattle.std.proofs.Common.{◌≡◌, ◌≢◌, ℕ, zero, suc, ◌+◌, ◌<◌, ◌≤◌, ◌==◌, ◌||◌, ◌&&◌, cond, Bool, true, false, ℤ, pos, negsuc, neg_ℤ, ◌≤ℤ◌, unsigned_abs, List, [], ◌∷◌, ◌++◌, length, take, map, Option, Some, None, refl, ap, sym, ◌∙◌, subst, arith, append_assoc, FitsSigned, w64, MatchOption, Bor}
+use Rattle.std.specs.Prelude.{bytes_eq, All, is_some, unwrap_or, replicate}
 use Rattle.std.specs.Fmt.{signed_decimal}
-use Rattle.std.specs.List.{IsDistinct, list_all, slice_index_or, slice_set}
+use Rattle.std.specs.List.{IsDistinct, slice_index_or, slice_set}
+use Rattle.std.specs.Option.{option_copied}
 use Rattle.std.proofs.lemmas.Bool.{eqb-true}
-use Rattle.std.proofs.lemmas.Bool.Decides.{nat_tests, Decides-by_and}
+use Rattle.std.proofs.lemmas.Bool.Decides.{nat_tests}
+use Rattle.std.proofs.lemmas.Fmt.{signed_decimal_injective}
 use Rattle.std.proofs.lemmas.Int.{ints}
 use Rattle.std.proofs.lemmas.List.{append-nil, map-append, length-append, length-take, length-set, get_or-set_same, get_or-set_other, get_or-map, get_or_past, get_or-take, get_or-replicate, length-map, length-replicate}
-use Rattle.std.proofs.lemmas.List.Elements.{All-nil, All-cons, All-head, All-tail}
-use Rattle.std.proofs.lemmas.List.Folds.{list_all-append}
+use Rattle.std.proofs.lemmas.List.Elements.{All-nil, All-cons, All-head, All-tail, All-push}
 use Rattle.dg_graph.specs.Sets.{in_set}
 use Rattle.dg_chips.specs.Vector.{Vector, IsScript, HoldsNumbers}
 use Rattle.dg_chips.specs.declared.limits.TheConstants.{MAX_ENTRY}
 use Rattle.dg_file.specs.Names.{has, place_of, name_at}
-use Rattle.std.specs.Option.{option_copied}
-use Rattle.dg_lines.specs.Cuts.{after, items}
+use Rattle.dg_lines.specs.Cuts.{after}
 use Rattle.dg_lines.specs.CommandWords.{IsNumberWithin, AreGiven, name_part, number_part}
-use Rattle.dg_lines.specs.Commands.{IsSetOf, number_given, IsScriptOf, IsScriptWord}
-use Rattle.dg_lines.specs.Numbers.{integer_of, as_entry, entry_of}
-use Rattle.dg_lines.specs.Read.{is_entry, value_of, script_with}
-use Rattle.dg_lines.proofs.Integers.{integer_is, is_integer}
-use Rattle.dg_lines.proofs.Given.{same_bytes, vertex_named, IsNext, is_next, one_member, no_members, other_name, unnamed_among, twice_among}
+use Rattle.dg_lines.specs.Commands.{number_given, IsScriptOf}
+use Rattle.dg_lines.proofs.Given.{same_bytes, vertex_named, IsNext, is_next, other_name, HasTaken, none_taken, one_taken, all_there}
 
 abbrev pub IsEntryText : List ℕ → Type 0
 IsEntryText text = IsNumberWithin (neg_ℤ (pos MAX_ENTRY)) (pos MAX_ENTRY) text
 
+abbrev pub IsSpelled : List ℕ → Option ℤ → Type 0
+IsSpelled text o = MatchOption o (IsEntryText text → ⊥) (λ z. (text ≡ signed_decimal z) × (unsigned_abs z ≤ MAX_ENTRY))
+
+abbrev IsSmall : ℤ → Type 0
+IsSmall x = unsigned_abs x ≤ MAX_ENTRY
+
+-- ---- texts and entries
 small_sides : (z : ℤ) → unsigned_abs z ≤ 1000000000 → (neg_ℤ (pos 1000000000) ≤ℤ z) × (z ≤ℤ pos 1000000000)
 small_sides z small = (omega (arith, ints), omega (arith, ints))
 
@@ -44,315 +49,268 @@ small_fits : (z : ℤ) → unsigned_abs z ≤ 1000000000 → FitsSigned w64 z
 small_fits (pos n) small = record { sfits = omega arith }
 small_fits (negsuc n) small = record { sfits = omega arith }
 
-entry_is : (text : List ℕ) (z : ℤ) → text ≡ signed_decimal z → unsigned_abs z ≤ MAX_ENTRY → entry_of text ≡ Some z
-unfolding entry_of
-entry_is text z spelled small =
-    let within : leb (unsigned_abs z) 1000000000 ≡ true = grind (arith, nat_tests) in
-    ap (option_and_then as_entry) (integer_is text z (small_fits z small) spelled) ∙ ap (λ t. cond t (Some z) None) within
+pub numbers_told : (texts : List (List ℕ)) → All IsEntryText texts
+    → (numbers : List ℤ) × (texts ≡ map signed_decimal numbers) × All IsSmall numbers
+numbers_told [] each = ([], refl, All-nil IsSmall)
+numbers_told (text ∷ texts) each =
+    let first = All-head IsEntryText text texts each in
+    let (numbers, spelled, small) = numbers_told texts (All-tail IsEntryText text texts each) in (
+      first.number ∷ numbers,
+      ap (λ x. x ∷ texts) first.spelled ∙ ap (λ xs. signed_decimal first.number ∷ xs) spelled,
+      All-cons IsSmall first.number numbers (sides_small first.number first.not_less first.not_more) small,
+    )
 
-kept_entry : (y z : ℤ) → as_entry y ≡ Some z → (y ≡ z) × (unsigned_abs y ≤ MAX_ENTRY)
-kept_entry y z e = go (leb (unsigned_abs y) 1000000000) refl e
+pub told_numbers : (texts : List (List ℕ)) (numbers : List ℤ) → texts ≡ map signed_decimal numbers → All IsSmall numbers
+    → All IsEntryText texts
+told_numbers texts numbers e small = subst (All IsEntryText) (sym e) (go numbers small)
   where
-    go : (t : Bool) → leb (unsigned_abs y) 1000000000 ≡ t → cond t (Some y) None ≡ Some z → (y ≡ z) × (unsigned_abs y ≤ 1000000000)
-    go true small f = (cc, grind (arith, nat_tests))
-    go false large f = cc
-
-is_entry_of : (text : List ℕ) (z : ℤ) → entry_of text ≡ Some z → (text ≡ signed_decimal z) × (unsigned_abs z ≤ MAX_ENTRY)
-unfolding entry_of
-is_entry_of text z e = go (integer_of text) refl e
-  where
-    go : (o : Option ℤ) → integer_of text ≡ o → option_and_then as_entry o ≡ Some z → (text ≡ signed_decimal z) × (unsigned_abs z ≤ MAX_ENTRY)
-    go None found f = cc
-    go (Some y) found f =
-        let known = kept_entry y z f in
-        ((is_integer text y found).1 ∙ ap signed_decimal known.0, subst (λ x. unsigned_abs x ≤ MAX_ENTRY) known.0 known.1)
-
-pub entry_decides : (text : List ℕ) → Decides (is_entry text) (IsEntryText text)
-unfolding is_entry
-entry_decides text = (λ e. there (entry_of text) refl e, λ known. back known)
-  where
-    there : (o : Option ℤ) → entry_of text ≡ o → is_some o ≡ true → IsEntryText text
-    there None found f = absurd (cc)
-    there (Some z) found f =
-        let known = is_entry_of text z found in
-        let sides = small_sides z known.1 in
-        record { number = z; spelled = known.0; not_less = sides.0; not_more = sides.1 }
-
-    back : IsEntryText text → is_some (entry_of text) ≡ true
-    back known = ap is_some (entry_is text known.number known.spelled (sides_small known.number known.not_less known.not_more))
-
-value_within : (text : List ℕ) → unsigned_abs (value_of text) ≤ MAX_ENTRY
-unfolding value_of
-value_within text = go (entry_of text) refl
-  where
-    go : (o : Option ℤ) → entry_of text ≡ o → unsigned_abs (unwrap_or o (pos 0)) ≤ MAX_ENTRY
-    go None found = omega arith
-    go (Some z) found = (is_entry_of text z found).1
-
-value_spelled : (text : List ℕ) → is_entry text ≡ true → text ≡ signed_decimal (value_of text)
-unfolding is_entry value_of
-value_spelled text e = go (entry_of text) refl e
-  where
-    go : (o : Option ℤ) → entry_of text ≡ o → is_some o ≡ true → text ≡ signed_decimal (unwrap_or o (pos 0))
-    go None found f = absurd (cc)
-    go (Some z) found f = (is_entry_of text z found).0
-
-both : (a b : Bool) → (a && b) ≡ true → (a ≡ true) × (b ≡ true)
-both true b e = (refl, e)
-both false b e = absurd (cc)
-
-pub values_spelled : (texts : List (List ℕ)) → list_all is_entry texts ≡ true → texts ≡ map signed_decimal (map value_of texts)
-values_spelled [] e = refl
-values_spelled (text ∷ texts) e =
-    let parts = both (is_entry text) (list_all is_entry texts) e in
-    ap (λ x. x ∷ texts) (value_spelled text parts.0) ∙ ap (λ xs. signed_decimal (value_of text) ∷ xs) (values_spelled texts parts.1)
-
-pub values_within : (texts : List (List ℕ)) → All (λ x. unsigned_abs x ≤ MAX_ENTRY) (map value_of texts)
-values_within [] = All-nil (λ x. unsigned_abs x ≤ MAX_ENTRY)
-values_within (text ∷ texts) =
-    All-cons (λ x. unsigned_abs x ≤ MAX_ENTRY) (value_of text) (map value_of texts) (value_within text) (values_within texts)
-
-pub entries_decide : (texts : List (List ℕ)) → Decides (list_all is_entry texts) (All IsEntryText texts)
-entries_decide texts = Decides-by_and is_entry IsEntryText (list_all is_entry) entry_decides refl (λ _ _. refl) texts
-
--- numbers whose decimals the texts are, each within the limit, are numbers of a script
-pub spelled_entries : (texts : List (List ℕ)) (numbers : List ℤ) → texts ≡ map signed_decimal numbers
-    → All (λ x. unsigned_abs x ≤ MAX_ENTRY) numbers → All IsEntryText texts
-spelled_entries texts numbers e small = subst (All IsEntryText) (sym e) (go numbers small)
-  where
-    go : (xs : List ℤ) → All (λ x. unsigned_abs x ≤ MAX_ENTRY) xs → All IsEntryText (map signed_decimal xs)
+    go : (xs : List ℤ) → All IsSmall xs → All IsEntryText (map signed_decimal xs)
     go [] within = All-nil IsEntryText
     go (x ∷ xs) within =
-        let sides = small_sides x (All-head (λ y. unsigned_abs y ≤ MAX_ENTRY) x xs within) in
+        let sides = small_sides x (All-head IsSmall x xs within) in
         All-cons IsEntryText (signed_decimal x) (map signed_decimal xs)
         (record { number = x; spelled = refl; not_less = sides.0; not_more = sides.1 })
-        (go xs (All-tail (λ y. unsigned_abs y ≤ MAX_ENTRY) x xs within))
+        (go xs (All-tail IsSmall x xs within))
 
--- the numbers are those of their decimals
-pub values_back : (numbers : List ℤ) → All (λ x. unsigned_abs x ≤ MAX_ENTRY) numbers → map value_of (map signed_decimal numbers) ≡ numbers
-unfolding value_of
-values_back [] within = refl
-values_back (x ∷ xs) within =
-    let small = All-head (λ y. unsigned_abs y ≤ MAX_ENTRY) x xs within in
-    ap (λ y. y ∷ map value_of (map signed_decimal xs)) (ap (λ o. unwrap_or o (pos 0)) (entry_is (signed_decimal x) x refl small))
-    ∙ ap (λ ys. x ∷ ys) (values_back xs (All-tail (λ y. unsigned_abs y ≤ MAX_ENTRY) x xs within))
+pub one_list : (xs ys : List ℤ) → map signed_decimal xs ≡ map signed_decimal ys → All IsSmall xs → All IsSmall ys
+    → xs ≡ ys
+one_list [] [] e first second = refl
+one_list [] (y ∷ ys) e first second = absurd (cc)
+one_list (x ∷ xs) [] e first second = absurd (cc)
+one_list (x ∷ xs) (y ∷ ys) e first second =
+    let heads : signed_decimal x ≡ signed_decimal y = cc in
+    let tails : map signed_decimal xs ≡ map signed_decimal ys = cc in
+    let small = small_fits x (All-head IsSmall x xs first) in
+    let also = small_fits y (All-head IsSmall y ys second) in
+    let head : x ≡ y = signed_decimal_injective x y small.sfits also.sfits heads in
+    let tail : xs ≡ ys = one_list xs ys tails (All-tail IsSmall x xs first) (All-tail IsSmall y ys second) in
+    cc
 
-either_within : (t : Bool) (x y : ℤ) → unsigned_abs x ≤ MAX_ENTRY → unsigned_abs y ≤ MAX_ENTRY → unsigned_abs (cond t x y) ≤ MAX_ENTRY
+pub script_there : (names given : List (List ℕ)) (numbers : List ℤ) → AreGiven names given
+    → (s : Vector) × IsScriptOf names given numbers s
+script_there names given numbers known = (
+  record { size = length names; numbers = map (number_given given numbers) names },
+  record {
+    are_given = known;
+    size = refl;
+    entries = λ v less. get_or-map (number_given given numbers) names v [] (pos 0) less;
+    inside = λ v past.
+        get_or_past (map (number_given given numbers) names) v (pos 0)
+        (omega (arith, length-map names (number_given given numbers)));
+  },
+)
+
+-- ---- the number that a name is given
+either_within : (t : Bool) (x y : ℤ) → IsSmall x → IsSmall y → IsSmall (cond t x y)
 either_within true x y first second = first
 either_within false x y first second = second
 
-pub given_within : (given : List (List ℕ)) (numbers : List ℤ) (name : List ℕ) → All (λ x. unsigned_abs x ≤ MAX_ENTRY) numbers
-    → unsigned_abs (number_given given numbers name) ≤ MAX_ENTRY
+given_within : (given : List (List ℕ)) (numbers : List ℤ) (name : List ℕ) → All IsSmall numbers
+    → IsSmall (number_given given numbers name)
 unfolding number_given
 given_within [] numbers name within = omega arith
 given_within (first ∷ given) [] name within = omega arith
 given_within (first ∷ given) (x ∷ numbers) name within =
-    either_within (bytes_eq first name) x (number_given given numbers name) (All-head (λ y. unsigned_abs y ≤ MAX_ENTRY) x numbers within)
-    (given_within given numbers name (All-tail (λ y. unsigned_abs y ≤ MAX_ENTRY) x numbers within))
+    either_within (bytes_eq first name) x (number_given given numbers name)
+    (All-head IsSmall x numbers within) (given_within given numbers name (All-tail IsSmall x numbers within))
 
 none_is_given : (numbers : List ℤ) (name : List ℕ) → number_given [] numbers name ≡ pos 0
 unfolding number_given
 none_is_given numbers name = refl
 
-given_before : (done : List (List ℕ)) (numbers : List ℤ) (name own : List ℕ) (x : ℤ) → length done ≡ length numbers
-    → bytes_eq name own ≡ false → number_given (done ++ name ∷ []) (numbers ++ x ∷ []) own ≡ number_given done numbers own
-unfolding number_given
-given_before [] [] name own x count other = ap (λ t. cond t x (pos 0)) other
-given_before [] (y ∷ numbers) name own x count other = absurd (omega arith)
-given_before (first ∷ done) [] name own x count other = absurd (omega arith)
-given_before (first ∷ done) (y ∷ numbers) name own x count other =
-    ap (λ rest. cond (bytes_eq first own) y rest) (given_before done numbers name own x (omega arith) other)
-
 neither : (a b : Bool) → (a || b) ≡ false → (a ≡ false) × (b ≡ false)
 neither true b e = absurd (cc)
 neither false b e = (refl, e)
 
-given_last : (done : List (List ℕ)) (numbers : List ℤ) (name own : List ℕ) (x : ℤ) → length done ≡ length numbers
-    → has done own ≡ false → bytes_eq name own ≡ true → number_given (done ++ name ∷ []) (numbers ++ x ∷ []) own ≡ x
-unfolding number_given
-given_last [] [] name own x count fresh same = ap (λ t. cond t x (pos 0)) same
-given_last [] (y ∷ numbers) name own x count fresh same = absurd (omega arith)
-given_last (first ∷ done) [] name own x count fresh same = absurd (omega arith)
-given_last (first ∷ done) (y ∷ numbers) name own x count fresh same =
-    let parts = neither (bytes_eq own first) (has done own) fresh in
-    ap (λ t. cond t y (number_given (done ++ name ∷ []) (numbers ++ x ∷ []) own)) (same_bytes.symm first own ∙ parts.0)
-    ∙ given_last done numbers name own x (omega arith) parts.1 same
+module _ (name own : List ℕ) (x : ℤ) where
+  given_before : (done : List (List ℕ)) (numbers : List ℤ) → length done ≡ length numbers → bytes_eq name own ≡ false
+      → number_given (done ++ name ∷ []) (numbers ++ x ∷ []) own ≡ number_given done numbers own
+  unfolding number_given
+  given_before [] [] count other = ap (λ t. cond t x (pos 0)) other
+  given_before [] (y ∷ numbers) count other = absurd (omega arith)
+  given_before (first ∷ done) [] count other = absurd (omega arith)
+  given_before (first ∷ done) (y ∷ numbers) count other =
+      ap (λ rest. cond (bytes_eq first own) y rest) (given_before done numbers (omega arith) other)
 
-pub script_entries : (names given : List (List ℕ)) (numbers : List ℤ) → AreGiven names given
-    → IsScriptOf names given numbers (script_with names given numbers)
-script_entries names given numbers known = record {
-  are_given = known;
-  size = refl;
-  entries = λ v less. get_or-map (number_given given numbers) names v [] (pos 0) less;
-  inside = λ v past. get_or_past (map (number_given given numbers) names) v (pos 0) (omega (arith, length-map names (number_given given numbers)));
-}
+  given_last : (done : List (List ℕ)) (numbers : List ℤ) → length done ≡ length numbers → has done own ≡ false
+      → bytes_eq name own ≡ true → number_given (done ++ name ∷ []) (numbers ++ x ∷ []) own ≡ x
+  unfolding number_given
+  given_last [] [] count fresh same = ap (λ t. cond t x (pos 0)) same
+  given_last [] (y ∷ numbers) count fresh same = absurd (omega arith)
+  given_last (first ∷ done) [] count fresh same = absurd (omega arith)
+  given_last (first ∷ done) (y ∷ numbers) count fresh same =
+      let (differs, later) = neither (bytes_eq own first) (has done own) fresh in
+      ap (λ t. cond t y (number_given (done ++ name ∷ []) (numbers ++ x ∷ []) own))
+      (same_bytes.symm first own ∙ differs) ∙ given_last done numbers (omega arith) later same
 
-pub record HasPairs (names given texts left texts_left : List (List ℕ)) (set : ℕ) (entries : List ℤ) (flag : Bool) : Type 0 where
-  pub done : List (List ℕ)
-  pub told : List (List ℕ)
-  pub given_whole : given ≡ done ++ left
-  pub texts_whole : texts ≡ told ++ texts_left
-  pub count : length done ≡ length told
-  pub is_set : IsSetOf names done set
+-- ---- the loop
+pub record AreRead (names given texts : List (List ℕ)) (entries : List ℤ) (flag : Bool) : Type 0 where
+  pub numbers : List ℤ
+  pub count : length given ≡ length numbers
   pub size : length entries ≡ 16
-  pub numbers : (v : ℕ) → v < length names → slice_index_or entries v (pos 0) ≡ number_given done (map value_of told) (name_at names v)
-  pub spelled : flag ≡ list_all is_entry told
+  pub entered : (v : ℕ) → v < length names
+      → slice_index_or entries v (pos 0) ≡ number_given given numbers (name_at names v)
+  pub within : All IsSmall numbers
+  pub spelled : flag ≡ true → texts ≡ map signed_decimal numbers
+  pub unspelled : flag ≡ false → All IsEntryText texts → ⊥
 
-pub no_pairs : (names given texts : List (List ℕ)) → HasPairs names given texts given texts 0 (replicate 16 (pos 0)) true
-no_pairs names given texts = record {
-  done = [];
+pub record HasPairs (names all left : List (List ℕ)) (set : ℕ) (entries : List ℤ) (flag : Bool) : Type 0 where
+  pub taken : HasTaken names (map name_part all) (map name_part left) set
+  pub told : List (List ℕ)
+  pub whole : map number_part all ≡ told ++ map number_part left
+  pub read : AreRead names taken.done told entries flag
+
+pub no_pairs : (names all : List (List ℕ)) → HasPairs names all all 0 (replicate 16 (pos 0)) true
+unfolding none_taken
+no_pairs names all = record {
+  taken = none_taken names (map name_part all);
   told = [];
-  given_whole = refl;
-  texts_whole = refl;
-  count = refl;
-  is_set = no_members names;
-  size = length-replicate 16 (pos 0);
-  numbers = λ v less. zeros v ∙ sym (none_is_given [] (name_at names v));
-  spelled = refl;
+  whole = refl;
+  read = record {
+    numbers = [];
+    count = refl;
+    size = length-replicate 16 (pos 0);
+    entered = λ v less. zeros v ∙ sym (none_is_given [] (name_at names v));
+    within = All-nil IsSmall;
+    spelled = λ e. refl;
+    unspelled = λ e. absurd (cc);
+  };
 }
   where
     zeros : (v : ℕ) → slice_index_or (replicate 16 (pos 0)) v (pos 0) ≡ pos 0
     zeros v = go (Rattle.std.proofs.Common.nat_lt v 16) refl
       where
-        go : (t : Bool) → Rattle.std.proofs.Common.nat_lt v 16 ≡ t → slice_index_or (replicate 16 (pos 0)) v (pos 0) ≡ pos 0
+        go : (t : Bool) → Rattle.std.proofs.Common.nat_lt v 16 ≡ t
+            → slice_index_or (replicate 16 (pos 0)) v (pos 0) ≡ pos 0
         go true less = get_or-replicate 16 v (pos 0) (pos 0) (grind (arith, nat_tests))
-        go false more = get_or_past (replicate 16 (pos 0)) v (pos 0) (let past : 16 ≤ v = grind (arith, nat_tests) in omega (arith, length-replicate 16 (pos 0)))
+        go false more =
+            let past : 16 ≤ v = grind (arith, nat_tests) in
+            get_or_past (replicate 16 (pos 0)) v (pos 0) (omega (arith, length-replicate 16 (pos 0)))
 
-and_true : (t : Bool) → (t && true) ≡ t
-and_true true = refl
-and_true false = refl
+all_front : (P : List ℕ → Type 0) (done back : List (List ℕ)) → All P (done ++ back) → All P done
+all_front P [] back each = All-nil P
+all_front P (x ∷ done) back each =
+    All-cons P x done (All-head P x (done ++ back) each) (all_front P done back (All-tail P x (done ++ back) each))
 
-pub one_pair : (names given texts left texts_left back texts_back : List (List ℕ)) (name text : List ℕ) (set more v : ℕ) (entries : List ℤ) (flag : Bool)
-    → left ≡ name ∷ back → texts_left ≡ text ∷ texts_back → length names ≤ 16
-    → IsDistinct bytes_eq names → place_of names name ≡ Some v → in_set set v ≡ false
-    → in_set more v ≡ true → ((w : ℕ) → w ≢ v → in_set more w ≡ in_set set w)
-    → HasPairs names given texts left texts_left set entries flag
-    → HasPairs names given texts back texts_back more (slice_set entries v (value_of text)) (flag && is_entry text)
-one_pair names given texts left texts_left back texts_back name text set more v entries flag e f few distinct place absent here others known =
-    let next = is_next names known.done name set v distinct place known.is_set absent in
-    let found = vertex_named names name v place in
-    record {
-      done = known.done ++ name ∷ [];
-      told = known.told ++ text ∷ [];
-      given_whole = known.given_whole ∙ ap (λ rest. known.done ++ rest) e ∙ sym (append_assoc known.done (name ∷ []) back);
-      texts_whole = known.texts_whole ∙ ap (λ rest. known.told ++ rest) f ∙ sym (append_assoc known.told (text ∷ []) texts_back);
-      count = length-append known.done (name ∷ []) ∙ ap (λ n. n + 1) known.count ∙ sym (length-append known.told (text ∷ []));
-      is_set = one_member names known.done name set more v next known.is_set here others;
-      size = length-set entries v (value_of text) ∙ known.size;
-      numbers = λ w less. number w less next found (w == v) refl;
-      spelled =
-          ap (λ t. t && is_entry text) known.spelled ∙ ap (λ t. list_all is_entry known.told && t) (sym (and_true (is_entry text)))
-          ∙ sym (list_all-append is_entry known.told (text ∷ []));
-    }
-  where
-    values : List ℤ
-    values = map value_of known.told
+module _ (text : List ℕ) where
+  value_small : (o : Option ℤ) → IsSpelled text o → IsSmall (unwrap_or o (pos 0))
+  value_small None is = omega arith
+  value_small (Some z) is = is.1
 
-    counted : length known.done ≡ length values
-    counted = known.count ∙ sym (length-map known.told value_of)
+  more_spelled : (told : List (List ℕ)) (numbers : List ℤ) (o : Option ℤ) (flag : Bool) → IsSpelled text o
+      → (flag ≡ true → told ≡ map signed_decimal numbers) → (flag && is_some o) ≡ true
+      → told ++ text ∷ [] ≡ map signed_decimal (numbers ++ unwrap_or o (pos 0) ∷ [])
+  more_spelled told numbers o false is known e = absurd (cc)
+  more_spelled told numbers None true is known e = absurd (cc)
+  more_spelled told numbers (Some z) true is known e =
+      ap (λ front. front ++ text ∷ []) (known refl) ∙ ap (λ last. map signed_decimal numbers ++ last ∷ []) is.0
+      ∙ sym (map-append signed_decimal numbers (z ∷ []))
 
-    joined : map value_of (known.told ++ text ∷ []) ≡ values ++ value_of text ∷ []
-    joined = map-append value_of known.told (text ∷ [])
+  more_unspelled : (told : List (List ℕ)) (o : Option ℤ) (flag : Bool) → IsSpelled text o
+      → (flag ≡ false → All IsEntryText told → ⊥) → (flag && is_some o) ≡ false
+      → All IsEntryText (told ++ text ∷ []) → ⊥
+  more_unspelled told o false is known e each = known refl (all_front IsEntryText told (text ∷ []) each)
+  more_unspelled told None true is known e each = is (all_there IsEntryText told [] text each)
+  more_unspelled told (Some z) true is known e each = absurd (cc)
 
-    number : (w : ℕ) → w < length names → IsNext names known.done name v → (v < length names) × (name_at names v ≡ name) → (t : Bool) → (w == v) ≡ t
-        → slice_index_or (slice_set entries v (value_of text)) w (pos 0)
-        ≡ number_given (known.done ++ name ∷ []) (map value_of (known.told ++ text ∷ [])) (name_at names w)
-    number w less next found true same =
-        let is : w ≡ v = eqb-true w v same in
-        let named : name_at names w ≡ name = ap (name_at names) is ∙ found.1 in
-        let room : v < length entries = omega (arith, found.0, known.size) in
-        ap (λ n. slice_index_or (slice_set entries v (value_of text)) n (pos 0)) is
-        ∙ get_or-set_same entries v (value_of text) (pos 0) room
-        ∙ sym (ap (λ ns. number_given (known.done ++ name ∷ []) ns (name_at names w)) joined
-        ∙ given_last known.done values name (name_at names w) (value_of text) counted
-        (ap (has known.done) named ∙ next.fresh) (ap (bytes_eq name) named ∙ same_bytes.refl name))
-    number w less next found false differs =
-        let other : w ≢ v = grind (arith, nat_tests) in
-        get_or-set_other entries v w (value_of text) (pos 0) other ∙ known.numbers w less
-        ∙ sym (ap (λ ns. number_given (known.done ++ name ∷ []) ns (name_at names w)) joined
-        ∙ given_before known.done values name (name_at names w) (value_of text) counted
-        (same_bytes.symm name (name_at names w) ∙ other_name names name v w next.distinct found.0 less found.1 other))
+module _ (names done told : List (List ℕ)) (entries : List ℤ) (flag : Bool)
+    (known : AreRead names done told entries flag) where
+  one_read : (name text : List ℕ) (o : Option ℤ) (v : ℕ) → IsNext names done name v → length names ≤ 16
+      → IsSpelled text o → AreRead names (done ++ name ∷ []) (told ++ text ∷ [])
+      (slice_set entries v (unwrap_or o (pos 0))) (flag && is_some o)
+  one_read name text o v next few is = record {
+    numbers = known.numbers ++ x ∷ [];
+    count = length-append done (name ∷ []) ∙ ap (λ n. n + 1) known.count ∙ sym (length-append known.numbers (x ∷ []));
+    size = length-set entries v x ∙ known.size;
+    entered = λ w less. number w less (w == v) refl;
+    within = All-push IsSmall known.numbers x known.within (value_small text o is);
+    spelled = more_spelled text told known.numbers o flag is known.spelled;
+    unspelled = more_unspelled text told o flag is known.unspelled;
+  }
+    where
+      x : ℤ
+      x = unwrap_or o (pos 0)
 
-pub unnamed_pair : (names given texts left texts_left back : List (List ℕ)) (name : List ℕ) (set : ℕ) (entries : List ℤ) (flag : Bool)
-    → left ≡ name ∷ back → place_of names name ≡ None → HasPairs names given texts left texts_left set entries flag
-    → AreGiven names given → ⊥
-unnamed_pair names given texts left texts_left back name set entries flag e place known good =
-    unnamed_among names known.done back name place (subst (AreGiven names) (known.given_whole ∙ ap (λ rest. known.done ++ rest) e) good)
+      found : (v < length names) × (name_at names v ≡ name)
+      found = vertex_named names name v next.place
 
-pub twice_pair : (names given texts left texts_left back : List (List ℕ)) (name : List ℕ) (set v : ℕ) (entries : List ℤ) (flag : Bool)
-    → left ≡ name ∷ back → place_of names name ≡ Some v → in_set set v ≡ true
-    → HasPairs names given texts left texts_left set entries flag → AreGiven names given → ⊥
-twice_pair names given texts left texts_left back name set v entries flag e place member known good =
-    let found = vertex_named names name v place in
-    let there : has known.done name ≡ true =
-    ap (has known.done) (sym found.1) ∙ sym (known.is_set.members v found.0) ∙ member in
-    twice_among names known.done back name there (subst (AreGiven names) (known.given_whole ∙ ap (λ rest. known.done ++ rest) e) good)
+      number : (w : ℕ) → w < length names → (t : Bool) → (w == v) ≡ t → slice_index_or (slice_set entries v x) w (pos 0)
+          ≡ number_given (done ++ name ∷ []) (known.numbers ++ x ∷ []) (name_at names w)
+      number w less true same =
+          let is : w ≡ v = eqb-true w v same in
+          let named : name_at names w ≡ name = ap (name_at names) is ∙ found.1 in
+          let room : v < length entries = omega (arith, found.0, known.size) in
+          ap (λ n. slice_index_or (slice_set entries v x) n (pos 0)) is ∙ get_or-set_same entries v x (pos 0) room
+          ∙ sym (given_last name (name_at names w) x done known.numbers known.count
+          (ap (has done) named ∙ next.fresh) (ap (bytes_eq name) named ∙ same_bytes.refl name))
+      number w less false differs =
+          let other : w ≢ v = grind (arith, nat_tests) in
+          get_or-set_other entries v w x (pos 0) other ∙ known.entered w less
+          ∙ sym (given_before name (name_at names w) x done known.numbers known.count
+          (same_bytes.symm name (name_at names w) ∙ other_name names name v w next.distinct found.0 less found.1 other))
 
--- all pairs are read
-pub record AreRead (names given texts : List (List ℕ)) (entries : List ℤ) (flag : Bool) : Type 0 where
-  pub are_given : AreGiven names given
-  pub size : length entries ≡ 16
-  pub numbers : (v : ℕ) → v < length names → slice_index_or entries v (pos 0) ≡ number_given given (map value_of texts) (name_at names v)
-  pub spelled : flag ≡ list_all is_entry texts
+  pub entries_within : (n : ℕ) → n ≡ length names → (v : ℕ) → v < length (take n entries)
+      → IsSmall (slice_index_or (take n entries) v (pos 0))
+  entries_within n same v less =
+      let below : v < n = omega (arith, length-take n entries) in
+      let inside : v < length names = omega arith in
+      subst IsSmall (sym (get_or-take n entries v (pos 0) below ∙ known.entered v inside))
+      (given_within done known.numbers (name_at names v) known.within)
 
-pub all_pairs : (names given texts left texts_left : List (List ℕ)) (set : ℕ) (entries : List ℤ) (flag : Bool) → left ≡ [] → texts_left ≡ []
-    → HasPairs names given texts left texts_left set entries flag → AreRead names given texts entries flag
-all_pairs names given texts left texts_left set entries flag e f known =
-    let names_are : known.done ≡ given = sym (known.given_whole ∙ ap (λ rest. known.done ++ rest) e ∙ append-nil known.done) in
-    let texts_are : known.told ≡ texts = sym (known.texts_whole ∙ ap (λ rest. known.told ++ rest) f ∙ append-nil known.told) in
-    record {
-      are_given = subst (AreGiven names) names_are known.is_set.are_given;
-      size = known.size;
-      numbers = λ v less. known.numbers v less ∙ ap (λ gs. number_given gs (map value_of known.told) (name_at names v)) names_are
-          ∙ ap (λ ts. number_given given (map value_of ts) (name_at names v)) texts_are;
-      spelled = known.spelled ∙ ap (list_all is_entry) texts_are;
-    }
-
-pub entries_within : (names given texts : List (List ℕ)) (entries : List ℤ) (flag : Bool) (n : ℕ) → n ≡ length names
-    → AreRead names given texts entries flag → (v : ℕ) → v < length (take n entries)
-    → unsigned_abs (slice_index_or (take n entries) v (pos 0)) ≤ MAX_ENTRY
-entries_within names given texts entries flag n same known v less =
-    let below : v < n = omega (arith, length-take n entries) in
-    let inside : v < length names = omega arith in
-    subst (λ x. unsigned_abs x ≤ MAX_ENTRY) (sym (get_or-take n entries v (pos 0) below ∙ known.numbers v inside))
-    (given_within given (map value_of texts) (name_at names v) (values_within texts))
-
-pub script_word : (names : List (List ℕ)) (word : List ℕ) (entries : List ℤ) (flag : Bool) (n : ℕ) (s : Vector)
-    → AreRead names (map name_part (items word)) (map number_part (items word)) entries flag → flag ≡ true
-    → IsScript s → n ≡ length names → n ≤ 16 → HoldsNumbers (take n entries) s → IsScriptWord names word s
-script_word names word entries flag n s known all_good script same few held =
-    let texts : List (List ℕ) = map number_part (items word) in
-    let long : length (take n entries) ≡ length names = omega (arith, length-take n entries, known.size) in
-    let size : s.size ≡ length names = held.size ∙ long in
-    record {
-      numbers = map value_of texts;
-      spelled = values_spelled texts (sym known.spelled ∙ all_good);
-      limit = values_within texts;
-      script = record {
-        are_given = known.are_given;
-        size = size;
+  pub script_of : (n : ℕ) (s : Vector) → AreGiven names done → IsScript s → n ≡ length names → n ≤ 16
+      → HoldsNumbers (take n entries) s → IsScriptOf names done known.numbers s
+  script_of n s given script same few held =
+      let long : length (take n entries) ≡ length names = omega (arith, length-take n entries, known.size) in
+      record {
+        are_given = given;
+        size = held.size ∙ long;
         entries = λ v less.
-            held.numbers v (omega (arith, long)) ∙ get_or-take n entries v (pos 0) (omega arith) ∙ known.numbers v less;
-        inside = λ v past. script.inside v (omega (arith, size));
-      };
-    }
+            held.numbers v (omega (arith, long)) ∙ get_or-take n entries v (pos 0) (omega arith) ∙ known.entered v less;
+        inside = λ v past. script.inside v (omega (arith, held.size, long));
+      }
 
-pub pairs_refused : (names given texts : List (List ℕ)) (entries : List ℤ) (flag : Bool) → AreRead names given texts entries flag → flag ≡ false
-    → AreGiven names given × (All IsEntryText texts → ⊥)
-pairs_refused names given texts entries flag known bad = (
-  known.are_given,
-  λ all. let no : false ≡ true = sym bad ∙ known.spelled ∙ (entries_decide texts).1 all in cc,
-)
+module _ (names all left back : List (List ℕ)) (item : List ℕ) (set : ℕ) (entries : List ℤ) (flag : Bool)
+    (e : left ≡ item ∷ back) (known : HasPairs names all left set entries flag) where
+  pub one_pair : (o : Option ℤ) (more v : ℕ) → length names ≤ 16 → IsDistinct bytes_eq names
+      → place_of names (name_part item) ≡ Some v → in_set set v ≡ false → in_set more v ≡ true
+      → ((w : ℕ) → w ≢ v → in_set more w ≡ in_set set w) → IsSpelled (number_part item) o
+      → HasPairs names all back more (slice_set entries v (unwrap_or o (pos 0))) (flag && is_some o)
+  unfolding one_taken
+  one_pair o more v few distinct place absent here others is = record {
+    taken =
+        one_taken names (map name_part all) (map name_part left) (map name_part back) (name_part item) set
+        (ap (map name_part) e) known.taken more v distinct place absent here others;
+    told = known.told ++ number_part item ∷ [];
+    whole =
+        known.whole ∙ ap (λ rest. known.told ++ map number_part rest) e
+        ∙ sym (append_assoc known.told (number_part item ∷ []) (map number_part back));
+    read =
+        one_read names known.taken.done known.told entries flag known.read (name_part item) (number_part item) o v
+        (is_next names known.taken.done (name_part item) set v distinct place known.taken.is_set absent) few is;
+  }
 
-pub part_after : (item : List ℕ) (o : Option (Bor (List ℕ))) (other text : Bor (List ℕ)) → other.now ≡ [] → option_copied o ≡ after 61 item
-    → text ≡ unwrap_or o other → text.now ≡ number_part item
-part_after item None other text none e is = ap (λ (t : Bor (List ℕ)). t.now) is ∙ none ∙ ap (λ (rest : Option (List ℕ)). unwrap_or rest []) e
-part_after item (Some rest) other text none e is = ap (λ (t : Bor (List ℕ)). t.now) is ∙ ap (λ (back : Option (List ℕ)). unwrap_or back []) e
+module _ (names all left : List (List ℕ)) (set : ℕ) (entries : List ℤ) (flag : Bool)
+    (known : HasPairs names all left set entries flag) where
+  pub all_pairs : left ≡ [] → AreGiven names (map name_part all)
+      × AreRead names (map name_part all) (map number_part all) entries flag
+  all_pairs e =
+      let given : known.taken.done ≡ map name_part all =
+      sym (known.taken.whole ∙ ap (λ rest. known.taken.done ++ map name_part rest) e ∙ append-nil known.taken.done) in
+      let texts : known.told ≡ map number_part all =
+      sym (known.whole ∙ ap (λ rest. known.told ++ map number_part rest) e ∙ append-nil known.told) in (
+        subst (AreGiven names) given known.taken.is_set.are_given,
+        subst (λ ts. AreRead names (map name_part all) ts entries flag) texts
+            (subst (λ gs. AreRead names gs known.told entries flag) given known.read),
+      )
 
-pub value_read : (text : List ℕ) (o : Option ℤ) (x : ℤ) → o ≡ entry_of text → x ≡ unwrap_or o (pos 0) → x ≡ value_of text
-unfolding value_of
-value_read text o x e is = is ∙ ap (λ entry. unwrap_or entry (pos 0)) e
+-- ---- what the code comes to
+pub vertex_of : (names : List (List ℕ)) (name item : List ℕ) (place v : ℕ) → name ≡ name_part item
+    → Some place ≡ place_of names name → v ≡ place → place_of names (name_part item) ≡ Some v
+vertex_of names name item place v part there same = ap (place_of names) (sym part) ∙ sym there ∙ ap Some (sym same)
 
-pub entry_read : (text : List ℕ) (o : Option ℤ) (t : Bool) → o ≡ entry_of text → t ≡ is_some o → t ≡ is_entry text
-unfolding is_entry
-entry_read text o t e is = is ∙ ap is_some e
+pub part_after : (item : List ℕ) (o : Option (Bor (List ℕ))) (other text : Bor (List ℕ)) → other.now ≡ []
+    → option_copied o ≡ after 61 item → text ≡ unwrap_or o other → text.now ≡ number_part item
+part_after item None other text none e is =
+    ap (λ (t : Bor (List ℕ)). t.now) is ∙ none ∙ ap (λ (rest : Option (List ℕ)). unwrap_or rest []) e
+part_after item (Some rest) other text none e is =
+    ap (λ (t : Bor (List ℕ)). t.now) is ∙ ap (λ (back : Option (List ℕ)). unwrap_or back []) e

@@ -2,45 +2,52 @@
 --   seated         such a line is that of the seat and the text
 --   seated_parts   a line of a seat and a text has the seat before its first space and the text after it
 --   no_seat_before, no_space_after   where there is no such seat, or no space, the line is that of no seat
+--   seat_or        a text is the decimal of a seat, or of none
 --   text_fault     the fault of the text is that of the line
-use Rattle.std.proofs.Common.{◌≡◌, ℕ, ◌<◌, ◌^◌, List, ◌∷◌, ◌++◌, Some, None, ap, sym, ◌∙◌, arith, codes, decimal, append_assoc}
+use Rattle.std.proofs.Common.{◌≡◌, ℕ, ◌<◌, ◌≤◌, ◌^◌, ℤ, pos, negsuc, ◌≤ℤ◌, ◌⊎◌, inl, inr, FitsSigned, w64, List, ◌∷◌, ◌++◌, Some, None, ap, sym, ◌∙◌, arith, codes, decimal, append_assoc}
+use Rattle.std.specs.Fmt.{signed_decimal}
+use Rattle.std.specs.Str.Parse.{digits_value}
 use Rattle.std.proofs.lemmas.Fmt.{decimal_is_IsNumeral}
+use Rattle.std.proofs.lemmas.Int.{ints}
 use Rattle.dg_lines.specs.declared.line.LineFault.{LineFault}
 use Rattle.dg_lines.specs.declared.line.LineFault.TheVariants.{Seat, Word, Form, Name, Number}
 use Rattle.dg_lines.specs.Cuts.{before, after}
-use Rattle.dg_lines.specs.LineFaults.{IsLineFault}
-use Rattle.dg_lines.specs.Numbers.{seat_of}
-use Rattle.dg_lines.specs.Steps.{IsSeated, IsStepFault}
+use Rattle.dg_lines.specs.Steps.{IsSeated, IsTextFault, IsStepFault}
 use Rattle.dg_lines.proofs.Joining.{cut_joined, before_joined, after_joined, no_space_in_digits}
-use Rattle.dg_lines.proofs.Numerals.{seat_is, is_seat}
+use Rattle.dg_lines.proofs.Integers.{fits_within, number_or}
 
 spaced : (front back : List ℕ) → front ++ 32 ∷ back ≡ front ++ codes " " ++ back
 spaced front back = sym (simp append_assoc)
 
-pub seated : (line : List ℕ) (seat : ℕ) (text : List ℕ) → seat_of (before 32 line) ≡ Some seat → after 32 line ≡ Some text → IsSeated seat text line
-seated line seat text front back =
-    let number = is_seat (before 32 line) seat front in
-    record {
-      whole = cut_joined 32 line text back ∙ ap (λ first. first ++ 32 ∷ text) number.2 ∙ spaced (decimal seat) text;
-      first = number.0;
-      last = number.1;
-    }
+abbrev pub IsNoSeat : List ℕ → Type 0
+IsNoSeat text = (seat : ℕ) → 1 ≤ seat → seat ≤ 64 → text ≡ decimal seat → ⊥
+
+pub seated : (line : List ℕ) (seat : ℕ) (text : List ℕ) → (1 ≤ seat) × (seat ≤ 64) × (before 32 line ≡ decimal seat)
+    → after 32 line ≡ Some text → IsSeated seat text line
+seated line seat text front back = record {
+  whole = cut_joined 32 line text back ∙ ap (λ first. first ++ 32 ∷ text) front.2 ∙ spaced (decimal seat) text;
+  first = front.0;
+  last = front.1;
+}
 
 pub seated_parts : (line : List ℕ) (seat : ℕ) (text : List ℕ) → IsSeated seat text line
-    → (before 32 line ≡ decimal seat) × (after 32 line ≡ Some text) × (seat_of (before 32 line) ≡ Some seat)
+    → (before 32 line ≡ decimal seat) × (after 32 line ≡ Some text)
+    × (Some (digits_value 10 (before 32 line)) ≡ Some seat)
 seated_parts line seat text known =
     let small : seat < 2 ^ 64 = omega (arith, known.last) in
-    let digits = no_space_in_digits (decimal seat) (decimal_is_IsNumeral seat small).0.1 in
+    let digits = decimal_is_IsNumeral seat small in
+    let no_space = no_space_in_digits (decimal seat) digits.0.1 in
     let whole : line ≡ decimal seat ++ 32 ∷ text = known.whole ∙ sym (spaced (decimal seat) text) in
-    let front : before 32 line ≡ decimal seat = ap (before 32) whole ∙ before_joined 32 (decimal seat) text digits in
-    let back : after 32 line ≡ Some text = ap (after 32) whole ∙ after_joined 32 (decimal seat) text digits in
-    (front, back, seat_is (before 32 line) seat front known.first known.last)
+    let front : before 32 line ≡ decimal seat = ap (before 32) whole ∙ before_joined 32 (decimal seat) text no_space in
+    let back : after 32 line ≡ Some text = ap (after 32) whole ∙ after_joined 32 (decimal seat) text no_space in
+    (front, back, ap (λ ds. Some (digits_value 10 ds)) front ∙ ap Some digits.1)
 
-pub no_seat_before : (line : List ℕ) → seat_of (before 32 line) ≡ None → (seat : ℕ) (text : List ℕ) → IsSeated seat text line → ⊥
+abbrev pub IsUnseated : List ℕ → Type 0
+IsUnseated line = (seat : ℕ) (text : List ℕ) → IsSeated seat text line → ⊥
+
+pub no_seat_before : (line : List ℕ) → IsNoSeat (before 32 line) → IsUnseated line
 no_seat_before line none seat text known =
-    let parts = seated_parts line seat text known in
-    let no : Some seat ≡ None = sym parts.2 ∙ none in
-    cc
+    none seat known.first known.last (seated_parts line seat text known).0
 
 pub no_space_after : (line : List ℕ) → after 32 line ≡ None → (seat : ℕ) (text : List ℕ) → IsSeated seat text line → ⊥
 no_space_after line none seat text known =
@@ -48,10 +55,25 @@ no_space_after line none seat text known =
     let no : Some text ≡ None = sym parts.1 ∙ none in
     cc
 
-pub text_fault : (names : List (List ℕ)) (line : List ℕ) (seat : ℕ) (text : List ℕ) (fault : LineFault) → IsSeated seat text line
-    → IsLineFault names fault text → IsStepFault names fault line
-text_fault names line seat text Seat known refused = absurd refused
-text_fault names line seat text Word known refused = record { seat = seat; text = text; seated = known; refused = refused }
-text_fault names line seat text Form known refused = record { seat = seat; text = text; seated = known; refused = refused }
-text_fault names line seat text Name known refused = record { seat = seat; text = text; seated = known; refused = refused }
-text_fault names line seat text Number known refused = record { seat = seat; text = text; seated = known; refused = refused }
+pub seat_or : (text : List ℕ) → ((seat : ℕ) × (1 ≤ seat) × (seat ≤ 64) × (text ≡ decimal seat)) ⊎ IsNoSeat text
+seat_or text = elim (number_or (pos 1) (pos 64) text fits) [
+  | inl known ↦ inl (there known.number known.not_less known.not_more known.spelled)
+  | inr never ↦ inr (λ seat first last e.
+      never (record { number = pos seat; spelled = e; not_less = omega (arith, ints); not_more = omega (arith, ints) }))
+]
+  where
+    fits : (z : ℤ) → pos 1 ≤ℤ z → z ≤ℤ pos 64 → FitsSigned w64 z
+    fits z low high = fits_within z (omega (arith, ints)) (omega (arith, ints))
+
+    there : (z : ℤ) → pos 1 ≤ℤ z → z ≤ℤ pos 64 → text ≡ signed_decimal z
+        → (seat : ℕ) × (1 ≤ seat) × (seat ≤ 64) × (text ≡ decimal seat)
+    there (pos n) low high e = (n, omega (arith, ints), omega (arith, ints), e)
+    there (negsuc n) low high e = absurd (omega (arith, ints))
+
+pub text_fault : (names : List (List ℕ)) (line : List ℕ) (fault : LineFault) → IsTextFault names fault line
+    → IsStepFault names fault line
+text_fault names line Seat known = absurd known.refused.refused
+text_fault names line Word known = known
+text_fault names line Form known = known
+text_fault names line Name known = known
+text_fault names line Number known = known

@@ -23,8 +23,9 @@ use Rattle.dg_lines.specs.Cuts.{before, after, items}
 
 abbrev pub command_words : List (List ℕ × ℕ)
 command_words =
-    (codes "lend", 1) ∷ (codes "borrow", 1) ∷ (codes "fire", 1) ∷ (codes "script", 1) ∷ (codes "gift", 2)
-    ∷ (codes "join", 2) ∷ (codes "look", 0) ∷ (codes "claim", 0) ∷ (codes "commit", 0) ∷ (codes "rank", 1) ∷ []
+    (codes "lend", 1) ∷ (codes "borrow", 1) ∷ (codes "fire", 1) ∷ (codes "script", 1)
+    ∷ (codes "gift", 2) ∷ (codes "join", 2)
+    ∷ (codes "look", 0) ∷ (codes "claim", 0) ∷ (codes "commit", 0) ∷ (codes "rank", 1) ∷ []
 
 unfoldable pub number_beside : List (List ℕ × ℕ) → List ℕ → Option ℕ
 number_beside [] word = None
@@ -70,7 +71,8 @@ pub record IsNumberWithin (low high : ℤ) (text : List ℕ) : Type 0 where
 abbrev pub IsNumberFor : List ℕ → List ℕ → Type 0
 IsNumberFor keyword text =
     cond (bytes_eq keyword (codes "rank")) (IsNumberWithin (pos 0) (pos (2 ^ 32 - 1)) text)
-    (cond (bytes_eq keyword (codes "script")) (IsNumberWithin (neg_ℤ (pos MAX_ENTRY)) (pos MAX_ENTRY) text)
+    (cond (bytes_eq keyword (codes "script"))
+    (IsNumberWithin (neg_ℤ (pos MAX_ENTRY)) (pos MAX_ENTRY) text)
     (IsNumberWithin (neg_ℤ (pos (2 ^ 63))) (pos (2 ^ 63 - 1)) text))
 
 pub record AreGiven (names : List (List ℕ)) (given : List (List ℕ)) : Type 0 where

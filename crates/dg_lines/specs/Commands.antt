@@ -32,9 +32,10 @@ pub record IsSetOf (names : List (List ℕ)) (given : List (List ℕ)) (set : �
 unfoldable pub number_given : List (List ℕ) → List ℤ → List ℕ → ℤ
 number_given [] numbers name = pos 0
 number_given (first ∷ given) [] name = pos 0
-number_given (first ∷ given) (x ∷ numbers) name = cond (bytes_eq first name) x (number_given given numbers name)
+number_given (first ∷ given) (x ∷ numbers) name =
+    cond (bytes_eq first name) x (number_given given numbers name)
 
-pub record IsScriptOf (names : List (List ℕ)) (given : List (List ℕ)) (numbers : List ℤ) (s : Vector) : Type 0 where
+pub record IsScriptOf (names given : List (List ℕ)) (numbers : List ℤ) (s : Vector) : Type 0 where
   pub are_given : AreGiven names given
   pub size : s.size ≡ length names
   pub entries : (v : ℕ) → v < length names → at s v ≡ number_given given numbers (name_at names v)
@@ -48,7 +49,8 @@ pub record IsScriptWord (names : List (List ℕ)) (word : List ℕ) (s : Vector)
 
 abbrev pub IsMoveWord : List (List ℕ) → Move → List ℕ → List ℕ → Type 0
 IsMoveWord names (Lend v) keyword word = (keyword ≡ codes "lend") × (place_of names word ≡ Some v)
-IsMoveWord names (Borrow v) keyword word = (keyword ≡ codes "borrow") × (place_of names word ≡ Some v)
+IsMoveWord names (Borrow v) keyword word =
+    (keyword ≡ codes "borrow") × (place_of names word ≡ Some v)
 IsMoveWord names (Fire set) keyword word = (keyword ≡ codes "fire") × IsSetOf names (items word) set
 IsMoveWord names (Script s) keyword word = (keyword ≡ codes "script") × IsScriptWord names word s
 
@@ -66,13 +68,15 @@ pub record MeansJoin (names : List (List ℕ)) (u v : ℕ) (rest : List (List �
   pub to : place_of names second ≡ Some v
 
 abbrev pub Means : List (List ℕ) → Command → List ℕ → List (List ℕ) → Type 0
-Means names (Call (Play move)) keyword rest = (word : List ℕ) × (rest ≡ word ∷ []) × IsMoveWord names move keyword word
+Means names (Call (Play move)) keyword rest =
+    (word : List ℕ) × (rest ≡ word ∷ []) × IsMoveWord names move keyword word
 Means names (Call (Gift v x)) keyword rest = (keyword ≡ codes "gift") × MeansGift names v x rest
 Means names (Call (Join u v)) keyword rest = (keyword ≡ codes "join") × MeansJoin names u v rest
 Means names (Call Look) keyword rest = (keyword ≡ codes "look") × (rest ≡ [])
 Means names (Call Claim) keyword rest = (keyword ≡ codes "claim") × (rest ≡ [])
 Means names Commit keyword rest = (keyword ≡ codes "commit") × (rest ≡ [])
-Means names (Rank k) keyword rest = (keyword ≡ codes "rank") × (rest ≡ decimal k ∷ []) × (k < 2 ^ 32)
+Means names (Rank k) keyword rest =
+    (keyword ≡ codes "rank") × (rest ≡ decimal k ∷ []) × (k < 2 ^ 32)
 
 pub record IsCommandLine (names : List (List ℕ)) (command : Command) (line : List ℕ) : Type 0 where
   pub keyword : List ℕ

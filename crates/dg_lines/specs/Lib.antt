@@ -1,6 +1,5 @@
 -- The grammar of lines, and the texts of replies and of entries, all of them on lists of bytes.
 pub mod Cuts
-pub mod Numbers
 pub mod CommandWords
 pub mod Commands
 pub mod LineFaults
@@ -9,4 +8,4 @@ pub mod Schedules
 pub mod LineLaws
 pub mod Texts
 -- What serves the reading alone.
-pub mod Read
+pub mod Keywords

@@ -24,12 +24,14 @@ use Rattle.dg_lines.specs.Steps.{IsStepLine, IsStepFault}
 use Rattle.dg_lines.specs.declared.line.LineFault.{LineFault}
 
 abbrev pub AreAlike : Command → Command → Type 0
-AreAlike (Call (Play (Script s))) (Call (Play (Script t))) = (s.size ≡ t.size) × ((v : ℕ) → at s v ≡ at t v)
+AreAlike (Call (Play (Script s))) (Call (Play (Script t))) =
+    (s.size ≡ t.size) × ((v : ℕ) → at s v ≡ at t v)
 AreAlike c d = c ≡ d
 
 pub record LinesHaveOneMeaning : Type 0 where
   pub some : (names : List (List ℕ)) (line : List ℕ)
-      → ((c : Command) × IsCommandLine names c line) ⊎ ((fault : LineFault) × IsLineFault names fault line)
+      → ((c : Command) × IsCommandLine names c line)
+      ⊎ ((fault : LineFault) × IsLineFault names fault line)
   pub not_both : (names : List (List ℕ)) (line : List ℕ) (c : Command) (fault : LineFault)
       → IsCommandLine names c line → ¬ IsLineFault names fault line
   pub command : (names : List (List ℕ)) (line : List ℕ) (c d : Command)
@@ -39,11 +41,13 @@ pub record LinesHaveOneMeaning : Type 0 where
 
 pub record StepsHaveOneMeaning : Type 0 where
   pub some : (names : List (List ℕ)) (line : List ℕ)
-      → ((step : Step) × IsStepLine names step line) ⊎ ((fault : LineFault) × IsStepFault names fault line)
+      → ((step : Step) × IsStepLine names step line)
+      ⊎ ((fault : LineFault) × IsStepFault names fault line)
   pub not_both : (names : List (List ℕ)) (line : List ℕ) (step : Step) (fault : LineFault)
       → IsStepLine names step line → ¬ IsStepFault names fault line
   pub step : (names : List (List ℕ)) (line : List ℕ) (c d : Step)
-      → IsStepLine names c line → IsStepLine names d line → (c.seat ≡ d.seat) × AreAlike c.command d.command
+      → IsStepLine names c line → IsStepLine names d line
+      → (c.seat ≡ d.seat) × AreAlike c.command d.command
   pub fault : (names : List (List ℕ)) (line : List ℕ) (one other : LineFault)
       → IsStepFault names one line → IsStepFault names other line → one ≡ other
 
@@ -60,11 +64,13 @@ pub record IsUnsigned (text : List ℕ) : Type 0 where
   pub digits : All IsDigit rest
 
 abbrev pub IsNumeral : List ℕ → Type 0
-IsNumeral text = (text ≡ codes "0") ⊎ IsUnsigned text ⊎ ((rest : List ℕ) × (text ≡ 45 ∷ rest) × IsUnsigned rest)
+IsNumeral text =
+    (text ≡ codes "0") ⊎ IsUnsigned text ⊎ ((rest : List ℕ) × (text ≡ 45 ∷ rest) × IsUnsigned rest)
 
 abbrev pub IsShort : ℤ → Type 0
 IsShort z = unsigned_abs z < 10 ^ 64
 
 pub record NumeralsAreDecimals : Type 0 where
-  pub just : (text : List ℕ) → length text ≤ 64 → ((z : ℤ) × IsShort z × (text ≡ signed_decimal z)) ↔ IsNumeral text
+  pub just : (text : List ℕ) → length text ≤ 64
+      → ((z : ℤ) × IsShort z × (text ≡ signed_decimal z)) ↔ IsNumeral text
   pub one : (y z : ℤ) → IsShort y → IsShort z → signed_decimal y ≡ signed_decimal z → y ≡ z

@@ -12,7 +12,8 @@ use Rattle.dg_lines.specs.declared.steps_file.StepsFault.{StepsFault}
 use Rattle.dg_lines.specs.declared.steps_file.StepsFault.TheVariants.{Line, OutOfMemory}
 use Rattle.dg_lines.specs.Steps.{IsStepLine, IsStepFault}
 
-pub record AreStepsOf (names : List (List ℕ)) (steps : List Step) (lines : List (List ℕ)) : Type 0 where
+pub record AreStepsOf (names : List (List ℕ)) (steps : List Step) (lines : List (List ℕ))
+    : Type 0 where
   pub count : length steps ≡ length lines
   pub each : (k : ℕ) (step : Step) (line : List ℕ)
       → slice_get steps k ≡ Some step → slice_get lines k ≡ Some line → IsStepLine names step line
@@ -20,7 +21,7 @@ pub record AreStepsOf (names : List (List ℕ)) (steps : List Step) (lines : Lis
 abbrev pub AreSeated : List Step → Type 0
 AreSeated steps = (k : ℕ) (step : Step) → slice_get steps k ≡ Some step → IsSeat step.seat
 
-pub record IsFirstRefused (names : List (List ℕ)) (lines : List (List ℕ)) (line : ℕ) (fault : LineFault) : Type 0 where
+pub record IsFirstRefused (names lines : List (List ℕ)) (line : ℕ) (fault : LineFault) : Type 0 where
   pub front : List (List ℕ)
   pub refused : List ℕ
   pub back : List (List ℕ)

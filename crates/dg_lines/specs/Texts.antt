@@ -33,7 +33,8 @@ pair name amount = name ++ codes "=" ++ signed_decimal amount
 
 unfoldable pub more_pairs : List (List ℕ) → (ℕ → ℤ) → ℕ → List ℕ
 more_pairs [] amounts v = []
-more_pairs (name ∷ names) amounts v = codes " " ++ pair name (amounts v) ++ more_pairs names amounts (v + 1)
+more_pairs (name ∷ names) amounts v =
+    codes " " ++ pair name (amounts v) ++ more_pairs names amounts (v + 1)
 
 unfoldable pub pairs : List (List ℕ) → (ℕ → ℤ) → List ℕ
 pairs [] amounts = []
@@ -53,7 +54,8 @@ verdict_word true = codes "winnable by "
 verdict_word false = codes "unwinnable by "
 
 abbrev pub verdict_text : List (List ℕ) → VerdictFound → List ℕ
-verdict_text names x = verdict_word x.winnable ++ pairs names (at x.script) ++ codes " to " ++ pairs names (at x.reduced)
+verdict_text names x =
+    verdict_word x.winnable ++ pairs names (at x.script) ++ codes " to " ++ pairs names (at x.reduced)
 
 abbrev pub rank_text : List (List ℕ) → RankVerdict → List ℕ
 rank_text names (AtLeast k) = codes "rank at least " ++ decimal k
@@ -63,7 +65,8 @@ abbrev pub text_of : List (List ℕ) → Reply → List ℕ
 text_of names (Moved d) = codes "moved " ++ pairs names (at d)
 text_of names (Given gifts d) = codes "given " ++ decimal gifts ++ codes " " ++ pairs names (at d)
 text_of names (Joined gifts d) = codes "joined " ++ decimal gifts ++ codes " " ++ pairs names (at d)
-text_of names (Looked gifts d graph) = codes "looked " ++ decimal gifts ++ codes " " ++ pairs names (at d)
+text_of names (Looked gifts d graph) =
+    codes "looked " ++ decimal gifts ++ codes " " ++ pairs names (at d)
 text_of names (Verdict x) = verdict_text names x
 text_of names (Rank x) = rank_text names x
 text_of names (Stale gifts) = codes "stale " ++ decimal gifts

@@ -5,6 +5,7 @@ mod amounts;
 mod cuts;
 mod digits;
 mod history;
+mod keyword;
 mod laws;
 mod line;
 mod lines;

@@ -1,13 +1,15 @@
 //! Lines: what a line spells, or why it is refused.
-ghost use Rattle.std.specs.Prelude.{◌≡◌, ℕ, List, None, IfOk, IfErr, IfSome, codes};
+ghost use Rattle.std.specs.Prelude.{◌≡◌, ℕ, List, [], ◌∷◌, None, IfOk, IfErr, IfSome, MatchOption, MatchResult, codes};
 ghost use Rattle.std.specs.Option.{option_copied};
 ghost use Rattle.dg_lines.specs.Cuts.{items, words_after};
-ghost use Rattle.dg_lines.specs.Commands.{IsCommandLine, IsScriptWord};
-ghost use Rattle.dg_lines.specs.LineFaults.{IsLineFault};
+ghost use Rattle.dg_lines.specs.CommandWords.{IsWellFormed, AreGiven};
+ghost use Rattle.dg_lines.specs.Commands.{IsSetOf, IsScriptWord, Means, IsCommandLine};
+ghost use Rattle.dg_lines.specs.LineFaults.{IsRefused, IsLineFault};
 ghost use Rattle.dg_lines.specs.Steps.{IsSeated, IsStepLine, IsStepFault};
-ghost use Rattle.dg_lines.specs.Read.{only_word, lend_of, borrow_of, set_of, fire_of, bare, gift_of, join_of, rank_of, command_of, IsRead, IsRefusedPairs};
+ghost use Rattle.dg_lines.specs.Keywords.{alone, single, double, AreWords};
 
 use crate::cuts::cut;
+use crate::keyword::{Alone, Double, Keyword, Single, keyword_of};
 use crate::number::{degree, entry, integer, seat};
 use dg_chips::{Move, Script};
 use dg_file::Names;
@@ -37,7 +39,7 @@ pub enum LineFault {
 
 /// The seat, from 1 to 64, that stands before the first space of a line, and the text after that space. `None` where there is
 /// no space, or another text before it. It takes no memory.
-#[tactic(auto, using(crate::proofs::Stepping::no_seat_before, crate::proofs::Stepping::no_space_after))]
+#[tactic(auto, using(crate::proofs::Stepping::no_space_after))]
 pub fn split_seat(line: &[u8]) -> Option<(u8, &[u8])>
     ensures seated { IfSome result (λ p. IsSeated p.0 p.1.now line.now) }
     ensures none { result ≡ None → (seat : ℕ) (text : List ℕ) → ¬ IsSeated seat text line.now }
@@ -76,145 +78,138 @@ pub fn parse_line(line: &[u8], names: &Names) -> Result<Command, LineFault>
     ensures refused { IfErr result (λ fault. IsLineFault names.now fault line.now) }
 {
     let (word, rest) = cut(line, b' ');
-    if word == b"script".as_slice() {
-        return script(rest, names);
+    let Some(keyword) = keyword_of(word) else {
+        return Err(LineFault::Word);
+    };
+    match keyword {
+        Keyword::Alone(keyword) => match rest {
+            None => Ok(with_none(keyword)),
+            Some(_) => Err(LineFault::Form),
+        },
+        Keyword::Single(keyword) => match one_word(rest) {
+            Some(word) => with_one(keyword, word, names),
+            None => Err(LineFault::Form),
+        },
+        Keyword::Double(keyword) => match two_words(rest) {
+            Some((first, second)) => with_two(keyword, first, second, names),
+            None => Err(LineFault::Form),
+        },
     }
-    other_command(word, rest, names)
-}
-
-/// The command of a first word, which is not `script`, and of what follows it.
-#[tactic(auto, unfolding(crate::specs::Read::command_of))]
-fn other_command(word: &[u8], rest: Option<&[u8]>, names: &Names) -> Result<Command, LineFault>
-    ensures { result ≡ command_of names.now word.now (words_after (option_copied rest.entry)) }
-{
-    if word == b"lend".as_slice() {
-        return lend(rest, names);
-    }
-    if word == b"borrow".as_slice() {
-        return borrow(rest, names);
-    }
-    if word == b"fire".as_slice() {
-        return fire(rest, names);
-    }
-    if word == b"look".as_slice() {
-        return bare(rest, Command::Call(Plain::Look));
-    }
-    if word == b"gift".as_slice() {
-        return gift(rest, names);
-    }
-    if word == b"join".as_slice() {
-        return join(rest, names);
-    }
-    if word == b"claim".as_slice() {
-        return bare(rest, Command::Call(Plain::Claim));
-    }
-    if word == b"commit".as_slice() {
-        return bare(rest, Command::Commit);
-    }
-    if word == b"rank".as_slice() {
-        return rank(rest);
-    }
-    Err(LineFault::Word)
-}
-
-#[tactic(auto, unfolding(crate::specs::Read::lend_of))]
-fn lend(rest: Option<&[u8]>, names: &Names) -> Result<Command, LineFault>
-    ensures { result ≡ lend_of names.now (words_after (option_copied rest.entry)) }
-{
-    let name = single_word(rest).ok_or(LineFault::Form)?;
-    let v = names.place(name).ok_or(LineFault::Name)?;
-    Ok(Command::Call(Plain::Move(Move::Lend(v))))
-}
-
-#[tactic(auto, unfolding(crate::specs::Read::borrow_of))]
-fn borrow(rest: Option<&[u8]>, names: &Names) -> Result<Command, LineFault>
-    ensures { result ≡ borrow_of names.now (words_after (option_copied rest.entry)) }
-{
-    let name = single_word(rest).ok_or(LineFault::Form)?;
-    let v = names.place(name).ok_or(LineFault::Name)?;
-    Ok(Command::Call(Plain::Move(Move::Borrow(v))))
-}
-
-#[tactic(auto, unfolding(crate::specs::Read::fire_of))]
-fn fire(rest: Option<&[u8]>, names: &Names) -> Result<Command, LineFault>
-    ensures { result ≡ fire_of names.now (words_after (option_copied rest.entry)) }
-{
-    let word = single_word(rest).ok_or(LineFault::Form)?;
-    let set = named_set(word, names).ok_or(LineFault::Name)?;
-    Ok(Command::Call(Plain::Move(Move::Fire(set))))
-}
-
-fn script(rest: Option<&[u8]>, names: &Names) -> Result<Command, LineFault>
-    ensures { IsRead names.now (codes "script") (words_after (option_copied rest.entry)) result }
-{
-    let word = single_word(rest).ok_or(LineFault::Form)?;
-    let script = named_script(word, names)?;
-    Ok(Command::Call(Plain::Move(Move::Script(script))))
-}
-
-/// The command, where nothing follows the command word.
-#[tactic(auto, using(crate::proofs::Cutting::pieces_cut), unfolding(crate::specs::Read::bare))]
-fn bare(rest: Option<&[u8]>, command: Command) -> Result<Command, LineFault>
-    ensures { result ≡ bare command (words_after (option_copied rest.entry)) }
-{
-    match rest {
-        Some(_) => Err(LineFault::Form),
-        None => Ok(command),
-    }
-}
-
-#[tactic(auto, using(crate::proofs::Cutting::pieces_cut), unfolding(crate::specs::Read::gift_of))]
-fn gift(rest: Option<&[u8]>, names: &Names) -> Result<Command, LineFault>
-    ensures { result ≡ gift_of names.now (words_after (option_copied rest.entry)) }
-{
-    let (name, more) = cut(rest.ok_or(LineFault::Form)?, b' ');
-    if name.is_empty() {
-        return Err(LineFault::Form);
-    }
-    let number = single_word(more).ok_or(LineFault::Form)?;
-    let v = names.place(name).ok_or(LineFault::Name)?;
-    let dollars = integer(number).ok_or(LineFault::Number)?;
-    Ok(Command::Call(Plain::Gift(v, dollars)))
-}
-
-#[tactic(auto, using(crate::proofs::Cutting::pieces_cut), unfolding(crate::specs::Read::join_of))]
-fn join(rest: Option<&[u8]>, names: &Names) -> Result<Command, LineFault>
-    ensures { result ≡ join_of names.now (words_after (option_copied rest.entry)) }
-{
-    let (first, more) = cut(rest.ok_or(LineFault::Form)?, b' ');
-    if first.is_empty() {
-        return Err(LineFault::Form);
-    }
-    let second = single_word(more).ok_or(LineFault::Form)?;
-    let u = names.place(first).ok_or(LineFault::Name)?;
-    let v = names.place(second).ok_or(LineFault::Name)?;
-    Ok(Command::Call(Plain::Join(u, v)))
-}
-
-#[tactic(auto, unfolding(crate::specs::Read::rank_of))]
-fn rank(rest: Option<&[u8]>) -> Result<Command, LineFault>
-    ensures { result ≡ rank_of (words_after (option_copied rest.entry)) }
-{
-    let number = single_word(rest).ok_or(LineFault::Form)?;
-    let k = degree(number).ok_or(LineFault::Number)?;
-    Ok(Command::Rank(k))
 }
 
 /// The one word of what follows the command word, where there is just one and it is not empty.
-#[tactic(auto, using(crate::proofs::Cutting::pieces_cut), unfolding(crate::specs::Read::only_word))]
-fn single_word(rest: Option<&[u8]>) -> Option<&[u8]>
-    ensures { option_copied result ≡ only_word (words_after (option_copied rest.entry)) }
+fn one_word(rest: Option<&[u8]>) -> Option<&[u8]>
+    ensures { MatchOption result
+        (¬ AreWords 1 (words_after (option_copied rest.entry)))
+        (λ word. AreWords 1 (word.now ∷ [])
+        × (words_after (option_copied rest.entry) ≡ word.now ∷ [])) }
 {
-    let (word, more) = cut(rest?, b' ');
-    if word.is_empty() || more.is_some() {
+    let Some(text) = rest else {
+        return None;
+    };
+    let (word, more) = cut(text, b' ');
+    if word.is_empty() {
         return None;
     }
-    Some(word)
+    match more {
+        None => Some(word),
+        Some(_) => None,
+    }
+}
+
+/// The two words of what follows the command word, where there are just two and none is empty.
+fn two_words(rest: Option<&[u8]>) -> Option<(&[u8], &[u8])>
+    ensures { MatchOption result
+        (¬ AreWords 2 (words_after (option_copied rest.entry)))
+        (λ p. AreWords 2 (p.0.now ∷ p.1.now ∷ [])
+        × (words_after (option_copied rest.entry) ≡ p.0.now ∷ p.1.now ∷ [])) }
+{
+    let Some(text) = rest else {
+        return None;
+    };
+    let (first, more) = cut(text, b' ');
+    if first.is_empty() {
+        return None;
+    }
+    match one_word(more) {
+        Some(second) => Some((first, second)),
+        None => None,
+    }
+}
+
+/// The command of a command word alone.
+fn with_none(keyword: Alone) -> Command
+    ensures { (names : List (List ℕ)) → Means names result (alone keyword) [] }
+{
+    match keyword {
+        Alone::Look => Command::Call(Plain::Look),
+        Alone::Claim => Command::Call(Plain::Claim),
+        Alone::Commit => Command::Commit,
+    }
+}
+
+/// The command of a command word and the word after it.
+fn with_one(keyword: Single, word: &[u8], names: &Names) -> Result<Command, LineFault>
+    requires { IsWellFormed (single keyword) (word.now ∷ []) }
+    ensures { MatchResult result
+        (λ command. Means names.now command (single keyword) (word.now ∷ []))
+        (λ fault. IsRefused names.now fault (single keyword) (word.now ∷ [])) }
+{
+    match keyword {
+        Single::Lend => match names.place(word) {
+            Some(v) => Ok(Command::Call(Plain::Move(Move::Lend(v)))),
+            None => Err(LineFault::Name),
+        },
+        Single::Borrow => match names.place(word) {
+            Some(v) => Ok(Command::Call(Plain::Move(Move::Borrow(v)))),
+            None => Err(LineFault::Name),
+        },
+        Single::Fire => match named_set(word, names) {
+            Some(set) => Ok(Command::Call(Plain::Move(Move::Fire(set)))),
+            None => Err(LineFault::Name),
+        },
+        Single::Script => match named_script(word, names) {
+            Ok(script) => Ok(Command::Call(Plain::Move(Move::Script(script)))),
+            Err(fault) => Err(fault),
+        },
+        Single::Rank => match degree(word) {
+            Some(k) => Ok(Command::Rank(k)),
+            None => Err(LineFault::Number),
+        },
+    }
+}
+
+/// The command of a command word and the two words after it.
+fn with_two(
+    keyword: Double,
+    first: &[u8],
+    second: &[u8],
+    names: &Names,
+) -> Result<Command, LineFault>
+    requires { IsWellFormed (double keyword) (first.now ∷ second.now ∷ []) }
+    ensures { MatchResult result
+        (λ command. Means names.now command (double keyword) (first.now ∷ second.now ∷ []))
+        (λ fault. IsRefused names.now fault (double keyword) (first.now ∷ second.now ∷ [])) }
+{
+    let Some(u) = names.place(first) else {
+        return Err(LineFault::Name);
+    };
+    match keyword {
+        Double::Gift => match integer(second) {
+            Some(dollars) => Ok(Command::Call(Plain::Gift(u, dollars))),
+            None => Err(LineFault::Number),
+        },
+        Double::Join => match names.place(second) {
+            Some(v) => Ok(Command::Call(Plain::Join(u, v))),
+            None => Err(LineFault::Name),
+        },
+    }
 }
 
 /// The set of the vertices that the items name, where each item names one that no earlier item names.
 fn named_set(text: &[u8], names: &Names) -> Option<u16>
-    ensures { result ≡ set_of names.now (items text.now) }
+    ensures { MatchOption result
+        (¬ AreGiven names.now (items text.now)) (IsSetOf names.now (items text.now)) }
 {
     // No two names of a table are the same.
     let _size = names.len();
@@ -222,7 +217,10 @@ fn named_set(text: &[u8], names: &Names) -> Option<u16>
     let mut rest = Some(text);
     'items: while let Some(text) = rest {
         let (item, after) = cut(text, b',');
-        let v = usize::from(names.place(item)?);
+        let Some(v) = names.place(item) else {
+            return None;
+        };
+        let v = usize::from(v);
         if contains(set, v) {
             return None;
         }
@@ -236,8 +234,9 @@ fn named_set(text: &[u8], names: &Names) -> Option<u16>
 ///
 /// Refused with `Name` before `Number`.
 fn named_script(text: &[u8], names: &Names) -> Result<Script, LineFault>
-    ensures script { IfOk result (λ script. IsScriptWord names.now text.now script) }
-    ensures refused { IfErr result (λ fault. IsRefusedPairs names.now text.now fault) }
+    requires { IsWellFormed (codes "script") (text.now ∷ []) }
+    ensures { MatchResult result (IsScriptWord names.now text.now)
+        (λ fault. IsRefused names.now fault (codes "script") (text.now ∷ [])) }
 {
     let size = names.len();
     let mut given = 0;

@@ -1,8 +1,11 @@
 //! Numbers in texts.
-ghost use Rattle.std.specs.Prelude.{◌≡◌, ◌≢◌, ℤ, FitsSigned, MatchOption};
+ghost use Rattle.std.specs.Prelude.{◌≡◌, ◌≢◌, ℕ, ◌≤◌, ◌<◌, ◌^◌, ◌-◌, ℤ, pos, neg_ℤ, FitsSigned, MatchOption, decimal};
 ghost use Rattle.std.specs.Fmt.{signed_decimal};
 ghost use Rattle.std.specs.Int.{w64};
-ghost use Rattle.dg_lines.specs.Numbers.{seat_of, integer_of, entry_of, degree_of};
+ghost use Rattle.std.specs.Int.RustNames.{unsigned_abs};
+ghost use Rattle.dg_chips.specs.declared.limits.TheConstants.{MAX_ENTRY};
+ghost use Rattle.dg_game.specs.declared.entry.TheConstants.{MAX_SEATS};
+ghost use Rattle.dg_lines.specs.CommandWords.{IsNumberWithin};
 
 use dg_chips::MAX_ENTRY;
 use dg_numbers::natural;
@@ -11,9 +14,9 @@ use std::str;
 
 /// The whole number from -2^63 to 2^63 - 1 whose decimal the text is. A decimal has no plus and no leading zero.
 pub fn integer(text: &[u8]) -> Option<i64>
-    ensures decimal { MatchOption result
-        ((z : ℤ) → FitsSigned w64 z → text.now ≢ signed_decimal z) (λ z. text.now ≡ signed_decimal z) }
-    ensures value { result ≡ integer_of text.now }
+    ensures { MatchOption result
+        ((z : ℤ) → FitsSigned w64 z → text.now ≢ signed_decimal z)
+        (λ z. text.now ≡ signed_decimal z) }
 {
     let Ok(written) = str::from_utf8(text) else {
         return None;
@@ -29,11 +32,14 @@ pub fn integer(text: &[u8]) -> Option<i64>
 }
 
 /// The entry of a script, within 1,000,000,000, whose decimal the text is.
-#[tactic(auto, unfolding(crate::specs::Numbers::entry_of))]
 pub fn entry(text: &[u8]) -> Option<i64>
-    ensures { result ≡ entry_of text.now }
+    ensures { MatchOption result
+        (¬ IsNumberWithin (neg_ℤ (pos MAX_ENTRY)) (pos MAX_ENTRY) text.now)
+        (λ z. (text.now ≡ signed_decimal z) × (unsigned_abs z ≤ MAX_ENTRY)) }
 {
-    let number = integer(text)?;
+    let Some(number) = integer(text) else {
+        return None;
+    };
     if number.unsigned_abs() <= MAX_ENTRY {
         Some(number)
     } else {
@@ -42,20 +48,30 @@ pub fn entry(text: &[u8]) -> Option<i64>
 }
 
 /// The degree of a rank test, 0 to 4,294,967,295, whose decimal the text is.
-#[tactic(auto, unfolding(crate::specs::Numbers::degree_of))]
 pub fn degree(text: &[u8]) -> Option<u32>
-    ensures { result ≡ degree_of text.now }
+    ensures { MatchOption result
+        (¬ IsNumberWithin (pos 0) (pos (2 ^ 32 - 1)) text.now) (λ k. text.now ≡ decimal k) }
 {
-    let number = integer(text)?;
-    u32::try_from(number).ok()
+    let Some(number) = integer(text) else {
+        return None;
+    };
+    match u32::try_from(number) {
+        Ok(k) => Some(k),
+        Err(_) => None,
+    }
 }
 
 /// The seat, 1 to 64, whose decimal the text is.
 pub fn seat(text: &[u8]) -> Option<u8>
-    ensures { result ≡ seat_of text.now }
+    ensures { MatchOption result
+        ((n : ℕ) → 1 ≤ n → n ≤ MAX_SEATS → text.now ≢ decimal n)
+        (λ n. (1 ≤ n) × (n ≤ MAX_SEATS) × (text.now ≡ decimal n)) }
 {
-    match natural(text)? {
-        number @ 1..=64 => Some(number as u8),
+    let Some(number) = natural(text) else {
+        return None;
+    };
+    match number {
+        1..=64 => Some(number as u8),
         _ => None,
     }
 }

@@ -1,16 +1,13 @@
 -- What the items so far give; each turn reads a shorter rest.
-use Rattle.std.proofs.Common.{length, map}
+use Rattle.std.proofs.Common.{length}
 use Rattle.std.specs.Option.{option_copied}
 use Rattle.dg_lines.specs.Cuts.{items, pieces_after}
-use Rattle.dg_lines.specs.CommandWords.{name_part, number_part}
 use Rattle.dg_lines.proofs.Scripts.{HasPairs}
 use Rattle.dg_lines.proofs.line.named_script.Given as goal
 
 abbrev pub invariant-items : goal.invariant-items
 invariant-items l =
-    HasPairs l.names (map name_part (items l.fn.text)) (map number_part (items l.fn.text))
-    (map name_part (pieces_after 44 (option_copied l.rest))) (map number_part (pieces_after 44 (option_copied l.rest)))
-    l.given l.entries l.are_spelled
+    HasPairs l.names (items l.fn.text) (pieces_after 44 (option_copied l.rest)) l.given l.entries l.are_spelled
 
 abbrev pub decreases-items : goal.decreases-items
 decreases-items l = length (pieces_after 44 (option_copied l.rest))

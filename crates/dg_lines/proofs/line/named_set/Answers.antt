@@ -3,44 +3,37 @@ use Rattle.std.proofs.Common.{◌≡◌, Some, length, sym, ap, ◌∙◌, arith
 use Rattle.dg_file.specs.Names.{place_of}
 use Rattle.dg_lines.specs.Cuts.{items}
 use Rattle.dg_lines.proofs.Cutting.{pieces_left, none_left}
-use Rattle.dg_lines.proofs.Given.{none_taken, one_taken, all_taken, unnamed_taken, twice_taken, set_of-is, set_of-none}
+use Rattle.dg_lines.proofs.Given.{none_taken, one_taken, all_taken, unnamed_taken, twice_taken}
 use Rattle.dg_lines.proofs.line.named_set.Goals as goal
 
 pub items-init : goal.items-init
 items-init c = none_taken c.args.names.now (items c.args.text.now)
 
-pub returns-in_err-place : goal.returns-in_err-place
-returns-in_err-place c =
-    let next = pieces_left 44 c.items.rest c.in-Some.text c.cut.result.0.now c.cut.result.1 c.in-Some.is c.cut.ensures.before c.cut.ensures.after in
-    c.from_residual.ensures
-    ∙ sym (set_of-none c.args.names.now (items c.args.text.now)
-    (unnamed_taken c.args.names.now (items c.args.text.now) _ _ c.cut.result.0.now c.items.set next (sym c.in_err-place.ensures.place) c.items.invariant))
+pub returns-in_default-place : goal.returns-in_default-place
+returns-in_default-place c =
+    let next = pieces_left 44 _ _ _ c.cut.result.1 c.in-Some.is c.cut.ensures.before c.cut.ensures.after in
+    unnamed_taken _ _ _ _ _ _ next c.items.invariant (sym c.in_default-place.ensures.place)
 
 pub returns-then-contains : goal.returns-then-contains
 returns-then-contains c =
-    let next = pieces_left 44 c.items.rest c.in-Some.text c.cut.result.0.now c.cut.result.1 c.in-Some.is c.cut.ensures.before c.cut.ensures.after in
+    let next = pieces_left 44 _ _ _ c.cut.result.1 c.in-Some.is c.cut.ensures.before c.cut.ensures.after in
     let place : place_of c.args.names.now c.cut.result.0.now ≡ Some c.from-v.result =
-    sym c.in_ok-place.ensures.place ∙ ap Some (sym c.from-v.ensures) in
-    sym (set_of-none c.args.names.now (items c.args.text.now)
-    (twice_taken c.args.names.now (items c.args.text.now) _ _ c.cut.result.0.now c.items.set c.from-v.result next place
-    (sym c.contains.ensures ∙ c.if-contains.true) c.items.invariant))
+    sym c.in-Some-place.ensures.place ∙ ap Some (sym c.from-v.ensures) in
+    twice_taken _ _ _ _ _ _ next c.items.invariant c.from-v.result place (sym c.contains.ensures ∙ c.if-contains.true)
 
 pub items-smaller : goal.items-smaller
 items-smaller c =
-    let next = pieces_left 44 c.items.rest c.in-Some.text c.cut.result.0.now c.cut.result.1 c.in-Some.is c.cut.ensures.before c.cut.ensures.after in
+    let next = pieces_left 44 _ _ _ c.cut.result.1 c.in-Some.is c.cut.ensures.before c.cut.ensures.after in
     omega (arith, ap length next)
 
 pub items-preserved : goal.items-preserved
 items-preserved c =
-    let next = pieces_left 44 c.items.rest c.in-Some.text c.cut.result.0.now c.cut.result.1 c.in-Some.is c.cut.ensures.before c.cut.ensures.after in
+    let next = pieces_left 44 _ _ _ c.cut.result.1 c.in-Some.is c.cut.ensures.before c.cut.ensures.after in
     let place : place_of c.args.names.now c.cut.result.0.now ≡ Some c.from-v.result =
-    sym c.in_ok-place.ensures.place ∙ ap Some (sym c.from-v.ensures) in
-    one_taken c.args.names.now (items c.args.text.now) _ _ c.cut.result.0.now c.items.set c.with_vertex-set.result c.from-v.result next
-    c.len-size.ensures.names.different place (sym c.contains.ensures ∙ c.if-contains.false)
-    c.with_vertex-set.ensures.here c.with_vertex-set.ensures.others c.items.invariant
+    sym c.in-Some-place.ensures.place ∙ ap Some (sym c.from-v.ensures) in
+    one_taken _ _ _ _ _ _ next c.items.invariant c.with_vertex-set.result c.from-v.result c.len-size.ensures.names.different place (sym c.contains.ensures ∙ c.if-contains.false)
+    c.with_vertex-set.ensures.here c.with_vertex-set.ensures.others
 
 pub returns : goal.returns
 returns c =
-    let done = none_left 44 c.items.rest c.in_default.is in
-    sym (set_of-is c.args.names.now (items c.args.text.now) c.items.set
-    (all_taken c.args.names.now (items c.args.text.now) _ c.items.set done c.items.invariant))
+    all_taken _ _ _ _ c.items.invariant (none_left 44 c.items.rest c.in_default.is)
