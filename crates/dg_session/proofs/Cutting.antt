@@ -6,7 +6,8 @@
 --   cut_line      what stands before the first newline, the newline, and what stands after it
 --   no_newline    what stands before the first newline has none
 --   line_shorter  what stands after a line is shorter
---   part_plain, part_front, part_whole, part_line   what `cut` gives of bytes: a part with no newline, and what follows it
+--   part_plain, part_front, part_whole, part_line   what `cut` gives of bytes: a part with no newline, and what
+--       follows it
 use Rattle.std.proofs.Common.{Bor, length, length-append, ◌<◌, ◌+◌, ◌≤◌, inl, inr, subst, append-nil, ◌≡◌, ◌≢◌, ℕ, ◌==◌, cond, Bool, true, false, List, [], ◌∷◌, ◌++◌, Option, Some, None, refl, sym, ap, ◌∙◌, arith, append_assoc, All, flat_map}
 use Rattle.std.proofs.lemmas.List.Elements.{All-head, All-tail, All-append, All-cons, All-nil}
 use Rattle.std.proofs.lemmas.Grind.{flat_map-append}
@@ -26,7 +27,8 @@ line_first : (line rest : List ℕ) → HasNoNewline line → lines (line ++ 10 
 unfolding lines
 line_first [] rest none = refl
 line_first (x ∷ xs) rest none =
-    ap (λ t. cond t ([] ∷ lines (xs ++ 10 ∷ rest)) (onto_first x (lines (xs ++ 10 ∷ rest)))) (other_byte x (All-head Other x xs none))
+    ap (λ t. cond t ([] ∷ lines (xs ++ 10 ∷ rest)) (onto_first x (lines (xs ++ 10 ∷ rest))))
+    (other_byte x (All-head Other x xs none))
     ∙ ap (onto_first x) (line_first xs rest (All-tail Other x xs none))
 
 rest_last : (rest : List ℕ) → HasNoNewline rest → lines rest ≡ last_line rest
@@ -35,10 +37,12 @@ rest_last [] none = refl
 rest_last (x ∷ []) none =
     ap (λ t. cond t ([] ∷ lines []) (onto_first x (lines []))) (other_byte x (All-head Other x [] none))
 rest_last (x ∷ y ∷ ys) none =
-    ap (λ t. cond t ([] ∷ lines (y ∷ ys)) (onto_first x (lines (y ∷ ys)))) (other_byte x (All-head Other x (y ∷ ys) none))
+    ap (λ t. cond t ([] ∷ lines (y ∷ ys)) (onto_first x (lines (y ∷ ys))))
+    (other_byte x (All-head Other x (y ∷ ys) none))
     ∙ ap (onto_first x) (rest_last (y ∷ ys) (All-tail Other x (y ∷ ys) none))
 
-lines_after : (ls : List (List ℕ)) (rest : List ℕ) → All IsLine ls → lines (flat_map with_newline ls ++ rest) ≡ ls ++ lines rest
+lines_after : (ls : List (List ℕ)) (rest : List ℕ) → All IsLine ls
+    → lines (flat_map with_newline ls ++ rest) ≡ ls ++ lines rest
 lines_after [] rest each = refl
 lines_after (line ∷ ls) rest each =
     ap lines (append_assoc (line ++ 10 ∷ []) (flat_map with_newline ls) rest
@@ -61,7 +65,8 @@ begins_one {line} more is = record {
   each = All-cons IsLine line [] is (All-nil IsLine);
 }
 
-pub begins_more : {bytes rest : List ℕ} {ls : List (List ℕ)} (more : List ℕ) → Begins bytes ls rest → Begins (bytes ++ more) ls (rest ++ more)
+pub begins_more : {bytes rest : List ℕ} {ls : List (List ℕ)} (more : List ℕ) → Begins bytes ls rest
+    → Begins (bytes ++ more) ls (rest ++ more)
 begins_more {bytes} {rest} {ls} more b =
     record { whole = ap (λ l. l ++ more) b.whole ∙ append_assoc (flat_map with_newline ls) rest more; each = b.each }
 
@@ -74,8 +79,10 @@ begins_then {stream} {mid} {rest} {ls} {last} p q = record {
   each = All-append IsLine ls last p.each q.each;
 }
 
-pub lines_then : {E ended : Type 0} (over : E → ended) {stream rest : List ℕ} {ls : List (List ℕ)} (last : List (List ℕ))
-    → Begins stream ls rest → AreLines E rest last → length ls + length last ≤ MAX_LINES → AreLines ended stream (ls ++ last)
+pub lines_then : {E ended : Type 0} (over : E → ended) {stream rest : List ℕ} {ls : List (List ℕ)}
+    (last : List (List ℕ))
+    → Begins stream ls rest → AreLines E rest last → length ls + length last ≤ MAX_LINES
+    → AreLines ended stream (ls ++ last)
 lines_then over {stream} {rest} {ls} last p q few = (
   let size = length-append ls last in omega (arith, size, few),
   elim q.1 [
@@ -126,7 +133,8 @@ pub cut_line : (bytes rest : List ℕ) → after 10 bytes ≡ Some rest → byte
 unfolding before after
 cut_line [] rest found = absurd cc
 cut_line (x ∷ xs) rest found =
-    let P : Bool → Type 0 = λ t. (x == 10) ≡ t → cond t (Some xs) (after 10 xs) ≡ Some rest → x ∷ xs ≡ cond t [] (x ∷ before 10 xs) ++ 10 ∷ rest in
+    let P : Bool → Type 0 = λ t. (x == 10) ≡ t → cond t (Some xs) (after 10 xs) ≡ Some rest
+    → x ∷ xs ≡ cond t [] (x ∷ before 10 xs) ++ 10 ∷ rest in
     (elim (x == 10) as P [
       | true ↦ λ t e. let same : x ≡ 10 = grind (arith, nat_tests) in let more : xs ≡ rest = cc in cc
       | false ↦ λ t e. ap (λ more. x ∷ more) (cut_line xs rest e)
@@ -147,11 +155,13 @@ part_plain bytes part e = subst HasNoNewline (sym e) (no_newline bytes)
 pub part_front : (bytes part : List ℕ) → part ≡ before 10 bytes → (more : List ℕ) × (bytes ≡ part ++ more)
 part_front bytes part e = let (more, whole) = front_left bytes in (more, whole ∙ ap (λ l. l ++ more) (sym e))
 
-pub part_whole : (bytes part : List ℕ) (o : Option (Bor (List ℕ))) → part ≡ before 10 bytes → option_copied o ≡ after 10 bytes → o ≡ None → bytes ≡ part ++ []
+pub part_whole : (bytes part : List ℕ) (o : Option (Bor (List ℕ))) → part ≡ before 10 bytes
+    → option_copied o ≡ after 10 bytes → o ≡ None → bytes ≡ part ++ []
 part_whole bytes part None e follows none = sym (append-nil part ∙ e ∙ cut_nothing bytes (sym follows))
 part_whole bytes part (Some rest) e follows none = absurd cc
 
-pub part_line : (bytes part : List ℕ) (o : Option (Bor (List ℕ))) (rest : Bor (List ℕ)) → part ≡ before 10 bytes → option_copied o ≡ after 10 bytes → o ≡ Some rest
+pub part_line : (bytes part : List ℕ) (o : Option (Bor (List ℕ))) (rest : Bor (List ℕ)) → part ≡ before 10 bytes
+    → option_copied o ≡ after 10 bytes → o ≡ Some rest
     → bytes ≡ part ++ 10 ∷ rest.now
 part_line bytes part o rest e follows some =
     cut_line bytes rest.now (sym (sym (ap (λ (p : Option (Bor (List ℕ))). option_copied p) some) ∙ follows))

@@ -6,7 +6,8 @@
 --   goes_more     some bytes after others
 --   halts_part, halts_line       the session ends at a part that is not taken, and at a line that is refused
 --   halts_after   it halts after some bytes
---   last_none, last_one, last_halts   what is pending as the last line: none, one that is answered, and one that is refused
+--   last_none, last_one, last_halts   what is pending as the last line: none, one that is answered, and one that is
+--       refused
 use Rattle.std.proofs.Common.{◌≡◌, ◌≢◌, ℕ, ◌+◌, ◌<◌, ◌≤◌, inl, inr, List, [], ◌∷◌, ◌++◌, length, take, drop, refl, sym, ap, subst, ◌∙◌, arith, append_assoc, append-nil, length-append, take-append-drop}
 use Rattle.std.proofs.lemmas.List.Elements.{All-append, All-nil, All-take}
 use Rattle.std.proofs.lemmas.List.{length-take-le}
@@ -43,7 +44,8 @@ answers_more A s m z (line ∷ ls) ls' t t' p q =
       ap (λ l. l ++ t') text ∙ append_assoc front back t',
     )
 
-pub line_with : {at : SoFar} (part : List ℕ) → IsReady at → HasNoNewline part → length at.pending + length part ≤ MAX_LINE
+pub line_with : {at : SoFar} (part : List ℕ) → IsReady at → HasNoNewline part
+    → length at.pending + length part ≤ MAX_LINE
     → IsLine (at.pending ++ part)
 line_with {at} part ready plain short = record {
   no_newline = All-append (λ byte. byte ≢ 10) at.pending part ready.line.no_newline plain;
@@ -62,7 +64,8 @@ goes_none {t} {at} {bytes} {text} none ready = record {
   ready = ready;
 }
 
-pub goes_more : {t : Setup} {old mid new : SoFar} {b c rest text more : List ℕ} → Goes t old b [] mid text → Goes t mid c rest new more
+pub goes_more : {t : Setup} {old mid new : SoFar} {b c rest text more : List ℕ} → Goes t old b [] mid text
+    → Goes t mid c rest new more
     → Goes t old (b ++ c) rest new (text ++ more)
 goes_more {t} {old} {mid} {new} {b} {c} {rest} {text} {more} g h = record {
   ls = g.ls ++ h.ls;
@@ -79,10 +82,12 @@ halts_after g h = record { rest = h.rest; at = h.at; goes = goes_more g h.goes; 
 
 module _ {t : Setup} {old at : SoFar} {bytes rest text : List ℕ} (g : Goes t old bytes rest at text) where
   pub goes_part : (part p : List ℕ) → rest ≡ part → p ≡ at.pending ++ part → HasNoNewline part
-      → length at.pending + length part ≤ MAX_LINE → at.count ≢ MAX_LINES → Goes t old bytes [] (record at { pending = p }) text
+      → length at.pending + length part ≤ MAX_LINE → at.count ≢ MAX_LINES
+      → Goes t old bytes [] (record at { pending = p }) text
   goes_part part p cut grown plain short other = record {
     ls = g.ls;
-    came = subst (Begins (old.pending ++ bytes) g.ls) (ap (λ l. at.pending ++ l) cut ∙ sym (append-nil p ∙ grown)) g.came;
+    came = subst (Begins (old.pending ++ bytes) g.ls) (ap (λ l. at.pending ++ l) cut ∙ sym (append-nil p ∙ grown))
+        g.came;
     counted = g.counted;
     answered = g.answered;
     ready = record {
@@ -94,9 +99,11 @@ module _ {t : Setup} {old at : SoFar} {bytes rest text : List ℕ} (g : Goes t o
     };
   }
 
-  pub goes_line : {new : SoFar} {more text' : List ℕ} (part : List ℕ) → rest ≡ part ++ 10 ∷ more → IsLine (at.pending ++ part)
+  pub goes_line : {new : SoFar} {more text' : List ℕ} (part : List ℕ) → rest ≡ part ++ 10 ∷ more
+      → IsLine (at.pending ++ part)
       → at.count < MAX_LINES
-      → IsAnswered t (at.pending ++ part) (record { who = at.who; said = text }) (record { who = new.who; said = text' })
+      → IsAnswered t (at.pending ++ part) (record { who = at.who; said = text })
+      (record { who = new.who; said = text' })
       → new.pending ≡ [] → new.count ≡ at.count + 1 → Goes t old bytes more new text'
   goes_line {new} {more} {text'} part cut is few said none next =
       let line = at.pending ++ part in
@@ -141,10 +148,12 @@ module _ {t : Setup} {old at : SoFar} {bytes rest text : List ℕ} (g : Goes t o
   halts_part {E} {end} part more cut plain some h =
       record { rest = rest; at = at; goes = g; fails = inl (stays part more end cut plain some h, refl) }
 
-  pub halts_line : {E : Type 0} {text' : List ℕ} {z : Speakers} {end : SessionEnd} (part more : List ℕ) → rest ≡ part ++ 10 ∷ more
+  pub halts_line : {E : Type 0} {text' : List ℕ} {z : Speakers} {end : SessionEnd} (part more : List ℕ)
+      → rest ≡ part ++ 10 ∷ more
       → IsLine (at.pending ++ part) → at.count < MAX_LINES → refuses t at.who (at.pending ++ part) z end → text' ≡ text
       → Halts t E old bytes z text' end
-  halts_line {E} {text'} {z} {end} part more cut is few refused same = subst (λ l. Halts t E old bytes z l end) (sym same)
+  halts_line {E} {text'} {z} {end} part more cut is few refused same = subst (λ l. Halts t E old bytes z l end)
+      (sym same)
       (record {
         rest = rest;
         at = at;
@@ -165,7 +174,8 @@ module _ {t : Setup} {old at : SoFar} {bytes rest text : List ℕ} (g : Goes t o
       })
 
 -- what is pending is the last line
-pub last_none : (A : Answering) (s : Speakers) (p text : List ℕ) → length p ≡ 0 → text ≡ [] → Answers A s (last_line p) s text
+pub last_none : (A : Answering) (s : Speakers) (p text : List ℕ) → length p ≡ 0 → text ≡ []
+    → Answers A s (last_line p) s text
 last_none A s [] text none unsaid = subst (Answers A s [] s) (sym unsaid) (answers_none A s)
 last_none A s (b ∷ bs) text none unsaid = absurd (omega (arith, none))
 
@@ -181,7 +191,8 @@ last_one {t} {old} {new} (b ∷ bs) some none said =
     (answers_one (answers t) old.who new.who (b ∷ bs) said.text
     (subst (λ l. answers t old.who l new.who said.text) (append-nil (b ∷ bs)) said.holds))
 
-pub last_halts : {t : Setup} {E : Type 0} {at : SoFar} {z : Speakers} {old text : List ℕ} {end : SessionEnd} → E → IsReady at
+pub last_halts : {t : Setup} {E : Type 0} {at : SoFar} {z : Speakers} {old text : List ℕ} {end : SessionEnd} → E
+    → IsReady at
     → 1 ≤ length at.pending → old ≡ [] → refuses t at.who (at.pending ++ []) z end → text ≡ old
     → Halts t E at [] z text end
 last_halts {t} {E} {at} {z} {old} {text} {end} over ready some none refused same = record {

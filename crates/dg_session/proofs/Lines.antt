@@ -13,7 +13,8 @@ use Rattle.dg_session.specs.declared.ends.SessionEnd.{SessionEnd}
 use Rattle.dg_session.specs.declared.ends.SessionEnd.TheVariants.{Table, Memory, Spawn}
 use Rattle.dg_session.proofs.Made.{gains_same}
 
-line_refused : (t : Setup) (line : List ℕ) (command : Command) (old new : Speaker) (end : SessionEnd) → IsCommandLine t.names command line
+line_refused : (t : Setup) (line : List ℕ) (command : Command) (old new : Speaker) (end : SessionEnd)
+    → IsCommandLine t.names command line
     → RefusesCommand t.opening t.seats t.cap t.names old.kept command old.seat new.seat end
     → RefusesLine t.opening t.seats t.cap t.names old.kept line old.seat new.seat end
 line_refused t line command old new (Table fault) spelled h = (command, spelled, h.0, h.1, h.2)
@@ -28,7 +29,8 @@ line_refused t line command old new Memory spelled h = record {
 }
 line_refused t line command old new end spelled h = h
 
-pub heard : {B : Type 0} {t : Setup} {line : List ℕ} {command : Command} {old new : Speaker} {result : Result B SessionEnd}
+pub heard : {B : Type 0} {t : Setup} {line : List ℕ} {command : Command} {old new : Speaker}
+    {result : Result B SessionEnd}
     → IsCommandLine t.names command line → Obeys t command old new result → Hears t line old new result
 heard {command = command} {result = Ok b} spelled h = record {
   done = record {
@@ -44,7 +46,8 @@ heard {command = command} {result = Ok b} spelled h = record {
 heard {t = t} {line} {command} {old} {new} {result = Err end} spelled h =
     record { done = tt; refused = line_refused t line command old new end spelled h.refused; unsaid = h.unsaid }
 
-pub bad_heard : {B : Type 0} {t : Setup} {line said : List ℕ} {old : Speaker} {result : Result B SessionEnd} (fault : LineFault)
+pub bad_heard : {B : Type 0} {t : Setup} {line said : List ℕ} {old : Speaker} {result : Result B SessionEnd}
+    (fault : LineFault)
     → IsLineFault t.names fault line → Tells (fault_text fault) old.said said result
     → Hears t line old (record old { said = said }) result
 bad_heard {old = old} {result = Ok b} fault bad told = record {

@@ -8,7 +8,8 @@
 --   rank_within     a rank test that was made is within the limits
 --   rank_past       and one with too many trials is not
 --   named           there are names for its amounts
---   entered, words_said, call_refused   a command is obeyed: by an entry that stands, by words, and by a table that refuses
+--   entered, words_said, call_refused   a command is obeyed: by an entry that stands, by words, and by a table that
+--       refuses
 --   with_look, with_none   so it is with the look that is kept, and with none
 --   call_keeps      a call that is no look keeps the look
 use Rattle.std.proofs.Common.{◌≡◌, ◌≢◌, ℕ, inl, inr, List, [], ◌∷◌, ◌++◌, length, Option, Some, None, Result, Ok, Err, OnOk, refl, sym, ap, subst, ◌∙◌, append-nil, append_assoc, codes, arith}
@@ -61,21 +62,13 @@ gains_same x = gains_none x x (record { number = refl; mine = refl; told = refl;
 begun_twice : (K L H : List Entry) → IsBeginning K L → IsBeginning L H → IsBeginning K H
 begun_twice K L H (first, p) (second, q) = (first ++ second, q ∙ ap (λ l. l ++ second) p ∙ append_assoc K first second)
 
-pub gains_more : (x y z : SeatView) (m m' : List (ℕ × Entry)) → Gains x y m → Gains y z m' → Gains x z (m ++ m')
-gains_more x y z m m' p q = record {
-  number = q.number ∙ p.number;
-  mine = q.mine ∙ ap (λ l. l ++ m') p.mine ∙ append_assoc x.mine m m';
-  heard = p.heard ++ q.heard;
-  told = q.told ∙ ap (λ l. l ++ q.heard) p.told ∙ append_assoc x.told p.heard q.heard;
-  past = begun_twice x.past y.past z.past p.past q.past;
-}
-
 pub record Stands (o : Opening) (request : Request) (r : ℕ × Entry) (x y : SeatView) : Type 0 where
   pub asked' : r.1.request ≡ request
   pub sized : HasSize o.graph.size r.1.reply
   pub gained : Gains x y (r ∷ [])
 
-pub entry_made : (o : Opening) (seats cap : ℕ) (H : List Entry) (request : Request) (known heard : List (ℕ × Entry)) (r : ℕ × Entry) (x y : SeatView)
+pub entry_made : (o : Opening) (seats cap : ℕ) (H : List Entry) (request : Request) (known heard : List (ℕ × Entry))
+    (r : ℕ × Entry) (x y : SeatView)
     → known ≡ x.told ++ heard → IsEnteredAfter o seats cap H request known r x y → Stands o request r x y
 entry_made o seats cap H request known heard r x y told e = record {
   asked' = e.request';
@@ -89,10 +82,13 @@ entry_made o seats cap H request known heard r x y told e = record {
   };
 }
 
-pub call_made : {o : Opening} {seats cap : ℕ} {request : Request} {r : ℕ × Entry} {x y : SeatView} → IsAnswered o seats cap request r x y → Stands o request r x y
-call_made {o} {seats} {cap} {request} {r} {x} {y} answered = entry_made o seats cap answered.0 request x.told [] r x y (sym (append-nil x.told)) answered.1
+pub call_made : {o : Opening} {seats cap : ℕ} {request : Request} {r : ℕ × Entry} {x y : SeatView}
+    → IsAnswered o seats cap request r x y → Stands o request r x y
+call_made {o} {seats} {cap} {request} {r} {x} {y} answered = entry_made o seats cap answered.0 request x.told [] r x y
+    (sym (append-nil x.told)) answered.1
 
-pub settled_made : {o : Opening} {seats cap : ℕ} {look found : LookView} {f : Finding} {r : ℕ × Entry} {x y : SeatView} → found ≡ look → IsTaken o look
+pub settled_made : {o : Opening} {seats cap : ℕ} {look found : LookView} {f : Finding} {r : ℕ × Entry}
+    {x y : SeatView} → found ≡ look → IsTaken o look
     → IsSettled o seats cap found.receipt found.shown f r x y → Stands o (asked_for look.receipt.0 f) r x y
 settled_made {o} {seats} {cap} {look} {found} {f} {r} {x} {y} same taken settled =
     let of = rw same at settled.1 in
@@ -103,13 +99,16 @@ degree_kept : (look : LookView) (k w : ℕ) (v : RankVerdict) → IsTried look k
 degree_kept look k w (AtLeast j) tried = tried.right.0
 degree_kept look k w (Below j d) tried = tried.right.0
 
-pub rank_made : {o : Opening} {seats cap : ℕ} {look found : LookView} {k w : ℕ} {v : RankVerdict} {r : ℕ × Entry} {x y : SeatView} → found ≡ look → IsTaken o look
-    → IsTried look k w v → IsSettled o seats cap found.receipt found.shown (Ranked v) r x y → Stands o (RankRequest look.receipt.0 k) r x y
+pub rank_made : {o : Opening} {seats cap : ℕ} {look found : LookView} {k w : ℕ} {v : RankVerdict} {r : ℕ × Entry}
+    {x y : SeatView} → found ≡ look → IsTaken o look
+    → IsTried look k w v → IsSettled o seats cap found.receipt found.shown (Ranked v) r x y
+    → Stands o (RankRequest look.receipt.0 k) r x y
 rank_made {o} {seats} {cap} {look} {found} {k} {w} {v} {r} {x} {y} same taken tried settled =
     subst (λ d. Stands o (RankRequest look.receipt.0 d) r x y) (degree_kept look k w v tried)
     (settled_made {f = Ranked v} same taken settled)
 
-pub rank_within : {o : Opening} {look : LookView} {k : ℕ} → IsTaken o look → IsWithin look.shown.graph.size k → IsWithin o.graph.size k
+pub rank_within : {o : Opening} {look : LookView} {k : ℕ} → IsTaken o look → IsWithin look.shown.graph.size k
+    → IsWithin o.graph.size k
 rank_within {k = k} taken within = subst (λ n. IsWithin n k) taken.vertices.0 within
 
 past_within : (n k : ℕ) → IsPastLimits n k → IsWithin n k → ⊥
@@ -124,10 +123,12 @@ past_within n k past (c, within) = elim past [
   ]
 ]
 
-pub rank_past : {o : Opening} {look : LookView} {k : ℕ} → IsTaken o look → IsPastLimits look.shown.graph.size k → IsWithin o.graph.size k → ⊥
+pub rank_past : {o : Opening} {look : LookView} {k : ℕ} → IsTaken o look → IsPastLimits look.shown.graph.size k
+    → IsWithin o.graph.size k → ⊥
 rank_past {o} {k = k} taken past = past_within o.graph.size k (subst (λ n. IsPastLimits n k) taken.vertices.0 past)
 
-pub named : {o : Opening} {request : Request} {r : ℕ × Entry} {x y : SeatView} (names : List (List ℕ)) → length names ≡ o.graph.size
+pub named : {o : Opening} {request : Request} {r : ℕ × Entry} {x y : SeatView} (names : List (List ℕ))
+    → length names ≡ o.graph.size
     → Stands o request r x y → HasNames names r.1.reply
 named {r = r} names size stands = subst (λ n. HasSize n r.1.reply) (sym size) stands.sized
 
@@ -152,23 +153,26 @@ entered {t = t} {r = r} {old} {new} {result = Ok b} stands opens keeps told = re
 }
 entered {t = t} {command} {r = r} {old} {new} {result = Err end} stands opens keeps told = record {
   done = tt;
-  refused = subst (RefusesCommand t.opening t.seats t.cap t.names old.kept command old.seat new.seat) (sym told.0) (record {
-    more = r ∷ [];
-    next = inr (
-      kept_after old.kept r,
-      entry_text t.names r.0 r.1.reply,
-      opens (r ∷ []) (kept_after old.kept r) (entry_text t.names r.0 r.1.reply) (r, stands.asked', refl, refl, refl),
-    );
-    gained = stands.gained;
-  });
+  refused = subst (RefusesCommand t.opening t.seats t.cap t.names old.kept command old.seat new.seat) (sym told.0)
+      (record {
+        more = r ∷ [];
+        next = inr (
+          kept_after old.kept r,
+          entry_text t.names r.0 r.1.reply,
+          opens (r ∷ []) (kept_after old.kept r) (entry_text t.names r.0 r.1.reply) (r, stands.asked', refl, refl, refl),
+        );
+        gained = stands.gained;
+      });
   unsaid = told.1;
 }
 
 -- nothing is made, and some words are said, or are not for want of memory
 pub words_said : {B : Type 0} {t : Setup} {command : Command} {x : SeatView} {kept after : Option ℕ} {old new : List ℕ}
-    {result : Result B SessionEnd} (words : List ℕ) → OnOk result (AnswersCommand t.opening t.names kept command [] after words)
+    {result : Result B SessionEnd} (words : List ℕ) → OnOk result
+    (AnswersCommand t.opening t.names kept command [] after words)
     → Tells words old new result
-    → Obeys t command (record { seat = x; kept = kept; said = old }) (record { seat = x; kept = after; said = new }) result
+    → Obeys t command (record { seat = x; kept = kept; said = old }) (record { seat = x; kept = after; said = new })
+    result
 words_said {x = x} {result = Ok b} words answers told = record {
   done = record { made = []; text = words; answers = answers; gained = gains_same x; said = told };
   refused = tt;
@@ -182,12 +186,15 @@ words_said {t = t} {command} {x} {kept} {result = Err end} words answers told = 
 }
 
 -- nothing is made, since the table refuses the call
-pub call_refused : {B : Type 0} {t : Setup} {command : Command} {x y : SeatView} {kept after : Option ℕ} {said : List ℕ} {fault : Fault}
+pub call_refused : {B : Type 0} {t : Setup} {command : Command} {x y : SeatView} {kept after : Option ℕ}
+    {said : List ℕ} {fault : Fault}
     {result : Result B SessionEnd} → CallsTable t.opening.graph.size kept command → Keeps x y
     → RefusesCall t.opening t.seats t.cap y fault → result ≡ Err (Table fault)
-    → Obeys t command (record { seat = x; kept = kept; said = said }) (record { seat = y; kept = after; said = said }) result
+    → Obeys t command (record { seat = x; kept = kept; said = said }) (record { seat = y; kept = after; said = said })
+    result
 call_refused {t = t} {command} {x} {y} {kept} {after} {said} calls keeps refused is =
-    subst (Obeys t command (record { seat = x; kept = kept; said = said }) (record { seat = y; kept = after; said = said })) (sym is)
+    subst (Obeys t command (record { seat = x; kept = kept; said = said })
+    (record { seat = y; kept = after; said = said })) (sym is)
     (record { done = tt; refused = (calls, refused, gains_none x y keeps); unsaid = refl })
 
 pub any_ok : {B P : Type 0} (result : Result B SessionEnd) → P → OnOk result P
@@ -195,23 +202,28 @@ any_ok (Ok b) p = p
 any_ok (Err end) p = tt
 
 -- with the look that is kept, or with none
-pub with_look : {B : Type 0} {t : Setup} {command : Command} {x : SeatView} {kept : Option LookView} {look : LookView} {said : List ℕ}
+pub with_look : {B : Type 0} {t : Setup} {command : Command} {x : SeatView} {kept : Option LookView} {look : LookView}
+    {said : List ℕ}
     {new : Speaker} {result : Result B SessionEnd} → kept ≡ Some look
     → Obeys t command (record { seat = x; kept = Some look.receipt.0; said = said }) new result
     → Obeys t command (record { seat = x; kept = kept_number kept; said = said }) new result
 with_look {t = t} {command} {x} {said = said} {new} {result} is obeys =
-    subst (λ (k : Option LookView). Obeys t command (record { seat = x; kept = kept_number k; said = said }) new result) (sym is) obeys
+    subst (λ (k : Option LookView). Obeys t command (record { seat = x; kept = kept_number k; said = said }) new
+    result) (sym is) obeys
 
-pub with_none : {B : Type 0} {t : Setup} {command : Command} {x : SeatView} {kept after : Option LookView} {old new : List ℕ}
+pub with_none : {B : Type 0} {t : Setup} {command : Command} {x : SeatView} {kept after : Option LookView}
+    {old new : List ℕ}
     {result : Result B SessionEnd} → kept ≡ None → after ≡ None
-    → AnswersCommand t.opening t.names None command [] None (codes "bad look\n") → Tells (codes "bad look\n") old new result
+    → AnswersCommand t.opening t.names None command [] None (codes "bad look\n")
+    → Tells (codes "bad look\n") old new result
     → Obeys t command (record { seat = x; kept = kept_number kept; said = old })
     (record { seat = x; kept = kept_number after; said = new }) result
 with_none {t = t} {command} {x} {kept} {after} {old} {new} {result} p q answers told =
     subst (λ (k : Option LookView). Obeys t command (record { seat = x; kept = kept_number k; said = old })
     (record { seat = x; kept = kept_number after; said = new }) result) (sym p)
     (subst (λ (k : Option LookView). Obeys t command (record { seat = x; kept = None; said = old })
-    (record { seat = x; kept = kept_number k; said = new }) result) (sym q) (words_said (codes "bad look\n") (any_ok result answers) told))
+    (record { seat = x; kept = kept_number k; said = new }) result) (sym q)
+    (words_said (codes "bad look\n") (any_ok result answers) told))
 
 pub call_keeps : (kept : Option ℕ) (n : ℕ) (call : Plain) → call ≢ plain.Look → look_after kept n (asked call) ≡ kept
 call_keeps kept n plain.Look other = absurd (other refl)

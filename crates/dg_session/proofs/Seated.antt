@@ -28,7 +28,8 @@ seat_past n seat text line is past i other for =
     let same : seat ≡ i + 1 = cc in
     past (omega (arith, same, for.1))
 
-get_map : {X Y : Type 0} (f : X → Y) (xs : List X) (i : ℕ) (x : X) → slice_get xs i ≡ Some x → slice_get (map f xs) i ≡ Some (f x)
+get_map : {X Y : Type 0} (f : X → Y) (xs : List X) (i : ℕ) (x : X) → slice_get xs i ≡ Some x
+    → slice_get (map f xs) i ≡ Some (f x)
 get_map f [] i x at = absurd cc
 get_map f (y ∷ xs) zero x at = let same : y ≡ x = cc in ap (λ z. Some (f z)) same
 get_map f (y ∷ xs) (suc i) x at = get_map f xs i x at
@@ -38,7 +39,8 @@ get_at [] i d low = absurd (omega (arith, low))
 get_at (y ∷ xs) zero d low = refl
 get_at (y ∷ xs) (suc i) d low = get_at xs i d (omega (arith, low))
 
-turned : (xs : List SeatView) (ks : List (Option LookView)) (i : ℕ) (d y : SeatView) (e l : Option LookView) → i < length xs → length ks ≡ length xs
+turned : (xs : List SeatView) (ks : List (Option LookView)) (i : ℕ) (d y : SeatView) (e l : Option LookView)
+    → i < length xs → length ks ≡ length xs
     → Becomes i (speakers xs ks) (speakers (slice_set xs i y) (slice_set ks i l)) (slice_index_or xs i d) y
     (kept_number (slice_index_or ks i e)) (kept_number l)
 turned xs ks i d y e l low size = record {
@@ -61,7 +63,8 @@ numbers s = map (λ (x : SeatView). x.number) s.seats
 numbers_set : (xs : List SeatView) (i : ℕ) (x y : SeatView) → slice_get xs i ≡ Some x → y.number ≡ x.number
     → map (λ (x : SeatView). x.number) (slice_set xs i y) ≡ map (λ (x : SeatView). x.number) xs
 numbers_set [] i x y at same = absurd cc
-numbers_set (w ∷ xs) zero x y at same = let is : w ≡ x = cc in ap (λ n. n ∷ map (λ (x : SeatView). x.number) xs) (same ∙ sym (ap (λ (x : SeatView). x.number) is))
+numbers_set (w ∷ xs) zero x y at same = let is : w ≡ x = cc in ap (λ n. n ∷ map (λ (x : SeatView). x.number) xs)
+    (same ∙ sym (ap (λ (x : SeatView). x.number) is))
 numbers_set (w ∷ xs) (suc i) x y at same = ap (λ l. w.number ∷ l) (numbers_set xs i x y at same)
 
 pub spoken : {B : Type 0} {t : Setup} {line text old new : List ℕ} {result : Result B SessionEnd} (xs : List SeatView)
@@ -116,7 +119,11 @@ pub unspoken : {B : Type 0} {t : Setup} {line old new : List ℕ} {s : Speakers}
     → IsForNone t.how (length s.seats) line → Tells (codes "bad seat\n") old new result
     → Handles t line (record { who = s; said = old }) (record { who = s; said = new }) result
 unspoken {result = Ok b} none told =
-    record { done = record { text = codes "bad seat\n"; holds = inl (none, refl, refl); said = told }; refused = tt; unsaid = tt }
+    record {
+      done = record { text = codes "bad seat\n"; holds = inl (none, refl, refl); said = told };
+      refused = tt;
+      unsaid = tt;
+    }
 unspoken {result = Err end} none told = record { done = tt; refused = inl (told.0, refl); unsaid = told.1 }
 
 -- a line that is refused ends a session for what the table, the memory or a thread refused
@@ -153,7 +160,8 @@ numbers_said t s z line text a = elim a [
       ∙ numbers_set s.seats q.0 q.3.x q.3.y q.3.turn.seat q.3.gained.number
 ]
 
-pub numbers_left : (t : Setup) (s z : Speakers) (line : List ℕ) (end : SessionEnd) → refuses t s line z end → numbers z ≡ numbers s
+pub numbers_left : (t : Setup) (s z : Speakers) (line : List ℕ) (end : SessionEnd) → refuses t s line z end
+    → numbers z ≡ numbers s
 numbers_left t s z line end r = elim r [
   | inl p ↦ ap numbers p.1
   | inr q ↦ ap (map (λ (x : SeatView). x.number)) q.3.turn.seats

@@ -1,5 +1,6 @@
 -- Sessions, read after read.
---   IsSoFar          what was read is a stream of which all but what is pending is answered, and what was said is written
+--   IsSoFar          what was read is a stream of which all but what is pending is answered, and what was said is
+--       written
 --   so_far_new       nothing is read
 --   so_far_more      one more read
 --   halts_by         a session halts for no read and no write
@@ -60,7 +61,8 @@ consumes_kept (Some x) None c bs p q = absurd p
 consumes_kept (Some x) (Some y) None bs p q = absurd q
 consumes_kept (Some x) (Some y) (Some z) bs p q = p ∙ ap (λ l. bs ++ l) (sym q)
 
-pub so_far_new : {t : Setup} {input old : Option (List ℕ)} {xs : List SeatView} (ks : List (Option LookView)) (p : List ℕ) (c : ℕ)
+pub so_far_new : {t : Setup} {input old : Option (List ℕ)} {xs : List SeatView} (ks : List (Option LookView))
+    (p : List ℕ) (c : ℕ)
     → p ≡ [] → c ≡ 0 → map kept_number ks ≡ map (λ x. None) xs → 1 ≤ length xs
     → IsSoFar t input input old old xs (record { pending = p; count = c; who = speakers xs ks })
 so_far_new {t} {input} {old} {xs} ks p c none begun unkept some =
@@ -72,7 +74,8 @@ so_far_new {t} {input} {old} {xs} ks p c none begun unkept some =
         ls = [];
         came = record { whole = sym (append-nil p ∙ none); each = All-nil IsLine };
         counted = omega (arith, begun);
-        answered = subst (λ (k : List (Option ℕ)). Answers (answers t) (newcomers xs) [] (record { seats = xs; kept = k }) [])
+        answered = subst (λ (k : List (Option ℕ)). Answers (answers t) (newcomers xs) []
+            (record { seats = xs; kept = k }) [])
             (sym unkept) (answers_none (answers t) (newcomers xs));
         ready = record {
           line = empty_line p none;
@@ -177,7 +180,8 @@ module _ {t : Setup} {E : Type 0} (ended : Type 0) (over : E → ended) (old new
   ends_so e h = absurd (halts_by e h)
 
 -- what was read last is handled
-pub record IsHandled (t : Setup) (ended : Type 0) (at : SoFar) (bytes : List ℕ) (z : Speakers) (text : List ℕ) : Type 0 where
+pub record IsHandled (t : Setup) (ended : Type 0) (at : SoFar) (bytes : List ℕ) (z : Speakers)
+    (text : List ℕ) : Type 0 where
   pub last : List (List ℕ)
   pub came : AreLines ended (at.pending ++ bytes) last
   pub few : at.count + length last ≤ MAX_LINES
@@ -187,14 +191,16 @@ pub record IsHandled (t : Setup) (ended : Type 0) (at : SoFar) (bytes : List ℕ
   pub left : (z ≡ w) ⊎ ((line : List ℕ) × (end : SessionEnd) × AreLines ended (at.pending ++ bytes) (last ++ line ∷ [])
       × (at.count + length last < MAX_LINES) × refuses t w line z end)
 
-short_lines : (p bytes : List ℕ) {rest : List ℕ} {ls : List (List ℕ)} → Begins (p ++ bytes) ls rest → IsLine p → length bytes ≤ READ_SIZE
+short_lines : (p bytes : List ℕ) {rest : List ℕ} {ls : List (List ℕ)} → Begins (p ++ bytes) ls rest → IsLine p
+    → length bytes ≤ READ_SIZE
     → length (flat_map with_newline ls) ≤ READ_SIZE + MAX_LINE + 1
 short_lines p bytes {rest} {ls} b is small =
     let left = length-append p bytes in
     let right = length-append (flat_map with_newline ls) rest in
     omega (arith, ap length b.whole, left, right, is.short, small)
 
-handled_goes : {t : Setup} {ended : Type 0} {at to : SoFar} {bytes text : List ℕ} → IsReady at → length bytes ≤ READ_SIZE
+handled_goes : {t : Setup} {ended : Type 0} {at to : SoFar} {bytes text : List ℕ} → IsReady at
+    → length bytes ≤ READ_SIZE
     → Goes t at bytes [] to text → IsHandled t ended at bytes to.who text
 handled_goes {t} {ended} {at} {to} {bytes} {text} ready small g = record {
   last = g.ls;
@@ -206,7 +212,8 @@ handled_goes {t} {ended} {at} {to} {bytes} {text} ready small g = record {
   left = inl refl;
 }
 
-handled_halts : {t : Setup} {E ended : Type 0} {at : SoFar} {bytes text : List ℕ} {z : Speakers} {e : SessionEnd} → (E → ended)
+handled_halts : {t : Setup} {E ended : Type 0} {at : SoFar} {bytes text : List ℕ} {z : Speakers} {e : SessionEnd}
+    → (E → ended)
     → IsReady at → length bytes ≤ READ_SIZE → Halts t E at bytes z text e → IsHandled t ended at bytes z text
 handled_halts {t} {E} {ended} {at} {bytes} {text} {z} {e} over ready small h = record {
   last = h.goes.ls;
@@ -252,8 +259,10 @@ handled_end {t} {ended} {at} {z} {text} over ready answered = record {
   left = inl refl;
 }
 
-any_handled : {B E : Type 0} {t : Setup} {ended : Type 0} {at : SoFar} {bytes text : List ℕ} {z : Speakers} → (E → ended)
-    → IsReady at → length bytes ≤ READ_SIZE → (taken : Result B SessionEnd) → OnOk taken (IsHandled t ended at bytes z text)
+any_handled : {B E : Type 0} {t : Setup} {ended : Type 0} {at : SoFar} {bytes text : List ℕ} {z : Speakers}
+    → (E → ended)
+    → IsReady at → length bytes ≤ READ_SIZE → (taken : Result B SessionEnd)
+    → OnOk taken (IsHandled t ended at bytes z text)
     → IfErr taken (Halts t E at bytes z text) → IsHandled t ended at bytes z text
 any_handled over ready small (Ok b) handled halted = handled
 any_handled over ready small (Err e) handled halted = handled_halts over ready small halted
@@ -274,8 +283,10 @@ module _ {t : Setup} {input rest old mid : Option (List ℕ)} {xs : List SeatVie
   far_begins : Begins far.stream far.goes.ls at.pending
   far_begins = subst (Begins far.stream far.goes.ls) (append-nil at.pending) far.goes.came
 
-  unheard : {ended : Type 0} {new : Option (List ℕ)} {bytes text : List ℕ} {z : Speakers} → IsHandled t ended at bytes z text
-      → AppendsFront mid new [] text → IsUnheard (answers t) (refuses t) ended (far.stream ++ bytes) (newcomers xs) z old new
+  unheard : {ended : Type 0} {new : Option (List ℕ)} {bytes text : List ℕ} {z : Speakers}
+      → IsHandled t ended at bytes z text
+      → AppendsFront mid new [] text → IsUnheard (answers t) (refuses t) ended (far.stream ++ bytes) (newcomers xs) z
+      old new
   unheard {ended} {new} {bytes} {text} {z} h front =
       let begins = begins_more bytes far_begins in record {
         told = far.goes.ls;
@@ -304,20 +315,25 @@ module _ {t : Setup} {input rest old mid : Option (List ℕ)} {xs : List SeatVie
 
 module _ {t : Setup} {input rest old : Option (List ℕ)} {xs : List SeatView} {at : SoFar} (w w' : Writing)
     (far : IsSoFar t input rest old w.contents xs at) where
-  breaks : {B E : Type 0} (ended : Type 0) → (E → ended) → (taken : Result B SessionEnd) (bytes text : List ℕ) (z : Speakers)
+  breaks : {B E : Type 0} (ended : Type 0) → (E → ended)
+      → (taken : Result B SessionEnd) (bytes text : List ℕ) (z : Speakers)
       (end : SessionEnd) → IfErr taken (Halts t E at bytes z text) → OnOk taken (IsHandled t ended at bytes z text)
       → length bytes ≤ READ_SIZE → IsWritten taken text w w' (Err end)
       → Ends (answers t) (refuses t) ended (far.stream ++ bytes) (newcomers xs) z old w'.contents (Err end)
   breaks {B} {E} ended over taken bytes text z end halted handled small written = elim written [
-    | inl so ↦ ends_so ended over old w'.contents (appends_more old w.contents w'.contents far.text text far.written so.1) end
+    | inl so ↦ ends_so ended over old w'.contents (appends_more old w.contents w'.contents far.text text far.written
+        so.1) end
         (halts_after far.goes (subst (λ r. IfErr r (Halts t E at bytes z text)) so.0 halted))
     | inr stuck ↦ let same : end ≡ Write = cc in
-        subst (λ (e : SessionEnd). Ends (answers t) (refuses t) ended (far.stream ++ bytes) (newcomers xs) z old w'.contents (Err e))
+        subst (λ (e : SessionEnd). Ends (answers t) (refuses t) ended (far.stream ++ bytes) (newcomers xs) z old
+        w'.contents (Err e))
         (sym same) (unheard far (any_handled over far.goes.ready small taken handled halted) stuck.1)
   ]
 
-  pub session_halts : {rest' : Option (List ℕ)} {B : Type 0} {taken : Result B SessionEnd} {to : SoFar} {bytes text : List ℕ} {end : SessionEnd}
-      → Consumes rest rest' bytes → length bytes ≤ READ_SIZE → Takes t at bytes to text taken → IsWritten taken text w w' (Err end)
+  pub session_halts : {rest' : Option (List ℕ)} {B : Type 0} {taken : Result B SessionEnd} {to : SoFar}
+      {bytes text : List ℕ} {end : SessionEnd}
+      → Consumes rest rest' bytes → length bytes ≤ READ_SIZE → Takes t at bytes to text taken
+      → IsWritten taken text w w' (Err end)
       → IsSessionOf t.how t.opening t.seats t.cap t.names input rest' old w'.contents xs to.who.seats (Err end)
   session_halts {rest'} {taken = taken} {to} {bytes} {text} {end} read small takes written = record {
     stream = far.stream ++ bytes;
@@ -328,7 +344,8 @@ module _ {t : Setup} {input rest old : Option (List ℕ)} {xs : List SeatView} {
         (on_ok taken (handled_goes far.goes.ready small) takes.taken) small written;
   }
 
-  pub session_closes : {rest' : Option (List ℕ)} {B : Type 0} {taken : Result B SessionEnd} {to : SoFar} {text : List ℕ} {end : SessionEnd}
+  pub session_closes : {rest' : Option (List ℕ)} {B : Type 0} {taken : Result B SessionEnd} {to : SoFar}
+      {text : List ℕ} {end : SessionEnd}
       → Consumes rest rest' [] → IsAtEnd rest' → TakesEnd t at to text taken → IsWritten taken text w w' (Err end)
       → IsSessionOf t.how t.opening t.seats t.cap t.names input rest' old w'.contents xs to.who.seats (Err end)
   session_closes {rest'} {taken = taken} {to} {text} {end} read over takes written = record {
@@ -340,7 +357,8 @@ module _ {t : Setup} {input rest old : Option (List ℕ)} {xs : List SeatView} {
         (on_ok taken (handled_end over far.goes.ready) takes.answered) (omega arith) written;
   }
 
-  pub session_ends : {rest' : Option (List ℕ)} {B : Type 0} {taken : Result B SessionEnd} {b : B} {to : SoFar} {text : List ℕ}
+  pub session_ends : {rest' : Option (List ℕ)} {B : Type 0} {taken : Result B SessionEnd} {b : B} {to : SoFar}
+      {text : List ℕ}
       → Consumes rest rest' [] → IsAtEnd rest' → TakesEnd t at to text taken → IsWritten taken text w w' (Ok b)
       → IsSessionOf t.how t.opening t.seats t.cap t.names input rest' old w'.contents xs to.who.seats (Ok to.count)
   session_ends {rest'} {taken = taken} {to = to} {text} read over takes written =
@@ -351,7 +369,8 @@ module _ {t : Setup} {input rest old : Option (List ℕ)} {xs : List SeatView} {
       let size = length-append far.goes.ls (last_line p) in
       let few = last_few p at.count far.goes.ready.few far.goes.ready.full in record {
         stream = far.stream;
-        read = subst (Consumes input rest') (append-nil far.stream) (consumes_more input rest rest' far.stream [] far.read read);
+        read = subst (Consumes input rest') (append-nil far.stream)
+            (consumes_more input rest rest' far.stream [] far.read read);
         last = to.who;
         seats' = refl;
         ends = record {
@@ -431,11 +450,13 @@ numbers_answered t (line ∷ ls) s z text p =
     numbers_answered t ls m z back more ∙ numbers_said t s m line front answer
 
 module _ (t : Setup) (ended : Type 0) (stream : List ℕ) (s z : Speakers) (old new : Option (List ℕ)) where
-  numbers_stopped : {e : SessionEnd} → StopsAt (answers t) (refuses t) ended stream s z old new e → numbers z ≡ numbers s
+  numbers_stopped : {e : SessionEnd} → StopsAt (answers t) (refuses t) ended stream s z old new e
+      → numbers z ≡ numbers s
   numbers_stopped {e} h =
       numbers_left t h.m z h.line e h.stops ∙ numbers_answered t h.ls s h.m h.answered.text h.answered.answers
 
-  numbers_at : {P : List (List ℕ) → List ℕ → Type 0} → IsAtBytes (answers t) stream s z old new P → numbers z ≡ numbers s
+  numbers_at : {P : List (List ℕ) → List ℕ → Type 0} → IsAtBytes (answers t) stream s z old new P
+      → numbers z ≡ numbers s
   numbers_at h = numbers_answered t h.ls s z h.answered.text h.answered.answers
 
   numbers_kept : (result : Result ℕ SessionEnd) → Ends (answers t) (refuses t) ended stream s z old new result
@@ -458,23 +479,28 @@ module _ (t : Setup) (ended : Type 0) (stream : List ℕ) (s z : Speakers) (old 
         | inr line ↦ numbers_left t h.w z line.0 line.1 line.3 ∙ heard
       ]
 
-pub numbers_of : (t : Setup) {input rest old new : Option (List ℕ)} {xs ys : List SeatView} {result : Result ℕ SessionEnd}
+pub numbers_of : (t : Setup) {input rest old new : Option (List ℕ)} {xs ys : List SeatView}
+    {result : Result ℕ SessionEnd}
     → IsSessionOf t.how t.opening t.seats t.cap t.names input rest old new xs ys result
     → map (λ (x : SeatView). x.number) ys ≡ map (λ (x : SeatView). x.number) xs
 numbers_of t {rest = rest} {old} {new} {xs} {result = result} h =
-    ap (map (λ (x : SeatView). x.number)) (sym h.seats') ∙ numbers_kept t (IsAtEnd rest) h.stream (newcomers xs) h.last old new result h.ends
+    ap (map (λ (x : SeatView). x.number)) (sym h.seats')
+    ∙ numbers_kept t (IsAtEnd rest) h.stream (newcomers xs) h.last old new result h.ends
 
 -- each seat, one after another
-taken_get : {X : Type 0} (xs : List X) (i : ℕ) (d : X) → i < length xs → take (suc i) xs ≡ take i xs ++ slice_index_or xs i d ∷ []
+taken_get : {X : Type 0} (xs : List X) (i : ℕ) (d : X) → i < length xs
+    → take (suc i) xs ≡ take i xs ++ slice_index_or xs i d ∷ []
 taken_get [] i d low = absurd (omega (arith, low))
 taken_get (x ∷ xs) zero d low = refl
 taken_get (x ∷ xs) (suc i) d low = ap (λ l. x ∷ l) (taken_get xs i d (omega (arith, low)))
 
-pub one_more : {X : Type 0} (P : X → Type 0) (xs : List X) (i : ℕ) (d : X) → i < length xs → All P (take i xs) → P (slice_index_or xs i d)
+pub one_more : {X : Type 0} (P : X → Type 0) (xs : List X) (i : ℕ) (d : X) → i < length xs → All P (take i xs)
+    → P (slice_index_or xs i d)
     → All P (take (i + 1) xs)
 one_more P xs i d low all one =
     let next : suc i ≡ i + 1 = omega arith in
-    subst (λ k. All P (take k xs)) next (subst (All P) (sym (taken_get xs i d low)) (All-push P (take i xs) (slice_index_or xs i d) all one))
+    subst (λ k. All P (take k xs)) next (subst (All P) (sym (taken_get xs i d low))
+    (All-push P (take i xs) (slice_index_or xs i d) all one))
 
 -- how many bytes can still be read
 abbrev pub bytes_left : List ℕ → ℕ → ℕ
@@ -489,7 +515,8 @@ length_lines (line ∷ ls) each =
     let size = length-append (line ++ 10 ∷ []) (flat_map with_newline ls) in
     omega (arith, tail, head, one, size)
 
-pub fewer_left : {t : Setup} {old new : SoFar} {bytes text : List ℕ} → IsReady old → Goes t old bytes [] new text → 1 ≤ length bytes
+pub fewer_left : {t : Setup} {old new : SoFar} {bytes text : List ℕ} → IsReady old → Goes t old bytes [] new text
+    → 1 ≤ length bytes
     → bytes_left new.pending new.count < bytes_left old.pending old.count
 fewer_left {t} {old} {new} {bytes} ready g some =
     let whole = ap length g.came.whole in
@@ -497,7 +524,20 @@ fewer_left {t} {old} {new} {bytes} ready g some =
     let end = length-append new.pending [] in
     let right = length-append (flat_map with_newline g.ls) (new.pending ++ []) in
     let few = length_lines g.ls g.came.each in
-    omega (arith, whole, left, right, end, few, g.counted, ready.few, g.ready.few, ready.line.short, g.ready.line.short, some)
+    omega (
+      arith,
+      whole,
+      left,
+      right,
+      end,
+      few,
+      g.counted,
+      ready.few,
+      g.ready.few,
+      ready.line.short,
+      g.ready.line.short,
+      some,
+    )
 
 -- a read filled the front of the buffer
 pub chunk_size : (n : ℕ) (chunk items : List ℕ) → chunk ≡ items → n ≤ length items → length items ≡ READ_SIZE
@@ -506,9 +546,11 @@ chunk_size n chunk items same bound size =
     let all : length chunk ≡ length items = ap length same in
     (length-take-le n chunk (omega (arith, all, bound)), omega (arith, bound, size))
 
-pub read_chunk : (rest rest' : Option (List ℕ)) (n : ℕ) (chunk items : List ℕ) → chunk ≡ items → Consumes rest rest' (take n items)
+pub read_chunk : (rest rest' : Option (List ℕ)) (n : ℕ) (chunk items : List ℕ) → chunk ≡ items
+    → Consumes rest rest' (take n items)
     → Consumes rest rest' (take n chunk)
 read_chunk rest rest' n chunk items same read = subst (λ l. Consumes rest rest' (take n l)) (sym same) read
 
-pub read_nothing : (rest rest' : Option (List ℕ)) (n : ℕ) (items : List ℕ) → n ≡ 0 → Consumes rest rest' (take n items) → Consumes rest rest' []
+pub read_nothing : (rest rest' : Option (List ℕ)) (n : ℕ) (items : List ℕ) → n ≡ 0
+    → Consumes rest rest' (take n items) → Consumes rest rest' []
 read_nothing rest rest' n items none read = subst (λ k. Consumes rest rest' (take k items)) none read

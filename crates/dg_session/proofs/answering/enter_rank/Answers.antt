@@ -21,7 +21,8 @@ pub returns-in-Err : goal.returns-in-Err
 returns-in-Err g c =
     let (same, tried) = c.in-Ok.ensures in
     with_look (sym c.take.ensures.value ∙ c.in-Some.is)
-    (call_refused (rank_within c.receipt-receipt.ensures.taken tried.within) c.in-Err.ensures.fault.1 c.in-Err.ensures.fault.2 refl)
+    (call_refused (rank_within c.receipt-receipt.ensures.taken tried.within) c.in-Err.ensures.fault.1
+    c.in-Err.ensures.fault.2 refl)
 
 pub returns-in-Ok-say : goal.returns-in-Ok-say
 returns-in-Ok-say g c =
@@ -30,7 +31,8 @@ returns-in-Ok-say g c =
     (words_said (codes "bad trials\n")
     (inl (
       rank_past c.receipt-receipt.ensures.taken
-          (subst (IsRankFault c.in-Some.look.shown.graph.size c.args.k c.args.shared.now.workers) c.in-Err-default-TooMany.field-0-1-is past),
+          (subst (IsRankFault c.in-Some.look.shown.graph.size c.args.k c.args.shared.now.workers)
+          c.in-Err-default-TooMany.field-0-1-is past),
       (refl, ap (λ (l : LookView). Some l.receipt.0) same, refl),
     )) c.in-Ok-say.ensures)
 
@@ -46,6 +48,7 @@ pub returns-in-Err-default-Spawn : goal.returns-in-Err-default-Spawn
 returns-in-Err-default-Spawn g c =
     let (same, spawn) = c.in-Err-default-Spawn.ensures in
     let within = rank_within c.receipt-receipt.ensures.taken
-    (subst (IsRankFault c.in-Some.look.shown.graph.size c.args.k c.args.shared.now.workers) c.in-Err-default-Spawn.field-0-1-is spawn).0 in
+    (subst (IsRankFault c.in-Some.look.shown.graph.size c.args.k c.args.shared.now.workers)
+    c.in-Err-default-Spawn.field-0-1-is spawn).0 in
     with_look (sym c.take.ensures.value ∙ c.in-Some.is)
     (record { done = tt; refused = (within, gains_same c.args.seat.now); unsaid = refl })

@@ -44,19 +44,22 @@ returns-in-Err-clause-session g c =
 
 pub returns-in-Err-clause-read : goal.returns-in-Err-clause-read
 returns-in-Err-clause-read g c e =
-    absurd (not_read c.take_end-taken.result _ c.reads.writer c.write_said.new.writer c.in-Err.end c.take_end-taken.ensures.halted
+    absurd (not_read c.take_end-taken.result _ c.reads.writer c.write_said.new.writer c.in-Err.end
+    c.take_end-taken.ensures.halted
     (λ end. halts_by end) c.in-Err.ensures.written e)
 
 pub returns-in-Err-clause-write : goal.returns-in-Err-clause-write
 returns-in-Err-clause-write g c e =
-    write_failed c.take_end-taken.result _ c.reads.writer c.write_said.new.writer c.in-Err.end c.take_end-taken.ensures.halted
+    write_failed c.take_end-taken.result _ c.reads.writer c.write_said.new.writer c.in-Err.end
+    c.take_end-taken.ensures.halted
     (λ end. halts_by end) c.in-Err.ensures.written e
 
 pub reads-preserved : goal.reads-preserved
 reads-preserved g c =
     let (goes, written) = written_ok c.take_bytes-taken.result _ c.reads.writer c.write_said-in-reads.new.writer
     c.in-Ok-write_said-2.ensures.written c.take_bytes-taken.ensures.taken in (
-      so_far_more c.reads.invariant.0 (read_chunk _ _ _ _ _ c.deref.ensures.value c.in-Some-read_some.ensures.bytes) goes written,
+      so_far_more c.reads.invariant.0 (read_chunk _ _ _ _ _ c.deref.ensures.value c.in-Some-read_some.ensures.bytes)
+          goes written,
       c.in-Ok-write_said-2.ensures.cleared,
       c.read_some.ensures.size ∙ c.reads.invariant.2,
     )

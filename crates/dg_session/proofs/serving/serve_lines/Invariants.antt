@@ -8,7 +8,8 @@ use Rattle.dg_session.proofs.serving.serve_lines.Given as goal
 abbrev pub invariant-reads : goal.invariant-reads
 invariant-reads g l =
     IsSoFar (setup l.shared.how g.N.Name.start g.N.Name.seats (length g.N.Name.cells) l.shared.names.now)
-    l.fn.reader.remaining l.reader.remaining l.fn.writer.contents l.writer.contents l.fn.seats (so_far l.progress l.seats)
+    l.fn.reader.remaining l.reader.remaining l.fn.writer.contents l.writer.contents l.fn.seats
+    (so_far l.progress l.seats)
     × (l.progress.said.text.items ≡ []) × (length l.buffer.items ≡ READ_SIZE)
 
 abbrev pub decreases-reads : goal.decreases-reads

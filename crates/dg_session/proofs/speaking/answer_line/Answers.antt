@@ -3,6 +3,5 @@ use Rattle.dg_session.proofs.speaking.answer_line.Goals as goal
 
 pub returns : goal.returns
 returns g c =
-    spoken c.args.seats.now c.args.kept.now c.in-Some.place c.index-seats-place.result c.answer_seat.new.seat
-    c.index-kept-place.result c.answer_seat.new.kept c.in-Some.ensures.one c.in-Some.ensures.there c.requires.each
-    c.answer_seat.ensures
+    spoken c.args.seats.now c.args.kept.now c.in-Some.place _ _ _ _ c.in-Some.ensures.one c.in-Some.ensures.there
+    c.requires.each c.answer_seat.ensures

@@ -24,11 +24,13 @@ returns-in-Err g c =
 pub returns-in-Ok-extend_from_slice : goal.returns-in-Ok-extend_from_slice
 returns-in-Ok-extend_from_slice g c =
     let part = c.cut.result.0.now in
-    let whole = part_whole c.parts.rest.now part c.cut.result.1 c.cut.ensures.before c.cut.ensures.after c.in_default.is in
+    let whole = part_whole c.parts.rest.now part c.cut.result.1 c.cut.ensures.before c.cut.ensures.after
+    c.in_default.is in
     record {
       taken = goes_part c.parts.invariant part c.extend_from_slice.new.self.items (whole ∙ append-nil part)
           c.in-Ok-extend_from_slice.ensures.items (part_plain c.parts.rest.now part c.cut.ensures.before)
-          (subst (λ (l : List ℕ). length l + length part ≤ MAX_LINE) c.deref.ensures.value c.in-Ok.ensures.short) c.in-Ok.ensures.more;
+          (subst (λ (l : List ℕ). length l + length part ≤ MAX_LINE) c.deref.ensures.value c.in-Ok.ensures.short)
+          c.in-Ok.ensures.more;
       halted = tt;
     }
 
@@ -36,25 +38,29 @@ pub returns-in-Err-end_line : goal.returns-in-Err-end_line
 returns-in-Err-end_line g c =
     let part = c.cut.result.0.now in
     let few : c.parts.progress.count < MAX_LINES = search rules in
-    let cut = part_line c.parts.rest.now part c.cut.result.1 c.in-Some.after c.cut.ensures.before c.cut.ensures.after c.in-Some.is in
+    let cut = part_line c.parts.rest.now part c.cut.result.1 c.in-Some.after c.cut.ensures.before c.cut.ensures.after
+    c.in-Some.is in
     let is = line_with part c.parts.invariant.ready (part_plain c.parts.rest.now part c.cut.ensures.before)
     (subst (λ (l : List ℕ). length l + length part ≤ MAX_LINE) c.deref.ensures.value c.in-Ok.ensures.short) in
     record {
       taken = tt;
-      halted = halts_line c.parts.invariant part c.in-Some.after.now cut is few c.in-Err-end_line.ensures.handled.refused
+      halted = halts_line c.parts.invariant part c.in-Some.after.now cut is few
+          c.in-Err-end_line.ensures.handled.refused
           c.in-Err-end_line.ensures.handled.unsaid;
     }
 
 pub parts-smaller : goal.parts-smaller
 parts-smaller g c =
     line_shorter c.parts.rest.now c.cut.result.0.now c.in-Some.after.now
-    (part_line c.parts.rest.now c.cut.result.0.now c.cut.result.1 c.in-Some.after c.cut.ensures.before c.cut.ensures.after c.in-Some.is)
+    (part_line c.parts.rest.now c.cut.result.0.now c.cut.result.1 c.in-Some.after c.cut.ensures.before
+    c.cut.ensures.after c.in-Some.is)
 
 pub parts-preserved : goal.parts-preserved
 parts-preserved g c =
     let part = c.cut.result.0.now in
     let few : c.parts.progress.count < MAX_LINES = search rules in
-    let cut = part_line c.parts.rest.now part c.cut.result.1 c.in-Some.after c.cut.ensures.before c.cut.ensures.after c.in-Some.is in
+    let cut = part_line c.parts.rest.now part c.cut.result.1 c.in-Some.after c.cut.ensures.before c.cut.ensures.after
+    c.in-Some.is in
     let is = line_with part c.parts.invariant.ready (part_plain c.parts.rest.now part c.cut.ensures.before)
     (subst (λ (l : List ℕ). length l + length part ≤ MAX_LINE) c.deref.ensures.value c.in-Ok.ensures.short) in
     goes_line c.parts.invariant part cut is few c.in-Ok-end_line.ensures.handled.done c.in-Ok-end_line.ensures.pending

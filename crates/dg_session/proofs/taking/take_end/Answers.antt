@@ -26,5 +26,6 @@ returns-in-Err g c =
     let some : 1 ≤ length c.args.progress.now.pending.items = search (rules, tests) in record {
       answered = tt;
       counted = tt;
-      halted = last_halts tt c.requires.ready some c.requires.said c.in-Err.ensures.handled.refused c.in-Err.ensures.handled.unsaid;
+      halted = last_halts tt c.requires.ready some c.requires.said c.in-Err.ensures.handled.refused
+          c.in-Err.ensures.handled.unsaid;
     }
