@@ -2,7 +2,6 @@
 pub mod Cutting
 pub mod Made
 pub mod Lines
-pub mod Runs
 pub mod Seated
-pub mod Parts
+pub mod Going
 pub mod Sessions

@@ -1,29 +1,25 @@
--- Lines that are answered or refused.
---   line_refused   where its command is refused, a line is
---   line_bad       a line with a fault is answered by it
-use Rattle.std.proofs.Common.{◌≡◌, ℕ, inl, inr, List, [], ◌++◌, Option, refl}
-use Rattle.dg_chips.specs.Opening.{Opening}
+-- Lines that a seat hears.
+--   heard       a line is answered or refused as its command
+--   bad_heard   a line with a fault is answered by it
+use Rattle.std.proofs.Common.{ℕ, inl, inr, List, [], Result, Ok, Err, refl, sym, subst}
 use Rattle.dg_game.specs.declared.step.Command.{Command}
 use Rattle.dg_lines.specs.Commands.{IsCommandLine}
 use Rattle.dg_lines.specs.LineFaults.{IsLineFault}
 use Rattle.dg_lines.specs.declared.line.LineFault.{LineFault}
-use Rattle.dg_table.specs.Seats.{SeatView}
-use Rattle.dg_session.specs.Saying.{AnswersLine, fault_text}
+use Rattle.dg_session.specs.Saying.{fault_text}
 use Rattle.dg_session.specs.Refusing.{RefusesCommand, RefusesLine}
-use Rattle.dg_session.specs.Steps.{IsDone}
+use Rattle.dg_session.specs.SoFar.{Setup, Speaker, Tells, Hears, Obeys}
 use Rattle.dg_session.specs.declared.ends.SessionEnd.{SessionEnd}
-use Rattle.dg_session.specs.declared.ends.SessionEnd.TheVariants as ends
+use Rattle.dg_session.specs.declared.ends.SessionEnd.TheVariants.{Table, Memory, Spawn}
 use Rattle.dg_session.proofs.Made.{gains_same}
 
-pub line_refused : (o : Opening) (seats cap : ℕ) (names : List (List ℕ)) (kept : Option ℕ) (line : List ℕ) (command : Command) (x y : SeatView) (end : SessionEnd)
-    → IsCommandLine names command line → RefusesCommand o seats cap names kept command x y end → RefusesLine o seats cap names kept line x y end
-line_refused o seats cap names kept line command x y ends.Read spelled h = h
-line_refused o seats cap names kept line command x y ends.Write spelled h = h
-line_refused o seats cap names kept line command x y ends.LongLine spelled h = h
-line_refused o seats cap names kept line command x y ends.Turns spelled h = h
-line_refused o seats cap names kept line command x y (ends.Table fault) spelled h = (command, spelled, h.0, h.1, h.2)
-line_refused o seats cap names kept line command x y ends.Spawn spelled h = (command, spelled, h.0, h.1)
-line_refused o seats cap names kept line command x y ends.Memory spelled h = record {
+line_refused : (t : Setup) (line : List ℕ) (command : Command) (old new : Speaker) (end : SessionEnd)
+    → IsCommandLine t.names command line
+    → RefusesCommand t.opening t.seats t.cap t.names old.kept command old.seat new.seat end
+    → RefusesLine t.opening t.seats t.cap t.names old.kept line old.seat new.seat end
+line_refused t line command old new (Table fault) spelled h = (command, spelled, h.0, h.1, h.2)
+line_refused t line command old new Spawn spelled h = (command, spelled, h.0, h.1)
+line_refused t line command old new Memory spelled h = record {
   more = h.more;
   next = elim h.next [
     | inl none ↦ inl none
@@ -31,13 +27,43 @@ line_refused o seats cap names kept line command x y ends.Memory spelled h = rec
   ];
   gained = h.gained;
 }
+line_refused t line command old new end spelled h = h
 
-pub line_bad : (o : Opening) (names : List (List ℕ)) (kept : Option ℕ) (line : List ℕ) (fault : LineFault) (x : SeatView) (old new : List ℕ)
-    → IsLineFault names fault line → new ≡ old ++ fault_text fault → IsDone (AnswersLine o names kept line) x x kept old new
-line_bad o names kept line fault x old new bad said = record {
-  made = [];
-  text = fault_text fault;
-  answers = inl (fault, bad, (refl, refl, refl));
-  gained = gains_same x;
-  said = said;
+pub heard : {B : Type 0} {t : Setup} {line : List ℕ} {command : Command} {old new : Speaker}
+    {result : Result B SessionEnd}
+    → IsCommandLine t.names command line → Obeys t command old new result → Hears t line old new result
+heard {command = command} {result = Ok b} spelled h = record {
+  done = record {
+    made = h.done.made;
+    text = h.done.text;
+    answers = inr (command, spelled, h.done.answers);
+    gained = h.done.gained;
+    said = h.done.said;
+  };
+  refused = tt;
+  unsaid = tt;
+}
+heard {t = t} {line} {command} {old} {new} {result = Err end} spelled h =
+    record { done = tt; refused = line_refused t line command old new end spelled h.refused; unsaid = h.unsaid }
+
+pub bad_heard : {B : Type 0} {t : Setup} {line said : List ℕ} {old : Speaker} {result : Result B SessionEnd}
+    (fault : LineFault)
+    → IsLineFault t.names fault line → Tells (fault_text fault) old.said said result
+    → Hears t line old (record old { said = said }) result
+bad_heard {old = old} {result = Ok b} fault bad told = record {
+  done = record {
+    made = [];
+    text = fault_text fault;
+    answers = inl (fault, bad, (refl, refl, refl));
+    gained = gains_same old.seat;
+    said = told;
+  };
+  refused = tt;
+  unsaid = tt;
+}
+bad_heard {t = t} {line} {old = old} {result = Err end} fault bad told = record {
+  done = tt;
+  refused = subst (RefusesLine t.opening t.seats t.cap t.names old.kept line old.seat old.seat) (sym told.0)
+      (record { more = []; next = inl refl; gained = gains_same old.seat });
+  unsaid = told.1;
 }

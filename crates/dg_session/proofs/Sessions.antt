@@ -1,55 +1,49 @@
 -- Sessions, read after read.
---   IsSoFar          what was read is a stream that begins with the lines so far; all are answered, and what they said is written
---   so_far_none      nothing is read
---   so_far_new       of seats that keep no look
+--   IsSoFar          what was read is a stream of which all but what is pending is answered, and what was said is
+--       written
+--   so_far_new       nothing is read
 --   so_far_more      one more read
---   ends_so          a session that halts, where all that was said is written
+--   halts_by         a session halts for no read and no write
+--   ends_so          it ends as it halts, where all that was said is written
 --   IsHandled        what was read last is handled, though not all of what was said may be written
---   ends_unheard     then the writer takes no more
---   session_unsaid   the session ends before it reads, for want of memory
+--   unheard          then the writer takes no more
+--   session_unsaid   a session ends before it reads, for want of memory
 --   session_reads    it ends where a read fails
 --   session_halts    it ends in what was read
---   session_ends, session_breaks   it ends with its input, or at the last line
---   numbers_kept     each seat has its number at the end
---   numbers_of       so it has after a session
+--   session_ends, session_closes   it ends with its input, or at the last line
+--   not_read, write_failed   what ended was no read; and where the writer took no more it has failed
+--   numbers_of       each seat has its number at the end
 --   one_more         what holds of each seat so far, and of the next
 --   fewer_left       fewer bytes can still be read
 --   chunk_size, read_chunk, read_nothing   a read filled the front of the buffer
---   ok_of            what holds where all was taken
---   no_read, write_failed   what ended was no read; and where the writer took no more it has failed
---   some_of, inner_end   what tests and results say
-use Rattle.std.proofs.Common.{◌≡◌, ◌≢◌, ℕ, zero, suc, ◌+◌, ◌-◌, ◌*◌, ◌<◌, ◌≤◌, ◌⊎◌, inl, inr, List, [], ◌∷◌, ◌++◌, length, take, map, Option, Some, None, Result, Ok, Err, OnOk, IfErr, refl, sym, ap, subst, ◌∙◌, arith, append_assoc, append-nil, length-append, All, flat_map}
-use Rattle.std.proofs.lemmas.List.Elements.{All-append, All-nil, All-cons, All-head, All-tail, All-push}
+use Rattle.std.proofs.Common.{◌≡◌, ◌≢◌, ℕ, zero, suc, ◌+◌, ◌-◌, ◌*◌, ◌<◌, ◌≤◌, ◌⊎◌, inl, inr, List, [], ◌∷◌, ◌++◌, length, take, map, Option, Some, None, Result, Ok, Err, OnOk, IfErr, true, refl, sym, ap, subst, ◌∙◌, arith, append_assoc, append-nil, length-append, All, flat_map}
+use Rattle.std.specs.Prelude.{⊤}
+use Rattle.std.proofs.lemmas.List.Elements.{All-append, All-nil, All-head, All-tail, All-push}
 use Rattle.std.proofs.lemmas.List.{length-take-le, length-map}
 use Rattle.std.specs.List.{slice_index_or}
 use Rattle.std.specs.Io.KnownBytes.{Appends, Consumes, Keeps, IsAtEnd}
-use Rattle.dg_chips.specs.Opening.{Opening}
 use Rattle.dg_table.specs.Seats.{SeatView}
 use Rattle.dg_analyst.specs.Views.{LookView}
 use Rattle.dg_lines.specs.Cuts.{lines}
-use Rattle.dg_streams.specs.Streams.{AppendsFront}
+use Rattle.dg_streams.specs.Streams.{Writing, AppendsFront}
 use Rattle.dg_streams.proofs.Growing.{appends_none, appends_more}
-use Rattle.dg_session.specs.Streams.{IsLine, Begins, AreLines, Comes, with_newline, last_line}
-use Rattle.dg_session.specs.Speakers.{Speakers, kept_number, speakers, newcomers, AnswersLineOf, RefusesLineOf}
-use Rattle.dg_session.specs.Ends.{Answering, Ending, Answers, AreAnswered, StopsAt, IsUnsaid, IsUnheard, IsAtBytes, Ends, IsSessionOf}
-use Rattle.dg_session.specs.Steps.{MayPend, Passes, FailsLine, Fails, Halts, IsWritten}
-use Rattle.dg_session.specs.declared.addressing.Addressing.{Addressing}
+use Rattle.dg_session.specs.Streams.{IsLine, Begins, AreLines, with_newline, last_line}
+use Rattle.dg_session.specs.Speakers.{Speakers, kept_number, speakers, newcomers}
+use Rattle.dg_session.specs.Ends.{Answers, AreAnswered, StopsAt, IsUnsaid, IsUnheard, IsAtBytes, Ends, IsSessionOf}
+use Rattle.dg_session.specs.SoFar.{Setup, SoFar, beginning, answers, refuses, IsReady, Goes, StopsIn, Halts, Takes, TakesEnd, IsWritten}
 use Rattle.dg_session.specs.declared.ends.TheConstants.{MAX_LINE, MAX_LINES, READ_SIZE}
 use Rattle.dg_session.specs.declared.ends.SessionEnd.{SessionEnd}
 use Rattle.dg_session.specs.declared.ends.SessionEnd.TheVariants.{Read, Write, LongLine, Turns, Table, Memory, Spawn}
-use Rattle.dg_session.proofs.Cutting.{one_cutting}
-use Rattle.dg_session.proofs.Runs.{answers_none, answers_more, begins_both, begins_line, begins_more, passes_none, passes_more, halts_after}
-use Rattle.dg_session.proofs.Parts.{may_none}
-use Rattle.dg_session.proofs.Seated.{IsLineEnd, numbers, numbers_said, numbers_left}
+use Rattle.dg_session.proofs.Cutting.{one_cutting, begins_more, lines_then, lines_end, each_last}
+use Rattle.dg_session.proofs.Going.{answers_none, answers_more, goes_more, halts_after, empty_line}
+use Rattle.dg_session.proofs.Seated.{ends_by, numbers, numbers_said, numbers_left}
 
-pub record IsSoFar (A : Answering) (input rest : Option (List ℕ)) (old new : Option (List ℕ)) (s : Speakers)
-    (p : List ℕ) (c : ℕ) (z : Speakers) : Type 0 where
+pub record IsSoFar (t : Setup) (input rest old new : Option (List ℕ)) (xs : List SeatView) (at : SoFar) : Type 0 where
   pub stream : List ℕ
   pub read : Consumes input rest stream
   pub text : List ℕ
-  pub passed : Passes A [] stream 0 s p c z text
+  pub goes : Goes t (beginning xs) stream [] at text
   pub written : Appends old new text
-  pub may : MayPend p c
 
 consumes_none : (a : Option (List ℕ)) → Consumes a a []
 consumes_none None = tt
@@ -67,174 +61,184 @@ consumes_kept (Some x) None c bs p q = absurd p
 consumes_kept (Some x) (Some y) None bs p q = absurd q
 consumes_kept (Some x) (Some y) (Some z) bs p q = p ∙ ap (λ l. bs ++ l) (sym q)
 
-pub so_far_none : (A : Answering) (input old : Option (List ℕ)) (s : Speakers) (p : List ℕ) (c : ℕ) → p ≡ [] → c ≡ 0
-    → IsSoFar A input input old old s p c s
-so_far_none A input old s p c none begun = record {
-  stream = [];
-  read = consumes_none input;
-  text = [];
-  passed = subst (λ q. Passes A [] [] 0 s q c s []) (sym none) (subst (λ n. Passes A [] [] 0 s [] n s []) (sym begun) (passes_none A [] 0 s [] refl));
-  written = appends_none old;
-  may = may_none p c none (omega (arith, begun));
+pub so_far_new : {t : Setup} {input old : Option (List ℕ)} {xs : List SeatView} (ks : List (Option LookView))
+    (p : List ℕ) (c : ℕ)
+    → p ≡ [] → c ≡ 0 → map kept_number ks ≡ map (λ x. None) xs → 1 ≤ length xs
+    → IsSoFar t input input old old xs (record { pending = p; count = c; who = speakers xs ks })
+so_far_new {t} {input} {old} {xs} ks p c none begun unkept some =
+    let none_of : SeatView → Option ℕ = λ x. None in record {
+      stream = [];
+      read = consumes_none input;
+      text = [];
+      goes = record {
+        ls = [];
+        came = record { whole = sym (append-nil p ∙ none); each = All-nil IsLine };
+        counted = omega (arith, begun);
+        answered = subst (λ (k : List (Option ℕ)). Answers (answers t) (newcomers xs) []
+            (record { seats = xs; kept = k }) [])
+            (sym unkept) (answers_none (answers t) (newcomers xs));
+        ready = record {
+          line = empty_line p none;
+          few = omega (arith, begun);
+          full = λ full. none;
+          some = some;
+          each = ap length unkept ∙ length-map xs none_of;
+        };
+      };
+      written = appends_none old;
+    }
+
+pub so_far_more : {t : Setup} {input rest rest' old mid new : Option (List ℕ)} {xs : List SeatView} {at to : SoFar}
+    {bytes text : List ℕ} → IsSoFar t input rest old mid xs at → Consumes rest rest' bytes → Goes t at bytes [] to text
+    → Appends mid new text → IsSoFar t input rest' old new xs to
+so_far_more {t} {input} {rest} {rest'} {old} {mid} {new} {xs} {at} {to} {bytes} {text} far read goes written = record {
+  stream = far.stream ++ bytes;
+  read = consumes_more input rest rest' far.stream bytes far.read read;
+  text = far.text ++ text;
+  goes = goes_more far.goes goes;
+  written = appends_more old mid new far.text text far.written written;
 }
 
-pub so_far_new : (A : Answering) (input old : Option (List ℕ)) (xs : List SeatView) (ks : List (Option LookView)) (p : List ℕ) (c : ℕ)
-    → p ≡ [] → c ≡ 0 → map kept_number ks ≡ map (λ x. None) xs
-    → IsSoFar A input input old old (newcomers xs) p c (speakers xs ks) × (length ks ≡ length xs)
-so_far_new A input old xs ks p c none begun unkept = (
-  subst (λ (k : List (Option ℕ)). IsSoFar A input input old old (newcomers xs) p c (record { seats = xs; kept = k })) (sym unkept)
-      (so_far_none A input old (newcomers xs) p c none begun),
-  let none_of : SeatView → Option ℕ = λ x. None in
-      let looks = length-map ks kept_number in let nones = length-map xs none_of in
-      omega (arith, looks, nones, ap length unkept),
-)
+abbrev IsHalt : SessionEnd → Type 0
+IsHalt Read = ⊥
+IsHalt Write = ⊥
+IsHalt end = ⊤
 
-line_came : (ended : Type 0) (stream : List ℕ) (ls : List (List ℕ)) (p part more rest : List ℕ) (c : ℕ) → c ≡ length ls → c < MAX_LINES
-    → IsLine (p ++ part) → rest ≡ part ++ 10 ∷ more → Begins stream ls (p ++ rest) → Comes ended stream ls (p ++ part)
-line_came ended stream ls p part more rest c counted few is cut begins = (
-  let size = length-append ls ((p ++ part) ∷ []) in omega (arith, size, counted, few),
-  inl (
-    more,
-    begins_line stream (p ++ part) more ls is
-        (subst (Begins stream ls) (ap (λ l. p ++ l) cut ∙ sym (append_assoc p part (10 ∷ more))) begins),
-  ),
-)
+pub halts_by : {t : Setup} {E : Type 0} {at : SoFar} {bytes text : List ℕ} {z : Speakers} (end : SessionEnd)
+    → Halts t E at bytes z text end → IsHalt end
+halts_by {t} {z = z} Read h = elim h.fails [
+  | inl stays ↦ stays.0
+  | inr line ↦ ends_by t h.at.who z line.line Read line.stops
+]
+halts_by {t} {z = z} Write h = elim h.fails [
+  | inl stays ↦ stays.0
+  | inr line ↦ ends_by t h.at.who z line.line Write line.stops
+]
+halts_by end h = tt
 
 -- a session that halts, where all that was said is written
-module _ (A : Answering) (R : Ending) (ended : Type 0) (stream : List ℕ) (s z : Speakers) (old new : Option (List ℕ)) (text : List ℕ)
-    (written : Appends old new text) where
-  begins_all : (e : SessionEnd) (h : Halts A R [] stream 0 s z text e) → Begins stream h.passed.ls (h.pending ++ h.rest)
-  begins_all e h = subst (λ l. Begins l h.passed.ls (h.pending ++ h.rest)) (sym h.whole)
-      (begins_more h.front h.pending h.rest h.passed.ls h.passed.came)
+module _ {t : Setup} {E : Type 0} (ended : Type 0) (over : E → ended) (old new : Option (List ℕ)) {xs : List SeatView}
+    {stream text : List ℕ} {z : Speakers} (written : Appends old new text) where
+  answered : {e : SessionEnd} (h : Halts t E (beginning xs) stream z text e)
+      → AreAnswered (answers t) (newcomers xs) h.goes.ls h.at.who old new
+  answered h = record { text = text; answers = h.goes.answered; written = written }
 
-  answered : (e : SessionEnd) (h : Halts A R [] stream 0 s z text e) → AreAnswered A s h.passed.ls h.m old new
-  answered e h = record { text = text; answers = h.passed.answers; written = written }
-
-  at_bytes : (e : SessionEnd) (h : Halts A R [] stream 0 s z text e) (P : List (List ℕ) → List ℕ → Type 0) → z ≡ h.m
-      → P h.passed.ls (h.pending ++ h.rest) → IsAtBytes A stream s z old new P
-  at_bytes e h P same holds = record {
-    ls = h.passed.ls;
-    rest = h.pending ++ h.rest;
-    cut = begins_all e h;
+  at_bytes : {e : SessionEnd} (h : Halts t E (beginning xs) stream z text e) (P : List (List ℕ) → List ℕ → Type 0)
+      → z ≡ h.at.who → P h.goes.ls (h.at.pending ++ h.rest) → IsAtBytes (answers t) stream (newcomers xs) z old new P
+  at_bytes h P same holds = record {
+    ls = h.goes.ls;
+    rest = h.at.pending ++ h.rest;
+    cut = h.goes.came;
     holds = holds;
-    answered = subst (λ w. AreAnswered A s h.passed.ls w old new) (sym same) (answered e h);
+    answered = subst (λ w. AreAnswered (answers t) (newcomers xs) h.goes.ls w old new) (sym same) (answered h);
   }
 
-  stops_at : (e : SessionEnd) (h : Halts A R [] stream 0 s z text e) → FailsLine R h.pending h.count h.rest h.m z e
-      → StopsAt A R ended stream s z old new e
-  stops_at e h f = record {
-    ls = h.passed.ls;
-    line = h.pending ++ f.part;
-    came = line_came ended stream h.passed.ls h.pending f.part f.more h.rest h.count (omega (arith, h.passed.counted)) f.few f.line f.cut
-        (begins_all e h);
-    m = h.m;
-    answered = answered e h;
+  stops_at : {e : SessionEnd} (h : Halts t E (beginning xs) stream z text e) → StopsIn t E h.at h.rest z e
+      → StopsAt (answers t) (refuses t) ended stream (newcomers xs) z old new e
+  stops_at h f = record {
+    ls = h.goes.ls;
+    line = f.line;
+    came = lines_then over (f.line ∷ []) h.goes.came f.came (omega (arith, h.goes.counted, f.few));
+    m = h.at.who;
+    answered = answered h;
     stops = f.stops;
   }
 
-  unsaid : (h : Halts A R [] stream 0 s z text Memory) → z ≡ h.m → IsUnsaid A ended stream s z old new
+  unsaid : (h : Halts t E (beginning xs) stream z text Memory) → z ≡ h.at.who
+      → IsUnsaid (answers t) ended stream (newcomers xs) z old new
   unsaid h same = record {
-    ls = h.passed.ls;
-    came = (omega (arith, h.passed.counted, h.may.few), inl (h.pending ++ h.rest, begins_all Memory h));
-    answered = subst (λ w. AreAnswered A s h.passed.ls w old new) (sym same) (answered Memory h);
+    ls = h.goes.ls;
+    came = (omega (arith, h.goes.counted, h.goes.ready.few), inl (h.at.pending ++ h.rest, h.goes.came));
+    answered = subst (λ w. AreAnswered (answers t) (newcomers xs) h.goes.ls w old new) (sym same) (answered h);
   }
 
-  ends_so : (e : SessionEnd) → Halts A R [] stream 0 s z text e → Ends A R ended stream s z old new (Err e)
-  ends_so Read h = absurd h.fails
-  ends_so Write h = absurd h.fails
-  ends_so LongLine h =
-      at_bytes LongLine h _ h.fails.2 (omega (arith, h.passed.counted, h.fails.0), h.fails.1)
-  ends_so Turns h =
-      at_bytes Turns h _ h.fails.2
-      (omega (arith, h.passed.counted, h.fails.0), let size = length-append h.pending h.rest in omega (arith, size, h.fails.1))
-  ends_so (Table fault) h = stops_at (Table fault) h h.fails
-  ends_so Spawn h = stops_at Spawn h h.fails
+  pub ends_so : (e : SessionEnd) → Halts t E (beginning xs) stream z text e
+      → Ends (answers t) (refuses t) ended stream (newcomers xs) z old new (Err e)
+  ends_so LongLine h = elim h.fails [
+    | inl stays ↦ at_bytes h _ stays.1 (omega (arith, h.goes.counted, stays.0.0), stays.0.1)
+    | inr line ↦ absurd (ends_by t h.at.who z line.line LongLine line.stops)
+  ]
+  ends_so Turns h = elim h.fails [
+    | inl stays ↦ at_bytes h _ stays.1 (
+      omega (arith, h.goes.counted, stays.0.0),
+      let size = length-append h.at.pending h.rest in omega (arith, size, stays.0.1),
+    )
+    | inr line ↦ absurd (ends_by t h.at.who z line.line Turns line.stops)
+  ]
+  ends_so (Table fault) h = elim h.fails [
+    | inl stays ↦ absurd stays.0
+    | inr line ↦ stops_at h line
+  ]
+  ends_so Spawn h = elim h.fails [
+    | inl stays ↦ absurd stays.0
+    | inr line ↦ stops_at h line
+  ]
   ends_so Memory h = elim h.fails [
-    | inl line ↦ inl (stops_at Memory h line)
-    | inr same ↦ inr (unsaid h same)
+    | inl stays ↦ inr (unsaid h stays.1)
+    | inr line ↦ inl (stops_at h line)
   ]
+  ends_so e h = absurd (halts_by e h)
 
-pub record IsHandled (A : Answering) (R : Ending) (p bytes : List ℕ) (c : ℕ) (y z : Speakers) (text : List ℕ) : Type 0 where
-  pub front : List ℕ
-  pub rest : List ℕ
-  pub whole : bytes ≡ front ++ rest
-  pub pending : List ℕ
-  pub count : ℕ
+-- what was read last is handled
+pub record IsHandled (t : Setup) (ended : Type 0) (at : SoFar) (bytes : List ℕ) (z : Speakers)
+    (text : List ℕ) : Type 0 where
+  pub last : List (List ℕ)
+  pub came : AreLines ended (at.pending ++ bytes) last
+  pub few : at.count + length last ≤ MAX_LINES
+  pub size : length (flat_map with_newline last) ≤ READ_SIZE + MAX_LINE + 1
   pub w : Speakers
-  pub passed : Passes A p front c y pending count w text
-  pub few : count ≤ MAX_LINES
-  pub left : (z ≡ w) ⊎ ((e : SessionEnd) × FailsLine R pending count rest w z e)
+  pub answered : Answers (answers t) at.who last w text
+  pub left : (z ≡ w) ⊎ ((line : List ℕ) × (end : SessionEnd) × AreLines ended (at.pending ++ bytes) (last ++ line ∷ [])
+      × (at.count + length last < MAX_LINES) × refuses t w line z end)
 
-module _ (A : Answering) (R : Ending) (p bytes : List ℕ) (c : ℕ) (y z : Speakers) (text : List ℕ) where
-  fails_left : (pending rest : List ℕ) (count : ℕ) (w : Speakers) (e : SessionEnd) → Fails R pending count rest w z e
-      → (z ≡ w) ⊎ ((e : SessionEnd) × FailsLine R pending count rest w z e)
-  fails_left pending rest count w Read f = absurd f
-  fails_left pending rest count w Write f = absurd f
-  fails_left pending rest count w LongLine f = inl f.2
-  fails_left pending rest count w Turns f = inl f.2
-  fails_left pending rest count w (Table fault) f = inr (Table fault, f)
-  fails_left pending rest count w Spawn f = inr (Spawn, f)
-  fails_left pending rest count w Memory f = elim f [
-    | inl line ↦ inr (Memory, line)
-    | inr same ↦ inl same
-  ]
+short_lines : (p bytes : List ℕ) {rest : List ℕ} {ls : List (List ℕ)} → Begins (p ++ bytes) ls rest → IsLine p
+    → length bytes ≤ READ_SIZE
+    → length (flat_map with_newline ls) ≤ READ_SIZE + MAX_LINE + 1
+short_lines p bytes {rest} {ls} b is small =
+    let left = length-append p bytes in
+    let right = length-append (flat_map with_newline ls) rest in
+    omega (arith, ap length b.whole, left, right, is.short, small)
 
-  handled : {B : Type 0} (taken : Result B SessionEnd) (p' : List ℕ) (c' : ℕ) → OnOk taken (Passes A p bytes c y p' c' z text)
-      → OnOk taken (MayPend p' c') → IfErr taken (Halts A R p bytes c y z text) → IsHandled A R p bytes c y z text
-  handled (Ok b) p' c' passed may halted = record {
-    front = bytes;
-    rest = [];
-    whole = sym (append-nil bytes);
-    pending = p';
-    count = c';
-    w = z;
-    passed = passed;
-    few = may.few;
-    left = inl refl;
-  }
-  handled (Err e) p' c' passed may halted = record {
-    front = halted.front;
-    rest = halted.rest;
-    whole = halted.whole;
-    pending = halted.pending;
-    count = halted.count;
-    w = halted.m;
-    passed = halted.passed;
-    few = halted.may.few;
-    left = fails_left halted.pending halted.rest halted.count halted.m e halted.fails;
-  }
+handled_goes : {t : Setup} {ended : Type 0} {at to : SoFar} {bytes text : List ℕ} → IsReady at
+    → length bytes ≤ READ_SIZE
+    → Goes t at bytes [] to text → IsHandled t ended at bytes to.who text
+handled_goes {t} {ended} {at} {to} {bytes} {text} ready small g = record {
+  last = g.ls;
+  came = (omega (arith, g.counted, g.ready.few), inl (to.pending ++ [], g.came));
+  few = omega (arith, g.counted, g.ready.few);
+  size = short_lines at.pending bytes g.came ready.line small;
+  w = to.who;
+  answered = g.answered;
+  left = inl refl;
+}
 
--- the lines of a stream that has ended
-module _ (ended : Type 0) (over : ended) (stream p : List ℕ) (ls : List (List ℕ)) (c : ℕ) (begins : Begins stream ls p) (counted : c ≡ length ls)
-    (may : MayPend p c) where
-  last_few : c + length (last_line p) ≤ MAX_LINES
-  last_few = few_with p may
-    where
-      few_with : (q : List ℕ) → MayPend q c → c + length (last_line q) ≤ MAX_LINES
-      few_with [] m = omega (arith, m.few)
-      few_with (b ∷ bs) m =
-          let other : c ≢ MAX_LINES = λ full. omega (arith, ap length (m.full full)) in
-          omega (arith, other, m.few)
+handled_halts : {t : Setup} {E ended : Type 0} {at : SoFar} {bytes text : List ℕ} {z : Speakers} {e : SessionEnd}
+    → (E → ended)
+    → IsReady at → length bytes ≤ READ_SIZE → Halts t E at bytes z text e → IsHandled t ended at bytes z text
+handled_halts {t} {E} {ended} {at} {bytes} {text} {z} {e} over ready small h = record {
+  last = h.goes.ls;
+  came = (omega (arith, h.goes.counted, h.goes.ready.few), inl (h.at.pending ++ h.rest, h.goes.came));
+  few = omega (arith, h.goes.counted, h.goes.ready.few);
+  size = short_lines at.pending bytes h.goes.came ready.line small;
+  w = h.at.who;
+  answered = h.goes.answered;
+  left = elim h.fails [
+    | inl stays ↦ inl stays.1
+    | inr f ↦ inr (
+      f.line,
+      e,
+      lines_then over (f.line ∷ []) h.goes.came f.came (omega (arith, h.goes.counted, f.few)),
+      omega (arith, h.goes.counted, f.few),
+      f.stops,
+    )
+  ];
+}
 
-  last_cut : lines stream ≡ ls ++ last_line p
-  last_cut = one_cutting stream p ls begins may.line.no_newline
-
-  last_each : All IsLine (ls ++ last_line p)
-  last_each = All-append IsLine ls (last_line p) begins.each (each_last p may.line)
-    where
-      each_last : (line : List ℕ) → IsLine line → All IsLine (last_line line)
-      each_last [] is = All-nil IsLine
-      each_last (b ∷ bs) is = All-cons IsLine (b ∷ bs) [] is (All-nil IsLine)
-
-  last_lines : AreLines ended stream (ls ++ last_line p)
-  last_lines = (
-    let size = length-append ls (last_line p) in let few = last_few in omega (arith, size, counted, few),
-    inr (over, sym last_cut, last_each),
-  )
-
-one_line : (p : List ℕ) → 1 ≤ length p → last_line p ≡ p ∷ []
-one_line [] some = absurd (omega (arith, some))
-one_line (x ∷ xs) some = refl
+last_few : (p : List ℕ) (c : ℕ) → c ≤ MAX_LINES → (c ≡ MAX_LINES → p ≡ []) → c + length (last_line p) ≤ MAX_LINES
+last_few [] c few full = omega (arith, few)
+last_few (b ∷ bs) c few full =
+    let other : c ≢ MAX_LINES = λ all. omega (arith, ap length (full all)) in
+    omega (arith, other, few)
 
 last_short : (p : List ℕ) → IsLine p → length (flat_map with_newline (last_line p)) ≤ READ_SIZE + MAX_LINE + 1
 last_short [] is = omega arith
@@ -243,252 +247,260 @@ last_short (b ∷ bs) is =
     let all = length-append ((b ∷ bs) ++ 10 ∷ []) [] in
     omega (arith, size, all, is.short)
 
-module _ (A : Answering) (R : Ending) (input rest : Option (List ℕ)) (old mid : Option (List ℕ)) (s : Speakers) (p : List ℕ) (c : ℕ) (y : Speakers)
-    (far : IsSoFar A input rest old mid s p c y) where
-  pub so_far_more : (rest' new : Option (List ℕ)) (bytes p' : List ℕ) (c' : ℕ) (z : Speakers) (text : List ℕ) → Consumes rest rest' bytes
-      → Passes A p bytes c y p' c' z text → Appends mid new text → MayPend p' c' → IsSoFar A input rest' old new s p' c' z
-  so_far_more rest' new bytes p' c' z text read passed written may = record {
-    stream = far.stream ++ bytes;
-    read = consumes_more input rest rest' far.stream bytes far.read read;
-    text = far.text ++ text;
-    passed = passes_more A [] far.stream p bytes p' 0 c c' s y z far.text text (far.text ++ text) far.passed passed refl;
-    written = appends_more old mid new far.text text far.written written;
-    may = may;
-  }
+handled_end : {t : Setup} {ended : Type 0} {at : SoFar} {z : Speakers} {text : List ℕ} → ended → IsReady at
+    → Answers (answers t) at.who (last_line at.pending) z text → IsHandled t ended at [] z text
+handled_end {t} {ended} {at} {z} {text} over ready answered = record {
+  last = last_line at.pending;
+  came = lines_end at.pending over ready.line;
+  few = last_few at.pending at.count ready.few ready.full;
+  size = last_short at.pending ready.line;
+  w = z;
+  answered = answered;
+  left = inl refl;
+}
 
-  pub reads_kept : (rest' : Option (List ℕ)) → Keeps rest rest' → Consumes input rest' far.stream
-  reads_kept rest' keeps = consumes_kept input rest rest' far.stream far.read keeps
+any_handled : {B E : Type 0} {t : Setup} {ended : Type 0} {at : SoFar} {bytes text : List ℕ} {z : Speakers}
+    → (E → ended)
+    → IsReady at → length bytes ≤ READ_SIZE → (taken : Result B SessionEnd)
+    → OnOk taken (IsHandled t ended at bytes z text)
+    → IfErr taken (Halts t E at bytes z text) → IsHandled t ended at bytes z text
+any_handled over ready small (Ok b) handled halted = handled
+any_handled over ready small (Err e) handled halted = handled_halts over ready small halted
 
-  pub reads_more : (rest' : Option (List ℕ)) (bytes : List ℕ) → Consumes rest rest' bytes → Consumes input rest' (far.stream ++ bytes)
-  reads_more rest' bytes read = consumes_more input rest rest' far.stream bytes far.read read
+pub written_ok : {B P : Type 0} {b : B} (taken : Result B SessionEnd) (text : List ℕ) (w w' : Writing)
+    → IsWritten taken text w w' (Ok b) → OnOk taken P → P × Appends w.contents w'.contents text
+written_ok {B} {P} taken text w w' written holds = elim written [
+  | inl so ↦ (subst (λ r. OnOk r P) so.0 holds, so.1)
+  | inr stuck ↦ (cc)
+]
 
-  pub reads_none : (rest' : Option (List ℕ)) → Consumes rest rest' [] → Consumes input rest' far.stream
-  reads_none rest' read = subst (Consumes input rest') (append-nil far.stream) (reads_more rest' [] read)
+on_ok : {B P Q : Type 0} (taken : Result B SessionEnd) → (P → Q) → OnOk taken P → OnOk taken Q
+on_ok (Ok b) f p = f p
+on_ok (Err e) f p = tt
 
-  pub session_reads : (ended : Type 0) → Ends A R ended far.stream s y old mid (Err Read)
-  session_reads ended = record {
-    ls = far.passed.ls;
-    rest = p;
-    cut = far.passed.came;
-    holds = (omega (arith, far.passed.counted, far.may.few), far.may.line);
-    answered = record { text = far.text; answers = far.passed.answers; written = far.written };
-  }
+module _ {t : Setup} {input rest old mid : Option (List ℕ)} {xs : List SeatView} {at : SoFar}
+    (far : IsSoFar t input rest old mid xs at) where
+  far_begins : Begins far.stream far.goes.ls at.pending
+  far_begins = subst (Begins far.stream far.goes.ls) (append-nil at.pending) far.goes.came
 
-  -- the writer takes no more
-  ends_unheard : (ended : Type 0) (bytes : List ℕ) (z : Speakers) (text : List ℕ) (new : Option (List ℕ)) → length bytes ≤ READ_SIZE
-      → IsHandled A R p bytes c y z text → AppendsFront mid new [] text → IsUnheard A R ended (far.stream ++ bytes) s z old new
-  ends_unheard ended bytes z text new small h front =
-      let both : Begins (far.stream ++ h.front) (far.passed.ls ++ h.passed.ls) h.pending =
-      begins_both far.stream h.front p h.pending far.passed.ls h.passed.ls far.passed.came h.passed.came in
-      let all : Begins (far.stream ++ bytes) (far.passed.ls ++ h.passed.ls) (h.pending ++ h.rest) =
-      subst (λ l. Begins l (far.passed.ls ++ h.passed.ls) (h.pending ++ h.rest))
-      (append_assoc far.stream h.front h.rest ∙ ap (λ l. far.stream ++ l) (sym h.whole))
-      (begins_more (far.stream ++ h.front) h.pending h.rest (far.passed.ls ++ h.passed.ls) both) in
-      let size = length-append far.passed.ls h.passed.ls in
-      record {
-        told = far.passed.ls;
-        last = h.passed.ls;
-        came = (omega (arith, size, far.passed.counted, h.passed.counted, h.few), inl (h.pending ++ h.rest, all));
-        few = let whole = ap length h.passed.came.whole in let left = length-append p h.front in
-            let right = length-append (flat_map with_newline h.passed.ls) h.pending in
-            let parts = ap length h.whole in let sum = length-append h.front h.rest in
-            omega (arith, whole, left, right, parts, sum, small, far.may.line.short);
-        m = y;
+  unheard : {ended : Type 0} {new : Option (List ℕ)} {bytes text : List ℕ} {z : Speakers}
+      → IsHandled t ended at bytes z text
+      → AppendsFront mid new [] text → IsUnheard (answers t) (refuses t) ended (far.stream ++ bytes) (newcomers xs) z
+      old new
+  unheard {ended} {new} {bytes} {text} {z} h front =
+      let begins = begins_more bytes far_begins in record {
+        told = far.goes.ls;
+        last = h.last;
+        came = lines_then (λ (over : ended). over) h.last begins h.came (omega (arith, far.goes.counted, h.few));
+        few = h.size;
+        m = at.who;
         said = far.text;
-        first = far.passed.answers;
+        first = far.goes.answered;
         w = h.w;
         text = text;
-        second = h.passed.answers;
+        second = h.answered;
         left = elim h.left [
           | inl same ↦ inl same
-          | inr line ↦ inr (
-            h.pending ++ line.1.part,
-            line.0,
-            line_came ended (far.stream ++ bytes) (far.passed.ls ++ h.passed.ls) h.pending line.1.part line.1.more h.rest h.count
-                (omega (arith, size, far.passed.counted, h.passed.counted)) line.1.few line.1.line line.1.cut all,
-            line.1.stops,
+          | inr l ↦ inr (
+            l.0,
+            l.1,
+            subst (AreLines ended (far.stream ++ bytes)) (sym (append_assoc far.goes.ls h.last (l.0 ∷ [])))
+                (lines_then (λ (over : ended). over) (h.last ++ l.0 ∷ []) begins l.2
+                (let size = length-append h.last (l.0 ∷ []) in omega (arith, size, far.goes.counted, l.3))),
+            l.4,
           )
         ];
         written = (front.0, front.1, appends_more old mid new far.text (take front.0 text) far.written front.2);
       }
 
-  pub session_halts : {B : Type 0} (taken : Result B SessionEnd) (ended : Type 0) (bytes p' : List ℕ) (c' : ℕ) (z : Speakers) (text : List ℕ)
-      (new : Option (List ℕ)) (end : SessionEnd) → length bytes ≤ READ_SIZE → OnOk taken (Passes A p bytes c y p' c' z text)
-      → OnOk taken (MayPend p' c') → IfErr taken (Halts A R p bytes c y z text) → IsWritten taken text mid new end
-      → Ends A R ended (far.stream ++ bytes) s z old new (Err end)
-  session_halts {B} taken ended bytes p' c' z text new end small passed may halted written = elim written [
-    | inl so ↦
-        let halts : Halts A R p bytes c y z text end = subst (λ r. IfErr r (Halts A R p bytes c y z text)) so.0 halted in
-        ends_so A R ended (far.stream ++ bytes) s z old new (far.text ++ text) (appends_more old mid new far.text text far.written so.1) end
-        (halts_after A R [] far.stream p bytes 0 c s y z far.text text end far.passed halts)
-    | inr unheard ↦ subst (λ e. Ends A R ended (far.stream ++ bytes) s z old new (Err e)) (sym unheard.0)
-        (ends_unheard ended bytes z text new small (handled A R p bytes c y z text taken p' c' passed may halted) unheard.1)
+module _ {t : Setup} {input rest old : Option (List ℕ)} {xs : List SeatView} {at : SoFar} (w w' : Writing)
+    (far : IsSoFar t input rest old w.contents xs at) where
+  breaks : {B E : Type 0} (ended : Type 0) → (E → ended)
+      → (taken : Result B SessionEnd) (bytes text : List ℕ) (z : Speakers)
+      (end : SessionEnd) → IfErr taken (Halts t E at bytes z text) → OnOk taken (IsHandled t ended at bytes z text)
+      → length bytes ≤ READ_SIZE → IsWritten taken text w w' (Err end)
+      → Ends (answers t) (refuses t) ended (far.stream ++ bytes) (newcomers xs) z old w'.contents (Err end)
+  breaks {B} {E} ended over taken bytes text z end halted handled small written = elim written [
+    | inl so ↦ ends_so ended over old w'.contents (appends_more old w.contents w'.contents far.text text far.written
+        so.1) end
+        (halts_after far.goes (subst (λ r. IfErr r (Halts t E at bytes z text)) so.0 halted))
+    | inr stuck ↦ let same : end ≡ Write = cc in
+        subst (λ (e : SessionEnd). Ends (answers t) (refuses t) ended (far.stream ++ bytes) (newcomers xs) z old
+        w'.contents (Err e))
+        (sym same) (unheard far (any_handled over far.goes.ready small taken handled halted) stuck.1)
   ]
 
-  module _ (ended : Type 0) (over : ended) where
-    far_counted : c ≡ length far.passed.ls
-    far_counted = omega (arith, far.passed.counted)
+  pub session_halts : {rest' : Option (List ℕ)} {B : Type 0} {taken : Result B SessionEnd} {to : SoFar}
+      {bytes text : List ℕ} {end : SessionEnd}
+      → Consumes rest rest' bytes → length bytes ≤ READ_SIZE → Takes t at bytes to text taken
+      → IsWritten taken text w w' (Err end)
+      → IsSessionOf t.how t.opening t.seats t.cap t.names input rest' old w'.contents xs to.who.seats (Err end)
+  session_halts {rest'} {taken = taken} {to} {bytes} {text} {end} read small takes written = record {
+    stream = far.stream ++ bytes;
+    read = consumes_more input rest rest' far.stream bytes far.read read;
+    last = to.who;
+    seats' = refl;
+    ends = breaks (IsAtEnd rest') (λ (none : ⊥). absurd none) taken bytes text to.who end takes.halted
+        (on_ok taken (handled_goes far.goes.ready small) takes.taken) small written;
+  }
 
-    pub session_ends : (z : Speakers) (text : List ℕ) (c' : ℕ) (new : Option (List ℕ)) → Answers A y (last_line p) z text
-        → c' ≡ c + length (last_line p) → Appends mid new text → Ends A R ended far.stream s z old new (Ok c')
-    session_ends z text c' new answers next written =
-        let cut = last_cut ended over far.stream p far.passed.ls c far.passed.came far_counted far.may in
-        let few = last_few ended over far.stream p far.passed.ls c far.passed.came far_counted far.may in
-        let size = length-append far.passed.ls (last_line p) in
-        record {
+  pub session_closes : {rest' : Option (List ℕ)} {B : Type 0} {taken : Result B SessionEnd} {to : SoFar}
+      {text : List ℕ} {end : SessionEnd}
+      → Consumes rest rest' [] → IsAtEnd rest' → TakesEnd t at to text taken → IsWritten taken text w w' (Err end)
+      → IsSessionOf t.how t.opening t.seats t.cap t.names input rest' old w'.contents xs to.who.seats (Err end)
+  session_closes {rest'} {taken = taken} {to} {text} {end} read over takes written = record {
+    stream = far.stream ++ [];
+    read = consumes_more input rest rest' far.stream [] far.read read;
+    last = to.who;
+    seats' = refl;
+    ends = breaks (IsAtEnd rest') (λ (end : ⊤). over) taken [] text to.who end takes.halted
+        (on_ok taken (handled_end over far.goes.ready) takes.answered) (omega arith) written;
+  }
+
+  pub session_ends : {rest' : Option (List ℕ)} {B : Type 0} {taken : Result B SessionEnd} {b : B} {to : SoFar}
+      {text : List ℕ}
+      → Consumes rest rest' [] → IsAtEnd rest' → TakesEnd t at to text taken → IsWritten taken text w w' (Ok b)
+      → IsSessionOf t.how t.opening t.seats t.cap t.names input rest' old w'.contents xs to.who.seats (Ok to.count)
+  session_ends {rest'} {taken = taken} {to = to} {text} read over takes written =
+      let p = at.pending in
+      let (answered, done) = written_ok taken text w w' written takes.answered in
+      let (counted, again) = written_ok taken text w w' written takes.counted in
+      let cut = one_cutting far.stream p far.goes.ls (far_begins far) far.goes.ready.line.no_newline in
+      let size = length-append far.goes.ls (last_line p) in
+      let few = last_few p at.count far.goes.ready.few far.goes.ready.full in record {
+        stream = far.stream;
+        read = subst (Consumes input rest') (append-nil far.stream)
+            (consumes_more input rest rest' far.stream [] far.read read);
+        last = to.who;
+        seats' = refl;
+        ends = record {
           end = over;
-          counted = omega (arith, size, next, ap length cut, far.passed.counted);
-          few = omega (arith, next, few);
-          each = subst (All IsLine) (sym cut) (last_each ended over far.stream p far.passed.ls c far.passed.came far_counted far.may);
+          counted = omega (arith, size, counted, ap length cut, far.goes.counted);
+          few = omega (arith, counted, few);
+          each = subst (All IsLine) (sym cut)
+              (All-append IsLine far.goes.ls (last_line p) far.goes.came.each (each_last p far.goes.ready.line));
           answered = record {
             text = far.text ++ text;
-            answers = subst (λ ls. Answers A s ls z (far.text ++ text)) (sym cut)
-                (answers_more A s y z far.passed.ls (last_line p) far.text text far.passed.answers answers);
-            written = appends_more old mid new far.text text far.written written;
+            answers = subst (λ ls. Answers (answers t) (newcomers xs) ls to.who (far.text ++ text)) (sym cut)
+                (answers_more (answers t) (newcomers xs) at.who to.who far.goes.ls (last_line p) far.text text
+                far.goes.answered answered);
+            written = appends_more old w.contents w'.contents far.text text far.written done;
           };
-        }
+        };
+      }
 
-    last_comes : 1 ≤ length p → Comes ended far.stream far.passed.ls p
-    last_comes some = subst (λ l. AreLines ended far.stream (far.passed.ls ++ l)) (one_line p some)
-        (last_lines ended over far.stream p far.passed.ls c far.passed.came far_counted far.may)
+pub session_reads : {t : Setup} {input rest rest' old mid : Option (List ℕ)} {xs : List SeatView} {at : SoFar}
+    → IsSoFar t input rest old mid xs at → Keeps rest rest'
+    → IsSessionOf t.how t.opening t.seats t.cap t.names input rest' old mid xs at.who.seats (Err Read)
+session_reads {t} {input} {rest} {rest'} {old} {mid} {xs} {at} far keeps = record {
+  stream = far.stream;
+  read = consumes_kept input rest rest' far.stream far.read keeps;
+  last = at.who;
+  seats' = refl;
+  ends = record {
+    ls = far.goes.ls;
+    rest = at.pending;
+    cut = far_begins far;
+    holds = (omega (arith, far.goes.counted, far.goes.ready.few), far.goes.ready.line);
+    answered = record { text = far.text; answers = far.goes.answered; written = far.written };
+  };
+}
 
-    last_stops : (z : Speakers) (text : List ℕ) (new : Option (List ℕ)) (e : SessionEnd) → 1 ≤ length p → text ≡ [] → R y p z e → Appends mid new text
-        → StopsAt A R ended far.stream s z old new e
-    last_stops z text new e some none refused written = record {
-      ls = far.passed.ls;
-      line = p;
-      came = last_comes some;
-      m = y;
-      answered = record {
-        text = far.text;
-        answers = far.passed.answers;
-        written = subst (Appends old new) (ap (λ l. far.text ++ l) none ∙ append-nil far.text)
-            (appends_more old mid new far.text text far.written written);
-      };
-      stops = refused;
-    }
+pub session_unsaid : {t : Setup} {input old : Option (List ℕ)} {xs : List SeatView}
+    → IsSessionOf t.how t.opening t.seats t.cap t.names input input old old xs xs (Err Memory)
+session_unsaid {t} {input} {old} {xs} = record {
+  stream = [];
+  read = consumes_none input;
+  last = newcomers xs;
+  seats' = refl;
+  ends = inr (record {
+    ls = [];
+    came = (omega arith, inl ([], record { whole = refl; each = All-nil IsLine }));
+    answered = record { text = []; answers = answers_none (answers t) (newcomers xs); written = appends_none old };
+  });
+}
 
-    stops_ends : (z : Speakers) (new : Option (List ℕ)) (e : SessionEnd) → IsLineEnd e → StopsAt A R ended far.stream s z old new e
-        → Ends A R ended far.stream s z old new (Err e)
-    stops_ends z new Read by stops = absurd by
-    stops_ends z new Write by stops = absurd by
-    stops_ends z new LongLine by stops = absurd by
-    stops_ends z new Turns by stops = absurd by
-    stops_ends z new (Table fault) by stops = stops
-    stops_ends z new Spawn by stops = stops
-    stops_ends z new Memory by stops = inl stops
+-- what ended, where all is written or the writer took no more
+abbrev pub over_by : SessionEnd → Result ℕ SessionEnd
+over_by end = Err end
 
-    last_unheard : {B : Type 0} (taken : Result B SessionEnd) (z : Speakers) (text : List ℕ) (new : Option (List ℕ))
-        → OnOk taken (Answers A y (last_line p) z text) → IfErr taken (λ e. 1 ≤ length p) → IfErr taken (λ e. text ≡ []) → IfErr taken (R y p z)
-        → AppendsFront mid new [] text → IsUnheard A R ended far.stream s z old new
-    last_unheard (Ok b) z text new answers some none refused front = record {
-      told = far.passed.ls;
-      last = last_line p;
-      came = last_lines ended over far.stream p far.passed.ls c far.passed.came far_counted far.may;
-      few = last_short p far.may.line;
-      m = y;
-      said = far.text;
-      first = far.passed.answers;
-      w = z;
-      text = text;
-      second = answers;
-      left = inl refl;
-      written = (front.0, front.1, appends_more old mid new far.text (take front.0 text) far.written front.2);
-    }
-    last_unheard (Err e) z text new answers some none refused front = record {
-      told = far.passed.ls;
-      last = [];
-      came = (
-        let size = length-append far.passed.ls [] in omega (arith, size, far.passed.counted, far.may.few),
-        inl (p, subst (λ l. Begins far.stream l p) (sym (append-nil far.passed.ls)) far.passed.came),
-      );
-      few = omega arith;
-      m = y;
-      said = far.text;
-      first = far.passed.answers;
-      w = y;
-      text = text;
-      second = subst (Answers A y [] y) (sym none) (answers_none A y);
-      left = inr (p, e, subst (λ l. Comes ended far.stream l p) (sym (append-nil far.passed.ls)) (last_comes some), refused);
-      written = (front.0, front.1, appends_more old mid new far.text (take front.0 text) far.written front.2);
-    }
+pub not_read : {B : Type 0} {P : SessionEnd → Type 0} (taken : Result B SessionEnd) (text : List ℕ) (w w' : Writing)
+    (end : SessionEnd) → IfErr taken P → ((e : SessionEnd) → P e → IsHalt e) → IsWritten taken text w w' (Err end)
+    → over_by end ≡ over_by Read → ⊥
+not_read {B} {P} taken text w w' end halted by written is = let same : end ≡ Read = cc in elim written [
+  | inl so ↦ subst IsHalt same (by end (subst (λ r. IfErr r P) so.0 halted))
+  | inr stuck ↦ (let wrong : end ≡ Write = cc in cc)
+]
 
-    pub session_breaks : {B : Type 0} (taken : Result B SessionEnd) (z : Speakers) (text : List ℕ) (new : Option (List ℕ)) (end : SessionEnd)
-        → ((e : SessionEnd) → R y p z e → IsLineEnd e)
-        → OnOk taken (Answers A y (last_line p) z text) → IfErr taken (λ e. 1 ≤ length p) → IfErr taken (λ e. text ≡ []) → IfErr taken (R y p z)
-        → IsWritten taken text mid new end → Ends A R ended far.stream s z old new (Err end)
-    session_breaks {B} taken z text new end by answers some none refused written = elim written [
-      | inl so ↦
-          let refused' : R y p z end = subst (λ r. IfErr r (R y p z)) so.0 refused in
-          let some' : 1 ≤ length p = subst (λ r. IfErr r (λ (e : SessionEnd). 1 ≤ length p)) so.0 some in
-          let none' : text ≡ [] = subst (λ r. IfErr r (λ (e : SessionEnd). text ≡ [])) so.0 none in
-          stops_ends z new end (by end refused') (last_stops z text new end some' none' refused' so.1)
-      | inr unheard ↦ subst (λ e. Ends A R ended far.stream s z old new (Err e)) (sym unheard.0)
-          (last_unheard taken z text new answers some none refused unheard.1)
-    ]
-
-pub session_unsaid : (A : Answering) (R : Ending) (ended : Type 0) (old : Option (List ℕ)) (s : Speakers) → Ends A R ended [] s s old old (Err Memory)
-session_unsaid A R ended old s = inr (record {
-  ls = [];
-  came = (omega arith, inl ([], record { whole = refl; each = All-nil IsLine }));
-  answered = record { text = []; answers = answers_none A s; written = appends_none old };
-})
-
-pub none_read : (a : Option (List ℕ)) → Consumes a a []
-none_read a = consumes_none a
+pub write_failed : {B : Type 0} {P : SessionEnd → Type 0} (taken : Result B SessionEnd) (text : List ℕ) (w w' : Writing)
+    (end : SessionEnd) → IfErr taken P → ((e : SessionEnd) → P e → IsHalt e) → IsWritten taken text w w' (Err end)
+    → over_by end ≡ over_by Write → w'.has_failed ≡ true
+write_failed {B} {P} taken text w w' end halted by written is = let same : end ≡ Write = cc in elim written [
+  | inl so ↦ absurd (subst IsHalt same (by end (subst (λ r. IfErr r P) so.0 halted)))
+  | inr stuck ↦ stuck.2
+]
 
 -- each seat has its number at the end
-module _ (how : Addressing) (o : Opening) (seats cap : ℕ) (names : List (List ℕ)) where
-  numbers_answered : (ls : List (List ℕ)) (s z : Speakers) (text : List ℕ) → Answers (AnswersLineOf how o names) s ls z text → numbers z ≡ numbers s
-  unfolding Answers
-  numbers_answered [] s z text p = ap numbers p.0
-  numbers_answered (line ∷ ls) s z text p =
-      let (m, front, back, answer, more, whole) = p in
-      numbers_answered ls m z back more ∙ numbers_said how o seats cap names s m line front answer
+numbers_answered : (t : Setup) (ls : List (List ℕ)) (s z : Speakers) (text : List ℕ) → Answers (answers t) s ls z text
+    → numbers z ≡ numbers s
+unfolding Answers
+numbers_answered t [] s z text p = ap numbers p.0
+numbers_answered t (line ∷ ls) s z text p =
+    let (m, front, back, answer, more, whole) = p in
+    numbers_answered t ls m z back more ∙ numbers_said t s m line front answer
 
-  numbers_stopped : (ended : Type 0) (stream : List ℕ) (s z : Speakers) (old new : Option (List ℕ)) (e : SessionEnd)
-      → StopsAt (AnswersLineOf how o names) (RefusesLineOf how o seats cap names) ended stream s z old new e → numbers z ≡ numbers s
-  numbers_stopped ended stream s z old new e h =
-      numbers_left how o seats cap names h.m z h.line e h.stops ∙ numbers_answered h.ls s h.m h.answered.text h.answered.answers
+module _ (t : Setup) (ended : Type 0) (stream : List ℕ) (s z : Speakers) (old new : Option (List ℕ)) where
+  numbers_stopped : {e : SessionEnd} → StopsAt (answers t) (refuses t) ended stream s z old new e
+      → numbers z ≡ numbers s
+  numbers_stopped {e} h =
+      numbers_left t h.m z h.line e h.stops ∙ numbers_answered t h.ls s h.m h.answered.text h.answered.answers
 
-  pub numbers_kept : (ended : Type 0) (stream : List ℕ) (s z : Speakers) (old new : Option (List ℕ)) (result : Result ℕ SessionEnd)
-      → Ends (AnswersLineOf how o names) (RefusesLineOf how o seats cap names) ended stream s z old new result → numbers z ≡ numbers s
-  numbers_kept ended stream s z old new (Ok count) h = numbers_answered (lines stream) s z h.answered.text h.answered.answers
-  numbers_kept ended stream s z old new (Err Read) h = numbers_answered h.ls s z h.answered.text h.answered.answers
-  numbers_kept ended stream s z old new (Err LongLine) h = numbers_answered h.ls s z h.answered.text h.answered.answers
-  numbers_kept ended stream s z old new (Err Turns) h = numbers_answered h.ls s z h.answered.text h.answered.answers
-  numbers_kept ended stream s z old new (Err (Table fault)) h = numbers_stopped ended stream s z old new (Table fault) h
-  numbers_kept ended stream s z old new (Err Spawn) h = numbers_stopped ended stream s z old new Spawn h
-  numbers_kept ended stream s z old new (Err Memory) h = elim h [
-    | inl stops ↦ numbers_stopped ended stream s z old new Memory stops
-    | inr unsaid ↦ numbers_answered unsaid.ls s z unsaid.answered.text unsaid.answered.answers
+  numbers_at : {P : List (List ℕ) → List ℕ → Type 0} → IsAtBytes (answers t) stream s z old new P
+      → numbers z ≡ numbers s
+  numbers_at h = numbers_answered t h.ls s z h.answered.text h.answered.answers
+
+  numbers_kept : (result : Result ℕ SessionEnd) → Ends (answers t) (refuses t) ended stream s z old new result
+      → numbers z ≡ numbers s
+  numbers_kept (Ok count) h = numbers_answered t (lines stream) s z h.answered.text h.answered.answers
+  numbers_kept (Err Read) h = numbers_at h
+  numbers_kept (Err LongLine) h = numbers_at h
+  numbers_kept (Err Turns) h = numbers_at h
+  numbers_kept (Err (Table fault)) h = numbers_stopped h
+  numbers_kept (Err Spawn) h = numbers_stopped h
+  numbers_kept (Err Memory) h = elim h [
+    | inl stops ↦ numbers_stopped stops
+    | inr unsaid ↦ numbers_answered t unsaid.ls s z unsaid.answered.text unsaid.answered.answers
   ]
-  numbers_kept ended stream s z old new (Err Write) h =
+  numbers_kept (Err Write) h =
       let heard : numbers h.w ≡ numbers s =
-      numbers_answered h.last h.m h.w h.text h.second ∙ numbers_answered h.told s h.m h.said h.first in
+      numbers_answered t h.last h.m h.w h.text h.second ∙ numbers_answered t h.told s h.m h.said h.first in
       elim h.left [
         | inl same ↦ ap numbers same ∙ heard
-        | inr line ↦ numbers_left how o seats cap names h.w z line.0 line.1 line.3 ∙ heard
+        | inr line ↦ numbers_left t h.w z line.0 line.1 line.3 ∙ heard
       ]
 
-pub numbers_of : (how : Addressing) (o : Opening) (seats cap : ℕ) (names : List (List ℕ)) (input rest old new : Option (List ℕ)) (xs ys : List SeatView)
-    (result : Result ℕ SessionEnd) → IsSessionOf how o seats cap names input rest old new xs ys result
+pub numbers_of : (t : Setup) {input rest old new : Option (List ℕ)} {xs ys : List SeatView}
+    {result : Result ℕ SessionEnd}
+    → IsSessionOf t.how t.opening t.seats t.cap t.names input rest old new xs ys result
     → map (λ (x : SeatView). x.number) ys ≡ map (λ (x : SeatView). x.number) xs
-numbers_of how o seats cap names input rest old new xs ys result h =
+numbers_of t {rest = rest} {old} {new} {xs} {result = result} h =
     ap (map (λ (x : SeatView). x.number)) (sym h.seats')
-    ∙ numbers_kept how o seats cap names (IsAtEnd rest) h.stream (newcomers xs) h.last old new result h.ends
+    ∙ numbers_kept t (IsAtEnd rest) h.stream (newcomers xs) h.last old new result h.ends
 
 -- each seat, one after another
-taken_get : {X : Type 0} (xs : List X) (i : ℕ) (d : X) → i < length xs → take (suc i) xs ≡ take i xs ++ slice_index_or xs i d ∷ []
+taken_get : {X : Type 0} (xs : List X) (i : ℕ) (d : X) → i < length xs
+    → take (suc i) xs ≡ take i xs ++ slice_index_or xs i d ∷ []
 taken_get [] i d low = absurd (omega (arith, low))
 taken_get (x ∷ xs) zero d low = refl
 taken_get (x ∷ xs) (suc i) d low = ap (λ l. x ∷ l) (taken_get xs i d (omega (arith, low)))
 
-pub one_more : {X : Type 0} (P : X → Type 0) (xs : List X) (i : ℕ) (d : X) → i < length xs → All P (take i xs) → P (slice_index_or xs i d)
+pub one_more : {X : Type 0} (P : X → Type 0) (xs : List X) (i : ℕ) (d : X) → i < length xs → All P (take i xs)
+    → P (slice_index_or xs i d)
     → All P (take (i + 1) xs)
 one_more P xs i d low all one =
     let next : suc i ≡ i + 1 = omega arith in
-    subst (λ k. All P (take k xs)) next (subst (All P) (sym (taken_get xs i d low)) (All-push P (take i xs) (slice_index_or xs i d) all one))
+    subst (λ k. All P (take k xs)) next (subst (All P) (sym (taken_get xs i d low))
+    (All-push P (take i xs) (slice_index_or xs i d) all one))
 
 -- how many bytes can still be read
 abbrev pub bytes_left : List ℕ → ℕ → ℕ
@@ -503,14 +515,29 @@ length_lines (line ∷ ls) each =
     let size = length-append (line ++ 10 ∷ []) (flat_map with_newline ls) in
     omega (arith, tail, head, one, size)
 
-pub fewer_left : (A : Answering) (c c' : ℕ) (y z : Speakers) (p p' bytes text : List ℕ) → Passes A p bytes c y p' c' z text
-    → MayPend p c → MayPend p' c' → 1 ≤ length bytes → bytes_left p' c' < bytes_left p c
-fewer_left A c c' y z p p' bytes text passed may may' some =
-    let whole = ap length passed.came.whole in
-    let left = length-append p bytes in
-    let right = length-append (flat_map with_newline passed.ls) p' in
-    let few = length_lines passed.ls passed.came.each in
-    omega (arith, whole, left, right, few, passed.counted, may.few, may'.few, may.line.short, may'.line.short, some)
+pub fewer_left : {t : Setup} {old new : SoFar} {bytes text : List ℕ} → IsReady old → Goes t old bytes [] new text
+    → 1 ≤ length bytes
+    → bytes_left new.pending new.count < bytes_left old.pending old.count
+fewer_left {t} {old} {new} {bytes} ready g some =
+    let whole = ap length g.came.whole in
+    let left = length-append old.pending bytes in
+    let end = length-append new.pending [] in
+    let right = length-append (flat_map with_newline g.ls) (new.pending ++ []) in
+    let few = length_lines g.ls g.came.each in
+    omega (
+      arith,
+      whole,
+      left,
+      right,
+      end,
+      few,
+      g.counted,
+      ready.few,
+      g.ready.few,
+      ready.line.short,
+      g.ready.line.short,
+      some,
+    )
 
 -- a read filled the front of the buffer
 pub chunk_size : (n : ℕ) (chunk items : List ℕ) → chunk ≡ items → n ≤ length items → length items ≡ READ_SIZE
@@ -519,36 +546,11 @@ chunk_size n chunk items same bound size =
     let all : length chunk ≡ length items = ap length same in
     (length-take-le n chunk (omega (arith, all, bound)), omega (arith, bound, size))
 
-pub ok_of : {B : Type 0} (P : Type 0) (taken : Result B SessionEnd) (b : B) → taken ≡ Ok b → OnOk taken P → P
-ok_of P taken b is holds = subst (λ r. OnOk r P) is holds
-
--- what ended, where all is written or the writer took no more
-pub no_read : {B : Type 0} (P : SessionEnd → Type 0) (taken : Result B SessionEnd) (text : List ℕ) (mid new : Option (List ℕ)) (end : SessionEnd)
-    → (P Read → ⊥) → IfErr taken P → IsWritten taken text mid new end → end ≡ Read → ⊥
-no_read P taken text mid new end none halted written same = elim (subst (IsWritten taken text mid new) same written) [
-  | inl so ↦ none (subst (λ r. IfErr r P) so.0 halted)
-  | inr unheard ↦ absurd (let wrong = unheard.0 in cc)
-]
-
-pub write_failed : {B : Type 0} (P : SessionEnd → Type 0) (taken : Result B SessionEnd) (F : Type 0) → (P Write → ⊥) → IfErr taken P
-    → (taken ≡ Err Write) ⊎ F → F
-write_failed P taken F none halted either = elim either [
-  | inl so ↦ absurd (none (subst (λ r. IfErr r P) so halted))
-  | inr failed ↦ failed
-]
-
-pub some_of : (n : ℕ) → n ≢ 0 → 1 ≤ n
-some_of n e = omega (arith, e)
-
-pub read_chunk : (rest rest' : Option (List ℕ)) (n : ℕ) (chunk items : List ℕ) → chunk ≡ items → Consumes rest rest' (take n items)
+pub read_chunk : (rest rest' : Option (List ℕ)) (n : ℕ) (chunk items : List ℕ) → chunk ≡ items
+    → Consumes rest rest' (take n items)
     → Consumes rest rest' (take n chunk)
 read_chunk rest rest' n chunk items same read = subst (λ l. Consumes rest rest' (take n l)) (sym same) read
 
-pub read_nothing : (rest rest' : Option (List ℕ)) (n : ℕ) (items : List ℕ) → n ≡ 0 → Consumes rest rest' (take n items) → Consumes rest rest' []
+pub read_nothing : (rest rest' : Option (List ℕ)) (n : ℕ) (items : List ℕ) → n ≡ 0
+    → Consumes rest rest' (take n items) → Consumes rest rest' []
 read_nothing rest rest' n items none read = subst (λ k. Consumes rest rest' (take k items)) none read
-
-abbrev pub over : SessionEnd → Result ℕ SessionEnd
-over end = Err end
-
-pub inner_end : (a b : SessionEnd) → over a ≡ over b → a ≡ b
-inner_end a b e = cc

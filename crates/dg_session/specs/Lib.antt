@@ -6,4 +6,4 @@ pub mod Refusing
 pub mod Speakers
 pub mod Ends
 -- What serves the steps of a session alone.
-pub mod Steps
+pub mod SoFar

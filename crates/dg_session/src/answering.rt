@@ -1,12 +1,10 @@
 //! Answering one line of a seat.
-ghost use Rattle.std.specs.Prelude.{◌≡◌, ◌≢◌, ◌++◌, length, OnOk, OnErr, IfErr, codes};
+ghost use Rattle.std.specs.Prelude.{◌≡◌, ◌≢◌, length, codes};
 ghost use Rattle.dg_rank.specs.Ranks.{MayHaveWorkers};
 ghost use Rattle.dg_game.specs.declared.step.Command.TheVariants.{Call, Commit, Rank};
 ghost use Rattle.dg_lines.specs.Texts.{HasNames, entry_text};
-ghost use Rattle.dg_session.specs.Saying.{AnswersCommand, AnswersLine, fault_text};
-ghost use Rattle.dg_session.specs.Refusing.{RefusesCommand, RefusesLine};
-ghost use Rattle.dg_session.specs.Speakers.{kept_number};
-ghost use Rattle.dg_session.specs.Steps.{IsDone};
+ghost use Rattle.dg_session.specs.Saying.{fault_text};
+ghost use Rattle.dg_session.specs.SoFar.{setup, speaker, Tells, Hears, Obeys};
 
 use crate::addressing::Addressing;
 use crate::ends::SessionEnd;
@@ -21,8 +19,8 @@ use std::alloc::Global;
 use std::sync::Wait;
 use std::thread::Threads;
 
-/// What the sessions of a table share.
-#[derive(Clone, Copy)]
+/// What the sessions of a table share: there is a name for each vertex, and there are 1 to 16 workers.
+#[derive(Drop)]
 pub(crate) struct Shared<'a, N: Name, R: Threads + Wait> {
     pub(crate) rt: &'a R,
     pub(crate) alloc: Global,
@@ -30,6 +28,8 @@ pub(crate) struct Shared<'a, N: Name, R: Threads + Wait> {
     pub(crate) names: &'a Names,
     pub(crate) workers: u32,
     pub(crate) how: Addressing,
+    ghost named: { length names.now ≡ N.start.graph.size },
+    ghost helped: { MayHaveWorkers workers },
 }
 
 /// What was said and is not written yet: always whole lines.
@@ -43,9 +43,7 @@ pub(crate) struct Said {
 impl Said {
     /// Says the words. Where memory is refused, nothing more is said.
     pub(crate) fn say(&mut self, words: &[u8]) -> Result<(), SessionEnd>
-        ensures said { OnOk result (self.new.text.items ≡ self.old.text.items ++ words.now) }
-        ensures unsaid { OnErr result (self.new.text.items ≡ self.old.text.items) }
-        ensures refused { IfErr result (λ end. end ≡ SessionEnd.Memory) }
+        ensures { Tells words.now self.old.text.items self.new.text.items result }
     {
         match self.text.extend_from_slice(words) {
             Ok(()) => Ok(()),
@@ -61,9 +59,8 @@ impl Said {
         receipt: &Receipt<N>,
     ) -> Result<(), SessionEnd>
         requires { HasNames names.now receipt.now.1.reply }
-        ensures said { OnOk result (self.new.text.items ≡ self.old.text.items ++ entry_text names.now receipt.now.0 receipt.now.1.reply) }
-        ensures unsaid { OnErr result (self.new.text.items ≡ self.old.text.items) }
-        ensures refused { IfErr result (λ end. end ≡ SessionEnd.Memory) }
+        ensures { Tells (entry_text names.now receipt.now.0 receipt.now.1.reply)
+            self.old.text.items self.new.text.items result }
     {
         let entry = table.log().entry(receipt);
         self.line.clear();
@@ -103,23 +100,12 @@ pub(crate) fn answer_seat<N: Name, R: Threads + Wait>(
     seat: &mut Seat<N>,
     line: &[u8],
 ) -> Result<(), SessionEnd>
-    requires names { length shared.now.names.now ≡ N.start.graph.size }
-    requires workers { MayHaveWorkers shared.now.workers }
-    ensures done { OnOk result (IsDone (AnswersLine N.start shared.now.names.now (kept_number kept.old) line.now)
-        seat.old seat.new (kept_number kept.new) said.old.text.items said.new.text.items) }
-    ensures unsaid { OnErr result (said.new.text.items ≡ said.old.text.items) }
-    ensures refused { IfErr result (RefusesLine N.start N.seats (length N.cells) shared.now.names.now (kept_number kept.old) line.now
-        seat.old seat.new) }
+    ensures { Hears (setup shared.now.how N.start N.seats (length N.cells) shared.now.names.now)
+        line.now (speaker seat.old kept.old said.old) (speaker seat.new kept.new said.new) result }
 {
     match parse_line(line, shared.names) {
-        Ok(command) => match obey(shared, kept, said, seat, command) {
-            Ok(()) => Ok(()),
-            Err(end) => Err(end),
-        },
-        Err(fault) => match said.say(fault_words(fault)) {
-            Ok(()) => Ok(()),
-            Err(end) => Err(end),
-        },
+        Ok(command) => obey(shared, kept, said, seat, command),
+        Err(fault) => said.say(fault_words(fault)),
     }
 }
 
@@ -131,31 +117,14 @@ fn obey<N: Name, R: Threads + Wait>(
     seat: &mut Seat<N>,
     command: Command,
 ) -> Result<(), SessionEnd>
-    requires names { length shared.now.names.now ≡ N.start.graph.size }
-    requires workers { MayHaveWorkers shared.now.workers }
-    ensures done { OnOk result (IsDone (AnswersCommand N.start shared.now.names.now (kept_number kept.old) command)
-        seat.old seat.new (kept_number kept.new) said.old.text.items said.new.text.items) }
-    ensures unsaid { OnErr result (said.new.text.items ≡ said.old.text.items) }
-    ensures refused { IfErr result (RefusesCommand N.start N.seats (length N.cells) shared.now.names.now (kept_number kept.old) command
-        seat.old seat.new) }
+    ensures { Obeys (setup shared.now.how N.start N.seats (length N.cells) shared.now.names.now)
+        command (speaker seat.old kept.old said.old) (speaker seat.new kept.new said.new) result }
 {
     match command {
-        Command::Call(Plain::Look) => match take_look(shared, kept, said, seat) {
-            Ok(()) => Ok(()),
-            Err(end) => Err(end),
-        },
-        Command::Call(plain) => match call(shared, kept, said, seat, plain) {
-            Ok(()) => Ok(()),
-            Err(end) => Err(end),
-        },
-        Command::Commit => match enter_verdict(shared, kept, said, seat) {
-            Ok(()) => Ok(()),
-            Err(end) => Err(end),
-        },
-        Command::Rank(k) => match enter_rank(shared, kept, said, seat, k) {
-            Ok(()) => Ok(()),
-            Err(end) => Err(end),
-        },
+        Command::Call(Plain::Look) => take_look(shared, kept, said, seat),
+        Command::Call(plain) => call(shared, kept, said, seat, plain),
+        Command::Commit => enter_verdict(shared, kept, said, seat),
+        Command::Rank(k) => enter_rank(shared, kept, said, seat, k),
     }
 }
 
@@ -166,12 +135,9 @@ fn take_look<N: Name, R: Threads + Wait>(
     said: &mut Said,
     seat: &mut Seat<N>,
 ) -> Result<(), SessionEnd>
-    requires names { length shared.now.names.now ≡ N.start.graph.size }
-    ensures done { OnOk result (IsDone (AnswersCommand N.start shared.now.names.now (kept_number kept.old) (Call Plain.Look))
-        seat.old seat.new (kept_number kept.new) said.old.text.items said.new.text.items) }
-    ensures unsaid { OnErr result (said.new.text.items ≡ said.old.text.items) }
-    ensures refused { IfErr result (RefusesCommand N.start N.seats (length N.cells) shared.now.names.now (kept_number kept.old)
-        (Call Plain.Look) seat.old seat.new) }
+    ensures { Obeys (setup shared.now.how N.start N.seats (length N.cells) shared.now.names.now)
+        (Call Plain.Look) (speaker seat.old kept.old said.old)
+        (speaker seat.new kept.new said.new) result }
 {
     match look(shared.table, shared.rt, shared.alloc, seat) {
         Ok(look) => match said.say_entry(shared.table, shared.names, look.receipt()) {
@@ -193,19 +159,12 @@ fn call<N: Name, R: Threads + Wait>(
     seat: &mut Seat<N>,
     plain: Plain,
 ) -> Result<(), SessionEnd>
-    requires names { length shared.now.names.now ≡ N.start.graph.size }
-    requires no_look { plain ≢ Plain.Look }
-    ensures done { OnOk result (IsDone (AnswersCommand N.start shared.now.names.now (kept_number kept.old) (Call plain))
-        seat.old seat.new (kept_number kept.new) said.old.text.items said.new.text.items) }
-    ensures unsaid { OnErr result (said.new.text.items ≡ said.old.text.items) }
-    ensures refused { IfErr result (RefusesCommand N.start N.seats (length N.cells) shared.now.names.now (kept_number kept.old)
-        (Call plain) seat.old seat.new) }
+    requires { plain ≢ Plain.Look }
+    ensures { Obeys (setup shared.now.how N.start N.seats (length N.cells) shared.now.names.now)
+        (Call plain) (speaker seat.old kept.old said.old) (speaker seat.new kept.new said.new) result }
 {
     match shared.table.call(shared.rt, shared.alloc, seat, plain) {
-        Ok(receipt) => match said.say_entry(shared.table, shared.names, &receipt) {
-            Ok(()) => Ok(()),
-            Err(end) => Err(end),
-        },
+        Ok(receipt) => said.say_entry(shared.table, shared.names, &receipt),
         Err(fault) => Err(SessionEnd::Table(fault)),
     }
 }
@@ -217,26 +176,16 @@ fn enter_verdict<N: Name, R: Threads + Wait>(
     said: &mut Said,
     seat: &mut Seat<N>,
 ) -> Result<(), SessionEnd>
-    requires names { length shared.now.names.now ≡ N.start.graph.size }
-    ensures done { OnOk result (IsDone (AnswersCommand N.start shared.now.names.now (kept_number kept.old) Commit)
-        seat.old seat.new (kept_number kept.new) said.old.text.items said.new.text.items) }
-    ensures unsaid { OnErr result (said.new.text.items ≡ said.old.text.items) }
-    ensures refused { IfErr result (RefusesCommand N.start N.seats (length N.cells) shared.now.names.now (kept_number kept.old) Commit
-        seat.old seat.new) }
+    ensures { Obeys (setup shared.now.how N.start N.seats (length N.cells) shared.now.names.now)
+        Commit (speaker seat.old kept.old said.old) (speaker seat.new kept.new said.new) result }
 {
     let Some(look) = kept.take() else {
-        return match said.say(b"bad look\n") {
-            Ok(()) => Ok(()),
-            Err(end) => Err(end),
-        };
+        return said.say(b"bad look\n");
     };
     let _receipt = look.receipt();
     let reckoned = reckon_aimed(look, shared.table.aim());
     match commit(shared.table, shared.rt, shared.alloc, seat, reckoned) {
-        Ok(receipt) => match said.say_entry(shared.table, shared.names, &receipt) {
-            Ok(()) => Ok(()),
-            Err(end) => Err(end),
-        },
+        Ok(receipt) => said.say_entry(shared.table, shared.names, &receipt),
         Err((_, fault)) => Err(SessionEnd::Table(fault)),
     }
 }
@@ -250,27 +199,16 @@ fn enter_rank<N: Name, R: Threads + Wait>(
     seat: &mut Seat<N>,
     k: u32,
 ) -> Result<(), SessionEnd>
-    requires names { length shared.now.names.now ≡ N.start.graph.size }
-    requires workers { MayHaveWorkers shared.now.workers }
-    ensures done { OnOk result (IsDone (AnswersCommand N.start shared.now.names.now (kept_number kept.old) (Rank k))
-        seat.old seat.new (kept_number kept.new) said.old.text.items said.new.text.items) }
-    ensures unsaid { OnErr result (said.new.text.items ≡ said.old.text.items) }
-    ensures refused { IfErr result (RefusesCommand N.start N.seats (length N.cells) shared.now.names.now (kept_number kept.old)
-        (Rank k) seat.old seat.new) }
+    ensures { Obeys (setup shared.now.how N.start N.seats (length N.cells) shared.now.names.now)
+        (Rank k) (speaker seat.old kept.old said.old) (speaker seat.new kept.new said.new) result }
 {
     let Some(look) = kept.take() else {
-        return match said.say(b"bad look\n") {
-            Ok(()) => Ok(()),
-            Err(end) => Err(end),
-        };
+        return said.say(b"bad look\n");
     };
     let _receipt = look.receipt();
     match try_rank(shared.rt, look, k, shared.workers, &OpenGate) {
         Ok(tried) => match commit_rank(shared.table, shared.rt, shared.alloc, seat, tried) {
-            Ok(receipt) => match said.say_entry(shared.table, shared.names, &receipt) {
-                Ok(()) => Ok(()),
-                Err(end) => Err(end),
-            },
+            Ok(receipt) => said.say_entry(shared.table, shared.names, &receipt),
             Err((_, fault)) => Err(SessionEnd::Table(fault)),
         },
         Err((look, RankFault::TooMany)) => match said.say(b"bad trials\n") {

@@ -1,10 +1,10 @@
 //! Serving a stream of lines.
-ghost use Rattle.std.specs.Prelude.{◌≡◌, ◌<◌, ◌≤◌, ◌⊎◌, [], length, take, map, Err, None, IfErr, IfSome, OnOk, All, true};
-ghost use Rattle.std.specs.Io.KnownBytes.{Appends, Consumes, IsAtEnd, Keeps};
+ghost use Rattle.std.specs.Prelude.{◌≡◌, ◌<◌, ◌≤◌, [], length, take, map, Err, None, IfSome, OnOk, All, true};
+ghost use Rattle.std.specs.Io.KnownBytes.{Consumes, IsAtEnd, Keeps};
 ghost use Rattle.dg_rank.specs.Ranks.{MayHaveWorkers};
 ghost use Rattle.dg_table.specs.Histories.{HasPast};
 ghost use Rattle.dg_session.specs.Ends.{IsSession, IsSessionOf};
-ghost use Rattle.dg_session.specs.Steps.{IsWritten};
+ghost use Rattle.dg_session.specs.SoFar.{IsWritten};
 
 use crate::addressing::Addressing;
 use crate::answering::Shared;
@@ -96,10 +96,7 @@ pub fn serve_seats<N: Name, R: Threads + Wait, I: Read, O: Write>(
     };
     let ended = serve_lines(&shared, seats, reader, writer);
     have_pasts(seats);
-    match ended {
-        Ok(count) => Ok(count),
-        Err(end) => Err(end),
-    }
+    ended
 }
 
 /// Each seat has found a history of its table. Nothing is done.
@@ -118,9 +115,7 @@ fn serve_lines<N: Name, R: Threads + Wait, I: Read, O: Write>(
     reader: &mut Input<I>,
     writer: &mut Output<O>,
 ) -> Result<u32, SessionEnd>
-    requires names { length shared.now.names.now ≡ N.start.graph.size }
-    requires workers { MayHaveWorkers shared.now.workers }
-    requires some { 1 ≤ length seats.old }
+    requires { 1 ≤ length seats.old }
     ensures session { IsSessionOf shared.now.how N.start N.seats (length N.cells) shared.now.names.now
         reader.old.remaining reader.new.remaining writer.old.contents writer.new.contents seats.old seats.new result }
     ensures read { result ≡ Err SessionEnd.Read → reader.new.has_failed ≡ true }
@@ -157,11 +152,8 @@ fn write_said<O: Write>(
     text: &mut Vec<u8>,
     taken: Result<(), SessionEnd>,
 ) -> Result<(), SessionEnd>
-    ensures taken { OnOk result (taken ≡ result) }
-    ensures written { OnOk result (Appends writer.old.contents writer.new.contents text.old.items) }
+    ensures written { IsWritten taken text.old.items writer.old writer.new result }
     ensures cleared { OnOk result (text.new.items ≡ []) }
-    ensures ended { IfErr result (IsWritten taken text.old.items writer.old.contents writer.new.contents) }
-    ensures write { result ≡ Err SessionEnd.Write → (taken ≡ Err SessionEnd.Write) ⊎ (writer.new.has_failed ≡ true) }
 {
     match writer.write_whole(text) {
         Ok(()) => {

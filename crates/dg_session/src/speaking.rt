@@ -1,8 +1,6 @@
 //! Answering one line of any seat.
-ghost use Rattle.std.specs.Prelude.{◌≡◌, ◌≤◌, length, OnOk, OnErr, IfErr};
-ghost use Rattle.dg_rank.specs.Ranks.{MayHaveWorkers};
-ghost use Rattle.dg_session.specs.Speakers.{speakers, AnswersLineOf, RefusesLineOf};
-ghost use Rattle.dg_session.specs.Steps.{IsSaid};
+ghost use Rattle.std.specs.Prelude.{◌≡◌, ◌≤◌, length};
+ghost use Rattle.dg_session.specs.SoFar.{setup, talk, Handles};
 
 use crate::addressing::addressed;
 use crate::answering::{Said, Shared, answer_seat};
@@ -21,28 +19,13 @@ pub(crate) fn answer_line<N: Name, R: Threads + Wait>(
     seats: &mut [Seat<N>],
     line: &[u8],
 ) -> Result<(), SessionEnd>
-    requires names { length shared.now.names.now ≡ N.start.graph.size }
-    requires workers { MayHaveWorkers shared.now.workers }
     requires some { 1 ≤ length seats.old }
     requires each { length kept.old ≡ length seats.old }
-    ensures done { OnOk result (IsSaid
-        (AnswersLineOf shared.now.how N.start shared.now.names.now (speakers seats.old kept.old) line.now
-        (speakers seats.new kept.new))
-        said.old.text.items said.new.text.items) }
-    ensures unsaid { OnErr result (said.new.text.items ≡ said.old.text.items) }
-    ensures refused { IfErr result (RefusesLineOf shared.now.how N.start N.seats (length N.cells) shared.now.names.now
-        (speakers seats.old kept.old) line.now (speakers seats.new kept.new)) }
-    ensures seats { length seats.new ≡ length seats.old }
-    ensures looks { length kept.new ≡ length kept.old }
+    ensures { Handles (setup shared.now.how N.start N.seats (length N.cells) shared.now.names.now)
+        line.now (talk seats.old kept.old said.old) (talk seats.new kept.new said.new) result }
 {
     let Some((place, text)) = addressed(shared.how, seats.len(), line) else {
-        return match said.say(b"bad seat\n") {
-            Ok(()) => Ok(()),
-            Err(end) => Err(end),
-        };
+        return said.say(b"bad seat\n");
     };
-    match answer_seat(shared, &mut kept[place], said, &mut seats[place], text) {
-        Ok(()) => Ok(()),
-        Err(end) => Err(end),
-    }
+    answer_seat(shared, &mut kept[place], said, &mut seats[place], text)
 }

@@ -1,10 +1,7 @@
 //! Taking what was read: bytes that are cut into lines, and the end.
-ghost use Rattle.std.specs.Prelude.{◌≡◌, ◌≢◌, ◌+◌, ◌++◌, ◌<◌, ◌≤◌, [], length, map, None, OnOk, OnErr, IfErr, IfSome};
-ghost use Rattle.dg_rank.specs.Ranks.{MayHaveWorkers};
-ghost use Rattle.dg_session.specs.Streams.{last_line};
-ghost use Rattle.dg_session.specs.Speakers.{speakers, kept_number, AnswersLineOf, RefusesLineOf};
-ghost use Rattle.dg_session.specs.Ends.{Answers};
-ghost use Rattle.dg_session.specs.Steps.{IsSaid, RefusesPart, MayPend, Passes, Halts};
+ghost use Rattle.std.specs.Prelude.{◌≡◌, ◌≢◌, ◌+◌, ◌++◌, ◌<◌, ◌≤◌, [], length, map, None, OnOk, IfErr, IfSome};
+ghost use Rattle.dg_session.specs.Speakers.{kept_number};
+ghost use Rattle.dg_session.specs.SoFar.{setup, talk, so_far, Handles, IsReady, RefusesPart, Takes, TakesEnd};
 
 use crate::answering::{Said, Shared};
 use crate::ends::{MAX_LINE, MAX_LINES, SessionEnd};
@@ -90,47 +87,32 @@ fn answer_pending<N: Name, R: Threads + Wait>(
     seats: &mut [Seat<N>],
     part: &[u8],
 ) -> Result<(), SessionEnd>
-    requires names { length shared.now.names.now ≡ N.start.graph.size }
-    requires workers { MayHaveWorkers shared.now.workers }
-    requires some { 1 ≤ length seats.old }
-    requires each { length progress.old.kept.items ≡ length seats.old }
-    ensures done { OnOk result (IsSaid
-        (AnswersLineOf shared.now.how N.start shared.now.names.now (speakers seats.old progress.old.kept.items)
-        (progress.old.pending.items ++ part.now) (speakers seats.new progress.new.kept.items))
-        progress.old.said.text.items progress.new.said.text.items) }
-    ensures unsaid { OnErr result (progress.new.said.text.items ≡ progress.old.said.text.items) }
-    ensures refused { IfErr result (RefusesLineOf shared.now.how N.start N.seats (length N.cells) shared.now.names.now
-        (speakers seats.old progress.old.kept.items) (progress.old.pending.items ++ part.now)
-        (speakers seats.new progress.new.kept.items)) }
+    requires { IsReady (so_far progress.old seats.old) }
+    ensures handled { Handles
+        (setup shared.now.how N.start N.seats (length N.cells) shared.now.names.now)
+        (progress.old.pending.items ++ part.now)
+        (talk seats.old progress.old.kept.items progress.old.said)
+        (talk seats.new progress.new.kept.items progress.new.said) result }
     ensures count { progress.new.count ≡ progress.old.count }
-    ensures seats { length seats.new ≡ length seats.old }
-    ensures looks { length progress.new.kept.items ≡ length progress.old.kept.items }
 {
     if progress.pending.is_empty() {
-        return match answer_line(
+        return answer_line(
             shared,
             progress.kept.as_mut_slice(),
             &mut progress.said,
             seats,
             part,
-        ) {
-            Ok(()) => Ok(()),
-            Err(end) => Err(end),
-        };
+        );
     }
     match progress.pending.extend_from_slice(part) {
-        Ok(()) => {}
-        Err(_) => return Err(SessionEnd::Memory),
-    }
-    match answer_line(
-        shared,
-        progress.kept.as_mut_slice(),
-        &mut progress.said,
-        seats,
-        &progress.pending,
-    ) {
-        Ok(()) => Ok(()),
-        Err(end) => Err(end),
+        Ok(()) => answer_line(
+            shared,
+            progress.kept.as_mut_slice(),
+            &mut progress.said,
+            seats,
+            &progress.pending,
+        ),
+        Err(_) => Err(SessionEnd::Memory),
     }
 }
 
@@ -141,23 +123,15 @@ fn end_line<N: Name, R: Threads + Wait>(
     seats: &mut [Seat<N>],
     part: &[u8],
 ) -> Result<(), SessionEnd>
-    requires names { length shared.now.names.now ≡ N.start.graph.size }
-    requires workers { MayHaveWorkers shared.now.workers }
+    requires ready { IsReady (so_far progress.old seats.old) }
     requires more { progress.old.count < MAX_LINES }
-    requires some { 1 ≤ length seats.old }
-    requires each { length progress.old.kept.items ≡ length seats.old }
-    ensures done { OnOk result (IsSaid
-        (AnswersLineOf shared.now.how N.start shared.now.names.now (speakers seats.old progress.old.kept.items)
-        (progress.old.pending.items ++ part.now) (speakers seats.new progress.new.kept.items))
-        progress.old.said.text.items progress.new.said.text.items) }
+    ensures handled { Handles
+        (setup shared.now.how N.start N.seats (length N.cells) shared.now.names.now)
+        (progress.old.pending.items ++ part.now)
+        (talk seats.old progress.old.kept.items progress.old.said)
+        (talk seats.new progress.new.kept.items progress.new.said) result }
     ensures pending { OnOk result (progress.new.pending.items ≡ []) }
     ensures count { OnOk result (progress.new.count ≡ progress.old.count + 1) }
-    ensures unsaid { OnErr result (progress.new.said.text.items ≡ progress.old.said.text.items) }
-    ensures refused { IfErr result (RefusesLineOf shared.now.how N.start N.seats (length N.cells) shared.now.names.now
-        (speakers seats.old progress.old.kept.items) (progress.old.pending.items ++ part.now)
-        (speakers seats.new progress.new.kept.items)) }
-    ensures seats { length seats.new ≡ length seats.old }
-    ensures looks { length progress.new.kept.items ≡ length progress.old.kept.items }
 {
     match answer_pending(shared, progress, seats, part) {
         Ok(()) => {
@@ -176,23 +150,11 @@ pub(crate) fn take_bytes<N: Name, R: Threads + Wait>(
     seats: &mut [Seat<N>],
     bytes: &[u8],
 ) -> Result<(), SessionEnd>
-    requires names { length shared.now.names.now ≡ N.start.graph.size }
-    requires workers { MayHaveWorkers shared.now.workers }
-    requires pending { MayPend progress.old.pending.items progress.old.count }
+    requires ready { IsReady (so_far progress.old seats.old) }
     requires said { progress.old.said.text.items ≡ [] }
-    requires some { 1 ≤ length seats.old }
-    requires each { length progress.old.kept.items ≡ length seats.old }
-    ensures passed { OnOk result (Passes (AnswersLineOf shared.now.how N.start shared.now.names.now)
-        progress.old.pending.items bytes.now progress.old.count (speakers seats.old progress.old.kept.items)
-        progress.new.pending.items progress.new.count (speakers seats.new progress.new.kept.items)
-        progress.new.said.text.items) }
-    ensures pending { OnOk result (MayPend progress.new.pending.items progress.new.count) }
-    ensures halted { IfErr result (Halts (AnswersLineOf shared.now.how N.start shared.now.names.now)
-        (RefusesLineOf shared.now.how N.start N.seats (length N.cells) shared.now.names.now)
-        progress.old.pending.items bytes.now progress.old.count (speakers seats.old progress.old.kept.items)
-        (speakers seats.new progress.new.kept.items) progress.new.said.text.items) }
-    ensures seats { length seats.new ≡ length seats.old }
-    ensures looks { length progress.new.kept.items ≡ length progress.old.kept.items }
+    ensures { Takes (setup shared.now.how N.start N.seats (length N.cells) shared.now.names.now)
+        (so_far progress.old seats.old) bytes.now (so_far progress.new seats.new)
+        progress.new.said.text.items result }
 {
     let mut rest = bytes;
     'parts: while !rest.is_empty() {
@@ -222,21 +184,11 @@ pub(crate) fn take_end<N: Name, R: Threads + Wait>(
     progress: &mut Progress<N>,
     seats: &mut [Seat<N>],
 ) -> Result<(), SessionEnd>
-    requires names { length shared.now.names.now ≡ N.start.graph.size }
-    requires workers { MayHaveWorkers shared.now.workers }
-    requires pending { MayPend progress.old.pending.items progress.old.count }
+    requires ready { IsReady (so_far progress.old seats.old) }
     requires said { progress.old.said.text.items ≡ [] }
-    requires some { 1 ≤ length seats.old }
-    requires each { length progress.old.kept.items ≡ length seats.old }
-    ensures answered { OnOk result (Answers (AnswersLineOf shared.now.how N.start shared.now.names.now)
-        (speakers seats.old progress.old.kept.items) (last_line progress.old.pending.items)
-        (speakers seats.new progress.new.kept.items) progress.new.said.text.items) }
-    ensures count { OnOk result (progress.new.count ≡ progress.old.count + length (last_line progress.old.pending.items)) }
-    ensures some { IfErr result (λ end. 1 ≤ length progress.old.pending.items) }
-    ensures unsaid { IfErr result (λ end. progress.new.said.text.items ≡ []) }
-    ensures refused { IfErr result (RefusesLineOf shared.now.how N.start N.seats (length N.cells) shared.now.names.now
-        (speakers seats.old progress.old.kept.items) progress.old.pending.items
-        (speakers seats.new progress.new.kept.items)) }
+    ensures { TakesEnd (setup shared.now.how N.start N.seats (length N.cells) shared.now.names.now)
+        (so_far progress.old seats.old) (so_far progress.new seats.new)
+        progress.new.said.text.items result }
 {
     if progress.pending.is_empty() {
         return Ok(());

@@ -1,24 +1,14 @@
-use Rattle.std.proofs.Common.{length}
-use Rattle.dg_game.specs.Schedule.{asked}
-use Rattle.dg_session.specs.Speakers.{kept_number}
-use Rattle.dg_session.proofs.Made.{call_made, named, call_done, call_unsaid}
+use Rattle.std.proofs.Common.{sym, refl}
+use Rattle.dg_session.proofs.Made.{call_made, named, entered, any_ok, call_keeps, call_refused}
 use Rattle.dg_session.proofs.answering.call.Goals as goal
 
 pub say_entry-requires : goal.say_entry-requires
-say_entry-requires g c =
-    named g.N.Name.start c.args.shared.now.names.now (asked c.args.plain) c.in-Ok.receipt c.args.seat.now c.call.new.seat c.requires.names
-    (call_made g.N.Name.start g.N.Name.seats (length g.N.Name.cells) (asked c.args.plain) c.in-Ok.receipt c.args.seat.now c.call.new.seat c.in-Ok.ensures.answered)
+say_entry-requires g c = named c.args.shared.now.names.now c.args.shared.now.named (call_made c.in-Ok.ensures.answered)
 
-pub returns-in-Err-say_entry-clause-refused : goal.returns-in-Err-say_entry-clause-refused
-returns-in-Err-say_entry-clause-refused g c =
-    call_unsaid g.N.Name.start _ _ c.args.shared.now.names.now c.args.kept.now c.args.plain c.in-Ok.receipt c.args.seat.now c.call.new.seat
-    c.in-Err-say_entry.end
-    (call_made g.N.Name.start g.N.Name.seats (length g.N.Name.cells) (asked c.args.plain) c.in-Ok.receipt c.args.seat.now c.call.new.seat c.in-Ok.ensures.answered)
-    c.in-Err-say_entry.ensures.refused
+pub returns-in-Ok : goal.returns-in-Ok
+returns-in-Ok g c =
+    entered (call_made c.in-Ok.ensures.answered) (λ made after text enters. enters)
+    (any_ok _ (sym (call_keeps _ _ c.args.plain c.requires))) c.say_entry.ensures
 
-pub returns-in-Ok-say_entry-clause-done : goal.returns-in-Ok-say_entry-clause-done
-returns-in-Ok-say_entry-clause-done g c =
-    call_done g.N.Name.start c.args.shared.now.names.now (kept_number c.args.kept.now) c.args.plain c.in-Ok.receipt c.args.seat.now c.call.new.seat
-    c.args.said.now.text.items c.say_entry.new.self.text.items c.requires.no_look
-    (call_made g.N.Name.start g.N.Name.seats (length g.N.Name.cells) (asked c.args.plain) c.in-Ok.receipt c.args.seat.now c.call.new.seat c.in-Ok.ensures.answered)
-    c.in-Ok-say_entry.ensures.said
+pub returns-in-Err : goal.returns-in-Err
+returns-in-Err g c = call_refused tt c.in-Err.ensures.fault.0 c.in-Err.ensures.fault.1 refl

@@ -1,20 +1,15 @@
-use Rattle.std.proofs.Common.{length}
-use Rattle.dg_game.specs.declared.entry.Request.TheVariants.{Look}
-use Rattle.dg_game.specs.declared.entry.Plain.TheVariants.{Look as PlainLook}
-use Rattle.dg_session.specs.Speakers.{kept_number}
-use Rattle.dg_session.proofs.Made.{call_made, look_done, call_unsaid}
+use Rattle.std.proofs.Common.{refl}
+use Rattle.dg_session.proofs.Made.{call_made, entered, call_refused}
 use Rattle.dg_session.proofs.answering.take_look.Goals as goal
 
-pub returns-in-Err-say_entry-clause-refused : goal.returns-in-Err-say_entry-clause-refused
-returns-in-Err-say_entry-clause-refused g c =
-    call_unsaid g.N.Name.start _ _ c.args.shared.now.names.now c.args.kept.now PlainLook c.in-Ok.look.receipt c.args.seat.now c.look.new.seat
-    c.in-Err-say_entry.end
-    (call_made g.N.Name.start g.N.Name.seats (length g.N.Name.cells) Look c.in-Ok.look.receipt c.args.seat.now c.look.new.seat c.in-Ok.ensures.answered)
-    c.in-Err-say_entry.ensures.refused
+pub returns-in-Ok-say_entry : goal.returns-in-Ok-say_entry
+returns-in-Ok-say_entry g c =
+    entered (call_made c.in-Ok.ensures.answered) (λ made after text enters. enters) refl
+    (rw c.receipt.ensures.receipt at c.in-Ok-say_entry.ensures)
 
-pub returns-in-Ok-say_entry-clause-done : goal.returns-in-Ok-say_entry-clause-done
-returns-in-Ok-say_entry-clause-done g c =
-    look_done g.N.Name.start c.args.shared.now.names.now (kept_number c.args.kept.now) c.in-Ok.look c.args.seat.now c.look.new.seat
-    c.args.said.now.text.items c.say_entry.new.self.text.items
-    (call_made g.N.Name.start g.N.Name.seats (length g.N.Name.cells) Look c.in-Ok.look.receipt c.args.seat.now c.look.new.seat c.in-Ok.ensures.answered)
-    (rw c.receipt.ensures.receipt at c.in-Ok-say_entry.ensures.said)
+pub returns-in-Err-say_entry : goal.returns-in-Err-say_entry
+returns-in-Err-say_entry g c =
+    entered (call_made c.in-Ok.ensures.answered) (λ made after text enters. enters) tt c.in-Err-say_entry.ensures
+
+pub returns-in-Err : goal.returns-in-Err
+returns-in-Err g c = call_refused tt c.in-Err.ensures.fault.0 c.in-Err.ensures.fault.1 refl

@@ -6,7 +6,8 @@ use Rattle.dg_session.proofs.serving.have_pasts.Goals as goal
 
 pub loop-seat-preserved : goal.loop-seat-preserved
 loop-seat-preserved g c =
-    one_more (HasPast g.N.Name.start g.N.Name.seats (length g.N.Name.cells)) c.args.seats.now c.loop-seat.seat-index c.seat-item.result
+    one_more (HasPast g.N.Name.start g.N.Name.seats (length g.N.Name.cells)) c.args.seats.now c.loop-seat.seat-index
+    c.seat-item.result
     c.loop-seat-test.true c.loop-seat.invariant
     (subst (HasPast g.N.Name.start g.N.Name.seats (length g.N.Name.cells)) c.seat-item.is c.past-past.ensures.found)
 

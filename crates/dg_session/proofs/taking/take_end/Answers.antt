@@ -1,19 +1,31 @@
-use Rattle.std.proofs.Common.{◌≡◌, ◌≤◌, length, rules, tests}
-use Rattle.dg_session.specs.Speakers.{speakers, AnswersLineOf}
-use Rattle.dg_session.proofs.Runs.{last_none, last_one}
+use Rattle.std.proofs.Common.{◌≡◌, ◌≤◌, length, ap, arith, rules, tests}
+use Rattle.dg_session.proofs.Cutting.{one_line}
+use Rattle.dg_session.proofs.Going.{last_none, last_counted, last_one, last_halts}
 use Rattle.dg_session.proofs.taking.take_end.Goals as goal
 
-pub returns-then-is_empty-clause-answered : goal.returns-then-is_empty-clause-answered
-returns-then-is_empty-clause-answered g c =
-    let none : length c.args.progress.now.pending.items ≡ 0 = search (rules, tests) in
-    last_none (AnswersLineOf c.args.shared.now.how g.N.Name.start c.args.shared.now.names.now)
-    (speakers c.args.seats.now c.args.progress.now.kept.items) c.args.progress.now.pending.items c.args.progress.now.said.text.items
-    none c.requires.said
+pub returns-then-is_empty : goal.returns-then-is_empty
+returns-then-is_empty g c =
+    let pending = c.args.progress.now.pending.items in
+    let none : length pending ≡ 0 = search (rules, tests) in record {
+      answered = last_none _ _ pending c.args.progress.now.said.text.items none c.requires.said;
+      counted = last_counted pending c.args.progress.now.count none;
+      halted = tt;
+    }
 
-pub returns-in-Ok-clause-answered : goal.returns-in-Ok-clause-answered
-returns-in-Ok-clause-answered g c =
-    let some : 1 ≤ length c.args.progress.now.pending.items = search (rules, tests) in
-    last_one (AnswersLineOf c.args.shared.now.how g.N.Name.start c.args.shared.now.names.now)
-    (speakers c.args.seats.now c.args.progress.now.kept.items) (speakers c.end_line.new.seats c.end_line.new.progress.kept.items)
-    c.args.progress.now.pending.items c.args.progress.now.said.text.items c.end_line.new.progress.said.text.items
-    some c.requires.said c.in-Ok.ensures.done
+pub returns-in-Ok : goal.returns-in-Ok
+returns-in-Ok g c =
+    let pending = c.args.progress.now.pending.items in
+    let some : 1 ≤ length pending = search (rules, tests) in record {
+      answered = last_one pending some c.requires.said c.in-Ok.ensures.handled.done;
+      counted = omega (arith, c.in-Ok.ensures.count, ap length (one_line pending some));
+      halted = tt;
+    }
+
+pub returns-in-Err : goal.returns-in-Err
+returns-in-Err g c =
+    let some : 1 ≤ length c.args.progress.now.pending.items = search (rules, tests) in record {
+      answered = tt;
+      counted = tt;
+      halted = last_halts tt c.requires.ready some c.requires.said c.in-Err.ensures.handled.refused
+          c.in-Err.ensures.handled.unsaid;
+    }

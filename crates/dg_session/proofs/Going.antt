@@ -1,0 +1,209 @@
+-- Lines that are answered one after another, and bytes that are taken part by part.
+--   answers_none, answers_more   no line, and some after others
+--   goes_none     no byte is taken
+--   goes_part     the last part is taken, which is pending now
+--   goes_line     a part that ends a line, which is answered
+--   goes_more     some bytes after others
+--   halts_part, halts_line       the session ends at a part that is not taken, and at a line that is refused
+--   halts_after   it halts after some bytes
+--   last_none, last_one, last_halts   what is pending as the last line: none, one that is answered, and one that is
+--       refused
+use Rattle.std.proofs.Common.{◌≡◌, ◌≢◌, ℕ, ◌+◌, ◌<◌, ◌≤◌, inl, inr, List, [], ◌∷◌, ◌++◌, length, take, drop, refl, sym, ap, subst, ◌∙◌, arith, append_assoc, append-nil, length-append, take-append-drop}
+use Rattle.std.proofs.lemmas.List.Elements.{All-append, All-nil, All-take}
+use Rattle.std.proofs.lemmas.List.{length-take-le}
+use Rattle.dg_session.specs.Streams.{HasNoNewline, IsLine, Begins, AreLines, last_line}
+use Rattle.dg_session.specs.Speakers.{Speakers}
+use Rattle.dg_session.specs.Ends.{Answering, Answers}
+use Rattle.dg_session.specs.SoFar.{Setup, SoFar, Talk, IsAnswered, IsReady, Goes, Halts, RefusesPart, StaysAt, answers, refuses}
+use Rattle.dg_session.specs.declared.ends.TheConstants.{MAX_LINE, MAX_LINES}
+use Rattle.dg_session.specs.declared.ends.SessionEnd.{SessionEnd}
+use Rattle.dg_session.specs.declared.ends.SessionEnd.TheVariants.{LongLine, Turns}
+use Rattle.dg_session.proofs.Cutting.{begins_none, begins_one, begins_then, begins_more, lines_end, one_line}
+use Rattle.dg_session.proofs.Seated.{sizes_kept}
+
+pub answers_none : (A : Answering) (s : Speakers) → Answers A s [] s []
+unfolding Answers
+answers_none A s = (refl, refl)
+
+pub answers_one : (A : Answering) (s z : Speakers) (line t : List ℕ) → A s line z t → Answers A s (line ∷ []) z t
+unfolding Answers
+answers_one A s z line t p = (z, t, [], p, (refl, refl), sym (append-nil t))
+
+pub answers_more : (A : Answering) (s m z : Speakers) (ls ls' : List (List ℕ)) (t t' : List ℕ)
+    → Answers A s ls m t → Answers A m ls' z t' → Answers A s (ls ++ ls') z (t ++ t')
+unfolding Answers
+answers_more A s m z [] ls' t t' p q =
+    subst (λ k. Answers A k ls' z (t ++ t')) p.0 (subst (Answers A m ls' z) (sym (ap (λ text. text ++ t') p.1)) q)
+answers_more A s m z (line ∷ ls) ls' t t' p q =
+    let (first, front, back, answer, more, text) = p in (
+      first,
+      front,
+      back ++ t',
+      answer,
+      answers_more A first m z ls ls' back t' more q,
+      ap (λ l. l ++ t') text ∙ append_assoc front back t',
+    )
+
+pub line_with : {at : SoFar} (part : List ℕ) → IsReady at → HasNoNewline part
+    → length at.pending + length part ≤ MAX_LINE
+    → IsLine (at.pending ++ part)
+line_with {at} part ready plain short = record {
+  no_newline = All-append (λ byte. byte ≢ 10) at.pending part ready.line.no_newline plain;
+  short = let size = length-append at.pending part in omega (arith, size, short);
+}
+
+pub empty_line : (p : List ℕ) → p ≡ [] → IsLine p
+empty_line p none = subst IsLine (sym none) (record { no_newline = All-nil (λ byte. byte ≢ 10); short = omega arith })
+
+pub goes_none : {t : Setup} {at : SoFar} {bytes text : List ℕ} → text ≡ [] → IsReady at → Goes t at bytes bytes at text
+goes_none {t} {at} {bytes} {text} none ready = record {
+  ls = [];
+  came = begins_none (at.pending ++ bytes);
+  counted = omega arith;
+  answered = subst (Answers (answers t) at.who [] at.who) (sym none) (answers_none (answers t) at.who);
+  ready = ready;
+}
+
+pub goes_more : {t : Setup} {old mid new : SoFar} {b c rest text more : List ℕ} → Goes t old b [] mid text
+    → Goes t mid c rest new more
+    → Goes t old (b ++ c) rest new (text ++ more)
+goes_more {t} {old} {mid} {new} {b} {c} {rest} {text} {more} g h = record {
+  ls = g.ls ++ h.ls;
+  came = subst (λ l. Begins l (g.ls ++ h.ls) (new.pending ++ rest)) (append_assoc old.pending b c)
+      (begins_then (begins_more c (subst (Begins (old.pending ++ b) g.ls) (append-nil mid.pending) g.came)) h.came);
+  counted = let size = length-append g.ls h.ls in omega (arith, size, g.counted, h.counted);
+  answered = answers_more (answers t) old.who mid.who new.who g.ls h.ls text more g.answered h.answered;
+  ready = h.ready;
+}
+
+pub halts_after : {t : Setup} {E : Type 0} {old mid : SoFar} {b c text more : List ℕ} {z : Speakers} {end : SessionEnd}
+    → Goes t old b [] mid text → Halts t E mid c z more end → Halts t E old (b ++ c) z (text ++ more) end
+halts_after g h = record { rest = h.rest; at = h.at; goes = goes_more g h.goes; fails = h.fails }
+
+module _ {t : Setup} {old at : SoFar} {bytes rest text : List ℕ} (g : Goes t old bytes rest at text) where
+  pub goes_part : (part p : List ℕ) → rest ≡ part → p ≡ at.pending ++ part → HasNoNewline part
+      → length at.pending + length part ≤ MAX_LINE → at.count ≢ MAX_LINES
+      → Goes t old bytes [] (record at { pending = p }) text
+  goes_part part p cut grown plain short other = record {
+    ls = g.ls;
+    came = subst (Begins (old.pending ++ bytes) g.ls) (ap (λ l. at.pending ++ l) cut ∙ sym (append-nil p ∙ grown))
+        g.came;
+    counted = g.counted;
+    answered = g.answered;
+    ready = record {
+      line = subst IsLine (sym grown) (line_with part g.ready plain short);
+      few = g.ready.few;
+      full = λ full. absurd (other full);
+      some = g.ready.some;
+      each = g.ready.each;
+    };
+  }
+
+  pub goes_line : {new : SoFar} {more text' : List ℕ} (part : List ℕ) → rest ≡ part ++ 10 ∷ more
+      → IsLine (at.pending ++ part)
+      → at.count < MAX_LINES
+      → IsAnswered t (at.pending ++ part) (record { who = at.who; said = text })
+      (record { who = new.who; said = text' })
+      → new.pending ≡ [] → new.count ≡ at.count + 1 → Goes t old bytes more new text'
+  goes_line {new} {more} {text'} part cut is few said none next =
+      let line = at.pending ++ part in
+      let sizes = sizes_kept t at.who new.who line said.text said.holds in record {
+        ls = g.ls ++ line ∷ [];
+        came = subst (λ p. Begins (old.pending ++ bytes) (g.ls ++ line ∷ []) (p ++ more)) (sym none)
+            (begins_then g.came (subst (λ l. Begins l (line ∷ []) more)
+            (append_assoc at.pending part (10 ∷ more) ∙ ap (λ l. at.pending ++ l) (sym cut)) (begins_one more is)));
+        counted = let size = length-append g.ls (line ∷ []) in omega (arith, size, g.counted, next);
+        answered = subst (Answers (answers t) old.who (g.ls ++ line ∷ []) new.who) (sym said.said)
+            (answers_more (answers t) old.who at.who new.who g.ls (line ∷ []) text said.text g.answered
+            (answers_one (answers t) at.who new.who line said.text said.holds));
+        ready = record {
+          line = empty_line new.pending none;
+          few = omega (arith, few, next);
+          full = λ full. none;
+          some = omega (arith, sizes.0, g.ready.some);
+          each = sizes.1 ∙ g.ready.each ∙ sym sizes.0;
+        };
+      }
+
+  stays : (part more : List ℕ) (end : SessionEnd) → rest ≡ part ++ more → HasNoNewline part → 1 ≤ length rest
+      → RefusesPart at.pending at.count part end → StaysAt at rest end
+  stays part more Turns cut plain some h = (h, some)
+  stays part more LongLine cut plain some h = (
+    omega (arith, g.ready.few, h.0),
+    let p = at.pending ++ part in record {
+      front = take (MAX_LINE + 1) p;
+      back = drop (MAX_LINE + 1) p ++ more;
+      whole = ap (λ l. at.pending ++ l) cut ∙ sym (append_assoc at.pending part more)
+          ∙ ap (λ l. l ++ more) (sym (take-append-drop (MAX_LINE + 1) p))
+          ∙ append_assoc (take (MAX_LINE + 1) p) (drop (MAX_LINE + 1) p) more;
+      no_newline = All-take (λ byte. byte ≢ 10) (MAX_LINE + 1) p
+          (All-append (λ byte. byte ≢ 10) at.pending part g.ready.line.no_newline plain);
+      long = let size = length-append at.pending part in length-take-le (MAX_LINE + 1) p (omega (arith, size, h.1));
+    },
+  )
+  stays part more end cut plain some h = absurd h
+
+  pub halts_part : {E : Type 0} {end : SessionEnd} (part more : List ℕ) → rest ≡ part ++ more → HasNoNewline part
+      → 1 ≤ length rest → RefusesPart at.pending at.count part end → Halts t E old bytes at.who text end
+  halts_part {E} {end} part more cut plain some h =
+      record { rest = rest; at = at; goes = g; fails = inl (stays part more end cut plain some h, refl) }
+
+  pub halts_line : {E : Type 0} {text' : List ℕ} {z : Speakers} {end : SessionEnd} (part more : List ℕ)
+      → rest ≡ part ++ 10 ∷ more
+      → IsLine (at.pending ++ part) → at.count < MAX_LINES → refuses t at.who (at.pending ++ part) z end → text' ≡ text
+      → Halts t E old bytes z text' end
+  halts_line {E} {text'} {z} {end} part more cut is few refused same = subst (λ l. Halts t E old bytes z l end)
+      (sym same)
+      (record {
+        rest = rest;
+        at = at;
+        goes = g;
+        fails = inr (record {
+          line = at.pending ++ part;
+          came = (
+            omega arith,
+            inl (
+              more,
+              subst (λ l. Begins l ((at.pending ++ part) ∷ []) more)
+                  (append_assoc at.pending part (10 ∷ more) ∙ ap (λ l. at.pending ++ l) (sym cut)) (begins_one more is),
+            ),
+          );
+          few = few;
+          stops = refused;
+        });
+      })
+
+-- what is pending is the last line
+pub last_none : (A : Answering) (s : Speakers) (p text : List ℕ) → length p ≡ 0 → text ≡ []
+    → Answers A s (last_line p) s text
+last_none A s [] text none unsaid = subst (Answers A s [] s) (sym unsaid) (answers_none A s)
+last_none A s (b ∷ bs) text none unsaid = absurd (omega (arith, none))
+
+pub last_counted : (p : List ℕ) (c : ℕ) → length p ≡ 0 → c ≡ c + length (last_line p)
+last_counted [] c none = omega arith
+last_counted (b ∷ bs) c none = absurd (omega (arith, none))
+
+pub last_one : {t : Setup} {old new : Talk} (p : List ℕ) → 1 ≤ length p → old.said ≡ [] → IsAnswered t (p ++ []) old new
+    → Answers (answers t) old.who (last_line p) new.who new.said
+last_one [] some none said = absurd (omega (arith, some))
+last_one {t} {old} {new} (b ∷ bs) some none said =
+    subst (Answers (answers t) old.who ((b ∷ bs) ∷ []) new.who) (sym (said.said ∙ ap (λ l. l ++ said.text) none))
+    (answers_one (answers t) old.who new.who (b ∷ bs) said.text
+    (subst (λ l. answers t old.who l new.who said.text) (append-nil (b ∷ bs)) said.holds))
+
+pub last_halts : {t : Setup} {E : Type 0} {at : SoFar} {z : Speakers} {old text : List ℕ} {end : SessionEnd} → E
+    → IsReady at
+    → 1 ≤ length at.pending → old ≡ [] → refuses t at.who (at.pending ++ []) z end → text ≡ old
+    → Halts t E at [] z text end
+last_halts {t} {E} {at} {z} {old} {text} {end} over ready some none refused same = record {
+  rest = [];
+  at = at;
+  goes = goes_none (same ∙ none) ready;
+  fails = inr (record {
+    line = at.pending;
+    came = subst (AreLines E (at.pending ++ [])) (one_line at.pending some) (lines_end at.pending over ready.line);
+    few = let other : at.count ≢ MAX_LINES = λ all. omega (arith, some, ap length (ready.full all)) in
+        omega (arith, other, ready.few);
+    stops = subst (λ l. refuses t at.who l z end) (append-nil at.pending) refused;
+  });
+}

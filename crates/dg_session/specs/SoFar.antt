@@ -1,0 +1,188 @@
+-- How far a session is, and how it goes on: what each floor, from the bytes that are read down to one
+-- command, promises of its states before and after. No public contract speaks of it.
+--   Setup      == how lines name the seats, and the table: its opening, how many seats and cells it
+--                 has, and the names of its vertices
+--   Speaker    == how far a seat is: the seat, the number of the look that it keeps, if it keeps one,
+--                 and what was said
+--   Talk       == how far all seats are: who speaks, and what was said
+--   SoFar      == how far the session is: what came after the last newline, how many lines are
+--                 answered, and who speaks
+--   answers t, refuses t == what answers a line there, and at what the session ends there
+--   Tells words old new result == the words are said; or memory is refused, and nothing is
+--   Obeys t command old new result == the speaker's command is done and answered; or the session ends
+--                 so at it, and nothing is said
+--   Hears t line old new result    == so is the speaker's line
+--   Handles t line old new result  == so is a line, of the seat that it is for
+--   IsReady at == the session can go on: what is pending may be of a line, and a look may be kept for
+--                 each seat
+--   Goes t old bytes rest new text == of the bytes all but the rest are taken: the lines that end in
+--                 them are answered with the text
+--   RefusesPart pending count part end == the part of a line is not taken, for its length or as one of
+--                 a line too many
+--   StaysAt at rest end == the session ends so before the rest: a line there is too long or one too
+--                 many, or memory is refused
+--   StopsIn t ended at rest z end  == or at the line that comes next, as it is refused
+--   Halts t ended old bytes z text end == the bytes are taken but for a rest, and there the session
+--                 ends so; z speak then; `ended` says that no more is to come
+--   Takes t old bytes new text result == the bytes are taken, or the session halts in them
+--   TakesEnd t old new text result == so is the end: what is pending is the last line, if it has a byte
+--   IsWritten taken text old new result == all that was said is written, and it ends as the taking did;
+--                 or a front of it is, and the writer took no more
+use Rattle.std.specs.Prelude.{◌≡◌, ◌≢◌, ℕ, ◌+◌, ◌<◌, ◌≤◌, ◌⊎◌, List, [], ◌∷◌, ◌++◌, length, true, Option, Result, Ok, Err, OnOk, OnErr, IfErr, ⊤}
+use Rattle.std.specs.Io.KnownBytes.{Appends}
+use Rattle.dg_chips.specs.Opening.{Opening}
+use Rattle.dg_game.specs.declared.entry.Entry.{Entry}
+use Rattle.dg_game.specs.declared.step.Command.{Command}
+use Rattle.dg_table.specs.Seats.{SeatView}
+use Rattle.dg_analyst.specs.Views.{LookView}
+use Rattle.dg_streams.specs.Streams.{Writing, AppendsFront}
+use Rattle.dg_session.specs.Streams.{IsLine, Begins, AreLines, last_line}
+use Rattle.dg_session.specs.Saying.{Gains, AnswersCommand, AnswersLine}
+use Rattle.dg_session.specs.Refusing.{RefusesCommand, RefusesLine}
+use Rattle.dg_session.specs.Speakers.{Speakers, speakers, newcomers, kept_number, AnswersLineOf, RefusesLineOf}
+use Rattle.dg_session.specs.Ends.{Answering, Ending, Answers, IsTooLong}
+use Rattle.dg_session.specs.declared.addressing.Addressing.{Addressing}
+use Rattle.dg_session.specs.declared.answering.Said.{Said}
+use Rattle.dg_session.specs.declared.taking.Progress.{Progress}
+use Rattle.dg_session.specs.declared.ends.TheConstants.{MAX_LINE, MAX_LINES}
+use Rattle.dg_session.specs.declared.ends.SessionEnd.{SessionEnd}
+use Rattle.dg_session.specs.declared.ends.SessionEnd.TheVariants.{Write, LongLine, Turns, Memory}
+
+pub record Setup : Type 0 where
+  pub how : Addressing
+  pub opening : Opening
+  pub seats : ℕ
+  pub cap : ℕ
+  pub names : List (List ℕ)
+
+abbrev pub setup : Addressing → Opening → ℕ → ℕ → List (List ℕ) → Setup
+setup how o seats cap names =
+    record { how = how; opening = o; seats = seats; cap = cap; names = names }
+
+abbrev pub answers : Setup → Answering
+answers t = AnswersLineOf t.how t.opening t.names
+
+abbrev pub refuses : Setup → Ending
+refuses t = RefusesLineOf t.how t.opening t.seats t.cap t.names
+
+pub record Speaker : Type 0 where
+  pub seat : SeatView
+  pub kept : Option ℕ
+  pub said : List ℕ
+
+abbrev pub speaker : SeatView → Option LookView → Said → Speaker
+speaker x look said = record { seat = x; kept = kept_number look; said = said.text.items }
+
+pub record Talk : Type 0 where
+  pub who : Speakers
+  pub said : List ℕ
+
+abbrev pub talk : List SeatView → List (Option LookView) → Said → Talk
+talk xs looks said = record { who = speakers xs looks; said = said.text.items }
+
+pub record SoFar : Type 0 where
+  pub pending : List ℕ
+  pub count : ℕ
+  pub who : Speakers
+
+abbrev pub so_far : {N : Type 0} → Progress N → List SeatView → SoFar
+so_far p xs = record { pending = p.pending.items; count = p.count; who = speakers xs p.kept.items }
+
+abbrev pub beginning : List SeatView → SoFar
+beginning xs = record { pending = []; count = 0; who = newcomers xs }
+
+pub record IsDone (A : List (ℕ × Entry) → Option ℕ → List ℕ → Type 0)
+    (old new : Speaker) : Type 0 where
+  pub made : List (ℕ × Entry)
+  pub text : List ℕ
+  pub answers : A made new.kept text
+  pub gained : Gains old.seat new.seat made
+  pub said : new.said ≡ old.said ++ text
+
+abbrev pub Tells : {B : Type 0} → List ℕ → List ℕ → List ℕ → Result B SessionEnd → Type 0
+Tells words old new (Ok b) = new ≡ old ++ words
+Tells words old new (Err end) = (end ≡ Memory) × (new ≡ old)
+
+pub record Obeys {B : Type 0} (t : Setup) (command : Command) (old new : Speaker)
+    (result : Result B SessionEnd) : Type 0 where
+  pub done : OnOk result (IsDone (AnswersCommand t.opening t.names old.kept command) old new)
+  pub refused : IfErr result
+      (RefusesCommand t.opening t.seats t.cap t.names old.kept command old.seat new.seat)
+  pub unsaid : OnErr result (new.said ≡ old.said)
+
+pub record Hears {B : Type 0} (t : Setup) (line : List ℕ) (old new : Speaker)
+    (result : Result B SessionEnd) : Type 0 where
+  pub done : OnOk result (IsDone (AnswersLine t.opening t.names old.kept line) old new)
+  pub refused : IfErr result
+      (RefusesLine t.opening t.seats t.cap t.names old.kept line old.seat new.seat)
+  pub unsaid : OnErr result (new.said ≡ old.said)
+
+pub record IsAnswered (t : Setup) (line : List ℕ) (old new : Talk) : Type 0 where
+  pub text : List ℕ
+  pub holds : answers t old.who line new.who text
+  pub said : new.said ≡ old.said ++ text
+
+pub record Handles {B : Type 0} (t : Setup) (line : List ℕ) (old new : Talk)
+    (result : Result B SessionEnd) : Type 0 where
+  pub done : OnOk result (IsAnswered t line old new)
+  pub refused : IfErr result (refuses t old.who line new.who)
+  pub unsaid : OnErr result (new.said ≡ old.said)
+
+pub record IsReady (at : SoFar) : Type 0 where
+  pub line : IsLine at.pending
+  pub few : at.count ≤ MAX_LINES
+  pub full : at.count ≡ MAX_LINES → at.pending ≡ []
+  pub some : 1 ≤ length at.who.seats
+  pub each : length at.who.kept ≡ length at.who.seats
+
+pub record Goes (t : Setup) (old : SoFar) (bytes rest : List ℕ) (new : SoFar)
+    (text : List ℕ) : Type 0 where
+  pub ls : List (List ℕ)
+  pub came : Begins (old.pending ++ bytes) ls (new.pending ++ rest)
+  pub counted : new.count ≡ old.count + length ls
+  pub answered : Answers (answers t) old.who ls new.who text
+  pub ready : IsReady new
+
+abbrev pub RefusesPart : List ℕ → ℕ → List ℕ → SessionEnd → Type 0
+RefusesPart pending count part Turns = count ≡ MAX_LINES
+RefusesPart pending count part LongLine =
+    (count ≢ MAX_LINES) × (MAX_LINE < length pending + length part)
+RefusesPart pending count part end = ⊥
+
+abbrev pub StaysAt : SoFar → List ℕ → SessionEnd → Type 0
+StaysAt at rest Turns = (at.count ≡ MAX_LINES) × (1 ≤ length rest)
+StaysAt at rest LongLine = (at.count < MAX_LINES) × IsTooLong (at.pending ++ rest)
+StaysAt at rest Memory = ⊤
+StaysAt at rest end = ⊥
+
+pub record StopsIn (t : Setup) (ended : Type 0) (at : SoFar) (rest : List ℕ) (z : Speakers)
+    (end : SessionEnd) : Type 0 where
+  pub line : List ℕ
+  pub came : AreLines ended (at.pending ++ rest) (line ∷ [])
+  pub few : at.count < MAX_LINES
+  pub stops : refuses t at.who line z end
+
+pub record Halts (t : Setup) (ended : Type 0) (old : SoFar) (bytes : List ℕ) (z : Speakers)
+    (text : List ℕ) (end : SessionEnd) : Type 0 where
+  pub rest : List ℕ
+  pub at : SoFar
+  pub goes : Goes t old bytes rest at text
+  pub fails : (StaysAt at rest end × (z ≡ at.who)) ⊎ StopsIn t ended at rest z end
+
+pub record Takes {B : Type 0} (t : Setup) (old : SoFar) (bytes : List ℕ) (new : SoFar)
+    (text : List ℕ) (result : Result B SessionEnd) : Type 0 where
+  pub taken : OnOk result (Goes t old bytes [] new text)
+  pub halted : IfErr result (Halts t ⊥ old bytes new.who text)
+
+pub record TakesEnd {B : Type 0} (t : Setup) (old new : SoFar) (text : List ℕ)
+    (result : Result B SessionEnd) : Type 0 where
+  pub answered : OnOk result (Answers (answers t) old.who (last_line old.pending) new.who text)
+  pub counted : OnOk result (new.count ≡ old.count + length (last_line old.pending))
+  pub halted : IfErr result (Halts t ⊤ old [] new.who text)
+
+abbrev pub IsWritten : {B : Type 0} → Result B SessionEnd → List ℕ → Writing → Writing
+    → Result B SessionEnd → Type 0
+IsWritten taken text old new result =
+    ((taken ≡ result) × Appends old.contents new.contents text)
+    ⊎ ((result ≡ Err Write) × AppendsFront old.contents new.contents [] text
+    × (new.has_failed ≡ true))
