@@ -18,9 +18,9 @@ use std::sync::atomic::{AtomicU32, Ordering};
 use std::thread;
 use std::thread::{Promise, Scope, Threads};
 
-// How many trials a piece makes before it looks whether an earlier piece has lost. So many begin with a reduction, which
-// costs as much as forty of them.
-const LOOK_EVERY: u32 = 1024;
+// How many trials a piece makes at first before it looks whether an earlier piece has lost; then it makes as many as it has made.
+// So many begin with a reduction, which costs as much as some hundred of them.
+const FIRST_LOOK: u32 = 1024;
 
 /// What is searched for a first loss: the trials below a number, in so many pieces. Piece j of w holds those from the
 /// j-th of w parts of their number, rounded down, up to and without the next one's first.
@@ -187,12 +187,13 @@ fn outcome_of(search: &Search, lost: &AtomicU32, piece: u32) -> Outcome
     ensures { IsOutcomeOf search.now piece result }
 {
     let end = start_of(search, piece + 1);
-    let mut from = start_of(search, piece);
+    let start = start_of(search, piece);
+    let mut from = start;
     while from < end {
         if lost.load(Ordering::SeqCst) < piece {
             return Outcome::GaveUp;
         }
-        let to = end.min(from + LOOK_EVERY);
+        let to = end.min(from + FIRST_LOOK.max(from - start));
         if let Some(trial) = first_loss(&search.graph, &search.chips, search.k, from, to) {
             lost.fetch_min(piece, Ordering::SeqCst);
             return Outcome::Lost(trial);
