@@ -2,11 +2,12 @@
 --   valence-outside   no edge meets past the size
 --   valence-few       at most 63 edges meet, at a vertex and past the size
 --   valences_of-at    what is kept at a place
+--   valences_of-all   and past the places too
 --   filled-more       a list that is filled in one place after another
-use Rattle.std.proofs.Common.{◌≡◌, ℕ, zero, suc, ◌+◌, ◌<◌, ◌≤◌, List, length, set, arith, refl, ◌∙◌, ⊎_elim}
+use Rattle.std.proofs.Common.{◌≡◌, ℕ, zero, suc, ◌+◌, ◌<◌, ◌≤◌, List, length, set, arith, refl, sym, ◌∙◌, ⊎_elim}
 use Rattle.std.specs.Prelude.{slice_index}
 use Rattle.std.proofs.lemmas.Bool.{cases_lt, cases_eq}
-use Rattle.std.proofs.lemmas.List.{get_or-set_same, get_or-set_other}
+use Rattle.std.proofs.lemmas.List.{get_or-set_same, get_or-set_other, get_or_past}
 use Rattle.std.proofs.lemmas.List.FromFn.{get_or-map-range_with_len}
 use Rattle.dg_theory.specs.Sums.{total_below}
 use Rattle.dg_theory.specs.Multigraph.{Multigraph, valence, edges_between}
@@ -33,6 +34,18 @@ valence-few g v graph = ⊎_elim
 pub valences_of-at : (g : Multigraph) (v : ℕ) → v < 16 → slice_index (valences_of g) v ≡ valence g v
 unfolding valences_of
 valences_of-at g v below = get_or-map-range_with_len (valence g) 0 16 v v 0 below (omega arith)
+
+valences_of-length : (g : Multigraph) → length (valences_of g) ≡ 16
+unfolding valences_of
+valences_of-length g = refl
+
+pub valences_of-all : (g : Multigraph) (v : ℕ) → IsGraph g → slice_index (valences_of g) v ≡ valence g v
+valences_of-all g v graph = ⊎_elim
+    (λ (below : v < 16). valences_of-at g v below)
+    (λ (past : 16 ≤ v).
+    get_or_past (valences_of g) v 0 (rw (valences_of-length g) past)
+    ∙ sym (valence-outside g v graph (omega (arith, graph.few))))
+    (cases_lt v 16)
 
 -- the places of a list below v + 1, where those below v agree with f, and so does a
 pub filled-more : (xs : List ℕ) (v a : ℕ) (f : ℕ → ℕ) → v < length xs → a ≡ f v →

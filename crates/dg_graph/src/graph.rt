@@ -146,6 +146,13 @@ impl Graph {
         valences[v]
     }
 
+    /// The number of edges at each vertex, 0 past the last vertex.
+    pub fn valences(&self) -> &[u8; MAX_VERTICES]
+        ensures { (v : ℕ) → slice_index result.now v ≡ valence self.now v }
+    {
+        &self.valences
+    }
+
     /// The number of edges, less that of vertices, plus 1.
     pub fn genus(&self) -> i32
         ensures { result ≡ genus self.now }

@@ -2,7 +2,8 @@
 --   edges_apart      an edge of a vertex leads into a set or out of it
 --   rest_lends       a vertex of the set gains what leads out of it, below 0
 --   rest_receives    any other vertex gains all its edges but those that lead out of the set
---   gain_small       so no vertex gains or loses more than 63
+--   gain_small       so no vertex gains or loses more than it has edges
+--   gain_past        and past the last vertex nothing is gained
 --   once_more        after one more set has lent, such sets led there
 --   once_falls       the weight falls where one more set lends once
 --   once_limit       from amounts within 2^26 come amounts within 17 * 2^26
@@ -28,6 +29,7 @@ use Rattle.dg_theory.proofs.Reach.{distance_from, distance_from-is}
 use Rattle.dg_theory.proofs.SetFiring.{gain-inside, gain-outside}
 use Rattle.dg_theory.proofs.Weights.{weight_of, weight_of-cong, weight_falls_by_set}
 use Rattle.dg_graph.specs.Graph.{IsGraph}
+use Rattle.dg_graph.proofs.Valences.{valence-outside}
 use Rattle.dg_chips.specs.Vector.{Vector, at}
 use Rattle.dg_reduce.proofs.DebtSteps.{IsRepaying}
 
@@ -54,19 +56,23 @@ pub rest_receives : (g : Multigraph) (S : ℕ → Bool) (v : ℕ) → S v ≡ fa
     gain g (indicator S) v ≡ pos (valence g v) -ℤ pos (edges_out g S v)
 rest_receives g S v outside = omega (arith, ints, gain-outside g S v outside, edges_apart g S v)
 
-pub gain_small : (g : Multigraph) (S : ℕ → Bool) (v : ℕ) → IsGraph g → v < g.size → unsigned_abs (gain g (indicator S) v) ≤ 63
-gain_small g S v graph inside =
-    let few : valence g v ≤ 63 = graph.valences v inside in
+pub gain_small : (g : Multigraph) (S : ℕ → Bool) (v : ℕ) → IsGraph g → unsigned_abs (gain g (indicator S) v) ≤ valence g v
+gain_small g S v graph =
     let into : edges_into g S v ≤ valence g v = into-le-valence g S v in
     let out : edges_out g S v ≤ valence g v = out-le-valence g S v in
     ⊎_elim
     (λ (member : S v ≡ true).
     let lost : gain g (indicator S) v ≡ pos 0 -ℤ pos (edges_out g S v) = rest_lends g S v member in
-    abs_within (gain g (indicator S) v) 63 (omega (arith, ints)) (omega (arith, ints)))
+    abs_within (gain g (indicator S) v) (valence g v) (omega (arith, ints)) (omega (arith, ints)))
     (λ (other : S v ≡ false).
     let got : gain g (indicator S) v ≡ pos (edges_into g S v) = gain-outside g S v other in
-    abs_within (gain g (indicator S) v) 63 (omega (arith, ints)) (omega (arith, ints)))
+    abs_within (gain g (indicator S) v) (valence g v) (omega (arith, ints)) (omega (arith, ints)))
     (cases_Bool (S v))
+
+pub gain_past : (g : Multigraph) (S : ℕ → Bool) (v : ℕ) → IsGraph g → g.size ≤ v → gain g (indicator S) v ≡ pos 0
+gain_past g S v graph past =
+    let none : unsigned_abs (gain g (indicator S) v) ≤ valence g v = gain_small g S v graph in
+    omega (arith, ints, valence-outside g v graph past)
 
 once : (g : Multigraph) (D : Amounts) (S : ℕ → Bool) (w : ℕ) → w < g.size →
     fired g D (multiple (pos 1) (indicator S)) w ≡ fired g D (indicator S) w

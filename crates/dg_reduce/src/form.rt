@@ -159,9 +159,9 @@ impl Form {
         ensures fires { FiresTo graph.now (indicator (in_set rest.now.burnt.unburnt)) (at self.old) (at self.new) }
     {
         let size = graph.size();
-        let mut amounts = [0; 16];
-        for v in 0..size {
-            amounts[v] = self.get(v) + gained(graph, rest, v);
+        let mut amounts = self.amounts;
+        for v in 0..16 {
+            amounts[v] += gained(graph, rest, v);
         }
         *self = Form { size, amounts };
     }
@@ -169,7 +169,7 @@ impl Form {
 
 /// What a vertex gains where each vertex that burning left lends once.
 fn gained(graph: &Graph, rest: &Counted, v: usize) -> i32
-    requires vertex { v < graph.now.size }
+    requires vertex { v < 16 }
     requires rest { slice_index rest.now.joined v ≡ edges_out graph.now (in_set rest.now.burnt.unburnt) v }
     ensures gain { result ≡ gain graph.now (indicator (in_set rest.now.burnt.unburnt)) v }
     ensures few { unsigned_abs result ≤ 63 }
@@ -179,5 +179,5 @@ fn gained(graph: &Graph, rest: &Counted, v: usize) -> i32
     if contains(rest.burnt.unburnt, v) {
         return -lost;
     }
-    i32::from(graph.valence(v)) - lost
+    i32::from(graph.valences()[v]) - lost
 }
