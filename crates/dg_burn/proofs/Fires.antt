@@ -5,16 +5,16 @@
 --   into-few       a vertex has at most 63 edges to burning ones
 --   fire-unlit     a fire before any vertex burns is counted
 --   fire-room      the edges of one vertex more fit into a byte
+--   fire-spare     in a fire, nobody has less to spare than edges are counted against it
 --   fire-more      a fire is counted after one vertex more burns
---   burnt_out      in a fire, nobody may burn where no count is above what is held
+--   burnt_out      in a fire, nobody may burn where nobody has less than none to spare
 --   least_new      in a fire, such a vertex does not burn
---   least_burns    in a fire, the least vertex whose count is above what it holds burns next
-use Rattle.std.proofs.Common.{◌≡◌, ℕ, zero, suc, ◌+◌, ◌<◌, ◌≤◌, Bool, false, List, length, length-set, set, replicate, arith, refl, sym, ap, ◌∙◌, ⊎_elim}
-use Rattle.std.specs.Prelude.{if◌then◌else◌, slice_index, ◌<ℤ◌}
+--   least_burns    in a fire, the least vertex with less than none to spare burns next
+use Rattle.std.proofs.Common.{◌≡◌, ℕ, zero, suc, ◌+◌, ◌<◌, ◌≤◌, Bool, true, false, List, replicate, arith, refl, sym, ap, ◌∙◌, ⊎_elim}
+use Rattle.std.specs.Prelude.{◌≢◌, if◌then◌else◌, slice_index, ◌-ℤ◌, ◌≤ℤ◌, ◌<ℤ◌}
 use Rattle.std.proofs.Math.IntN.{pos}
-use Rattle.std.proofs.lemmas.Bool.{cases_eq, cases_lt, both_ways, false_from_ne_true}
+use Rattle.std.proofs.lemmas.Bool.{cases_Bool, cases_eq, cases_lt, both_ways, false_from_ne_true}
 use Rattle.std.proofs.lemmas.Int.{ints}
-use Rattle.std.proofs.lemmas.List.{get_or-set_same, get_or-set_other}
 use Rattle.dg_theory.specs.Sums.{total_below}
 use Rattle.dg_theory.specs.Multigraph.{Multigraph, IsMultigraph, edges_between, valence}
 use Rattle.dg_theory.specs.Burning.{edges_into, MayBurn, BurnsNext}
@@ -24,7 +24,7 @@ use Rattle.dg_graph.specs.Graph.{IsGraph}
 use Rattle.dg_graph.specs.Sets.{in_set, IsWith}
 use Rattle.dg_graph.proofs.Valences.{valence-few, valence-outside}
 use Rattle.dg_burn.specs.declared.fire.Fire.{Fire}
-use Rattle.dg_burn.specs.Fires.{dollars, IsUnlit, IsOut, IsNext, IsFire}
+use Rattle.dg_burn.specs.Fires.{dollars, spare, IsUnlit, IsOut, IsNext, IsFire}
 
 pub no_counts : (k v : ℕ) → slice_index (replicate k 0) v ≡ 0
 no_counts zero v = refl
@@ -67,68 +67,76 @@ edge-few g v w graph = ⊎_elim
     (λ (outside : g.size ≤ w). omega (arith, graph.multigraph.inside v w outside))
     (cases_lt w g.size)
 
-pub fire-unlit : (g : Multigraph) (held : List ℕ) (x : Fire) → length held ≡ 16 → IsUnlit held x → IsFire g held x
-fire-unlit g held x places unlit = record {
-  places = ap length unlit.held ∙ places;
+pub fire-unlit : (g : Multigraph) (held : List ℕ) (x : Fire) → IsUnlit held x → IsFire g held x
+fire-unlit g held x unlit = record {
   counts = λ v. unlit.no_edges v ∙ sym (into-none g (in_set x.reached) v unlit.none_burns);
-  unburnt = λ v _. ap (λ (l : List ℕ). slice_index l v) unlit.held;
-  burnt = λ v burns. absurd (both_ways _ (unlit.none_burns v) burns);
+  unburnt = λ v below _. omega (arith, ints, unlit.held v below, unlit.no_edges v);
+  burnt = λ v _ burns. absurd (both_ways _ (unlit.none_burns v) burns);
 }
 
 pub fire-room : (g : Multigraph) (held : List ℕ) (x : Fire) (v w : ℕ) → IsGraph g → IsFire g held x →
-    slice_index x.joined w + edges_between g v w ≤ 255
+    slice_index x.joined w + edges_between g v w ≤ 127
 fire-room g held x v w graph fire =
     omega (arith, fire.counts w, into-few g (in_set x.reached) w graph, edge-few g v w graph)
 
-pub fire-more : (g : Multigraph) (held : List ℕ) (x y : Fire) (v : ℕ) → IsMultigraph g → v < g.size → g.size ≤ 16 →
+pub fire-spare : (g : Multigraph) (held : List ℕ) (x : Fire) (v : ℕ) → IsFire g held x → v < 16 →
+    (pos 0 -ℤ pos (slice_index x.joined v)) ≤ℤ spare x v
+fire-spare g held x v fire below = ⊎_elim
+    (λ (burns : in_set x.reached v ≡ true). omega (arith, ints, fire.burnt v below burns))
+    (λ (out : in_set x.reached v ≡ false). omega (arith, ints, fire.unburnt v below out))
+    (cases_Bool (in_set x.reached v))
+
+pub fire-more : (g : Multigraph) (held : List ℕ) (x y : Fire) (v : ℕ) → IsMultigraph g → v < g.size →
     in_set x.reached v ≡ false → IsFire g held x → IsWith (in_set x.reached) v (in_set y.reached) →
     ((w : ℕ) → slice_index y.joined w ≡ slice_index x.joined w + edges_between g v w) →
-    y.held ≡ set x.held v 255 → IsFire g held y
-fire-more g held x y v graph below few new fire more counts closed = record {
-  places = ap length closed ∙ length-set _ _ _ ∙ fire.places;
+    spare y v ≡ pos 127 -ℤ pos (slice_index y.joined v) →
+    ((w : ℕ) → w ≢ v → w < 16 → spare y w ≡ spare x w -ℤ pos (edges_between g v w)) → IsFire g held y
+fire-more g held x y v graph below new fire more counts here others = record {
   counts = λ w. omega (
     arith,
     counts w,
     fire.counts w,
     into-more g (in_set x.reached) (in_set y.reached) v w graph below new more,
   );
-  unburnt = λ w out. ⊎_elim
+  unburnt = λ w few out. ⊎_elim
       (λ (equal : w ≡ v). absurd (both_ways _ out (ap (in_set y.reached) equal ∙ more.here)))
-      (λ (other : w ≡ v → ⊥). ap (λ (l : List ℕ). slice_index l w) closed ∙ get_or-set_other x.held v w 255 0 other
-      ∙ fire.unburnt w (sym (more.others w other) ∙ out))
-      (cases_eq w v);
-  burnt = λ w burns. ⊎_elim
-      (λ (equal : w ≡ v).
-      let full : slice_index y.held v ≡ 255 =
-      ap (λ (l : List ℕ). slice_index l v) closed ∙ get_or-set_same x.held v 255 0 (omega (arith, fire.places)) in
-      rw equal (omega arith))
       (λ (other : w ≡ v → ⊥).
-      let same : slice_index y.held w ≡ slice_index x.held w =
-      ap (λ (l : List ℕ). slice_index l w) closed ∙ get_or-set_other x.held v w 255 0 other in
-      omega (arith, fire.burnt w (sym (more.others w other) ∙ burns)))
+      omega (arith, ints, others w other few, counts w, fire.unburnt w few (sym (more.others w other) ∙ out)))
+      (cases_eq w v);
+  burnt = λ w few burns. ⊎_elim
+      (λ (equal : w ≡ v). rw equal here)
+      (λ (other : w ≡ v → ⊥).
+      omega (arith, ints, others w other few, counts w, fire.burnt w few (sym (more.others w other) ∙ burns)))
       (cases_eq w v);
 }
 
--- who may burn holds less than is counted at it
-may-counted : (g : Multigraph) (held : List ℕ) (x : Fire) (v : ℕ) → IsFire g held x →
-    MayBurn g (dollars held) (in_set x.reached) v → slice_index x.held v < slice_index x.joined v
-may-counted g held x v fire may =
+-- who may burn has less than none to spare
+may-counted : (g : Multigraph) (held : List ℕ) (x : Fire) (v : ℕ) → IsGraph g → IsFire g held x →
+    MayBurn g (dollars held) (in_set x.reached) v → spare x v <ℤ pos 0
+may-counted g held x v graph fire may =
     let less : pos (slice_index held v) <ℤ pos (edges_into g (in_set x.reached) v) = may.reached in
-    omega (arith, ints, fire.counts v, fire.unburnt v may.unburnt)
+    let inside : v < g.size = may.vertex in
+    omega (
+      arith,
+      ints,
+      fire.counts v,
+      fire.unburnt v (omega (arith, graph.few)) may.unburnt,
+      into-few g (in_set x.reached) v graph,
+    )
 
-pub burnt_out : (g : Multigraph) (held : List ℕ) (x : Fire) → g.size ≤ 16 → IsFire g held x → IsOut x →
+pub burnt_out : (g : Multigraph) (held : List ℕ) (x : Fire) → IsGraph g → IsFire g held x → IsOut x →
     (v : ℕ) → ¬ MayBurn g (dollars held) (in_set x.reached) v
-burnt_out g held x few fire none v may =
+burnt_out g held x graph fire none v may =
     let below : v < g.size = may.vertex in
-    let least : slice_index x.held v < slice_index x.joined v = may-counted g held x v fire may in
-    omega (arith, none v (omega arith))
+    let least : spare x v <ℤ pos 0 = may-counted g held x v graph fire may in
+    omega (arith, ints, none v (omega (arith, graph.few)))
 
 pub least_new : (g : Multigraph) (held : List ℕ) (x : Fire) (v : ℕ) → IsGraph g → IsFire g held x → IsNext x v →
     in_set x.reached v ≡ false
 least_new g held x v graph fire next = false_from_ne_true (in_set x.reached v) (λ burns.
     let few : edges_into g (in_set x.reached) v ≤ 63 = into-few g (in_set x.reached) v graph in
-    let less : slice_index x.held v < slice_index x.joined v = next.burns in
-    absurd (omega (arith, fire.counts v, fire.burnt v burns)))
+    let less : spare x v <ℤ pos 0 = next.burns in
+    absurd (omega (arith, ints, fire.counts v, fire.burnt v next.few burns)))
 
 pub least_burns : (g : Multigraph) (held : List ℕ) (x : Fire) (v : ℕ) → IsGraph g → IsFire g held x → IsNext x v →
     BurnsNext g (dollars held) (in_set x.reached) v
@@ -139,15 +147,18 @@ least_burns g held x v graph fire next = record {
         (λ (outside : g.size ≤ v).
         let none : valence g v ≡ 0 = valence-outside g v graph outside in
         let into : edges_into g (in_set x.reached) v ≤ valence g v = into-le-valence g (in_set x.reached) v in
-        let less : slice_index x.held v < slice_index x.joined v = next.burns in
-        absurd (omega (arith, fire.counts v)))
+        let less : spare x v <ℤ pos 0 = next.burns in
+        absurd (
+        omega (arith, ints, fire.counts v, fire.unburnt v next.few (least_new g held x v graph fire next))
+        ))
         (cases_lt v g.size);
     unburnt = least_new g held x v graph fire next;
     reached =
-        let less : slice_index x.held v < slice_index x.joined v = next.burns in
-        omega (arith, ints, fire.counts v, fire.unburnt v (least_new g held x v graph fire next));
+        let less : spare x v <ℤ pos 0 = next.burns in
+        let few : edges_into g (in_set x.reached) v ≤ 63 = into-few g (in_set x.reached) v graph in
+        omega (arith, ints, fire.counts v, fire.unburnt v next.few (least_new g held x v graph fire next));
   };
   least = λ u earlier may.
-      let less_u : slice_index x.held u < slice_index x.joined u = may-counted g held x u fire may in
-      omega (arith, next.least u earlier);
+      let less_u : spare x u <ℤ pos 0 = may-counted g held x u graph fire may in
+      omega (arith, ints, next.least u earlier);
 }

@@ -1,7 +1,6 @@
-use Rattle.std.proofs.Common.{refl}
 use Rattle.dg_graph.proofs.SetLaws.{in_set-none}
 use Rattle.dg_burn.proofs.Fires.{no_counts}
 use Rattle.dg_burn.proofs.fire.Fire.new.Goals as goal
 
 pub returns : goal.returns
-returns c = record { none_burns = in_set-none; no_edges = no_counts 16; held = refl }
+returns c = record { none_burns = in_set-none; no_edges = no_counts 16; held = c.enough_of.ensures }

@@ -1,5 +1,8 @@
-use Rattle.std.proofs.Common.{ℕ, ◌<◌, ◌≤◌, slice_index}
+use Rattle.std.proofs.Common.{ℕ, ◌<◌}
+use Rattle.std.specs.Prelude.{◌≤ℤ◌}
+use Rattle.std.proofs.Math.IntN.{pos}
+use Rattle.dg_burn.specs.Fires.{spare}
 use Rattle.dg_burn.proofs.fire.Fire.next_vertex.Given as goal
 
 abbrev pub invariant-loop-v : goal.invariant-loop-v
-invariant-loop-v l = (u : ℕ) → u < l.v → slice_index l.self.joined u ≤ slice_index l.self.held u
+invariant-loop-v l = (u : ℕ) → u < l.v → pos 0 ≤ℤ spare l.self u
