@@ -3,3 +3,4 @@ pub mod FlowLaws
 pub mod DriftLaws
 pub mod OneLending
 pub mod Applying
+mod LightLaws

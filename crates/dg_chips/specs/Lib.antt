@@ -11,3 +11,4 @@ pub mod Lent
 pub mod Refused
 pub mod Opening
 pub mod StartFaults
+pub mod Light

@@ -1,6 +1,7 @@
 //! What a move and a drift do to amounts.
 
 ghost use Rattle.std.specs.Prelude.{◌≡◌, ℕ, ◌<◌, ◌≤◌, ◌*◌, pos, ◌-ℤ◌, ◌*ℤ◌, MatchResult, length};
+ghost use Rattle.std.specs.Bool.{OnTrue};
 ghost use Rattle.std.specs.List.{slice_index_or};
 ghost use Rattle.std.specs.Int.RustNames.{unsigned_abs};
 ghost use Rattle.dg_theory.specs.Firing.{gain, fired};
@@ -8,8 +9,10 @@ ghost use Rattle.dg_chips.specs.Vector.{at};
 ghost use Rattle.dg_chips.specs.Applied.{IsMoved};
 ghost use Rattle.dg_chips.specs.Lent.{IsLent, IsLendingRefusal};
 ghost use Rattle.dg_chips.specs.Refused.{IsRefusal};
+ghost use Rattle.dg_chips.specs.Light.{IsLight};
 
 use crate::divisor::Divisor;
+use crate::light::gained_lightly;
 use crate::limits::MAX_DRIFT;
 use crate::moves::{Move, MoveFault, script_of};
 use crate::script::Script;
@@ -94,6 +97,19 @@ pub(crate) fn gained(graph: &Graph, lendings: &[i64; 16], v: usize) -> i64
         sum += carried(row[w], lendings[w]);
     }
     sum - carried(graph.valence(v), lendings[v])
+}
+
+/// What a vertex gets by the lendings of a script; those that are known to be light are summed in 32 bits.
+pub(crate) fn gained_by(graph: &Graph, script: &Script, light: bool, v: usize) -> i64
+    requires vertex { v < graph.now.size }
+    requires light { OnTrue light (IsLight graph.now (at script.now)) }
+    ensures gain { result ≡ gain graph.now (at script.now) v }
+    ensures limit { unsigned_abs result ≤ 51000000000000000 * 16 }
+{
+    if light {
+        return i64::from(gained_lightly(graph, script.in_32_bits(), v));
+    }
+    gained(graph, &script.entries(), v)
 }
 
 /// What some edges carry together when each of them carries one dollar, or none, or one the other way.

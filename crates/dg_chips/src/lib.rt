@@ -5,6 +5,7 @@ mod divisor;
 mod drift;
 mod duals;
 mod firing;
+mod light;
 mod limits;
 mod moves;
 mod script;

@@ -208,6 +208,14 @@ impl Script {
         widened(&self.entries)
     }
 
+    /// The same in 32 bits.
+    pub(crate) fn in_32_bits(&self) -> &[i32; 16]
+        ensures entries { result.now ≡ self.now.numbers }
+        ensures script { IsScript self.now }
+    {
+        &self.entries
+    }
+
     /// How often a vertex lends.
     pub fn get(&self, v: usize) -> i64
         requires { v < self.now.size }

@@ -8,7 +8,8 @@ ghost use Rattle.dg_chips.specs.Vector.{at, HoldsNumbers, IsWide};
 ghost use Rattle.dg_chips.specs.DivisorFaults.{IsWideFault};
 
 use crate::divisor::{ChipFault, Divisor};
-use crate::firing::gained;
+use crate::firing::gained_by;
+use crate::light::is_light;
 use crate::script::Script;
 use crate::set_firing::{gained_by_set, lendings};
 use crate::vector::padded;
@@ -133,10 +134,10 @@ impl Wide {
             at result v ≡ fired graph.now (at self.now) (at script.now) v }
     {
         let size = graph.size();
-        let lendings = script.entries();
+        let light = is_light(graph, script.in_32_bits());
         let mut amounts = [0; 16];
         for v in 0..size {
-            let gain = gained(graph, &lendings, v);
+            let gain = gained_by(graph, script, light, v);
             amounts[v] = self.get(v) + i128::from(gain);
         }
         Wide { size, amounts }

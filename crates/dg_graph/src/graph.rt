@@ -142,8 +142,8 @@ impl Graph {
         requires { v < self.now.size }
         ensures { result ≡ valence self.now v }
     {
-        let valences = &self.valences;
-        valences[v]
+        let _size = self.size();
+        self.valences()[v]
     }
 
     /// The number of edges at each vertex, 0 past the last vertex.

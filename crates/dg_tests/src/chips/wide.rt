@@ -79,3 +79,34 @@ fn what_wide_amounts_become(rt: HostRuntime) -> Result<(), Fail> {
     }
     Ok(())
 }
+
+/// Scripts on the triangle, and what each vertex gets by them: the sums of the first fit into 32 bits, those of the others need more.
+const LARGE: [([i64; 3], [i128; 3]); 4] = [
+    (
+        [536_870_911, -536_870_911, 0],
+        [-1_610_612_733, 1_610_612_733, 0],
+    ),
+    (
+        [536_870_912, -536_870_912, 0],
+        [-1_610_612_736, 1_610_612_736, 0],
+    ),
+    (
+        [1_000_000_000, -1_000_000_000, 7],
+        [-2_999_999_993, 3_000_000_007, -14],
+    ),
+    (
+        [-1_000_000_000, 1_000_000_000, 1_000_000_000],
+        [4_000_000_000, -2_000_000_000, -2_000_000_000],
+    ),
+];
+
+#[test]
+fn large_scripts_fire_exactly(rt: HostRuntime) -> Result<(), Fail> {
+    let triangle = Graph::new(3, &[(0, 1, 1), (1, 2, 1), (0, 2, 1)])?;
+    for (entries, gains) in &LARGE {
+        let script = Script::new(&triangle, entries)?;
+        let led = Wide::zero(&triangle).fired_by(&triangle, &script);
+        assert!(rt; led == Wide::new(&triangle, gains)?);
+    }
+    Ok(())
+}

@@ -37,6 +37,16 @@ static PATH: [(u8, u8, u8); 15] = [
 ];
 
 #[test]
+fn valences_end_with_the_vertices(rt: HostRuntime) -> Result<(), Fail> {
+    let path = Graph::new(3, &[(0, 1, 2), (1, 2, 61)])?;
+    assert_eq!(rt;
+        *path.valences(),
+        [2, 63, 61, 0, 0, 0, 0, 0, 0, 0, 0, 0, 0, 0, 0, 0]
+    );
+    Ok(())
+}
+
+#[test]
 fn graphs_are_given_by_items(rt: HostRuntime) -> Result<(), Fail> {
     let cases: [(&[(u8, u8, u8)], &[u8], i32); 6] = [
         (&[], &[0], 0),

@@ -1,6 +1,4 @@
-use Rattle.std.proofs.Common.{◌≡◌, ◌≤◌, ◌<◌, ◌^◌, List, length, length-set, arith, ap, ◌∙◌}
-use Rattle.std.specs.List.{slice_index_or}
-use Rattle.std.proofs.Math.IntN.{ℤ, pos}
+use Rattle.std.proofs.Common.{◌≡◌, ◌≤◌, ◌<◌, ◌^◌, length, length-set, arith, ◌∙◌}
 use Rattle.std.specs.Int.RustNames.{unsigned_abs}
 use Rattle.std.proofs.lemmas.Int.{ints}
 use Rattle.dg_theory.specs.Firing.{fired, gain}
@@ -12,9 +10,7 @@ pub loop-v-preserved : goal.loop-v-preserved
 loop-v-preserved c =
     let within : c.loop-v.v < length c.loop-v.amounts = omega arith in
     let small : unsigned_abs (at c.args.self.now c.loop-v.v) ≤ 2 ^ 120 = c.requires.range c.loop-v.v (omega arith) in
-    let same : c.gained-gain.result ≡ gain c.args.graph.now (at c.args.script.now) c.loop-v.v =
-    c.gained-gain.ensures.gain
-    ∙ ap (λ (xs : List ℤ). gain c.args.graph.now (λ w. slice_index_or xs w (pos 0)) c.loop-v.v) c.entries-lendings.ensures.entries in
+    let same : c.gained_by-gain.result ≡ gain c.args.graph.now (at c.args.script.now) c.loop-v.v = c.gained_by-gain.ensures.gain in
     record {
       size = length-set _ _ _ ∙ c.loop-v.invariant.size;
       same = filled-set c.loop-v.amounts c.loop-v.v _ (fired c.args.graph.now (at c.args.self.now) (at c.args.script.now)) within

@@ -1,0 +1,8 @@
+use Rattle.std.proofs.Common.{ℕ, ◌<◌, ◌≤◌}
+use Rattle.std.specs.List.{slice_index_or}
+use Rattle.std.specs.Int.RustNames.{unsigned_abs}
+use Rattle.std.proofs.Math.IntN.{pos}
+use Rattle.dg_chips.proofs.light.most_lendings.Given as goal
+
+abbrev pub invariant-loop-w : goal.invariant-loop-w
+invariant-loop-w l = (u : ℕ) → u < l.w → unsigned_abs (slice_index_or l.lendings u (pos 0)) ≤ l.most
