@@ -19,7 +19,7 @@ use std::thread;
 use std::thread::{Promise, Scope, Threads};
 
 // How many trials a piece makes at first before it looks whether an earlier piece has lost; then it makes as many as it has made.
-// So many begin with a reduction, which costs as much as some hundred of them.
+// So many begin with a reduction, which costs as much as some hundreds of them.
 const FIRST_LOOK: u32 = 1024;
 
 /// What is searched for a first loss: the trials below a number, in so many pieces. Piece j of w holds those from the
