@@ -8,10 +8,11 @@ ghost use Rattle.dg_theory.specs.Firing.{FiresTo, only_at};
 ghost use Rattle.dg_chips.specs.Drifts.{IsPastDrift};
 
 use crate::divisor::Divisor;
-use crate::firing::gained;
+use crate::firing::leads;
 use crate::limits::MAX_DRIFT;
 use crate::moves::Move;
 use crate::script::Script;
+use crate::wide::Wide;
 use dg_graph::Graph;
 use std::marker::Model;
 
@@ -141,12 +142,7 @@ impl Drift {
             (FiresTo graph.now (at self.now) (at from.now) (at to.now))
             (¬ FiresTo graph.now (at self.now) (at from.now) (at to.now)) }
     {
-        for v in 0..graph.size() {
-            if from.get(v) + gained(graph, &self.entries, v) != to.get(v) {
-                return false;
-            }
-        }
-        true
+        leads(graph, &self.entries, from, &Wide::of(to))
     }
 
     /// The number of vertices.
