@@ -48,8 +48,10 @@ into-none g B v none =
 pub into-more : (g : Multigraph) (S T : ℕ → Bool) (v w : ℕ) → IsMultigraph g → v < g.size → S v ≡ false → IsWith S v T →
     edges_into g S w + edges_between g v w ≡ edges_into g T w
 into-more g S T v w graph below new more =
-    let differ : edges_into g T w + counted (S v) (edges_between g w v) ≡ edges_into g S w + counted (T v) (edges_between g w v) =
-    total_below-differ_at g.size (λ u. counted (T u) (edges_between g w u)) (λ u. counted (S u) (edges_between g w u)) v below
+    let differ : edges_into g T w + counted (S v) (edges_between g w v)
+    ≡ edges_into g S w + counted (T v) (edges_between g w v) =
+    total_below-differ_at g.size (λ u. counted (T u) (edges_between g w u))
+    (λ u. counted (S u) (edges_between g w u)) v below
     (λ u _ other. ap (λ b. counted b (edges_between g w u)) (more.others u other)) in
     let before : counted (S v) (edges_between g w v) ≡ 0 = ap (λ b. counted b (edges_between g w v)) new in
     let after : counted (T v) (edges_between g w v) ≡ edges_between g w v =

@@ -1,13 +1,15 @@
--- A fire on a graph: which vertices burn, how many edges join each vertex to them, and what each that does not burn holds.
+-- A fire on a graph: which vertices burn, how many edges join each vertex to them, and what each
+-- that does not burn holds.
 --   dollars held v == what v holds, where a list tells it
---   capped z       == the amount z, but 0 for a debt and 64 for more than 64: as no vertex has more than 63 edges, it burns
---                     with one exactly where it burns with the other
+--   capped z       == the amount z, but 0 for a debt and 64 for more than 64: as no vertex has more
+--                     than 63 edges, it burns with one exactly where it burns with the other
 --   IsHeld n D l   == l are the amounts D of n vertices, capped
 --   IsUnlit l x    == nothing burns, nothing is counted, and all hold what they hold
 --   IsOut x        == no vertex has more edges to those that burn than it holds dollars
 --   IsNext x v     == v is the least vertex that has
---   IsFire g l x   == what is counted at each vertex are its edges to those that burn; each that does not burn holds what
---                     l tells, and each that does holds too much to burn again
+--   IsFire g l x   == what is counted at each vertex are its edges to those that burn; each that
+--                     does not burn holds what l tells, and each that does holds too much to burn
+--                     again
 use Rattle.std.specs.Prelude.{◌≡◌, ℕ, ◌<◌, ◌≤◌, min, true, false, List, length, ℤ, pos, negsuc, slice_index}
 use Rattle.dg_theory.specs.Multigraph.{Multigraph}
 use Rattle.dg_theory.specs.Firing.{Amounts}

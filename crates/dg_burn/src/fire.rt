@@ -48,10 +48,12 @@ impl Fire {
     /// Lets a vertex burn: its edges are counted at all vertices, and it holds too much to burn again.
     pub fn burn_vertex(&mut self, graph: &Graph, v: usize)
         requires vertex { v < graph.now.size }
-        requires room { (w : ℕ) → slice_index self.old.joined w + edges_between graph.now v w ≤ 255 }
+        requires room { (w : ℕ) →
+            slice_index self.old.joined w + edges_between graph.now v w ≤ 255 }
         ensures reached { IsWith (in_set self.old.reached) v (in_set self.new.reached) }
         ensures joined { (w : ℕ) →
-            slice_index self.new.joined w ≡ slice_index self.old.joined w + edges_between graph.now v w }
+            slice_index self.new.joined w
+            ≡ slice_index self.old.joined w + edges_between graph.now v w }
         ensures held { self.new.held ≡ slice_set self.old.held v 255 }
     {
         let _size = graph.size();

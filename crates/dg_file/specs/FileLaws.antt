@@ -1,7 +1,8 @@
 -- A law of table files.
 --   AreAlike o p        == the openings have the same graph, the same amounts and the same vertex q
---   FilesHaveOneMeaning == bytes that describe a table describe no other, and none where they are refused; and there is one
---                          fault for which they are refused, want of memory aside
+--   FilesHaveOneMeaning == bytes that describe a table describe no other, and none where they are
+--                          refused; and there is one fault for which they are refused, want of
+--                          memory aside
 use Rattle.std.specs.Prelude.{◌≡◌, ◌≢◌, ℕ, List}
 use Rattle.dg_theory.specs.Multigraph.{edges_between}
 use Rattle.dg_chips.specs.Opening.{Opening}

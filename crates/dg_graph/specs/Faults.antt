@@ -4,9 +4,11 @@
 --   IsLoop n item              == the item joins a vertex to itself
 --   IsEmptyItem n item         == the item puts no edge between two different vertices
 --   IsFirstHigh n items v      == v is the first vertex at which the items put more than 63 edges
---   IsParted n items           == no vertex has more than 63 edges, and some two have no chain of edges between them
---   IsFirstFault n items fault == the fault is the first that stands in the items for n vertices: that of an item stands
---                                 where all items before it are right, and that of the whole list where all items are
+--   IsParted n items           == no vertex has more than 63 edges, and some two have no chain of
+--                                 edges between them
+--   IsFirstFault n items fault == the fault is the first that stands in the items for n vertices:
+--                                 that of an item stands where all items before it are right, and
+--                                 that of the whole list where all items are
 use Rattle.std.specs.Prelude.{◌≡◌, ◌≢◌, ℕ, ◌<◌, ◌≤◌, List, ◌⊎◌}
 use Rattle.dg_theory.specs.Multigraph.{JoinedIn}
 use Rattle.dg_graph.specs.Items.{Item, IsItems, IsRightBefore, HasItem, edges_listed, valence_listed}
@@ -45,8 +47,10 @@ pub record IsParted (n : ℕ) (items : List Item) : Type 0 where
 
 abbrev pub IsFirstFault : ℕ → List Item → GraphFault → Type 0
 IsFirstFault n items Size = ¬ IsSize n
-IsFirstFault n items (NoVertex i) = IsSize n × IsRightBefore n items i × HasItem items i (NamesNoVertex n)
+IsFirstFault n items (NoVertex i) =
+    IsSize n × IsRightBefore n items i × HasItem items i (NamesNoVertex n)
 IsFirstFault n items (Loop i) = IsSize n × IsRightBefore n items i × HasItem items i (IsLoop n)
-IsFirstFault n items (Multiplicity i) = IsSize n × IsRightBefore n items i × HasItem items i (IsEmptyItem n)
+IsFirstFault n items (Multiplicity i) =
+    IsSize n × IsRightBefore n items i × HasItem items i (IsEmptyItem n)
 IsFirstFault n items (Valence v) = IsSize n × IsItems n items × IsFirstHigh n items v
 IsFirstFault n items NotConnected = IsSize n × IsItems n items × IsParted n items

@@ -1,5 +1,5 @@
--- Sets of vertices. A set is a test of a number, as in the theory of the game; a number stands for the set of the
--- places at which its bits are set.
+-- Sets of vertices. A set is a test of a number, as in the theory of the game; a number stands for
+-- the set of the places at which its bits are set.
 --   in_set m v   == v is in the set that the number m stands for: bit v of m is set
 --   IsWithin n S == each member of the set S is below n
 --   IsWith S v T == T is the set S with v

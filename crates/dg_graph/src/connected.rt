@@ -28,7 +28,8 @@ fn next_reached(size: usize, table: &Table, reached: &[bool; MAX_VERTICES]) -> O
     requires { size ≤ MAX_VERTICES }
     ensures { MatchOption result
         ((u : ℕ) → u < size → IsSettled size (entry table.now) reached.now u)
-        (λ v. (v < size) × (is_in reached.now v ≡ false) × IsNextTo size (entry table.now v) reached.now
+        (λ v. (v < size) × (is_in reached.now v ≡ false) ×
+        IsNextTo size (entry table.now v) reached.now
         × ((u : ℕ) → u < v → IsSettled size (entry table.now) reached.now u)) }
 {
     for v in 0..size {

@@ -38,7 +38,8 @@ impl Model for Graph {
 
     ghost inverse = { λ g. record { size = g.size; table = g.table; valences = valences_of g } };
 
-    ghost inverse_ok = { λ a h i. record { size = a.size; table = a.table; valences = sym h.valences i } };
+    ghost inverse_ok = { λ a h i.
+        record { size = a.size; table = a.table; valences = sym h.valences i } };
 }
 
 impl Graph {
@@ -103,7 +104,9 @@ impl Graph {
     /// Whether as many edges as may be meet at a vertex.
     fn is_full(&self, v: usize) -> bool
         requires { v < self.now.size }
-        ensures { MatchBool result (MAX_VALENCE ≤ valence self.now v) (valence self.now v < MAX_VALENCE) }
+        ensures { MatchBool result
+            (MAX_VALENCE ≤ valence self.now v)
+            (valence self.now v < MAX_VALENCE) }
     {
         u32::from(self.valence(v)) >= MAX_VALENCE
     }

@@ -106,7 +106,8 @@ abbrev pub FiresSome : Multigraph → ℕ → Amounts → Type 0
 FiresSome g q D = (S : ℕ → Bool) × FiresFreely g q D S × ((v : ℕ) × (v < g.size) × (S v ≡ true))
 
 -- with at most k vertices in S
-burnt_down : (g : Multigraph) (q : ℕ) (D : Amounts) → HasNoDebtOff g q D → (k : ℕ) (S : ℕ → Bool) → count_of g.size S ≤ k →
+burnt_down : (g : Multigraph) (q : ℕ) (D : Amounts) → HasNoDebtOff g q D → (k : ℕ) (S : ℕ → Bool) →
+    count_of g.size S ≤ k →
     AreVertices g S → S q ≡ false → Holds g q D S → IsReduced g q D ⊎ FiresSome g q D
 burnt_down g q D solvent zero S few vertices without holds =
     inl (reduced_if g q D S solvent holds (λ w below. false_from_ne_true (S w) (λ member.
