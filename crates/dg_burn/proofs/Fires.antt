@@ -24,7 +24,7 @@ use Rattle.dg_graph.specs.Graph.{IsGraph}
 use Rattle.dg_graph.specs.Sets.{in_set, IsWith}
 use Rattle.dg_graph.proofs.Valences.{valence-few, valence-outside}
 use Rattle.dg_burn.specs.declared.fire.Fire.{Fire}
-use Rattle.dg_burn.specs.Fires.{dollars, IsUnlit, IsOut, IsNext, IsFire}
+use Rattle.dg_burn.specs.Fires.{dollars, IsUnlit, IsOut, IsLeastToBurn, IsFire}
 
 pub no_counts : (k v : ℕ) → slice_index (replicate k 0) v ≡ 0
 no_counts zero v = refl
@@ -125,15 +125,15 @@ burnt_out g held x few fire none v may =
     let least : slice_index x.held v < slice_index x.joined v = may-counted g held x v fire may in
     omega (arith, none v (omega arith))
 
-pub least_new : (g : Multigraph) (held : List ℕ) (x : Fire) (v : ℕ) → IsGraph g → IsFire g held x → IsNext x v →
+pub least_new : (g : Multigraph) (held : List ℕ) (x : Fire) (v : ℕ) → IsGraph g → IsFire g held x → IsLeastToBurn x v →
     in_set x.reached v ≡ false
 least_new g held x v graph fire next = false_from_ne_true (in_set x.reached v) (λ burns.
     let few : edges_into g (in_set x.reached) v ≤ 63 = into-few g (in_set x.reached) v graph in
     let less : slice_index x.held v < slice_index x.joined v = next.burns in
     absurd (omega (arith, fire.counts v, fire.burnt v burns)))
 
-pub least_burns : (g : Multigraph) (held : List ℕ) (x : Fire) (v : ℕ) → IsGraph g → IsFire g held x → IsNext x v →
-    BurnsNext g (dollars held) (in_set x.reached) v
+pub least_burns : (g : Multigraph) (held : List ℕ) (x : Fire) (v : ℕ) → IsGraph g → IsFire g held x →
+    IsLeastToBurn x v → BurnsNext g (dollars held) (in_set x.reached) v
 least_burns g held x v graph fire next = record {
   may = record {
     vertex = ⊎_elim

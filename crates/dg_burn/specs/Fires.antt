@@ -1,15 +1,16 @@
 -- A fire on a graph: which vertices burn, how many edges join each vertex to them, and what each
 -- that does not burn holds.
---   dollars held v == what v holds, where a list tells it
---   capped z       == the amount z, but 0 for a debt and 64 for more than 64: as no vertex has more
---                     than 63 edges, it burns with one exactly where it burns with the other
---   IsHeld n D l   == l are the amounts D of n vertices, capped
---   IsUnlit l x    == nothing burns, nothing is counted, and all hold what they hold
---   IsOut x        == no vertex has more edges to those that burn than it holds dollars
---   IsNext x v     == v is the least vertex that has
---   IsFire g l x   == what is counted at each vertex are its edges to those that burn; each that
---                     does not burn holds what l tells, and each that does holds too much to burn
---                     again
+--   dollars held v    == what v holds, where a list tells it
+--   capped z          == the amount z, but 0 for a debt and 64 for more than 64: as no vertex has
+--                        more than 63 edges, it burns with one exactly where it burns with the
+--                        other
+--   IsHeld n D l      == l are the amounts D of n vertices, capped
+--   IsUnlit l x       == nothing burns, nothing is counted, and all hold what they hold
+--   IsOut x           == no vertex has more edges to those that burn than it holds dollars
+--   IsLeastToBurn x v == v is the least vertex that has
+--   IsFire g l x      == what is counted at each vertex are its edges to those that burn; each that
+--                        does not burn holds what l tells, and each that does holds too much to
+--                        burn again
 use Rattle.std.specs.Prelude.{◌≡◌, ℕ, ◌<◌, ◌≤◌, min, true, false, List, length, ℤ, pos, negsuc, slice_index}
 use Rattle.dg_theory.specs.Multigraph.{Multigraph}
 use Rattle.dg_theory.specs.Firing.{Amounts}
@@ -36,7 +37,7 @@ pub record IsUnlit (l : List ℕ) (x : Fire) : Type 0 where
 abbrev pub IsOut : Fire → Type 0
 IsOut x = (v : ℕ) → v < MAX_VERTICES → slice_index x.joined v ≤ slice_index x.held v
 
-pub record IsNext (x : Fire) (v : ℕ) : Type 0 where
+pub record IsLeastToBurn (x : Fire) (v : ℕ) : Type 0 where
   pub few : v < MAX_VERTICES
   pub burns : slice_index x.held v < slice_index x.joined v
   pub least : (u : ℕ) → u < v → slice_index x.joined u ≤ slice_index x.held u

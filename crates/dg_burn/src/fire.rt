@@ -3,7 +3,7 @@
 ghost use Rattle.std.specs.Prelude.{◌≡◌, ℕ, ◌+◌, ◌<◌, ◌≤◌, MatchOption, slice_index, slice_set};
 ghost use Rattle.dg_theory.specs.Multigraph.{edges_between};
 ghost use Rattle.dg_graph.specs.Sets.{in_set, IsWith};
-ghost use Rattle.dg_burn.specs.Fires.{IsUnlit, IsOut, IsNext};
+ghost use Rattle.dg_burn.specs.Fires.{IsUnlit, IsOut, IsLeastToBurn};
 
 use dg_graph::{Graph, MAX_VERTICES, with_vertex};
 
@@ -35,7 +35,7 @@ impl Fire {
 
     /// The least vertex with more edges to burning ones than it holds dollars.
     pub fn next_vertex(&self) -> Option<usize>
-        ensures { MatchOption result (IsOut self.now) (IsNext self.now) }
+        ensures { MatchOption result (IsOut self.now) (IsLeastToBurn self.now) }
     {
         for v in 0..MAX_VERTICES {
             if self.held[v] < self.joined[v] {

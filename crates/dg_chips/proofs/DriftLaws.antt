@@ -16,7 +16,8 @@ held_difference a b first second =
     let (low', high') = within_abs b 100000000000000 second in
     omega (arith, ints)
 
-pub scripts_differ : (a b : ℤ) → unsigned_abs a ≤ 1000000000 → unsigned_abs b ≤ 1000000000 → unsigned_abs (a -ℤ b) ≤ 100000000000000
+pub scripts_differ : (a b : ℤ) → unsigned_abs a ≤ 1000000000 → unsigned_abs b ≤ 1000000000 →
+    unsigned_abs (a -ℤ b) ≤ 100000000000000
 scripts_differ a b first second =
     let (low, high) = within_abs a 1000000000 first in
     let (low', high') = within_abs b 1000000000 second in

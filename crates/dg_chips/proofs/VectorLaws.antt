@@ -71,10 +71,12 @@ pub one_more : (xs : List ℤ) (v : ℕ) (x more : ℤ) → v < length xs → x 
     slice_index_or (slice_set xs v x) w (pos 0) ≡ slice_index_or xs w (pos 0) +ℤ only_at v more w
 one_more xs v x more within sum w = elim (cases_eq w v) [
   | inl same ↦ rw (same, only_at-here v more) (get_or-set_same xs v x (pos 0) within ∙ sum)
-  | inr other ↦ rw (only_at-other v more w other) (get_or-set_other xs v w x (pos 0) other ∙ sym (+ℤ_idr (slice_index_or xs w (pos 0))))
+  | inr other ↦ rw (only_at-other v more w other)
+      (get_or-set_other xs v w x (pos 0) other ∙ sym (+ℤ_idr (slice_index_or xs w (pos 0))))
 ]
 
-pub one_written : (limit : ℕ) (a : Vector) (v : ℕ) (x : ℤ) → v < a.size → v < length a.numbers → unsigned_abs x ≤ limit → IsVector limit a →
+pub one_written : (limit : ℕ) (a : Vector) (v : ℕ) (x : ℤ) → v < a.size → v < length a.numbers →
+    unsigned_abs x ≤ limit → IsVector limit a →
     IsVector limit (record { size = a.size; numbers = slice_set a.numbers v x })
 one_written limit a v x below within small right = record {
   few = right.few;
@@ -82,14 +84,17 @@ one_written limit a v x below within small right = record {
     | inl same ↦ rw (same, get_or-set_same a.numbers v x (pos 0) within) small
     | inr other ↦ rw (get_or-set_other a.numbers v w x (pos 0) other) (right.within w here)
   ];
-  inside = λ w past. let other : w ≢ v = omega arith in get_or-set_other a.numbers v w x (pos 0) other ∙ right.inside w past;
+  inside = λ w past.
+      let other : w ≢ v = omega arith in get_or-set_other a.numbers v w x (pos 0) other ∙ right.inside w past;
 }
 
-pub single : (n v : ℕ) (x : ℤ) → v < n → (w : ℕ) → slice_index_or (slice_set (replicate n (pos 0)) v x) w (pos 0) ≡ only_at v x w
+pub single : (n v : ℕ) (x : ℤ) → v < n → (w : ℕ) →
+    slice_index_or (slice_set (replicate n (pos 0)) v x) w (pos 0) ≡ only_at v x w
 single n v x within w =
     let here : slice_index_or (replicate n (pos 0)) v (pos 0) ≡ pos 0 = at_zeros n v in
     let there : slice_index_or (replicate n (pos 0)) w (pos 0) ≡ pos 0 = at_zeros n w in
-    let more : slice_index_or (slice_set (replicate n (pos 0)) v x) w (pos 0) ≡ slice_index_or (replicate n (pos 0)) w (pos 0) +ℤ only_at v x w =
+    let more : slice_index_or (slice_set (replicate n (pos 0)) v x) w (pos 0)
+    ≡ slice_index_or (replicate n (pos 0)) w (pos 0) +ℤ only_at v x w =
     one_more (replicate n (pos 0)) v x x (omega (arith, length-replicate n (pos 0))) (omega (arith, ints)) w in
     omega (arith, ints)
 

@@ -195,7 +195,8 @@ impl Divisor {
             (IsOutOfRange graph.now.size (fired graph.now (at self.now) (only_at v times)))
             (λ d. (d.size ≡ graph.now.size)
             × IsInRange graph.now.size (fired graph.now (at self.now) (only_at v times))
-            × ((w : ℕ) → w < graph.now.size → at d w ≡ fired graph.now (at self.now) (only_at v times) w)) }
+            × ((w : ℕ) → w < graph.now.size →
+            at d w ≡ fired graph.now (at self.now) (only_at v times) w)) }
     {
         let size = graph.size();
         let row = graph.row(v);

@@ -5,7 +5,7 @@ ghost use Rattle.std.specs.List.{slice_index_or};
 ghost use Rattle.std.specs.Int.RustNames.{unsigned_abs};
 ghost use Rattle.dg_theory.specs.Firing.{gain, fired, FiresTo};
 ghost use Rattle.dg_chips.specs.Vector.{at};
-ghost use Rattle.dg_chips.specs.Applied.{IsMoved};
+ghost use Rattle.dg_chips.specs.Applied.{IsAfterMove};
 ghost use Rattle.dg_chips.specs.Lent.{IsLent, IsLendingRefusal};
 ghost use Rattle.dg_chips.specs.Refused.{IsRefusal};
 
@@ -24,7 +24,7 @@ use dg_graph::Graph;
 pub fn apply(graph: &Graph, divisor: &Divisor, play: &Move) -> Result<Divisor, MoveFault>
     requires { divisor.now.size ≡ graph.now.size }
     ensures { MatchResult result
-        (IsMoved graph.now (at divisor.now) play.now)
+        (IsAfterMove graph.now (at divisor.now) play.now)
         (IsRefusal graph.now (at divisor.now) play.now) }
 {
     match play {
@@ -55,7 +55,7 @@ fn lent(graph: &Graph, divisor: &Divisor, v: usize, times: i32) -> Result<Diviso
 fn apply_script(graph: &Graph, divisor: &Divisor, play: &Move) -> Result<Divisor, MoveFault>
     requires { divisor.now.size ≡ graph.now.size }
     ensures { MatchResult result
-        (IsMoved graph.now (at divisor.now) play.now)
+        (IsAfterMove graph.now (at divisor.now) play.now)
         (IsRefusal graph.now (at divisor.now) play.now) }
 {
     let script = script_of(graph.size(), play)?;
@@ -88,7 +88,8 @@ pub(crate) fn leads(graph: &Graph, lendings: &[i64; 16], from: &Divisor, to: &Wi
     requires to { to.now.size ≡ graph.now.size }
     ensures { MatchBool result
         (FiresTo graph.now (λ w. slice_index_or lendings.now w (pos 0)) (at from.now) (at to.now))
-        (¬ FiresTo graph.now (λ w. slice_index_or lendings.now w (pos 0)) (at from.now) (at to.now)) }
+        (¬ FiresTo graph.now (λ w. slice_index_or lendings.now w (pos 0)) (at from.now)
+        (at to.now)) }
 {
     for v in 0..graph.size() {
         let amount = from.get(v) + gained(graph, lendings, v);

@@ -119,7 +119,8 @@ impl Script {
         requires limit { (v : ℕ) → v < lendings.now.size →
             unsigned_abs (at lendings.now v -ℤ at lendings.now q) ≤ MAX_ENTRY }
         ensures size { result.size ≡ lendings.now.size }
-        ensures entries { (v : ℕ) → v < lendings.now.size → at result v ≡ at lendings.now v -ℤ at lendings.now q }
+        ensures entries { (v : ℕ) → v < lendings.now.size →
+            at result v ≡ at lendings.now v -ℤ at lendings.now q }
     {
         let size = lendings.size();
         let mut entries = [0; 16];
@@ -135,7 +136,8 @@ impl Script {
         requires limit { (v : ℕ) → v < self.now.size →
             unsigned_abs (at self.now v +ℤ at other.now v) ≤ MAX_ENTRY }
         ensures size { result.size ≡ self.now.size }
-        ensures entries { (v : ℕ) → v < self.now.size → at result v ≡ at self.now v +ℤ at other.now v }
+        ensures entries { (v : ℕ) → v < self.now.size →
+            at result v ≡ at self.now v +ℤ at other.now v }
     {
         let size = self.size();
         let mut entries = [0; 16];

@@ -22,7 +22,7 @@ use Rattle.std.specs.Prelude.{◌≡◌, ◌≢◌, ℕ, ◌<◌, List, length, 
 use Rattle.serde_json.specs.Data.{Data, Items}
 use Rattle.serde_json.specs.Find.{as_array, as_str, get_item}
 use Rattle.dg_theory.specs.Multigraph.{Multigraph}
-use Rattle.dg_graph.specs.Faults.{IsSize, IsFirstFault}
+use Rattle.dg_graph.specs.Faults.{IsSize, IsFirstGraphFault}
 use Rattle.dg_graph.specs.Items.{IsGiven}
 use Rattle.dg_graph.specs.declared.fault.GraphFault.{GraphFault}
 use Rattle.dg_graph.specs.declared.fault.GraphFault.TheVariants.{Size}
@@ -75,7 +75,7 @@ pub record IsTwiceFault (names : List (List ℕ)) (i : ℕ) : Type 0 where
 
 pub record IsGraphFault (content : Content) (fault : GraphFault) : Type 0 where
   pub names : fault ≢ Size → AreNames content.vertices
-  pub first : IsFirstFault (length content.vertices) (items_of content) fault
+  pub first : IsFirstGraphFault (length content.vertices) (items_of content) fault
 
 pub record GivesGraph (content : Content) : Type 0 where
   pub names : AreNames content.vertices

@@ -6,7 +6,7 @@ ghost use Rattle.dg_theory.specs.Multigraph.{edges_between, valence, genus};
 ghost use Rattle.dg_theory.specs.Joins.{with_edge};
 ghost use Rattle.dg_graph.specs.Graph.{IsGraph};
 ghost use Rattle.dg_graph.specs.Items.{IsGiven};
-ghost use Rattle.dg_graph.specs.Faults.{IsFirstFault};
+ghost use Rattle.dg_graph.specs.Faults.{IsFirstGraphFault};
 ghost use Rattle.dg_graph.specs.Joins.{IsJoinable, RefusesJoin};
 
 use crate::build::{first_item_fault, table_of};
@@ -30,11 +30,11 @@ impl Model for Graph {
     ghost Value = { Multigraph };
 
     ghost use Rattle.std.proofs.Common.{sym};
-    ghost use Rattle.dg_graph.specs.Valences.{valences_of, IsKept};
+    ghost use Rattle.dg_graph.specs.Valences.{valences_of, IsGraphWith};
 
     ghost view = { λ a. record { size = a.size; table = a.table } };
 
-    ghost invariant = { λ a. IsKept (record { size = a.size; table = a.table }) a.valences };
+    ghost invariant = { λ a. IsGraphWith (record { size = a.size; table = a.table }) a.valences };
 
     ghost inverse = { λ g. record { size = g.size; table = g.table; valences = valences_of g } };
 
@@ -49,7 +49,7 @@ impl Graph {
     /// The first fault is reported: `Size`; then item by item `NoVertex`, `Loop`, `Multiplicity`; then `Valence` for
     /// the least vertex with more than 63 edges; then `NotConnected`.
     pub fn new(size: usize, items: &[(u8, u8, u8)]) -> Result<Graph, GraphFault>
-        ensures { MatchResult result (IsGiven size items.now) (IsFirstFault size items.now) }
+        ensures { MatchResult result (IsGiven size items.now) (IsFirstGraphFault size items.now) }
     {
         if size == 0 || size > MAX_VERTICES {
             return Err(GraphFault::Size);

@@ -2,7 +2,7 @@
 --   counted n                 == one more than n, as far as 64 bits go
 --   gift_counted_by reply n   == that where the reply accepts a gift, a levy or a join, and n where
 --                                it does not
---   gift_counted n e          == that for the reply of the entry e
+--   gifts_after_entry n e     == that for the reply of the entry e
 --   shown_by reply d          == the amounts that the reply shows as it changed them, and d where
 --                                it changed nothing
 --   is_move request           == whether the request is a move
@@ -36,8 +36,8 @@ gift_counted_by (Given gifts d) n = counted n
 gift_counted_by (Joined gifts d) n = counted n
 gift_counted_by reply n = n
 
-abbrev pub gift_counted : ℕ → Entry → ℕ
-gift_counted n e = gift_counted_by e.reply n
+abbrev pub gifts_after_entry : ℕ → Entry → ℕ
+gifts_after_entry n e = gift_counted_by e.reply n
 
 abbrev pub shown_by : Reply → Vector → Vector
 shown_by (Moved d) old = d

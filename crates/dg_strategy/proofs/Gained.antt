@@ -84,8 +84,7 @@ module _ (A : Choosing) (o : Opening) (seats cap : ℕ) where
   )
 
   pub claimed_by : (x y z : SeatView) (r : ℕ × Entry) (i n : ℕ) → Moved x y i → i < n → IsTurnBy A o seats cap y r z →
-      r.1.request ≡ Claim →
-      IsClaimed (IsTurnBy A o seats cap) n x z r
+      r.1.request ≡ Claim → IsClaimed (IsTurnBy A o seats cap) n x z r
   claimed_by x y z r i n (es, steps, moves, count) few turn claim = record {
     entries = es;
     gained = gained_by A o seats cap x (es ++ r ∷ []) z z (FoldsTo-push (IsTurnBy A o seats cap) x es y r z steps turn)
@@ -96,8 +95,7 @@ module _ (A : Choosing) (o : Opening) (seats cap : ℕ) where
   }
 
   pub stopped_by : (i n : ℕ) (x y z : SeatView) (fault : Fault) → Moved x y i → i < n → Keeps y z →
-      RefusesCall o seats cap z fault →
-      IsStopped (IsTurnBy A o seats cap) o seats cap n x z fault
+      RefusesCall o seats cap z fault → IsStopped (IsTurnBy A o seats cap) o seats cap n x z fault
   stopped_by i n x y z fault (es, steps, moves, count) few kept refused = record {
     entries = es;
     gained = gained_by A o seats cap x es y z steps kept;

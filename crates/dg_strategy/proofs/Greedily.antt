@@ -101,7 +101,8 @@ claim_won o seats cap x [] r last (z, step, same) claim = none step.strategy.tur
   where
     none : (m : Option Move) → step.strategy.turn.answer ≡ m → r.1.reply ≡ Won
     none (Some m) is = absurd
-        (subst IsMove (sym step.strategy.turn.answered.request' ∙ claim) (subst (λ a. IsMove (request_for a)) (sym is) tt))
+        (subst IsMove (sym step.strategy.turn.answered.request' ∙ claim)
+        (subst (λ a. IsMove (request_for a)) (sym is) tt))
     none None is = step.won is
 claim_won o seats cap x (p ∷ es) r last (z, step, rest) claim = claim_won o seats cap z es r last rest claim
 

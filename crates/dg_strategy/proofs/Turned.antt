@@ -69,8 +69,7 @@ settler_moves A settles g d m graph size may = borrows m (settles.moves g d m gr
 
 -- the graph that a turn finds is within the limits
 graph_found : (A : Choosing) (o : Opening) (seats cap : ℕ) (x : SeatView) (r : ℕ × Entry) (y : SeatView) →
-    IsGraph o.graph →
-    (turn : IsTurnBy A o seats cap x r y) → IsGraph (position_after o turn.history).graph
+    IsGraph o.graph → (turn : IsTurnBy A o seats cap x r y) → IsGraph (position_after o turn.history).graph
 graph_found A o seats cap x r y graph turn =
     graphs_hold o turn.history graph (legal_part o turn.history (r.1 ∷ []) turn.answered.history.legal)
 

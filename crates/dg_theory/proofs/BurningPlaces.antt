@@ -23,7 +23,7 @@ use Rattle.dg_theory.specs.Reduced.{edges_out, IsReduced}
 use Rattle.dg_theory.proofs.Counting.{count_of, count_of-some, count_of-more, member_or_none}
 use Rattle.dg_theory.proofs.Leaving.{removed, removed-here, removed-other, removed-of}
 use Rattle.dg_theory.proofs.Levels.{level, in_level, level_in}
-use Rattle.dg_theory.proofs.Unburnt.{Falls, IsWithin, out-le-out}
+use Rattle.dg_theory.proofs.Unburnt.{Falls, IsPartOf, out-le-out}
 use Rattle.dg_theory.proofs.OrderDivisors.{order_divisor}
 use Rattle.dg_theory.proofs.OrderDegrees.{AreApart}
 
@@ -58,7 +58,7 @@ put-other place v n w other = grind (arith, nat_tests)
 
 later-within : (g : Multigraph) (R : Amounts) (S : ℕ → Bool) (v n : ℕ) (place : Amounts) →
     IsBurning g R (removed S v) (suc n) place → (u : ℕ) → u < g.size → u ≢ v → removed S v u ≡ true →
-    IsWithin g (later S (put place v n) u) (later (removed S v) place u)
+    IsPartOf g (later S (put place v n) u) (later (removed S v) place u)
 later-within g R S v n place burning u inside other member w below not_earlier =
     let (in_S, level_w) = and_parts (S w) _ not_earlier in
     let at_u : put place v n u ≡ place u = put-other place v n u other in
@@ -97,7 +97,7 @@ burning_next g R S v n place (vertex, member, less) burning =
           (cases_eq u v);
       falls = λ u inside in_S. ⊎_elim
           (λ (same : u ≡ v).
-          let within : IsWithin g (later S (put place v n) u) S =
+          let within : IsPartOf g (later S (put place v n) u) S =
           λ w _ not_earlier. (and_parts (S w) _ not_earlier).0 in
           let out : edges_out g S u ≤ edges_out g (later S (put place v n) u) u =
           out-le-out g (later S (put place v n) u) S u within in

@@ -74,8 +74,7 @@ both_more : (before middle after : ℕ → ℕ → ℕ) (u v : ℕ) → u ≢ v 
     middle u v ≡ before u v + 1 → ((b : ℕ) → b ≢ v → middle u b ≡ before u b) →
     ((a b : ℕ) → a ≢ u → middle a b ≡ before a b) →
     after v u ≡ middle v u + 1 → ((b : ℕ) → b ≢ u → after v b ≡ middle v b) →
-    ((a b : ℕ) → a ≢ v → after a b ≡ middle a b) →
-    (a b : ℕ) → after a b ≡ before a b + on_pair u v a b
+    ((a b : ℕ) → a ≢ v → after a b ≡ middle a b) → (a b : ℕ) → after a b ≡ before a b + on_pair u v a b
 both_more before middle after u v different at row others back column rest a b = grind (arith, nat_tests)
 
 pub edge_is_added : EdgeIsAdded

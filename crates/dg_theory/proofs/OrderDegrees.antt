@@ -35,8 +35,7 @@ one_counts false false e both neither = absurd (neither refl refl)
 
 -- no edges join two vertices with the same place
 no_edges : (g : Multigraph) (place : Amounts) (v w : ℕ) → IsMultigraph g → AreApart g.size place → v < g.size →
-    w < g.size →
-    place v ≤ℤ place w → place w ≤ℤ place v → edges_between g v w ≡ 0
+    w < g.size → place v ≤ℤ place w → place w ≤ℤ place v → edges_between g v w ≡ 0
 no_edges g place v w graph apart inside within less more =
     let same : v ≡ w = apart v w inside within (omega (arith, ints)) in
     ap (λ (u : ℕ). edges_between g u w) same ∙ graph.loopless w

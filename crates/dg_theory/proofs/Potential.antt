@@ -134,8 +134,7 @@ off_q_loses g q level v j graph distance small few inside other at =
     (cases_lt j 14)
 
 pub levels_are_potential : (g : Multigraph) (q : ℕ) (level : ℕ → ℕ) → IsMultigraph g → IsDistance g q level →
-    g.size ≤ 16 →
-    ((v : ℕ) → v < g.size → valence g v ≤ 63) → IsPotential g q (weights level)
+    g.size ≤ 16 → ((v : ℕ) → v < g.size → valence g v ≤ 63) → IsPotential g q (weights level)
 levels_are_potential g q level graph distance small few = record {
   none_at_q = ap level_weight distance.start;
   loses = λ v inside other.

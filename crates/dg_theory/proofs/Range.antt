@@ -42,8 +42,7 @@ use Rattle.dg_theory.proofs.Distances.{level_positive}
 use Rattle.dg_theory.proofs.Debts.{fired_nearer, farther_stays, level_gains, changes_little}
 
 pub within_level : (c B : ℕ) (x z : ℤ) → unsigned_abs x ≤ B → c ≤ B → x ≤ℤ (z +ℤ pos (63 * c)) →
-    z ≤ℤ (x +ℤ pos (63 * c)) →
-    unsigned_abs z ≤ 64 * B
+    z ≤ℤ (x +ℤ pos (63 * c)) → unsigned_abs z ≤ 64 * B
 within_level c B x z small few up down =
     let (low, high) = within_abs x B small in
     abs_within z (64 * B) (omega (arith, ints)) (omega (arith, ints))

@@ -15,13 +15,11 @@ unburnt_by g l v = nat_lt v g.size && not (among l v)
 
 abbrev pub UnburntFires : Type 0
 UnburntFires = (g : Multigraph) (q : ℕ) (D : Amounts) (l : List ℕ) → IsMultigraph g → q < g.size →
-    HasNoDebtOff g q D →
-    BurnsInOrder g q D l → IsGreatestFree g q D (unburnt_by g l)
+    HasNoDebtOff g q D → BurnsInOrder g q D l → IsGreatestFree g q D (unburnt_by g l)
 
 abbrev pub GreatestIsOne : Type 0
 GreatestIsOne = (g : Multigraph) (q : ℕ) (D : Amounts) (S T : ℕ → Bool) → IsGreatestFree g q D S →
-    IsGreatestFree g q D T →
-    (v : ℕ) → S v ≡ T v
+    IsGreatestFree g q D T → (v : ℕ) → S v ≡ T v
 
 abbrev pub BurntIsReduced : Type 0
 BurntIsReduced = (g : Multigraph) (q : ℕ) (D : Amounts) (l : List ℕ) → IsMultigraph g → q < g.size →
@@ -30,5 +28,4 @@ BurntIsReduced = (g : Multigraph) (q : ℕ) (D : Amounts) (l : List ℕ) → IsM
 
 abbrev pub BurnsToReduced : Type 0
 BurnsToReduced = (g : Multigraph) (q : ℕ) (D : Amounts) (l : List ℕ) → IsMultigraph g → q < g.size →
-    HasNoDebtOff g q D →
-    BurnsAll g q D l → IsReduced g q D
+    HasNoDebtOff g q D → BurnsAll g q D l → IsReduced g q D

@@ -52,8 +52,7 @@ RankOnce = (g : Multigraph) (D : Amounts) (r s : ℤ) → IsRank g D r → IsRan
 
 abbrev pub RankOfSum : Type 0
 RankOfSum = (g : Multigraph) (D E : Amounts) (j k : ℕ) → HasRankAtLeast g D j →
-    HasRankAtLeast g E k →
-    HasRankAtLeast g (λ v. D v +ℤ E v) (j + k)
+    HasRankAtLeast g E k → HasRankAtLeast g (λ v. D v +ℤ E v) (j + k)
 
 abbrev pub Clifford : Type 0
 Clifford = (g : Multigraph) (D : Amounts) (k : ℕ) → IsMultigraph g → 0 < g.size →

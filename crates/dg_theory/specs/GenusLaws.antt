@@ -10,5 +10,4 @@ use Rattle.dg_theory.specs.Reduced.{IsReduced}
 
 abbrev pub ReducedBelowGenus : Type 0
 ReducedBelowGenus = (g : Multigraph) (q : ℕ) (R : Amounts) → IsMultigraph g → q < g.size →
-    IsReduced g q R →
-    R q <ℤ pos 0 → degree g.size R <ℤ genus g
+    IsReduced g q R → R q <ℤ pos 0 → degree g.size R <ℤ genus g

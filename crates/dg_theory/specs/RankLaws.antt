@@ -41,8 +41,7 @@ PoorRank = (g : Multigraph) (D : Amounts) (k : ℕ) → IsMultigraph g → 0 < g
 
 abbrev pub LossOnce : Type 0
 LossOnce = (g : Multigraph) (D : Amounts) (k : ℕ) (E F : Amounts) → IsFirstLoss g D k E →
-    IsFirstLoss g D k F →
-    AgreeOn g.size E F
+    IsFirstLoss g D k F → AgreeOn g.size E F
 
 abbrev pub LossBoundsRank : Type 0
 LossBoundsRank = (g : Multigraph) (D : Amounts) (k : ℕ) (E : Amounts) → IsFirstLoss g D k E →

@@ -15,5 +15,4 @@ ReducedOnce = (g : Multigraph) (q : ℕ) (D E : Amounts) → q < g.size → AreE
 
 abbrev pub ReducedDecides : Type 0
 ReducedDecides = (g : Multigraph) (q : ℕ) (D R : Amounts) → q < g.size → AreEquivalent g D R →
-    IsReduced g q R →
-    (IsWinnable g D ↔ (pos 0 ≤ℤ R q))
+    IsReduced g q R → (IsWinnable g D ↔ (pos 0 ≤ℤ R q))

@@ -8,19 +8,25 @@ use Rattle.dg_chips.proofs.set_firing.carried.Goals as goal
 
 factors : (edges : ℕ) (from each : ℤ) → from ≡ pos edges → edges ≤ 63 → unsigned_abs each ≤ 2 ^ 120 →
     to_z w128 (of_z w128 from) *ℤ to_z w128 (of_z w128 each) ≡ pos edges *ℤ each
-factors edges from each same few small = rw (same, (wide_held (pos edges) (omega arith)).1, (wide_held each (omega arith)).1)
+factors edges from each same few small =
+    rw (same, (wide_held (pos edges) (omega arith)).1, (wide_held each (omega arith)).1)
 
 pub overflow_mul-result : goal.overflow_mul-result
 overflow_mul-result c =
     let limit = product_limit c.args.edges 63 c.args.each (2 ^ 120) c.requires.few c.requires.each in
-    rw (factors c.args.edges c.from.result c.args.each c.from.ensures c.requires.few c.requires.each) (wide_held (pos c.args.edges *ℤ c.args.each) (omega arith)).0
+    rw (factors c.args.edges c.from.result c.args.each c.from.ensures c.requires.few c.requires.each)
+    (wide_held (pos c.args.edges *ℤ c.args.each) (omega arith)).0
 
 pub returns-clause-product : goal.returns-clause-product
 returns-clause-product c =
     let limit = product_limit c.args.edges 63 c.args.each (2 ^ 120) c.requires.few c.requires.each in
-    rw (factors c.args.edges c.from.result c.args.each c.from.ensures c.requires.few c.requires.each) (wide_held (pos c.args.edges *ℤ c.args.each) (omega arith)).1
+    rw (factors c.args.edges c.from.result c.args.each c.from.ensures c.requires.few c.requires.each)
+    (wide_held (pos c.args.edges *ℤ c.args.each) (omega arith)).1
 
 pub returns-clause-limit : goal.returns-clause-limit
 returns-clause-limit c =
     let limit = product_limit c.args.edges 63 c.args.each (2 ^ 120) c.requires.few c.requires.each in
-    rw (factors c.args.edges c.from.result c.args.each c.from.ensures c.requires.few c.requires.each, (wide_held (pos c.args.edges *ℤ c.args.each) (omega arith)).1) limit
+    rw (
+      factors c.args.edges c.from.result c.args.each c.from.ensures c.requires.few c.requires.each,
+      (wide_held (pos c.args.edges *ℤ c.args.each) (omega arith)).1,
+    ) limit

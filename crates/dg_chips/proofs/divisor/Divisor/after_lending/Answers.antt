@@ -6,7 +6,7 @@ use Rattle.std.proofs.lemmas.Int.{ints, to_z-of_z}
 use Rattle.std.proofs.lemmas.List.{get_or_past}
 use Rattle.std.proofs.Math.IntN.{ℤ, pos, ◌+ℤ◌, ◌-ℤ◌, ◌*ℤ◌}
 use mir.Val.{to_z, of_z}
-use Rattle.dg_theory.specs.Multigraph.{edges_between, valence}
+use Rattle.dg_theory.specs.Multigraph.{valence}
 use Rattle.dg_theory.specs.Firing.{fired, only_at}
 use Rattle.dg_theory.proofs.Absolute.{within_abs}
 use Rattle.dg_chips.specs.Vector.{Vector, at}
@@ -46,9 +46,13 @@ pub loop-w-init : goal.loop-w-init
 loop-w-init c =
     let x : ℤ = to_z w32 (of_z w32 c.args.times) in
     let xs : List ℤ = c.self.inside.amounts in
-    let y : ℤ = to_z w32 (of_z w32 (to_z w32 (of_z w32 (slice_index_or xs c.args.v (pos 0))) -ℤ to_z w32 (of_z w32 c.carried_once.result))) in
-    let same : (u : ℕ) → slice_index_or xs u (pos 0) ≡ at c.args.self.now u = λ u. ap (λ (d : Vector). at d u) c.self.view_is in
-    let right : (u : ℕ) → unsigned_abs (slice_index_or xs u (pos 0)) ≤ 1000000 = within_all 1000000 _ c.self.invariant in
+    let y : ℤ = to_z w32
+    (of_z w32 (to_z w32 (of_z w32 (slice_index_or xs c.args.v (pos 0))) -ℤ to_z w32 (of_z w32 c.carried_once.result)))
+    in
+    let same : (u : ℕ) → slice_index_or xs u (pos 0) ≡ at c.args.self.now u =
+    λ u. ap (λ (d : Vector). at d u) c.self.view_is in
+    let right : (u : ℕ) → unsigned_abs (slice_index_or xs u (pos 0)) ≤ 1000000 =
+    within_all 1000000 _ c.self.invariant in
     let places : length xs ≡ 16 = omega arith in
     let within : c.args.v < length xs = omega arith in
     let once : unsigned_abs x ≤ 1 = rw (to_z-of_z w32 c.args.times c.ranges.times) c.requires.times in
@@ -57,16 +61,20 @@ loop-w-init c =
     let few : unsigned_abs c.carried_once.result ≤ 255 = omega (arith, c.carried_once.ensures.limit) in
     let (low, high) = within_abs c.carried_once.result 255 few in
     let (low', high') = within_abs (slice_index_or xs c.args.v (pos 0)) 1000000 (right c.args.v) in
-    let here : y ≡ at c.args.self.now c.args.v -ℤ pos (valence c.args.graph.now c.args.v) *ℤ x = omega (arith, ints, same c.args.v) in
-    let lent : slice_index_or (slice_set xs c.args.v y) c.args.v (pos 0) ≡ y = get_or-set_same xs c.args.v y (pos 0) within in
-    let others : (u : ℕ) → u ≢ c.args.v → slice_index_or (slice_set xs c.args.v y) u (pos 0) ≡ slice_index_or xs u (pos 0) =
+    let here : y ≡ at c.args.self.now c.args.v -ℤ pos (valence c.args.graph.now c.args.v) *ℤ x =
+    omega (arith, ints, same c.args.v) in
+    let lent : slice_index_or (slice_set xs c.args.v y) c.args.v (pos 0) ≡ y =
+    get_or-set_same xs c.args.v y (pos 0) within in
+    let others : (u : ℕ) → u ≢ c.args.v →
+    slice_index_or (slice_set xs c.args.v y) u (pos 0) ≡ slice_index_or xs u (pos 0) =
     λ u other. get_or-set_other xs c.args.v u y (pos 0) other in
     let near : unsigned_abs y ≤ 1000255 = omega (arith, ints) in
     record {
       size = length-set _ _ _ ∙ places;
       done = λ u none. absurd (omega arith);
       near = λ u none. absurd (omega arith);
-      ahead = λ u _. fired-lender c.args.graph.now (at c.args.self.now) (λ w. slice_index_or (slice_set xs c.args.v y) w (pos 0)) c.args.v x
+      ahead = λ u _. fired-lender c.args.graph.now (at c.args.self.now)
+          (λ w. slice_index_or (slice_set xs c.args.v y) w (pos 0)) c.args.v x
           c.size-size.ensures.graph.multigraph c.requires.vertex (lent ∙ here) (λ w other. others w other ∙ same w) u;
       small = λ u _. ⊎_elim
           (λ (equal : u ≡ c.args.v). rw (equal, lent) near)
@@ -79,7 +87,8 @@ overflow_add-amounts c =
     let got : ℤ = c.carried_once-in-loop-w.result in
     let (low, high) = within_abs got 255 (few (goal.at.overflow_add-amounts c).After-carried_once-in-loop-w) in
     let (low', high') =
-    within_abs (slice_index_or c.loop-w.amounts c.loop-w.w (pos 0)) 1000255 (c.loop-w.invariant.small c.loop-w.w (omega arith)) in
+    within_abs (slice_index_or c.loop-w.amounts c.loop-w.w (pos 0)) 1000255
+    (c.loop-w.invariant.small c.loop-w.w (omega arith)) in
     omega (arith, ints)
 
 pub returns-then-from-gt-MAX_AMOUNT : goal.returns-then-from-gt-MAX_AMOUNT
@@ -132,7 +141,8 @@ of_row-requires c =
       within = λ u below. rw (c.loop-w.invariant.done u (omega arith)) (c.loop-w.invariant.near u (omega arith));
       inside = λ u past. elim (cases_lt u 16) [
         | inl below ↦ c.loop-w.invariant.done u (omega arith)
-            ∙ fired-outside c.args.graph.now (at c.args.self.now) c.args.v x u c.size-size.ensures.graph.multigraph c.requires.vertex (omega arith)
+            ∙ fired-outside c.args.graph.now
+            (at c.args.self.now) c.args.v x u c.size-size.ensures.graph.multigraph c.requires.vertex (omega arith)
             (empty u (omega arith))
         | inr above ↦ get_or_past c.loop-w.amounts u (pos 0) (omega arith)
       ];

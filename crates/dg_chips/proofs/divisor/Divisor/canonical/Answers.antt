@@ -1,6 +1,5 @@
-use Rattle.std.proofs.Common.{◌<◌, length, length-set, arith, below_more, ◌∙◌}
+use Rattle.std.proofs.Common.{arith, below_more}
 use Rattle.std.proofs.lemmas.Int.{ints}
-use Rattle.dg_theory.specs.Rank.{canonical}
 use Rattle.dg_chips.proofs.VectorLaws.{filled_more}
 use Rattle.dg_chips.proofs.divisor.Divisor.canonical.Goals as goal
 

@@ -1,7 +1,5 @@
-use Rattle.std.proofs.Common.{◌<◌, length, length-set, arith, below_more, ◌∙◌}
+use Rattle.std.proofs.Common.{arith, below_more}
 use Rattle.std.proofs.lemmas.Int.{ints}
-use Rattle.std.proofs.Math.IntN.{◌-ℤ◌}
-use Rattle.dg_chips.specs.Vector.{at}
 use Rattle.dg_chips.proofs.VectorLaws.{filled_more}
 use Rattle.dg_chips.proofs.divisor.Divisor.minus.Goals as goal
 

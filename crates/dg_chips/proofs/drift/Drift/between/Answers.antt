@@ -1,8 +1,7 @@
-use Rattle.std.proofs.Common.{◌<◌, ◌≤◌, length, length-set, arith, below_more, ◌∙◌}
+use Rattle.std.proofs.Common.{◌≤◌, arith, below_more}
 use Rattle.std.specs.Int.RustNames.{unsigned_abs}
 use Rattle.std.proofs.lemmas.Int.{ints}
 use Rattle.std.proofs.Math.IntN.{◌-ℤ◌}
-use Rattle.dg_chips.specs.Vector.{at}
 use Rattle.dg_chips.proofs.VectorLaws.{filled_more}
 use Rattle.dg_chips.proofs.DriftLaws.{scripts_differ}
 use Rattle.dg_chips.proofs.drift.Drift.between.Goals as goal

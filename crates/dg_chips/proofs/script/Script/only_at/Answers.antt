@@ -7,7 +7,8 @@ use Rattle.dg_chips.proofs.script.Script.only_at.Goals as goal
 pub of_row-requires : goal.of_row-requires
 of_row-requires c = rw (to_z-of_z w32 c.args.entry c.ranges.entry) (record {
   few = c.requires.size;
-  within = λ w below. rw (single 16 c.args.v c.args.entry (omega arith) w) (only_at_small c.args.v c.args.entry c.requires.limit w);
+  within = λ w below. rw (single 16 c.args.v c.args.entry (omega arith) w)
+      (only_at_small c.args.v c.args.entry c.requires.limit w);
   inside = λ w past. single 16 c.args.v c.args.entry (omega arith) w ∙ grind arith;
 })
 

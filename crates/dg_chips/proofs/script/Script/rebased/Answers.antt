@@ -1,4 +1,4 @@
-use Rattle.std.proofs.Common.{◌≤◌, ◌<◌, length, length-set, arith, ◌∙◌}
+use Rattle.std.proofs.Common.{◌≤◌, arith}
 use Rattle.std.specs.Int.RustNames.{unsigned_abs}
 use Rattle.std.proofs.lemmas.Int.{ints}
 use Rattle.std.proofs.Math.IntN.{◌-ℤ◌, ◌+ℤ◌}
@@ -8,12 +8,14 @@ use Rattle.dg_chips.proofs.script.Script.rebased.Goals as goal
 
 pub overflow_cast-entries : goal.overflow_cast-entries
 overflow_cast-entries c =
-    let near : unsigned_abs (at c.args.self.now c.loop-v.v -ℤ at c.args.drift.now c.loop-v.v +ℤ at c.args.drift.now c.args.q) ≤ 1000000000 =
+    let near : unsigned_abs
+    (at c.args.self.now c.loop-v.v -ℤ at c.args.drift.now c.loop-v.v +ℤ at c.args.drift.now c.args.q) ≤ 1000000000 =
     c.requires.limit c.loop-v.v (omega arith) in
     omega (arith, ints)
 
 pub loop-v-preserved : goal.loop-v-preserved
 loop-v-preserved c =
-    let near : unsigned_abs (at c.args.self.now c.loop-v.v -ℤ at c.args.drift.now c.loop-v.v +ℤ at c.args.drift.now c.args.q) ≤ 1000000000 =
+    let near : unsigned_abs
+    (at c.args.self.now c.loop-v.v -ℤ at c.args.drift.now c.loop-v.v +ℤ at c.args.drift.now c.args.q) ≤ 1000000000 =
     c.requires.limit c.loop-v.v (omega arith) in
     filled_more _ _ _ _ (omega arith) (omega (arith, ints)) c.loop-v.invariant

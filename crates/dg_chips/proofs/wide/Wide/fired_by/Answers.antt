@@ -1,9 +1,9 @@
-use Rattle.std.proofs.Common.{◌≡◌, ◌≤◌, ◌<◌, ◌^◌, List, length, length-set, arith, ap, ◌∙◌}
+use Rattle.std.proofs.Common.{◌≡◌, ◌≤◌, ◌^◌, List, arith, ap, ◌∙◌}
 use Rattle.std.specs.List.{slice_index_or}
 use Rattle.std.proofs.Math.IntN.{ℤ, pos}
 use Rattle.std.specs.Int.RustNames.{unsigned_abs}
 use Rattle.std.proofs.lemmas.Int.{ints}
-use Rattle.dg_theory.specs.Firing.{fired, gain}
+use Rattle.dg_theory.specs.Firing.{gain}
 use Rattle.dg_chips.specs.Vector.{at}
 use Rattle.dg_chips.proofs.VectorLaws.{filled_more}
 use Rattle.dg_chips.proofs.wide.Wide.fired_by.Goals as goal
@@ -13,5 +13,6 @@ loop-v-preserved c =
     let small : unsigned_abs (at c.args.self.now c.loop-v.v) ≤ 2 ^ 120 = c.requires.range c.loop-v.v (omega arith) in
     let same : c.gained-gain.result ≡ gain c.args.graph.now (at c.args.script.now) c.loop-v.v =
     c.gained-gain.ensures.gain
-    ∙ ap (λ (xs : List ℤ). gain c.args.graph.now (λ w. slice_index_or xs w (pos 0)) c.loop-v.v) c.entries-lendings.ensures.entries in
+    ∙ ap (λ (xs : List ℤ). gain c.args.graph.now (λ w. slice_index_or xs w (pos 0)) c.loop-v.v)
+    c.entries-lendings.ensures.entries in
     filled_more _ _ _ _ (omega arith) (omega (arith, ints)) c.loop-v.invariant
