@@ -1,12 +1,14 @@
 -- Looks, and what was found on them.
 --   LookView          == a look's entry, with its number, and what is kept of it
 --   Found A           == a look, and what was found on it: a verdict, or the answer of a rank test
---   IsTaken o x       == what is kept of the look x of a table with the opening o is that of its entry, and has the vertices
---                        of the opening
---   IsJudged q x v    == the verdict v, from the vertex q, is right for the look x, its amounts on its graph; its order
---                        is that in which the least vertex burns first, and has zeros past the last vertex
---   IsTried x k w v   == v is the right answer of the rank test of degree k for the look x, its amounts on its graph;
---                        the degree is within the limits, and there may be w workers
+--   IsTaken o x       == what is kept of the look x of a table with the opening o is that of its
+--                        entry, and has the vertices of the opening
+--   IsJudged q x v    == the verdict v, from the vertex q, is right for the look x, its amounts on
+--                        its graph; its order is that in which the least vertex burns first, and
+--                        has zeros past the last vertex
+--   IsTried x k w v   == v is the right answer of the rank test of degree k for the look x, its
+--                        amounts on its graph; the degree is within the limits, and there may be w
+--                        workers
 use Rattle.std.specs.Prelude.{◌≡◌, ℕ, ◌<◌, ◌≤◌, take}
 use Rattle.std.specs.List.{slice_index_or}
 use Rattle.dg_theory.specs.Burning.{BurnsInOrder}

@@ -25,7 +25,8 @@ pub fn commit<N: Name>(
     seat: &mut Seat<N>,
     reckoned: Reckoned<N>,
 ) -> Result<Receipt<N>, (Reckoned<N>, Fault)>
-    ensures settled { IfOk result (λ r. IsSettled N.start N.seats (length N.cells) reckoned.look.receipt reckoned.look.shown
+    ensures settled { IfOk result
+        (λ r. IsSettled N.start N.seats (length N.cells) reckoned.look.receipt reckoned.look.shown
         (Finding.Judged reckoned.verdict) r seat.old seat.new) }
     ensures fault { IfErr result (λ e. (e.0 ≡ reckoned) × Keeps seat.old seat.new ×
         RefusesCall N.start N.seats (length N.cells) seat.new e.1) }
@@ -50,7 +51,8 @@ pub fn commit_rank<N: Name>(
     seat: &mut Seat<N>,
     tried: Tried<N>,
 ) -> Result<Receipt<N>, (Tried<N>, Fault)>
-    ensures settled { IfOk result (λ r. IsSettled N.start N.seats (length N.cells) tried.look.receipt tried.look.shown
+    ensures settled { IfOk result
+        (λ r. IsSettled N.start N.seats (length N.cells) tried.look.receipt tried.look.shown
         (Finding.Ranked tried.verdict) r seat.old seat.new) }
     ensures fault { IfErr result (λ e. (e.0 ≡ tried) × Keeps seat.old seat.new ×
         RefusesCall N.start N.seats (length N.cells) seat.new e.1) }

@@ -22,7 +22,8 @@ pub fn look<N: Name>(
     alloc: Global,
     seat: &mut Seat<N>,
 ) -> Result<Look<N>, Fault>
-    ensures answered { IfOk result (λ l. IsAnswered N.start N.seats (length N.cells) LookRequest l.receipt seat.old seat.new) }
+    ensures answered { IfOk result
+        (λ l. IsAnswered N.start N.seats (length N.cells) LookRequest l.receipt seat.old seat.new) }
     ensures fault { IfErr result (λ f. Keeps seat.old seat.new ×
         RefusesCall N.start N.seats (length N.cells) seat.new f) }
 {

@@ -24,7 +24,7 @@ use Rattle.dg_graph.specs.Graph.{IsGraph}
 use Rattle.dg_graph.specs.Sets.{in_set, IsWith}
 use Rattle.dg_graph.proofs.Valences.{valence-few, valence-outside}
 use Rattle.dg_burn.specs.declared.fire.Fire.{Fire}
-use Rattle.dg_burn.specs.Fires.{dollars, spare, IsUnlit, IsOut, IsNext, IsFire}
+use Rattle.dg_burn.specs.Fires.{dollars, spare, IsUnlit, IsOut, IsLeastToBurn, IsFire}
 
 pub no_counts : (k v : ℕ) → slice_index (replicate k 0) v ≡ 0
 no_counts zero v = refl
@@ -48,8 +48,10 @@ into-none g B v none =
 pub into-more : (g : Multigraph) (S T : ℕ → Bool) (v w : ℕ) → IsMultigraph g → v < g.size → S v ≡ false → IsWith S v T →
     edges_into g S w + edges_between g v w ≡ edges_into g T w
 into-more g S T v w graph below new more =
-    let differ : edges_into g T w + counted (S v) (edges_between g w v) ≡ edges_into g S w + counted (T v) (edges_between g w v) =
-    total_below-differ_at g.size (λ u. counted (T u) (edges_between g w u)) (λ u. counted (S u) (edges_between g w u)) v below
+    let differ : edges_into g T w + counted (S v) (edges_between g w v)
+    ≡ edges_into g S w + counted (T v) (edges_between g w v) =
+    total_below-differ_at g.size (λ u. counted (T u) (edges_between g w u))
+    (λ u. counted (S u) (edges_between g w u)) v below
     (λ u _ other. ap (λ b. counted b (edges_between g w u)) (more.others u other)) in
     let before : counted (S v) (edges_between g w v) ≡ 0 = ap (λ b. counted b (edges_between g w v)) new in
     let after : counted (T v) (edges_between g w v) ≡ edges_between g w v =
@@ -131,15 +133,15 @@ burnt_out g held x graph fire none v may =
     let least : spare x v <ℤ pos 0 = may-counted g held x v graph fire may in
     omega (arith, ints, none v (omega (arith, graph.few)))
 
-pub least_new : (g : Multigraph) (held : List ℕ) (x : Fire) (v : ℕ) → IsGraph g → IsFire g held x → IsNext x v →
+pub least_new : (g : Multigraph) (held : List ℕ) (x : Fire) (v : ℕ) → IsGraph g → IsFire g held x → IsLeastToBurn x v →
     in_set x.reached v ≡ false
 least_new g held x v graph fire next = false_from_ne_true (in_set x.reached v) (λ burns.
     let few : edges_into g (in_set x.reached) v ≤ 63 = into-few g (in_set x.reached) v graph in
     let less : spare x v <ℤ pos 0 = next.burns in
     absurd (omega (arith, ints, fire.counts v, fire.burnt v next.few burns)))
 
-pub least_burns : (g : Multigraph) (held : List ℕ) (x : Fire) (v : ℕ) → IsGraph g → IsFire g held x → IsNext x v →
-    BurnsNext g (dollars held) (in_set x.reached) v
+pub least_burns : (g : Multigraph) (held : List ℕ) (x : Fire) (v : ℕ) → IsGraph g → IsFire g held x →
+    IsLeastToBurn x v → BurnsNext g (dollars held) (in_set x.reached) v
 least_burns g held x v graph fire next = record {
   may = record {
     vertex = ⊎_elim

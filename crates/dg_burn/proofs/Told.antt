@@ -43,7 +43,8 @@ rest_is_free g q D l m graph vertex solvent order rest =
 pub none_reduced : (g : Multigraph) (q : ℕ) (D : Amounts) (l : List ℕ) (m : ℕ) → HasNoDebtOff g q D →
     BurnsInOrder g q D l → ((v : ℕ) → in_set m v ≡ unburnt_by g l v) → m ≡ 0 → IsReduced g q D
 none_reduced g q D l m solvent order rest none = burnt_reduced g q D l solvent order (λ v below.
-    not-false (among l v) (sym (unburnt_by-below g l v below) ∙ sym (rest v) ∙ ap (λ n. in_set n v) none ∙ in_set-none v))
+    not-false (among l v)
+    (sym (unburnt_by-below g l v below) ∙ sym (rest v) ∙ ap (λ n. in_set n v) none ∙ in_set-none v))
 
 pub reduced_none : (g : Multigraph) (q : ℕ) (D : Amounts) (l : List ℕ) (m : ℕ) → BurnsInOrder g q D l →
     ((v : ℕ) → in_set m v ≡ unburnt_by g l v) → IsReduced g q D → m ≡ 0
@@ -74,7 +75,8 @@ none_whole g q D l n S k m state size rest = (
   λ none.
       let all : unreached g.size S ≡ 0 = all_reached g.size S (λ v below.
       not-false (S v)
-      (sym (ap (λ b. b && not (S v)) (lt-ltb v k (omega arith))) ∙ sym (rest v) ∙ ap (λ j. in_set j v) none ∙ in_set-none v)) in
+      (sym (ap (λ b. b && not (S v)) (lt-ltb v k (omega arith))) ∙ sym (rest v) ∙ ap (λ j. in_set j v) none
+      ∙ in_set-none v)) in
       omega (arith, state.left),
   λ whole.
       let none : unreached g.size S ≡ 0 = omega (arith, state.left) in

@@ -1,15 +1,18 @@
--- A fire on a graph: which vertices burn, how many edges join each vertex to them, and how many dollars more each holds. No vertex
--- has more than 63 edges, so who holds more than 127 dollars burns as who holds 127.
---   dollars held v == what v holds, where a list tells it
---   capped z       == the amount z, but 0 for a debt and 64 for more than 64: as no vertex has more than 63 edges, it burns
---                     with one exactly where it burns with the other
---   IsHeld n D l   == l are the amounts D of n vertices, capped
---   spare x v      == how many dollars more v holds than edges join it to those that burn
---   IsUnlit l x    == nothing burns, nothing is counted, and all that each holds is spare
---   IsOut x        == no vertex has more edges to those that burn than it holds dollars
---   IsNext x v     == v is the least vertex that has
---   IsFire g l x   == what is counted at each vertex are its edges to those that burn; each that does not burn holds what
---                     l tells, and each that does holds 127 dollars, too many to burn again
+-- A fire on a graph: which vertices burn, how many edges join each vertex to them, and how many dollars
+-- more each holds. No vertex has more than 63 edges, so who holds more than 127 dollars burns as who
+-- holds 127.
+--   dollars held v    == what v holds, where a list tells it
+--   capped z          == the amount z, but 0 for a debt and 64 for more than 64: as no vertex has
+--                        more than 63 edges, it burns with one exactly where it burns with the
+--                        other
+--   IsHeld n D l      == l are the amounts D of n vertices, capped
+--   spare x v         == how many dollars more v holds than edges join it to those that burn
+--   IsUnlit l x       == nothing burns, nothing is counted, and all that each holds is spare
+--   IsOut x           == no vertex has more edges to those that burn than it holds dollars
+--   IsLeastToBurn x v == v is the least vertex that has
+--   IsFire g l x      == what is counted at each vertex are its edges to those that burn; each that
+--                        does not burn holds what l tells, and each that does holds 127 dollars, too
+--                        many to burn again
 use Rattle.std.specs.Prelude.{◌≡◌, ℕ, ◌<◌, min, true, false, List, ℤ, pos, negsuc, ◌-ℤ◌, ◌≤ℤ◌, ◌<ℤ◌, slice_index}
 use Rattle.std.specs.List.{slice_index_or}
 use Rattle.dg_theory.specs.Multigraph.{Multigraph}
@@ -40,7 +43,7 @@ pub record IsUnlit (l : List ℕ) (x : Fire) : Type 0 where
 abbrev pub IsOut : Fire → Type 0
 IsOut x = (v : ℕ) → v < MAX_VERTICES → pos 0 ≤ℤ spare x v
 
-pub record IsNext (x : Fire) (v : ℕ) : Type 0 where
+pub record IsLeastToBurn (x : Fire) (v : ℕ) : Type 0 where
   pub few : v < MAX_VERTICES
   pub burns : spare x v <ℤ pos 0
   pub least : (u : ℕ) → u < v → pos 0 ≤ℤ spare x u
@@ -49,4 +52,5 @@ pub record IsFire (g : Multigraph) (l : List ℕ) (x : Fire) : Type 0 where
   pub counts : (v : ℕ) → slice_index x.joined v ≡ edges_into g (in_set x.reached) v
   pub unburnt : (v : ℕ) → v < MAX_VERTICES → in_set x.reached v ≡ false →
       spare x v ≡ pos (min 127 (slice_index l v)) -ℤ pos (slice_index x.joined v)
-  pub burnt : (v : ℕ) → v < MAX_VERTICES → in_set x.reached v ≡ true → spare x v ≡ pos 127 -ℤ pos (slice_index x.joined v)
+  pub burnt : (v : ℕ) → v < MAX_VERTICES → in_set x.reached v ≡ true →
+      spare x v ≡ pos 127 -ℤ pos (slice_index x.joined v)

@@ -1,6 +1,7 @@
 -- The state of burning before it ends.
 --   unreached n S           == how many of n vertices are not in the set S
---   IsBurning g q D l n S   == the n vertices of l are those that burn so far, in their order, and S is the set of them
+--   IsBurning g q D l n S   == the n vertices of l are those that burn so far, in their order, and
+--                              S is the set of them
 use Rattle.std.specs.Prelude.{◌≡◌, ℕ, ◌+◌, Bool, if◌then◌else◌, List, length}
 use Rattle.dg_theory.specs.Sums.{total_below}
 use Rattle.dg_theory.specs.Multigraph.{Multigraph}
@@ -10,7 +11,8 @@ use Rattle.dg_theory.specs.Burning.{among, BurnsSoFar}
 abbrev pub unreached : ℕ → (ℕ → Bool) → ℕ
 unreached n S = total_below n (λ v. if S v then 0 else 1)
 
-pub record IsBurning (g : Multigraph) (q : ℕ) (D : Amounts) (l : List ℕ) (n : ℕ) (S : ℕ → Bool) : Type 0 where
+pub record IsBurning (g : Multigraph) (q : ℕ) (D : Amounts) (l : List ℕ) (n : ℕ)
+    (S : ℕ → Bool) : Type 0 where
   pub so_far : BurnsSoFar g q D l
   pub same : (v : ℕ) → S v ≡ among l v
   pub count : length l ≡ n

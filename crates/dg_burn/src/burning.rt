@@ -42,7 +42,8 @@ pub fn burn(graph: &Graph, q: usize, chips: &Wide) -> Burnt
     requires vertex { q < graph.now.size }
     requires no_debt { HasNoDebtOff graph.now q (at chips.now) }
     ensures order { BurnsInOrder graph.now q (at chips.now) (take result.burnt result.order) }
-    ensures rest { (i : ℕ) → result.burnt ≤ i → i < MAX_VERTICES → slice_index_or result.order i 0 ≡ 0 }
+    ensures rest { (i : ℕ) → result.burnt ≤ i → i < MAX_VERTICES →
+        slice_index_or result.order i 0 ≡ 0 }
     ensures some { 1 ≤ result.burnt }
     ensures burnt { result.burnt ≤ graph.now.size }
     ensures unburnt { IsGreatestFree graph.now q (at chips.now) (in_set result.unburnt) }
@@ -57,7 +58,8 @@ pub fn burn(graph: &Graph, q: usize, chips: &Wide) -> Burnt
 /// 64 burn as 64 does, for no vertex has more than 63 edges.
 pub fn burn_counted(graph: &Graph, q: usize, held: &[u8; 16]) -> Counted
     requires { q < graph.now.size }
-    ensures order { BurnsInOrder graph.now q (dollars held.now) (take result.burnt.burnt result.burnt.order) }
+    ensures order { BurnsInOrder graph.now q (dollars held.now)
+        (take result.burnt.burnt result.burnt.order) }
     ensures rest { (i : ℕ) → result.burnt.burnt ≤ i → i < MAX_VERTICES →
         slice_index_or result.burnt.order i 0 ≡ 0 }
     ensures some { 1 ≤ result.burnt.burnt }
@@ -65,7 +67,8 @@ pub fn burn_counted(graph: &Graph, q: usize, held: &[u8; 16]) -> Counted
     ensures left { (v : ℕ) → in_set result.burnt.unburnt v
         ≡ unburnt_by graph.now (take result.burnt.burnt result.burnt.order) v }
     ensures unburnt { IsGreatestFree graph.now q (dollars held.now) (in_set result.burnt.unburnt) }
-    ensures joined { (v : ℕ) → slice_index result.joined v ≡ edges_out graph.now (in_set result.burnt.unburnt) v }
+    ensures joined { (v : ℕ) →
+        slice_index result.joined v ≡ edges_out graph.now (in_set result.burnt.unburnt) v }
     ensures whole { (result.burnt.unburnt ≡ 0) ↔ (result.burnt.burnt ≡ graph.now.size) }
 {
     let size = graph.size();

@@ -5,7 +5,7 @@ ghost use Rattle.std.specs.List.{slice_index_or};
 ghost use Rattle.dg_theory.specs.Multigraph.{edges_between};
 ghost use Rattle.dg_graph.specs.declared.limits.TheConstants.{MAX_VERTICES};
 ghost use Rattle.dg_graph.specs.Sets.{in_set, IsWith};
-ghost use Rattle.dg_burn.specs.Fires.{IsUnlit, IsOut, IsNext};
+ghost use Rattle.dg_burn.specs.Fires.{spare, IsUnlit, IsOut, IsLeastToBurn};
 
 use dg_graph::{Graph, MAX_VERTICES, with_vertex};
 
@@ -38,7 +38,7 @@ impl Fire {
 
     /// The least vertex with more edges to burning ones than it holds dollars.
     pub fn next_vertex(&self) -> Option<usize>
-        ensures { MatchOption result (IsOut self.now) (IsNext self.now) }
+        ensures { MatchOption result (IsOut self.now) (IsLeastToBurn self.now) }
     {
         for v in 0..MAX_VERTICES {
             if self.spare[v] < 0 {
@@ -51,15 +51,17 @@ impl Fire {
     /// Lets a vertex burn: its edges are counted at all vertices, and it holds too much to burn again.
     pub fn burn_vertex(&mut self, graph: &Graph, v: usize)
         requires vertex { v < graph.now.size }
-        requires room { (w : ℕ) → slice_index self.old.joined w + edges_between graph.now v w ≤ 127 }
+        requires room { (w : ℕ) →
+            slice_index self.old.joined w + edges_between graph.now v w ≤ 127 }
         requires spare { (w : ℕ) → w < MAX_VERTICES →
-            (pos 0 -ℤ pos (slice_index self.old.joined w)) ≤ℤ slice_index_or self.old.spare w (pos 0) }
+            (pos 0 -ℤ pos (slice_index self.old.joined w)) ≤ℤ spare self.old w }
         ensures reached { IsWith (in_set self.old.reached) v (in_set self.new.reached) }
         ensures joined { (w : ℕ) →
-            slice_index self.new.joined w ≡ slice_index self.old.joined w + edges_between graph.now v w }
-        ensures here { slice_index_or self.new.spare v (pos 0) ≡ pos 127 -ℤ pos (slice_index self.new.joined v) }
-        ensures others { (w : ℕ) → w ≢ v → w < MAX_VERTICES → slice_index_or self.new.spare w (pos 0)
-            ≡ slice_index_or self.old.spare w (pos 0) -ℤ pos (edges_between graph.now v w) }
+            slice_index self.new.joined w
+            ≡ slice_index self.old.joined w + edges_between graph.now v w }
+        ensures here { spare self.new v ≡ pos 127 -ℤ pos (slice_index self.new.joined v) }
+        ensures others { (w : ℕ) → w ≢ v → w < MAX_VERTICES →
+            spare self.new w ≡ spare self.old w -ℤ pos (edges_between graph.now v w) }
     {
         let _size = graph.size();
         self.reached = with_vertex(self.reached, v);
@@ -71,7 +73,8 @@ impl Fire {
 
 /// What is held, as far as it tells who burns.
 fn enough_of(held: &[u8; 16]) -> [i8; 16]
-    ensures { (v : ℕ) → v < MAX_VERTICES → slice_index_or result v (pos 0) ≡ pos (min 127 (slice_index held.now v)) }
+    ensures { (v : ℕ) → v < MAX_VERTICES →
+        slice_index_or result v (pos 0) ≡ pos (min 127 (slice_index held.now v)) }
 {
     let mut spare = [0; 16];
     for v in 0..16 {
@@ -98,7 +101,8 @@ fn without_row(spare: &[i8; 16], row: &[u8; 16]) -> [i8; 16]
     requires room { (w : ℕ) → w < MAX_VERTICES →
         (pos (slice_index row.now w) -ℤ pos 128) ≤ℤ slice_index_or spare.now w (pos 0) }
     ensures { (w : ℕ) → w < MAX_VERTICES →
-        slice_index_or result w (pos 0) ≡ slice_index_or spare.now w (pos 0) -ℤ pos (slice_index row.now w) }
+        slice_index_or result w (pos 0)
+        ≡ slice_index_or spare.now w (pos 0) -ℤ pos (slice_index row.now w) }
 {
     let mut rest = *spare;
     for w in 0..16 {

@@ -13,7 +13,7 @@ use Rattle.dg_theory.specs.Firing.{Amounts, fired}
 use Rattle.dg_theory.proofs.FiringLaws.{fired-cong}
 use Rattle.dg_chips.specs.Vector.{Vector, at, HoldsNumbers, IsVector, IsOutOfRange}
 use Rattle.dg_chips.specs.Moves.{script_of, IsPlayable}
-use Rattle.dg_chips.specs.Applied.{IsMoved}
+use Rattle.dg_chips.specs.Applied.{IsAfterMove}
 use Rattle.dg_chips.specs.DivisorFaults.{IsFirstChipFault}
 use Rattle.dg_chips.specs.declared.moves.Move.{Move}
 use Rattle.dg_chips.specs.declared.divisor.ChipFault.{ChipFault}
@@ -27,7 +27,8 @@ pub record AreFired (g : Multigraph) (D s : Amounts) (m : Move) (n : ℕ) (xs : 
   pub amounts : (v : ℕ) → v < g.size → slice_index_or xs v (pos 0) ≡ fired g D s v
   pub script : (v : ℕ) → v < g.size → s v ≡ script_of m v
 
-pub numbers_taken : (g : Multigraph) (D s : Amounts) (m : Move) (n : ℕ) (xs : List ℤ) → AreFired g D s m n xs → length (take n xs) ≡ g.size
+pub numbers_taken : (g : Multigraph) (D s : Amounts) (m : Move) (n : ℕ) (xs : List ℤ) → AreFired g D s m n xs →
+    length (take n xs) ≡ g.size
 numbers_taken g D s m n xs made = omega (arith, length-take n xs, made.places, made.few, made.size)
 
 pub fired_numbers : (g : Multigraph) (D s : Amounts) (m : Move) (n : ℕ) (xs : List ℤ) → AreFired g D s m n xs →
@@ -37,7 +38,7 @@ fired_numbers g D s m n xs made v below =
     get_or-take n xs v (pos 0) short ∙ made.amounts v below ∙ fired-cong g D s (script_of m) v below made.script
 
 pub moved : (g : Multigraph) (D s : Amounts) (m : Move) (n : ℕ) (xs : List ℤ) (d : Vector) → AreFired g D s m n xs →
-    d.size ≡ g.size → HoldsNumbers (take n xs) d → IsVector 1000000 d → IsMoved g D m d
+    d.size ≡ g.size → HoldsNumbers (take n xs) d → IsVector 1000000 d → IsAfterMove g D m d
 moved g D s m n xs d made size holds right =
     let same : (v : ℕ) → v < g.size → at d v ≡ fired g D (script_of m) v = λ v below.
     holds.numbers v (omega (arith, numbers_taken g D s m n xs made)) ∙ fired_numbers g D s m n xs made v below in
@@ -48,8 +49,8 @@ moved g D s m n xs d made size holds right =
       amounts = same;
     }
 
-pub out_of_range : (g : Multigraph) (D s : Amounts) (m : Move) (n : ℕ) (xs : List ℤ) (fault : ChipFault) → AreFired g D s m n xs →
-    IsFirstChipFault g.size (take n xs) fault → IsOutOfRange g.size (fired g D (script_of m))
+pub out_of_range : (g : Multigraph) (D s : Amounts) (m : Move) (n : ℕ) (xs : List ℤ) (fault : ChipFault) →
+    AreFired g D s m n xs → IsFirstChipFault g.size (take n xs) fault → IsOutOfRange g.size (fired g D (script_of m))
 out_of_range g D s m n xs Length made other = absurd (other (numbers_taken g D s m n xs made))
 out_of_range g D s m n xs (Range v) made first =
     let below : v < g.size = omega (arith, numbers_taken g D s m n xs made, first.1.place) in

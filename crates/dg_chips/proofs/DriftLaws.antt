@@ -1,7 +1,8 @@
--- Sums and differences of scripts.
+-- Sums and differences of scripts, and what they lead to.
 --   held_difference   a machine's difference of two entries of drifts is their difference
 --   scripts_differ    two entries of scripts differ by no more than a drift may hold
-use Rattle.std.proofs.Common.{◌≡◌, ◌≤◌, arith, w64}
+--   same_answer       a test of one fact is a test of another that is true exactly where it is
+use Rattle.std.proofs.Common.{◌≡◌, ◌≤◌, Bool, true, false, MatchBool, arith, w64}
 use Rattle.std.specs.Int.RustNames.{unsigned_abs}
 use Rattle.std.proofs.lemmas.Int.{ints}
 use Rattle.std.proofs.Math.IntN.{ℤ, ◌-ℤ◌}
@@ -15,8 +16,13 @@ held_difference a b first second =
     let (low', high') = within_abs b 100000000000000 second in
     omega (arith, ints)
 
-pub scripts_differ : (a b : ℤ) → unsigned_abs a ≤ 1000000000 → unsigned_abs b ≤ 1000000000 → unsigned_abs (a -ℤ b) ≤ 100000000000000
+pub scripts_differ : (a b : ℤ) → unsigned_abs a ≤ 1000000000 → unsigned_abs b ≤ 1000000000 →
+    unsigned_abs (a -ℤ b) ≤ 100000000000000
 scripts_differ a b first second =
     let (low, high) = within_abs a 1000000000 first in
     let (low', high') = within_abs b 1000000000 second in
     abs_within (a -ℤ b) 100000000000000 (omega (arith, ints)) (omega (arith, ints))
+
+pub same_answer : (b : Bool) (P Q : Type 0) → (P → Q) → (Q → P) → MatchBool b P (¬ P) → MatchBool b Q (¬ Q)
+same_answer true P Q there back holds = there holds
+same_answer false P Q there back never = λ q. never (back q)

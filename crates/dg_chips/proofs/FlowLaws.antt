@@ -46,13 +46,16 @@ pub gain-products : (g : Multigraph) (s : Amounts) (v : ℕ) →
 gain-products g s v =
     sum_below-cong g.size _ _ (λ w _. mulz-sub (pos (edges_between g v w)) (s w) (s v))
     ∙ sum_below-sub g.size (λ w. pos (edges_between g v w) *ℤ s w) (λ w. pos (edges_between g v w) *ℤ s v)
-    ∙ ap (λ (z : ℤ). sum_below g.size (λ w. pos (edges_between g v w) *ℤ s w) -ℤ z) (sum_below-edges g.size (edges_between g v) (s v))
+    ∙ ap (λ (z : ℤ). sum_below g.size (λ w. pos (edges_between g v w) *ℤ s w) -ℤ z)
+    (sum_below-edges g.size (edges_between g v) (s v))
 
 pub gain-row : (g : Multigraph) (s : Amounts) (v n : ℕ) → IsMultigraph g → g.size ≤ n →
     gain g s v ≡ sum_below n (λ w. pos (edges_between g v w) *ℤ s w) -ℤ pos (valence g v) *ℤ s v
 gain-row g s v n graph few =
-    let same : sum_below n (λ w. pos (edges_between g v w) *ℤ s w) ≡ sum_below g.size (λ w. pos (edges_between g v w) *ℤ s w) =
-    sum_below-past g.size n (λ w. pos (edges_between g v w) *ℤ s w) few (λ w past. rw (graph.inside v w past) (zero-*ℤ (s w))) in
+    let same : sum_below n (λ w. pos (edges_between g v w) *ℤ s w)
+    ≡ sum_below g.size (λ w. pos (edges_between g v w) *ℤ s w) =
+    sum_below-past g.size n (λ w. pos (edges_between g v w) *ℤ s w) few
+    (λ w past. rw (graph.inside v w past) (zero-*ℤ (s w))) in
     gain-products g s v ∙ ap (λ (z : ℤ). z -ℤ pos (valence g v) *ℤ s v) (sym same)
 
 pub held : (z : ℤ) → unsigned_abs z ≤ 2 ^ 62 → FitsSigned w64 z × (to_z w64 (of_z w64 z) ≡ z)
@@ -72,9 +75,11 @@ carried_held edges each flow small value limit =
     (value ∙ ap (λ (z : ℤ). pos edges *ℤ z) same, omega (arith, ap unsigned_abs same))
 
 pub held_sum : (a b : ℤ) → unsigned_abs a ≤ 2 ^ 61 → unsigned_abs b ≤ 2 ^ 61 →
-    FitsSigned w64 (to_z w64 (of_z w64 a) +ℤ to_z w64 (of_z w64 b)) × (to_z w64 (of_z w64 (to_z w64 (of_z w64 a) +ℤ to_z w64 (of_z w64 b))) ≡ a +ℤ b)
+    FitsSigned w64 (to_z w64 (of_z w64 a) +ℤ to_z w64 (of_z w64 b)) ×
+    (to_z w64 (of_z w64 (to_z w64 (of_z w64 a) +ℤ to_z w64 (of_z w64 b))) ≡ a +ℤ b)
 held_sum a b first second =
     rw ((held a (omega arith)).1, (held b (omega arith)).1) (held (a +ℤ b) (abs-add a b (2 ^ 61) (2 ^ 61) first second))
 
-pub product_limit : (edges most : ℕ) (each : ℤ) (limit : ℕ) → edges ≤ most → unsigned_abs each ≤ limit → unsigned_abs (pos edges *ℤ each) ≤ most * limit
+pub product_limit : (edges most : ℕ) (each : ℤ) (limit : ℕ) → edges ≤ most → unsigned_abs each ≤ limit →
+    unsigned_abs (pos edges *ℤ each) ≤ most * limit
 product_limit edges most each limit few small = omega (arith, unsigned_abs-mul (pos edges) each, mul-le-mul few small)

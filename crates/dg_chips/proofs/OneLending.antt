@@ -3,8 +3,8 @@
 --   gain-neighbour    any other vertex gets x dollars along each edge to it
 --   gain-outside      and where there is no vertex, nothing comes
 --   fired-outside     so a 0 that stands there stays
---   fired-lender      whoever takes from the amounts what v lends, and then gives each vertex what comes along its edges
---                     to v, has the amounts after it
+--   fired-lender      whoever takes from the amounts what v lends, and then gives each vertex what comes along its
+--                     edges to v, has the amounts after it
 --   held_gain         a machine's sum of an amount and what comes to it is the amount after it
 --   read_back         and is read as that, where it was written
 use Rattle.std.proofs.Common.{◌≡◌, ◌≢◌, ℕ, ◌<◌, ◌≤◌, List, length, slice_set, get_or-set_same, arith, refl, ◌∙◌, ⊎_elim, w32}

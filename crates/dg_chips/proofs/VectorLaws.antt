@@ -5,12 +5,14 @@
 --   rest          a list that is z from v on is z from v + 1 on, whatever is written at v
 --   filled-set    the law of filled lists with 0 past the end
 --   rest-set      the law of the rest for 0
+--   IsFilled      a list of 16 numbers is f below v and 0 from there on
+--   filled_more   it is f below v + 1 once f v is written at v
 --   single        zeros with x written at v are x at v and 0 elsewhere
 --   one_more      numbers of which one is replaced by so much more are so much more at that place
 --   one_written   a vector with another number within the limit at one place is within the limit
 --   only_at_small a script of one small entry is within the limit
 --   within_all    past the size too, the numbers of a vector are within its limit
-use Rattle.std.proofs.Common.{◌≡◌, ◌≢◌, ℕ, ◌+◌, ◌<◌, ◌≤◌, List, length, slice_set, arith, inl, inr, get_or-set_same, get_or-set_other, below_more, sym, ◌∙◌, nat_eq, true, false, lit≤}
+use Rattle.std.proofs.Common.{◌≡◌, ◌≢◌, ℕ, ◌+◌, ◌<◌, ◌≤◌, List, length, length-set, slice_set, arith, inl, inr, get_or-set_same, get_or-set_other, below_more, sym, ◌∙◌, nat_eq, true, false, lit≤}
 use Rattle.std.specs.Int.RustNames.{unsigned_abs}
 use Rattle.std.specs.Prelude.{replicate, if◌then◌else◌}
 use Rattle.std.specs.List.{slice_index_or}
@@ -52,14 +54,29 @@ pub rest-set : (xs : List ℤ) (v : ℕ) (x : ℤ) → ((u : ℕ) → v ≤ u �
     (u : ℕ) → v + 1 ≤ u → slice_index_or (slice_set xs v x) u (pos 0) ≡ pos 0
 rest-set = rest (pos 0)
 
+pub record IsFilled (xs : List ℤ) (v : ℕ) (f : ℕ → ℤ) : Type 0 where
+  pub size : length xs ≡ 16
+  pub same : (w : ℕ) → w < v → slice_index_or xs w (pos 0) ≡ f w
+  pub zero : (w : ℕ) → v ≤ w → slice_index_or xs w (pos 0) ≡ pos 0
+
+pub filled_more : (xs : List ℤ) (v : ℕ) (x : ℤ) (f : ℕ → ℤ) → v < 16 → x ≡ f v → IsFilled xs v f →
+    IsFilled (slice_set xs v x) (v + 1) f
+filled_more xs v x f within here before = record {
+  size = length-set _ _ _ ∙ before.size;
+  same = filled-set xs v x f (omega (arith, before.size)) here before.same;
+  zero = rest-set xs v x before.zero;
+}
+
 pub one_more : (xs : List ℤ) (v : ℕ) (x more : ℤ) → v < length xs → x ≡ slice_index_or xs v (pos 0) +ℤ more → (w : ℕ) →
     slice_index_or (slice_set xs v x) w (pos 0) ≡ slice_index_or xs w (pos 0) +ℤ only_at v more w
 one_more xs v x more within sum w = elim (cases_eq w v) [
   | inl same ↦ rw (same, only_at-here v more) (get_or-set_same xs v x (pos 0) within ∙ sum)
-  | inr other ↦ rw (only_at-other v more w other) (get_or-set_other xs v w x (pos 0) other ∙ sym (+ℤ_idr (slice_index_or xs w (pos 0))))
+  | inr other ↦ rw (only_at-other v more w other)
+      (get_or-set_other xs v w x (pos 0) other ∙ sym (+ℤ_idr (slice_index_or xs w (pos 0))))
 ]
 
-pub one_written : (limit : ℕ) (a : Vector) (v : ℕ) (x : ℤ) → v < a.size → v < length a.numbers → unsigned_abs x ≤ limit → IsVector limit a →
+pub one_written : (limit : ℕ) (a : Vector) (v : ℕ) (x : ℤ) → v < a.size → v < length a.numbers →
+    unsigned_abs x ≤ limit → IsVector limit a →
     IsVector limit (record { size = a.size; numbers = slice_set a.numbers v x })
 one_written limit a v x below within small right = record {
   few = right.few;
@@ -67,14 +84,17 @@ one_written limit a v x below within small right = record {
     | inl same ↦ rw (same, get_or-set_same a.numbers v x (pos 0) within) small
     | inr other ↦ rw (get_or-set_other a.numbers v w x (pos 0) other) (right.within w here)
   ];
-  inside = λ w past. let other : w ≢ v = omega arith in get_or-set_other a.numbers v w x (pos 0) other ∙ right.inside w past;
+  inside = λ w past.
+      let other : w ≢ v = omega arith in get_or-set_other a.numbers v w x (pos 0) other ∙ right.inside w past;
 }
 
-pub single : (n v : ℕ) (x : ℤ) → v < n → (w : ℕ) → slice_index_or (slice_set (replicate n (pos 0)) v x) w (pos 0) ≡ only_at v x w
+pub single : (n v : ℕ) (x : ℤ) → v < n → (w : ℕ) →
+    slice_index_or (slice_set (replicate n (pos 0)) v x) w (pos 0) ≡ only_at v x w
 single n v x within w =
     let here : slice_index_or (replicate n (pos 0)) v (pos 0) ≡ pos 0 = at_zeros n v in
     let there : slice_index_or (replicate n (pos 0)) w (pos 0) ≡ pos 0 = at_zeros n w in
-    let more : slice_index_or (slice_set (replicate n (pos 0)) v x) w (pos 0) ≡ slice_index_or (replicate n (pos 0)) w (pos 0) +ℤ only_at v x w =
+    let more : slice_index_or (slice_set (replicate n (pos 0)) v x) w (pos 0)
+    ≡ slice_index_or (replicate n (pos 0)) w (pos 0) +ℤ only_at v x w =
     one_more (replicate n (pos 0)) v x x (omega (arith, length-replicate n (pos 0))) (omega (arith, ints)) w in
     omega (arith, ints)
 

@@ -1,7 +1,10 @@
 -- When amounts for n vertices are refused.
---   IsFirstChipFault n xs fault == the numbers xs are refused as a divisor for n vertices, for this cause first
---   IsWideFault n xs fault      == the numbers xs are refused as amounts of any size for n vertices, for this cause
---   IsFirstApart x y v          == v is the first vertex at which x less y is past the limit of a divisor
+--   IsFirstChipFault n xs fault == the numbers xs are refused as a divisor for n vertices, for this
+--                                  cause first
+--   IsWideFault n xs fault      == the numbers xs are refused as amounts of any size for n
+--                                  vertices, for this cause
+--   IsFirstApart x y v          == v is the first vertex at which x less y is past the limit of a
+--                                  divisor
 --   IsFirstMinusFault x y fault == x less y is refused as a divisor, for this cause first
 use Rattle.std.specs.Prelude.{◌≡◌, ◌≢◌, ℕ, ◌<◌, ◌≤◌, ◌-ℤ◌, ℤ, List, length}
 use Rattle.std.specs.Int.RustNames.{unsigned_abs}

@@ -1,5 +1,6 @@
 -- Sums of scripts.
---   IsPastDrift n s t  == the difference of s and t is past the limit of a drift at one of n vertices
+--   IsPastDrift n s t  == the difference of s and t is past the limit of a drift at one of n
+--                         vertices
 use Rattle.std.specs.Prelude.{ℕ, ◌<◌, ◌-ℤ◌}
 use Rattle.std.specs.Int.RustNames.{unsigned_abs}
 use Rattle.dg_theory.specs.Firing.{Amounts}

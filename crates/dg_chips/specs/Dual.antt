@@ -1,6 +1,7 @@
 -- The dual of a divisor (Baker and Norine 2007, theorem 1.12).
 --   DualOf g D E          == E is the dual of D: at each vertex the canonical divisor less D
---   IsFirstPastDual g D v == v is the first vertex at which the dual of D is past the limit of a divisor
+--   IsFirstPastDual g D v == v is the first vertex at which the dual of D is past the limit of a
+--                            divisor
 --   IsDualFault g D fault == the dual of D is refused as a divisor, for this cause
 use Rattle.std.specs.Prelude.{ℕ, ◌<◌}
 use Rattle.std.specs.Int.RustNames.{unsigned_abs}

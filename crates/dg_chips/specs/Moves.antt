@@ -1,13 +1,15 @@
 -- Moves (Corry and Perkinson, chapters 1 and 2).
---   script_of m         == the script of the move: 1 or -1 at the vertex, 1 on the set, or the script given
+--   script_of m         == the script of the move: 1 or -1 at the vertex, 1 on the set, or the
+--                          script given
 --   NamesNoVertex n m   == the move names a number that is none of the n vertices
 --   IsEmptySet m        == the move fires the empty set
 --   HasOtherSize n m    == the move is a script for another number of vertices
---   IsPlayable n m      == the move names vertices alone, fires no empty set, and is no script of another size
+--   IsPlayable n m      == the move names vertices alone, fires no empty set, and is no script of
+--                          another size
 -- To fire the empty set would change nothing; on a table it is refused, since it is no move.
 use Rattle.std.specs.Prelude.{◌≡◌, ◌≢◌, ℕ, ◌<◌, ◌≤◌, true, pos, negsuc}
 use Rattle.dg_theory.specs.Firing.{Amounts, only_at, indicator}
-use Rattle.dg_graph.specs.Sets.{in_set, IsWithin}
+use Rattle.dg_graph.specs.Sets.{in_set, IsSetBelow}
 use Rattle.dg_chips.specs.Vector.{at}
 use Rattle.dg_chips.specs.declared.moves.Move.{Move}
 use Rattle.dg_chips.specs.declared.moves.Move.TheVariants.{Lend, Borrow, Fire, Script}
@@ -39,5 +41,5 @@ HasOtherSize n (Script s) = s.size ≢ n
 abbrev pub IsPlayable : ℕ → Move → Type 0
 IsPlayable n (Lend v) = v < n
 IsPlayable n (Borrow v) = v < n
-IsPlayable n (Fire m) = (m ≢ 0) × IsWithin n (in_set m)
+IsPlayable n (Fire m) = (m ≢ 0) × IsSetBelow n (in_set m)
 IsPlayable n (Script s) = s.size ≡ n

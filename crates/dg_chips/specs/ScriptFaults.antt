@@ -1,5 +1,6 @@
 -- When numbers for n vertices are refused as a script.
---   IsFirstScriptFault n xs fault == the numbers xs are refused as a script for n vertices, for this cause first
+--   IsFirstScriptFault n xs fault == the numbers xs are refused as a script for n vertices, for
+--                                    this cause first
 use Rattle.std.specs.Prelude.{◌≡◌, ◌≢◌, ℕ, ℤ, List, length}
 use Rattle.dg_chips.specs.VectorFaults.{IsFirstPast}
 use Rattle.dg_chips.specs.declared.script.ScriptFault.{ScriptFault}

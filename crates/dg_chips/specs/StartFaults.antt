@@ -1,5 +1,6 @@
 -- When a graph, a divisor and a vertex are refused as a start.
---   IsStartFault g d q fault == the graph g, the divisor d and the vertex q are refused, for this cause first
+--   IsStartFault g d q fault == the graph g, the divisor d and the vertex q are refused, for this
+--                               cause first
 use Rattle.std.specs.Prelude.{◌≡◌, ◌≢◌, ℕ, ◌≤◌}
 use Rattle.dg_theory.specs.Multigraph.{Multigraph}
 use Rattle.dg_chips.specs.Vector.{Vector}

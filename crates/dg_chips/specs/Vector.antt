@@ -3,8 +3,10 @@
 --   at x v               == the number at v, and 0 past the list
 --   IsVector limit x     == at most 16 numbers, each within the limit, and 0 past the size
 --   IsDivisor x          == at most 16 numbers within the limit of an amount, and 0 past the size
---   IsScript x           == at most 16 numbers within the limit of an entry of a script, and 0 past the size
---   IsDrift x            == at most 16 numbers within the limit of a sum of scripts, and 0 past the size
+--   IsScript x           == at most 16 numbers within the limit of an entry of a script, and 0 past
+--                           the size
+--   IsDrift x            == at most 16 numbers within the limit of a sum of scripts, and 0 past the
+--                           size
 --   IsWide x             == at most 16 numbers of any size, and 0 past the size
 --   HoldsNumbers xs x    == the vector holds just the numbers of the list xs
 --   IsInRange n D        == all n amounts are within the limit of a divisor

@@ -73,10 +73,16 @@ impl Divisor {
             unsigned_abs (slice_index_or amounts.now v (pos 0)) ≤ MAX_AMOUNT }
         ensures { HoldsNumbers amounts.now result }
     {
-        Divisor {
-            size: amounts.len() as u8,
-            amounts: narrowed(amounts),
-        }
+        Divisor::of_row(amounts.len(), narrowed(amounts))
+    }
+
+    /// The divisor that is kept as this row.
+    fn of_row(size: usize, amounts: [i32; 16]) -> Divisor
+        requires { IsDivisor (record { size = size; numbers = amounts }) }
+        ensures { result ≡ record { size = size; numbers = amounts } }
+    {
+        let size = size as u8;
+        Divisor { size, amounts }
     }
 
     /// The canonical divisor of a graph: at each vertex two dollars less than it has edges.
@@ -89,10 +95,7 @@ impl Divisor {
         for v in 0..size {
             amounts[v] = i32::from(graph.valence(v)) - 2;
         }
-        Divisor {
-            size: size as u8,
-            amounts,
-        }
+        Divisor::of_row(size, amounts)
     }
 
     /// The divisor less another one: at each vertex the difference of the amounts.
@@ -117,10 +120,7 @@ impl Divisor {
             }
             amounts[v] = amount as i32;
         }
-        Ok(Divisor {
-            size: size as u8,
-            amounts,
-        })
+        Ok(Divisor::of_row(size, amounts))
     }
 
     /// The number of vertices.
@@ -195,7 +195,8 @@ impl Divisor {
             (IsOutOfRange graph.now.size (fired graph.now (at self.now) (only_at v times)))
             (λ d. (d.size ≡ graph.now.size)
             × IsInRange graph.now.size (fired graph.now (at self.now) (only_at v times))
-            × ((w : ℕ) → w < graph.now.size → at d w ≡ fired graph.now (at self.now) (only_at v times) w)) }
+            × ((w : ℕ) → w < graph.now.size →
+            at d w ≡ fired graph.now (at self.now) (only_at v times) w)) }
     {
         let size = graph.size();
         let row = graph.row(v);
@@ -207,9 +208,6 @@ impl Divisor {
                 return None;
             }
         }
-        Some(Divisor {
-            size: size as u8,
-            amounts,
-        })
+        Some(Divisor::of_row(size, amounts))
     }
 }

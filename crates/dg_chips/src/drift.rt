@@ -8,10 +8,11 @@ ghost use Rattle.dg_theory.specs.Firing.{FiresTo, only_at};
 ghost use Rattle.dg_chips.specs.Drifts.{IsPastDrift};
 
 use crate::divisor::Divisor;
-use crate::firing::gained;
+use crate::firing::leads;
 use crate::limits::MAX_DRIFT;
 use crate::moves::Move;
 use crate::script::Script;
+use crate::wide::Wide;
 use dg_graph::Graph;
 use std::marker::Model;
 
@@ -52,7 +53,8 @@ impl Drift {
     pub fn between(first: &Script, second: &Script) -> Drift
         requires { first.now.size ≡ second.now.size }
         ensures size { result.size ≡ first.now.size }
-        ensures entries { (v : ℕ) → v < first.now.size → at result v ≡ at first.now v -ℤ at second.now v }
+        ensures entries { (v : ℕ) → v < first.now.size →
+            at result v ≡ at first.now v -ℤ at second.now v }
     {
         let size = first.size();
         let mut entries = [0; 16];
@@ -72,7 +74,8 @@ impl Drift {
         requires limit { (v : ℕ) → v < graph.now.size →
             unsigned_abs (at self.now v +ℤ script_of play.now v) ≤ MAX_DRIFT }
         ensures size { result.size ≡ graph.now.size }
-        ensures entries { (v : ℕ) → v < graph.now.size → at result v ≡ at self.now v +ℤ script_of play.now v }
+        ensures entries { (v : ℕ) → v < graph.now.size →
+            at result v ≡ at self.now v +ℤ script_of play.now v }
     {
         let size = graph.size();
         match play {
@@ -89,7 +92,8 @@ impl Drift {
         requires times { unsigned_abs times ≤ 1 }
         requires limit { unsigned_abs (at self.now v +ℤ times) ≤ MAX_DRIFT }
         ensures size { result.size ≡ self.now.size }
-        ensures entries { (w : ℕ) → w < self.now.size → at result w ≡ at self.now w +ℤ only_at v times w }
+        ensures entries { (w : ℕ) → w < self.now.size →
+            at result w ≡ at self.now w +ℤ only_at v times w }
     {
         let entry = self.get(v) + times;
         let size = self.size;
@@ -101,9 +105,11 @@ impl Drift {
     /// The drift with the lendings of a script more.
     fn plus_script(&self, script: &Script) -> Drift
         requires size { script.now.size ≡ self.now.size }
-        requires limit { (v : ℕ) → v < self.now.size → unsigned_abs (at self.now v +ℤ at script.now v) ≤ MAX_DRIFT }
+        requires limit { (v : ℕ) → v < self.now.size →
+            unsigned_abs (at self.now v +ℤ at script.now v) ≤ MAX_DRIFT }
         ensures size { result.size ≡ self.now.size }
-        ensures entries { (v : ℕ) → v < self.now.size → at result v ≡ at self.now v +ℤ at script.now v }
+        ensures entries { (v : ℕ) → v < self.now.size →
+            at result v ≡ at self.now v +ℤ at script.now v }
     {
         let size = self.size();
         let mut entries = [0; 16];
@@ -118,7 +124,8 @@ impl Drift {
         requires { earlier.now.size ≡ self.now.size }
         ensures { MatchOption result
             (IsPastDrift self.now.size (at self.now) (at earlier.now))
-            (λ d. (d.size ≡ self.now.size) × ((v : ℕ) → v < self.now.size → at d v ≡ at self.now v -ℤ at earlier.now v)) }
+            (λ d. (d.size ≡ self.now.size) ×
+            ((v : ℕ) → v < self.now.size → at d v ≡ at self.now v -ℤ at earlier.now v)) }
     {
         let size = self.size();
         let mut entries = [0; 16];
@@ -141,12 +148,7 @@ impl Drift {
             (FiresTo graph.now (at self.now) (at from.now) (at to.now))
             (¬ FiresTo graph.now (at self.now) (at from.now) (at to.now)) }
     {
-        for v in 0..graph.size() {
-            if from.get(v) + gained(graph, &self.entries, v) != to.get(v) {
-                return false;
-            }
-        }
-        true
+        leads(graph, &self.entries, from, &Wide::of(to))
     }
 
     /// The number of vertices.

@@ -1,12 +1,12 @@
 //! What a move and a drift do to amounts.
 
-ghost use Rattle.std.specs.Prelude.{◌≡◌, ℕ, ◌<◌, ◌≤◌, ◌*◌, pos, ◌-ℤ◌, ◌*ℤ◌, MatchResult, length};
+ghost use Rattle.std.specs.Prelude.{◌≡◌, ℕ, ◌<◌, ◌≤◌, ◌*◌, pos, ◌-ℤ◌, ◌*ℤ◌, MatchBool, MatchResult, length};
 ghost use Rattle.std.specs.Bool.{OnTrue};
 ghost use Rattle.std.specs.List.{slice_index_or};
 ghost use Rattle.std.specs.Int.RustNames.{unsigned_abs};
-ghost use Rattle.dg_theory.specs.Firing.{gain, fired};
+ghost use Rattle.dg_theory.specs.Firing.{gain, fired, FiresTo};
 ghost use Rattle.dg_chips.specs.Vector.{at};
-ghost use Rattle.dg_chips.specs.Applied.{IsMoved};
+ghost use Rattle.dg_chips.specs.Applied.{IsAfterMove};
 ghost use Rattle.dg_chips.specs.Lent.{IsLent, IsLendingRefusal};
 ghost use Rattle.dg_chips.specs.Refused.{IsRefusal};
 ghost use Rattle.dg_chips.specs.Light.{IsLight};
@@ -16,6 +16,7 @@ use crate::light::gained_lightly;
 use crate::limits::MAX_DRIFT;
 use crate::moves::{Move, MoveFault, script_of};
 use crate::script::Script;
+use crate::wide::Wide;
 use dg_graph::Graph;
 
 /// The divisor after a move; the one that is handed in stays as it is.
@@ -26,7 +27,7 @@ use dg_graph::Graph;
 pub fn apply(graph: &Graph, divisor: &Divisor, play: &Move) -> Result<Divisor, MoveFault>
     requires { divisor.now.size ≡ graph.now.size }
     ensures { MatchResult result
-        (IsMoved graph.now (at divisor.now) play.now)
+        (IsAfterMove graph.now (at divisor.now) play.now)
         (IsRefusal graph.now (at divisor.now) play.now) }
 {
     match play {
@@ -57,7 +58,7 @@ fn lent(graph: &Graph, divisor: &Divisor, v: usize, times: i32) -> Result<Diviso
 fn apply_script(graph: &Graph, divisor: &Divisor, play: &Move) -> Result<Divisor, MoveFault>
     requires { divisor.now.size ≡ graph.now.size }
     ensures { MatchResult result
-        (IsMoved graph.now (at divisor.now) play.now)
+        (IsAfterMove graph.now (at divisor.now) play.now)
         (IsRefusal graph.now (at divisor.now) play.now) }
 {
     let script = script_of(graph.size(), play)?;
@@ -81,6 +82,25 @@ fn fired_amounts(graph: &Graph, divisor: &Divisor, script: &Script) -> [i64; 16]
         amounts[v] = divisor.get(v) + gained(graph, &lendings, v);
     }
     amounts
+}
+
+/// Whether so many lendings lead from a divisor to some amounts.
+pub(crate) fn leads(graph: &Graph, lendings: &[i64; 16], from: &Divisor, to: &Wide) -> bool
+    requires lendings { (w : ℕ) → unsigned_abs (slice_index_or lendings.now w (pos 0)) ≤ MAX_DRIFT }
+    requires from { from.now.size ≡ graph.now.size }
+    requires to { to.now.size ≡ graph.now.size }
+    ensures { MatchBool result
+        (FiresTo graph.now (λ w. slice_index_or lendings.now w (pos 0)) (at from.now) (at to.now))
+        (¬ FiresTo graph.now (λ w. slice_index_or lendings.now w (pos 0)) (at from.now)
+        (at to.now)) }
+{
+    for v in 0..graph.size() {
+        let amount = from.get(v) + gained(graph, lendings, v);
+        if i128::from(amount) != to.get(v) {
+            return false;
+        }
+    }
+    true
 }
 
 /// What a vertex gets where each vertex lends so often.

@@ -38,7 +38,8 @@ pub enum MoveFault {
 pub fn script_of(size: usize, play: &Move) -> Result<Script, MoveFault>
     requires { size ≤ MAX_VERTICES }
     ensures { MatchResult result
-        (λ s. (s.size ≡ size) × IsPlayable size play.now × ((v : ℕ) → v < size → at s v ≡ script_of play.now v))
+        (λ s. (s.size ≡ size) × IsPlayable size play.now ×
+        ((v : ℕ) → v < size → at s v ≡ script_of play.now v))
         (IsMisfit size play.now) }
 {
     match play {

@@ -10,7 +10,7 @@ ghost use Rattle.dg_chips.specs.ScriptFaults.{IsFirstScriptFault};
 
 use crate::divisor::Divisor;
 use crate::drift::Drift;
-use crate::firing::gained;
+use crate::firing::leads;
 use crate::limits::MAX_ENTRY;
 use crate::vector::{first_past, narrowed, widened};
 use crate::wide::Wide;
@@ -73,10 +73,16 @@ impl Script {
             unsigned_abs (slice_index_or entries.now v (pos 0)) ≤ MAX_ENTRY }
         ensures { HoldsNumbers entries.now result }
     {
-        Script {
-            size: entries.len() as u8,
-            entries: narrowed(entries),
-        }
+        Script::of_row(entries.len(), narrowed(entries))
+    }
+
+    /// The script that is kept as this row.
+    fn of_row(size: usize, entries: [i32; 16]) -> Script
+        requires { IsScript (record { size = size; numbers = entries }) }
+        ensures { result ≡ record { size = size; numbers = entries } }
+    {
+        let size = size as u8;
+        Script { size, entries }
     }
 
     /// The script that is so much at one vertex and 0 elsewhere.
@@ -89,10 +95,7 @@ impl Script {
     {
         let mut entries = [0; 16];
         entries[v] = entry;
-        Script {
-            size: size as u8,
-            entries,
-        }
+        Script::of_row(size, entries)
     }
 
     /// The script by which each vertex of a set lends once.
@@ -107,10 +110,7 @@ impl Script {
                 entries[v] = 1;
             }
         }
-        Script {
-            size: size as u8,
-            entries,
-        }
+        Script::of_row(size, entries)
     }
 
     /// The script by which each vertex lends as often as its amount exceeds that of q.
@@ -119,17 +119,15 @@ impl Script {
         requires limit { (v : ℕ) → v < lendings.now.size →
             unsigned_abs (at lendings.now v -ℤ at lendings.now q) ≤ MAX_ENTRY }
         ensures size { result.size ≡ lendings.now.size }
-        ensures entries { (v : ℕ) → v < lendings.now.size → at result v ≡ at lendings.now v -ℤ at lendings.now q }
+        ensures entries { (v : ℕ) → v < lendings.now.size →
+            at result v ≡ at lendings.now v -ℤ at lendings.now q }
     {
         let size = lendings.size();
         let mut entries = [0; 16];
         for v in 0..size {
             entries[v] = (lendings.get(v) - lendings.get(q)) as i32;
         }
-        Script {
-            size: size as u8,
-            entries,
-        }
+        Script::of_row(size, entries)
     }
 
     /// The script by which each vertex lends as often as by this one and another together.
@@ -138,17 +136,15 @@ impl Script {
         requires limit { (v : ℕ) → v < self.now.size →
             unsigned_abs (at self.now v +ℤ at other.now v) ≤ MAX_ENTRY }
         ensures size { result.size ≡ self.now.size }
-        ensures entries { (v : ℕ) → v < self.now.size → at result v ≡ at self.now v +ℤ at other.now v }
+        ensures entries { (v : ℕ) → v < self.now.size →
+            at result v ≡ at self.now v +ℤ at other.now v }
     {
         let size = self.size();
         let mut entries = [0; 16];
         for v in 0..size {
             entries[v] = (self.get(v) + other.get(v)) as i32;
         }
-        Script {
-            size: size as u8,
-            entries,
-        }
+        Script::of_row(size, entries)
     }
 
     /// What this script lends more than a drift, with the drift's number for q added at each vertex: so q lends as often
@@ -167,10 +163,7 @@ impl Script {
         for v in 0..size {
             entries[v] = (self.get(v) - drift.get(v) + drift.get(q)) as i32;
         }
-        Script {
-            size: size as u8,
-            entries,
-        }
+        Script::of_row(size, entries)
     }
 
     /// Whether firing by this script leads from a divisor to some amounts.
@@ -182,14 +175,7 @@ impl Script {
             (FiresTo graph.now (at self.now) (at from.now) (at to.now))
             (¬ FiresTo graph.now (at self.now) (at from.now) (at to.now)) }
     {
-        let entries = self.entries();
-        for v in 0..graph.size() {
-            let amount = from.get(v) + gained(graph, &entries, v);
-            if i128::from(amount) != to.get(v) {
-                return false;
-            }
-        }
-        true
+        leads(graph, &self.entries(), from, to)
     }
 
     /// The number of vertices.

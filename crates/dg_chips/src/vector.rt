@@ -11,7 +11,8 @@ use dg_graph::MAX_VERTICES;
 /// The place of the first number whose absolute value is above the limit.
 pub fn first_past(numbers: &[i64], limit: u64) -> Option<usize>
     ensures { MatchOption result
-        ((v : ℕ) → v < length numbers.now → unsigned_abs (slice_index_or numbers.now v (pos 0)) ≤ limit)
+        ((v : ℕ) → v < length numbers.now →
+        unsigned_abs (slice_index_or numbers.now v (pos 0)) ≤ limit)
         (IsFirstPast limit numbers.now) }
 {
     for (v, number) in numbers.iter().enumerate() {
@@ -25,7 +26,8 @@ pub fn first_past(numbers: &[i64], limit: u64) -> Option<usize>
 /// The numbers in 32 bits, at most 16 and each within 1,000,000,000, and 0 at each place after them.
 pub fn narrowed(numbers: &[i64]) -> [i32; 16]
     requires few { length numbers.now ≤ MAX_VERTICES }
-    requires limit { (v : ℕ) → v < length numbers.now → unsigned_abs (slice_index_or numbers.now v (pos 0)) ≤ MAX_ENTRY }
+    requires limit { (v : ℕ) → v < length numbers.now →
+        unsigned_abs (slice_index_or numbers.now v (pos 0)) ≤ MAX_ENTRY }
     ensures same { (v : ℕ) → v < length numbers.now →
         slice_index_or result v (pos 0) ≡ slice_index_or numbers.now v (pos 0) }
     ensures zero { (v : ℕ) → length numbers.now ≤ v → slice_index_or result v (pos 0) ≡ pos 0 }
@@ -51,7 +53,8 @@ pub fn widened(numbers: &[i32; 16]) -> [i64; 16]
 /// The numbers, at most 16, and zero at each place after them.
 pub fn padded<T: Copy>(numbers: &[T], zero: T) -> [T; 16]
     requires { length numbers.now ≤ MAX_VERTICES }
-    ensures same { (v : ℕ) → v < length numbers.now → slice_index_or result v zero ≡ slice_index_or numbers.now v zero }
+    ensures same { (v : ℕ) → v < length numbers.now →
+        slice_index_or result v zero ≡ slice_index_or numbers.now v zero }
     ensures zero { (v : ℕ) → length numbers.now ≤ v → slice_index_or result v zero ≡ zero }
 {
     let mut padded = [zero; 16];

@@ -83,7 +83,8 @@ impl Wide {
         requires times { unsigned_abs times ≤ 2 ^ 120 }
         ensures size { result.size ≡ graph.now.size }
         ensures amounts { (v : ℕ) → v < graph.now.size →
-            at result v ≡ fired graph.now (at self.now) (multiple times (indicator (in_set set))) v }
+            at result v ≡ fired graph.now (at self.now)
+            (multiple times (indicator (in_set set))) v }
     {
         let size = graph.size();
         let mut amounts = [0; 16];
@@ -114,7 +115,8 @@ impl Wide {
         requires size { divisor.now.size ≡ self.now.size }
         requires range { (v : ℕ) → v < self.now.size → unsigned_abs (at self.now v) ≤ 2 ^ 126 }
         ensures size { result.size ≡ self.now.size }
-        ensures amounts { (v : ℕ) → v < self.now.size → at result v ≡ at self.now v -ℤ at divisor.now v }
+        ensures amounts { (v : ℕ) → v < self.now.size →
+            at result v ≡ at self.now v -ℤ at divisor.now v }
     {
         let size = self.size();
         let mut amounts = [0; 16];

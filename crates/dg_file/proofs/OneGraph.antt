@@ -9,13 +9,13 @@ use Rattle.dg_theory.specs.Sums.{total_below}
 use Rattle.dg_theory.proofs.Chains.{JoinedIn-cong}
 use Rattle.dg_theory.proofs.TotalLaws.{total_below-cong}
 use Rattle.dg_graph.specs.Items.{Item, IsItem, IsItems, IsRightBefore, HasItem, IsGiven, edges_listed, valence_listed}
-use Rattle.dg_graph.specs.Faults.{NamesNoVertex, IsLoop, IsEmptyItem, IsFirstHigh, IsParted, IsFirstFault}
+use Rattle.dg_graph.specs.Faults.{JoinsNoVertex, IsLoop, IsEmptyItem, IsFirstHigh, IsParted, IsFirstGraphFault}
 use Rattle.dg_graph.specs.declared.fault.GraphFault.{GraphFault}
 use Rattle.dg_graph.specs.declared.fault.GraphFault.TheVariants.{Size, NoVertex, Loop, Multiplicity, Valence, NotConnected}
 use Rattle.dg_file.proofs.OneContent.{found-once, first-once}
 
 module _ (n : ℕ) (wrong : Item) where
-  lost : NamesNoVertex n wrong → ¬ IsItem n wrong
+  lost : JoinsNoVertex n wrong → ¬ IsItem n wrong
   lost none right =
       ⊎_elim (λ (h : n ≤ wrong.0). omega (arith, right.first)) (λ (h : n ≤ wrong.1). omega (arith, right.second)) none
 
@@ -25,12 +25,12 @@ module _ (n : ℕ) (wrong : Item) where
   empty : IsEmptyItem n wrong → ¬ IsItem n wrong
   empty none right = omega (arith, right.edges, none.none)
 
-  lost-looped : NamesNoVertex n wrong → IsLoop n wrong → ⊥
+  lost-looped : JoinsNoVertex n wrong → IsLoop n wrong → ⊥
   lost-looped none loop =
       ⊎_elim (λ (h : n ≤ wrong.0). omega (arith, loop.vertex))
       (λ (h : n ≤ wrong.1). omega (arith, loop.vertex, loop.same)) none
 
-  lost-empty : NamesNoVertex n wrong → IsEmptyItem n wrong → ⊥
+  lost-empty : JoinsNoVertex n wrong → IsEmptyItem n wrong → ⊥
   lost-empty none edge =
       ⊎_elim (λ (h : n ≤ wrong.0). omega (arith, edge.first)) (λ (h : n ≤ wrong.1). omega (arith, edge.second)) none
 
@@ -61,23 +61,23 @@ module _ (n : ℕ) (items : List Item) where
       let item : a.0 ≡ b.0 = found-once (slice_get items j) a.0 b.0 (rw same at a.1) b.1 in
       both b.0 (rw item at a.2) b.2
 
-  lost-loop : (i j : ℕ) → IsFirstFault n items (NoVertex i) → IsFirstFault n items (Loop j) → ⊥
-  lost-loop i j a b = wrong-twice i j (NamesNoVertex n) (IsLoop n) (lost n) (looped n) (lost-looped n) a.1 b.1 a.2 b.2
+  lost-loop : (i j : ℕ) → IsFirstGraphFault n items (NoVertex i) → IsFirstGraphFault n items (Loop j) → ⊥
+  lost-loop i j a b = wrong-twice i j (JoinsNoVertex n) (IsLoop n) (lost n) (looped n) (lost-looped n) a.1 b.1 a.2 b.2
 
-  lost-none : (i j : ℕ) → IsFirstFault n items (NoVertex i) → IsFirstFault n items (Multiplicity j) → ⊥
+  lost-none : (i j : ℕ) → IsFirstGraphFault n items (NoVertex i) → IsFirstGraphFault n items (Multiplicity j) → ⊥
   lost-none i j a b =
-      wrong-twice i j (NamesNoVertex n) (IsEmptyItem n) (lost n) (empty n) (lost-empty n) a.1 b.1 a.2 b.2
+      wrong-twice i j (JoinsNoVertex n) (IsEmptyItem n) (lost n) (empty n) (lost-empty n) a.1 b.1 a.2 b.2
 
-  loop-none : (i j : ℕ) → IsFirstFault n items (Loop i) → IsFirstFault n items (Multiplicity j) → ⊥
+  loop-none : (i j : ℕ) → IsFirstGraphFault n items (Loop i) → IsFirstGraphFault n items (Multiplicity j) → ⊥
   loop-none i j a b = wrong-twice i j (IsLoop n) (IsEmptyItem n) (looped n) (empty n) (looped-empty n) a.1 b.1 a.2 b.2
 
-  lost-right : (i : ℕ) → IsFirstFault n items (NoVertex i) → IsItems n items → ⊥
-  lost-right i a = wrong-none i (NamesNoVertex n) (lost n) a.2
+  lost-right : (i : ℕ) → IsFirstGraphFault n items (NoVertex i) → IsItems n items → ⊥
+  lost-right i a = wrong-none i (JoinsNoVertex n) (lost n) a.2
 
-  loop-right : (i : ℕ) → IsFirstFault n items (Loop i) → IsItems n items → ⊥
+  loop-right : (i : ℕ) → IsFirstGraphFault n items (Loop i) → IsItems n items → ⊥
   loop-right i a = wrong-none i (IsLoop n) (looped n) a.2
 
-  none-right : (i : ℕ) → IsFirstFault n items (Multiplicity i) → IsItems n items → ⊥
+  none-right : (i : ℕ) → IsFirstGraphFault n items (Multiplicity i) → IsItems n items → ⊥
   none-right i a = wrong-none i (IsEmptyItem n) (empty n) a.2
 
   high-one : (u v : ℕ) → IsFirstHigh n items u → IsFirstHigh n items v → u ≡ v
@@ -87,7 +87,7 @@ module _ (n : ℕ) (items : List Item) where
   high-parted : (v : ℕ) → IsFirstHigh n items v → IsParted n items → ⊥
   high-parted v a b = let h = b.valences v a.vertex in omega (arith, a.high)
 
-  pub graph-one : (f h : GraphFault) → IsFirstFault n items f → IsFirstFault n items h → f ≡ h
+  pub graph-one : (f h : GraphFault) → IsFirstGraphFault n items f → IsFirstGraphFault n items h → f ≡ h
   graph-one Size Size a b = refl
   graph-one Size (NoVertex j) a b = absurd (a b.0)
   graph-one Size (Loop j) a b = absurd (a b.0)
@@ -96,7 +96,7 @@ module _ (n : ℕ) (items : List Item) where
   graph-one Size NotConnected a b = absurd (a b.0)
   graph-one (NoVertex i) Size a b = absurd (b a.0)
   graph-one (NoVertex i) (NoVertex j) a b =
-      ap NoVertex (wrong-one i j (NamesNoVertex n) (NamesNoVertex n) (lost n) (lost n) a.1 b.1 a.2 b.2)
+      ap NoVertex (wrong-one i j (JoinsNoVertex n) (JoinsNoVertex n) (lost n) (lost n) a.1 b.1 a.2 b.2)
   graph-one (NoVertex i) (Loop j) a b = absurd (lost-loop i j a b)
   graph-one (NoVertex i) (Multiplicity j) a b = absurd (lost-none i j a b)
   graph-one (NoVertex i) (Valence v) a b = absurd (lost-right i a b.1)
@@ -143,7 +143,7 @@ module _ (n : ℕ) (items : List Item) where
         (omega (arith, given.size, fault.one_vertex)) (omega (arith, given.size, fault.other_vertex)) in
         fault.parted (JoinedIn-cong (λ a b. given.edges a b) (rw given.size at chain))
 
-    pub graph-none : (f : GraphFault) → IsFirstFault n items f → ⊥
+    pub graph-none : (f : GraphFault) → IsFirstGraphFault n items f → ⊥
     graph-none Size fault =
         fault (omega (arith, given.size, given.graph.some), omega (arith, given.size, given.graph.few))
     graph-none (NoVertex i) fault = lost-right i fault given.right

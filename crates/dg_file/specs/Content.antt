@@ -1,14 +1,18 @@
 -- What a table file says, over the value that the JSON reader gives for its bytes.
---   Edge                     == an edge as a file has it: two names, and how often the edge is there
---   Content                  == what a file says: the names of the vertices, the edges, the amounts, and the name q
+--   Edge                     == an edge as a file has it: two names, and how often the edge is
+--                               there
+--   Content                  == what a file says: the names of the vertices, the edges, the
+--                               amounts, and the name q
 --   Parts                    == the values of the four members
 --   Reads bytes value        == the bytes are a JSON text in UTF-8, and that is its value
 --   IsNotJson bytes          == the bytes are not UTF-8, or no JSON text with a value
 --   member_count members     == how many members there are
---   HasParts value parts     == the value is an object of just four members, with the names of the parts
+--   HasParts value parts     == the value is an object of just four members, with the names of the
+--                               parts
 --   put_first a rest         == the list of the first and the rest, where both are there
 --   each read items          == what the items are read as, where each can be read
---   listed read value        == what the items of an array are read as, where it is one and each can be read
+--   listed read value        == what the items of an array are read as, where it is one and each
+--                               can be read
 --   whole value              == a whole number that 64 bits hold
 --   as_count z               == z as a number of edges, where it is from 0 to 255
 --   count_in value           == a whole number from 0 to 255
@@ -18,7 +22,8 @@
 --   texts_in value           == an array of texts
 --   edges_in value           == an array of edges
 --   numbers_in value         == an array of whole numbers
---   IsContent value content  == the value is an object of the four members, and they say the content
+--   IsContent value content  == the value is an object of the four members, and they say the
+--                               content
 use Rattle.std.specs.Prelude.{◌≡◌, ℕ, suc, ℤ, pos, negsuc, List, [], ◌∷◌, Option, Some, None, cond, leb, codes, option_map, option_and_then, IsUtf8}
 use Rattle.serde_json.specs.Data.{Data, Items, no_items, item, Members, no_members, member}
 use Rattle.serde_json.specs.Find.{get_member, as_object, as_array, as_str, as_number, as_i64}

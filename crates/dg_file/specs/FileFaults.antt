@@ -1,22 +1,28 @@
 -- Why bytes are refused as a table file: each case says that all that is judged before it is good.
---   IsEdgeFault value i             == the value is an array, and its item i is the first that is no edge
---   IsShapeFaultOf parts shape      == the first of the four parts that has another shape than it should
---   IsShapeFault value shape        == the value has not the four parts, or the first of them that has another shape
+--   IsEdgeFault value i             == the value is an array, and its item i is the first that is
+--                                      no edge
+--   IsShapeFaultOf parts shape      == the first of the four parts that has another shape than it
+--                                      should
+--   IsShapeFault value shape        == the value has not the four parts, or the first of them that
+--                                      has another shape
 --   HasText names i P               == there is a name i, and it is P
---   IsNameFault names i             == the name i is the first that is no name or stood before, and it is no name
---   IsTwiceFault names i            == the name i is the first that is no name or stood before, and it stood before
---   IsGraphFault content fault      == the names are names, unless their number is at fault, and the fault is the first of
---                                      the graph
+--   IsNameFault names i             == the name i is the first that is no name or stood before, and
+--                                      it is no name
+--   IsTwiceFault names i            == the name i is the first that is no name or stood before, and
+--                                      it stood before
+--   IsGraphFault content fault      == the names are names, unless their number is at fault, and
+--                                      the fault is the first of the graph
 --   GivesGraph content              == the names are names, and the vertices and edges give a graph
 --   GivesDivisor content            == the amounts are those of a divisor, one for each name
 --   RefusesTable content fault      == the first fault of the content
 --   IsRefusedTable bytes fault      == the bytes say a content, and that is its first fault
---   RefusesFile bytes fault         == the first fault of the bytes; of want of memory nothing is said
+--   RefusesFile bytes fault         == the first fault of the bytes; of want of memory nothing is
+--                                      said
 use Rattle.std.specs.Prelude.{◌≡◌, ◌≢◌, ℕ, ◌<◌, List, length, take, slice_get, Some, None, IsSome, IsTrue, ⊤}
 use Rattle.serde_json.specs.Data.{Data, Items}
 use Rattle.serde_json.specs.Find.{as_array, as_str, get_item}
 use Rattle.dg_theory.specs.Multigraph.{Multigraph}
-use Rattle.dg_graph.specs.Faults.{IsSize, IsFirstFault}
+use Rattle.dg_graph.specs.Faults.{IsSize, IsFirstGraphFault}
 use Rattle.dg_graph.specs.Items.{IsGiven}
 use Rattle.dg_graph.specs.declared.fault.GraphFault.{GraphFault}
 use Rattle.dg_graph.specs.declared.fault.GraphFault.TheVariants.{Size}
@@ -69,7 +75,7 @@ pub record IsTwiceFault (names : List (List ℕ)) (i : ℕ) : Type 0 where
 
 pub record IsGraphFault (content : Content) (fault : GraphFault) : Type 0 where
   pub names : fault ≢ Size → AreNames content.vertices
-  pub first : IsFirstFault (length content.vertices) (items_of content) fault
+  pub first : IsFirstGraphFault (length content.vertices) (items_of content) fault
 
 pub record GivesGraph (content : Content) : Type 0 where
   pub names : AreNames content.vertices

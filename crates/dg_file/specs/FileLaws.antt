@@ -1,7 +1,8 @@
 -- A law of table files.
---   AreAlike o p        == the openings have the same graph, the same amounts and the same vertex q
---   FilesHaveOneMeaning == bytes that describe a table describe no other, and none where they are refused; and there is one
---                          fault for which they are refused, want of memory aside
+--   AreSameOpenings o p == the openings have the same graph, the same amounts and the same vertex q
+--   FilesHaveOneMeaning == bytes that describe a table describe no other, and none where they are
+--                          refused; and there is one fault for which they are refused, want of
+--                          memory aside
 use Rattle.std.specs.Prelude.{◌≡◌, ◌≢◌, ℕ, List}
 use Rattle.dg_theory.specs.Multigraph.{edges_between}
 use Rattle.dg_chips.specs.Opening.{Opening}
@@ -11,7 +12,7 @@ use Rattle.dg_file.specs.FileFaults.{RefusesFile}
 use Rattle.dg_file.specs.declared.fault.FileFault.{FileFault}
 use Rattle.dg_file.specs.declared.fault.FileFault.TheVariants.{OutOfMemory}
 
-pub record AreAlike (o p : Opening) : Type 0 where
+pub record AreSameOpenings (o p : Opening) : Type 0 where
   pub size : o.graph.size ≡ p.graph.size
   pub edges : (u v : ℕ) → edges_between o.graph u v ≡ edges_between p.graph u v
   pub amounts : (v : ℕ) → at o.divisor v ≡ at p.divisor v
@@ -19,7 +20,8 @@ pub record AreAlike (o p : Opening) : Type 0 where
 
 pub record FilesHaveOneMeaning : Type 0 where
   pub table : (bytes : List ℕ) (o p : Opening) (names others : List (List ℕ))
-      → IsTableFile bytes o names → IsTableFile bytes p others → AreAlike o p × (names ≡ others)
+      → IsTableFile bytes o names → IsTableFile bytes p others → AreSameOpenings o p ×
+      (names ≡ others)
   pub refused : (bytes : List ℕ) (fault : FileFault) (o : Opening) (names : List (List ℕ))
       → fault ≢ OutOfMemory → RefusesFile bytes fault → ¬ IsTableFile bytes o names
   pub fault : (bytes : List ℕ) (one other : FileFault)

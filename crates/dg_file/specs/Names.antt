@@ -5,10 +5,12 @@
 --   has names name      == whether the name is among the names
 --   is_name bytes       == whether the bytes are a name
 --   is_new names name   == whether the bytes are a name that is not among the names
---   added names name    == the names with the name put last where it is new, and otherwise as they are
+--   added names name    == the names with the name put last where it is new, and otherwise as they
+--                          are
 --   place_of names name == the first vertex of that name, where there is one
 --   name_at names v     == the name of the vertex v
---   label name          == what stands before the amount of a vertex of that name: a space, the name and `=`
+--   label name          == what stands before the amount of a vertex of that name: a space, the
+--                          name and `=`
 use Rattle.std.specs.Prelude.{ℕ, ◌≤◌, ◌||◌, ◌&&◌, not, Bool, IsTrue, List, [], ◌∷◌, ◌++◌, length, Option, cond, leb, ◌==◌, bytes_eq, codes, All, position}
 use Rattle.std.specs.List.{list_any, list_all, slice_index_or}
 use Rattle.dg_file.specs.declared.names.TheConstants.{MAX_NAME}

@@ -1,9 +1,11 @@
--- What serves the reading of a table file alone: why a stage of it ends. Of want of memory nothing is said.
+-- What serves the reading of a table file alone: why a stage of it ends. Of want of memory nothing
+-- is said.
 --   parts_of members         == the values of the four members
 --   shape_fault_for fault    == the same as a fault of the file
 --   name_fault_for fault     == the same as a fault of the file
 --   RefusesShape value fault == that is the fault of the value's shape
---   RefusesNames names fault == the number of names is at fault, or else that is the first name at fault
+--   RefusesNames names fault == the number of names is at fault, or else that is the first name at
+--                               fault
 use Rattle.std.specs.Prelude.{ℕ, List, length, ⊤}
 use Rattle.serde_json.specs.Data.{Data}
 use Rattle.serde_json.specs.View.{view}

@@ -1,10 +1,12 @@
 -- What a table file describes: the start of a game, and the names of its vertices.
 --   AreNames names                 == each is a name, and no two are the same
---   vertex_of names name           == the vertex of that name, or the number of vertices, which is none of them
+--   vertex_of names name           == the vertex of that name, or the number of vertices, which is
+--                                     none of them
 --   item_of names edge             == the edge as an item of a graph
 --   items_of content               == the edges of the content as items of a graph
 --   IsTable content o names        == the content describes the opening o with these names
---   IsTableFile bytes o names      == the bytes are a table file, and describe the opening o with these names
+--   IsTableFile bytes o names      == the bytes are a table file, and describe the opening o with
+--                                     these names
 use Rattle.std.specs.Prelude.{◌≡◌, ℕ, List, length, map, Some, All, bytes_eq, unwrap_or}
 use Rattle.std.specs.List.{IsDistinct}
 use Rattle.serde_json.specs.Data.{Data}

@@ -4,7 +4,7 @@
 use Rattle.dg_theory.specs.Firing.{fired}
 use Rattle.dg_chips.specs.Vector.{IsOutOfRange}
 use Rattle.dg_chips.specs.Moves.{script_of, NamesNoVertex, IsEmptySet, HasOtherSize, IsPlayable}
-use Rattle.dg_chips.specs.Applied.{IsMoved}
+use Rattle.dg_chips.specs.Applied.{IsAfterMove}
 use Rattle.dg_chips.specs.declared.moves.Move.{Move}
 use Rattle.dg_game.specs.Position.{Position}
 use Rattle.dg_game.specs.declared.entry.Refusal.{Refusal}
@@ -20,6 +20,6 @@ RefusesMove p m Range = IsPlayable p.graph.size m × IsOutOfRange p.graph.size (
 RefusesMove p m refusal = ⊥
 
 abbrev pub RepliesToMove : Position → Move → Reply → Type 0
-RepliesToMove p m (Moved d) = IsMoved p.graph p.amounts m d
+RepliesToMove p m (Moved d) = IsAfterMove p.graph p.amounts m d
 RepliesToMove p m (Refused refusal) = RefusesMove p m refusal
 RepliesToMove p m reply = ⊥

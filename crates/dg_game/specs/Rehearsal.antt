@@ -3,7 +3,7 @@
 --   IsPlaying o steps H r       == after the first steps the history is H, and r holds the game and the looks kept
 --   IsInPlay r                  == r is what some schedule has come to
 --   PlaysOn r step e t          == wherever r is come to and the step is next, it gives the entry e and comes to t
---   StopsAt r step fault        == wherever r is come to and the step is next, the fault is the first of the schedule
+--   StopsPlay r step fault      == wherever r is come to and the step is next, the fault is the first of the schedule
 use Rattle.std.specs.Prelude.{◌≡◌, ℕ, List, [], ◌∷◌, ◌++◌, length, slice_get, Option, Some, None}
 use Rattle.std.specs.List.{slice_index_or}
 use Rattle.dg_chips.specs.Opening.{Opening}
@@ -37,6 +37,6 @@ abbrev pub PlaysOn : Rehearsal → Step → Entry → Rehearsal → Type 0
 PlaysOn r step e t = (o : Opening) (H : List Entry) (steps : List Step) → IsPlaying o steps H r →
     slice_get steps (length H) ≡ Some step → IsPlaying o steps (H ++ e ∷ []) t
 
-abbrev pub StopsAt : Rehearsal → Step → RehearseFault → Type 0
-StopsAt r step fault = (o : Opening) (H : List Entry) (steps : List Step) → IsPlaying o steps H r →
+abbrev pub StopsPlay : Rehearsal → Step → RehearseFault → Type 0
+StopsPlay r step fault = (o : Opening) (H : List Entry) (steps : List Step) → IsPlaying o steps H r →
     slice_get steps (length H) ≡ Some step → IsFirstFault o.graph.size steps fault

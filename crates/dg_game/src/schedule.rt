@@ -5,7 +5,7 @@ ghost use Rattle.dg_game.specs.Legal.{IsSeat};
 ghost use Rattle.dg_game.specs.Look.{IsFoundFor, asked_for};
 ghost use Rattle.dg_game.specs.Schedule.{UsesUp, IsKept, IsAsked, IsRehearsal};
 ghost use Rattle.dg_game.specs.ScheduleFaults.{HasTrials, AreGoodBefore, IsFirstFault};
-ghost use Rattle.dg_game.specs.Rehearsal.{KeepsLook, IsPlaying, IsInPlay, PlaysOn, StopsAt};
+ghost use Rattle.dg_game.specs.Rehearsal.{KeepsLook, IsPlaying, IsInPlay, PlaysOn, StopsPlay};
 ghost use Rattle.dg_game.specs.declared.entry.Entry.{Entry};
 ghost use Rattle.dg_game.specs.declared.step.Command.{Command};
 ghost use Rattle.dg_game.specs.declared.step.Step.{Step};
@@ -93,7 +93,7 @@ impl Rehearsal {
         requires { IsInPlay self.old }
         ensures plays { MatchResult result
             (λ e. (self.old.game.entries < MAX_ENTRIES) × PlaysOn self.old step.now e self.new)
-            (StopsAt self.old step.now) }
+            (StopsPlay self.old step.now) }
         ensures same { OnErr result (self.new ≡ self.old) }
     {
         let i = self.game.entries() as usize;
@@ -150,7 +150,7 @@ impl Rehearsal {
         requires seat { IsSeat seat }
         ensures plays { MatchResult result
             (λ e. PlaysOn self.old (record { seat = seat; command = Rank k }) e self.new)
-            (StopsAt self.old (record { seat = seat; command = Rank k })) }
+            (StopsPlay self.old (record { seat = seat; command = Rank k })) }
         ensures same { OnErr result (self.new ≡ self.old) }
     {
         let i = self.game.entries() as usize;

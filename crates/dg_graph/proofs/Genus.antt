@@ -7,5 +7,6 @@ use Rattle.std.specs.Int.{w32}
 use mir.Val.{to_z, of_z}
 
 pub genus_fits : (edges size : ℕ) → edges ≤ 61200 → size ≤ 16 →
-    to_z w32 (of_z w32 (to_z w32 (of_z w32 (to_z w32 edges -ℤ to_z w32 size)) +ℤ pos 1)) ≡ (pos edges -ℤ pos size) +ℤ pos 1
+    to_z w32 (of_z w32 (to_z w32 (of_z w32 (to_z w32 edges -ℤ to_z w32 size)) +ℤ pos 1))
+    ≡ (pos edges -ℤ pos size) +ℤ pos 1
 genus_fits edges size few small = omega (arith, ints)

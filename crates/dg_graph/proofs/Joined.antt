@@ -26,7 +26,8 @@ pub set-entry_more : (table : List (List ℕ)) (u v : ℕ) → u < length table 
     set table u (one_more (slice_index_or table u []) v) ≡ entry_more table u v
 set-entry_more [] u v inside = absurd (omega arith)
 set-entry_more (row ∷ table) zero v inside = refl
-set-entry_more (row ∷ table) (suc u) v inside = ap (λ (l : List (List ℕ)). row ∷ l) (set-entry_more table u v (omega arith))
+set-entry_more (row ∷ table) (suc u) v inside =
+    ap (λ (l : List (List ℕ)). row ∷ l) (set-entry_more table u v (omega arith))
 
 pub edges_few : (g : Multigraph) (u v : ℕ) → v < g.size → valence g u < 63 → entry g.table u v < 255
 edges_few g u v inside room = omega (arith, total_below-term g.size (edges_between g u) v inside)
@@ -42,7 +43,8 @@ edges_few_back g u v joinable =
 valence_left : (a b u v w m : ℕ) → a ≡ b + at_either u v w → b ≤ m → (w ≡ u → b < m) → (w ≡ v → b < m) → a ≤ m
 valence_left a b u v w m grows few first second = grind (arith, nat_tests)
 
-pub joinable : (g h : Multigraph) (u v : ℕ) → g ≡ h → u < g.size → v < g.size → u ≢ v → valence h u < 63 → valence h v < 63 →
+pub joinable : (g h : Multigraph) (u v : ℕ) → g ≡ h → u < g.size → v < g.size → u ≢ v → valence h u < 63 →
+    valence h v < 63 →
     IsJoinable g u v
 joinable g h u v same first second different room other_room = record {
   first = first;
@@ -52,11 +54,13 @@ joinable g h u v same first second different room other_room = record {
   second_room = subst (λ (k : Multigraph). valence k v < 63) (sym same) other_room;
 }
 
-pub joined_is : (g : Multigraph) (u v : ℕ) (once both : List (List ℕ)) → once ≡ entry_more g.table u v → both ≡ entry_more once v u →
+pub joined_is : (g : Multigraph) (u v : ℕ) (once both : List (List ℕ)) → once ≡ entry_more g.table u v →
+    both ≡ entry_more once v u →
     record { size = g.size; table = both } ≡ with_edge g u v
 unfolding with_edge
 joined_is g u v once both first second =
-    ap (λ (table : List (List ℕ)). record { size = g.size; table = table }) (second ∙ ap (λ (table : List (List ℕ)). entry_more table v u) first)
+    ap (λ (table : List (List ℕ)). record { size = g.size; table = table })
+    (second ∙ ap (λ (table : List (List ℕ)). entry_more table v u) first)
 
 with_edge-graph : (g : Multigraph) (u v : ℕ) → IsGraph g → IsJoinable g u v → IsGraph (with_edge g u v)
 with_edge-graph g u v graph joinable =

@@ -7,7 +7,7 @@ use Rattle.std.proofs.lemmas.List.{get_or-set_other}
 use Rattle.std.proofs.lemmas.List.Sums.{sum_by-set}
 use Rattle.dg_theory.specs.Multigraph.{JoinedIn, here, along}
 use Rattle.dg_theory.proofs.Chains.{JoinedIn-append, JoinedIn-reverse, JoinedIn-stays}
-use Rattle.dg_graph.specs.Search.{is_in, IsNextTo, IsSettled, IsJoined, IsApart}
+use Rattle.dg_graph.specs.Search.{is_in, IsNextTo, IsInOrApart, IsJoined, IsApart}
 
 none_in : (k v : ℕ) → is_in (replicate k false) v ≡ false
 none_in zero v = refl
@@ -41,7 +41,7 @@ reached-fewer reached v within new =
 
 pub reached-tells : (n : ℕ) (e : ℕ → ℕ → ℕ) (reached : List Bool) (all : Bool) → 1 ≤ n →
     ((a b : ℕ) → e a b ≡ e b a) → is_in reached 0 ≡ true →
-    ((w : ℕ) → is_in reached w ≡ true → JoinedIn n e 0 w) → ((u : ℕ) → u < n → IsSettled n e reached u) →
+    ((w : ℕ) → is_in reached w ≡ true → JoinedIn n e 0 w) → ((u : ℕ) → u < n → IsInOrApart n e reached u) →
     MatchBool all ((v : ℕ) → v < n → is_in reached v ≡ true) ((v : ℕ) × (v < n) × (is_in reached v ≡ false)) →
     MatchBool all (IsJoined n e) (IsApart n e)
 reached-tells n e reached true some symmetric start joined settled all =

@@ -48,7 +48,8 @@ unfolding in_set
 complement_bits n set v few small =
     let mask : (2 ^ 16 - 1) / 2 ^ (16 - n) ≡ 2 ^ n - 1 =
     ones_shr 16 (16 - n) (omega arith) ∙ ap (λ k. 2 ^ k - 1) (let back : 16 - (16 - n) ≡ n = omega arith in back) in
-    let both : bit_at (bit_and (bit_not w16 set) (2 ^ n - 1)) v ≡ min (bit_at (bit_not w16 set) v) (bit_at (2 ^ n - 1) v) =
+    let both : bit_at (bit_and (bit_not w16 set) (2 ^ n - 1)) v
+    ≡ min (bit_at (bit_not w16 set) v) (bit_at (2 ^ n - 1) v) =
     bit_at_and (bit_not w16 set) (2 ^ n - 1) v in
     rw mask (elim (cases_lt v n) [
       | inl below ↦

@@ -1,12 +1,15 @@
 -- When a graph is refused, and with which fault: each case says that no earlier one applies.
---   IsSize n                   == the number of vertices is within the limits
---   NamesNoVertex n item       == the item names a number that is none of n vertices
---   IsLoop n item              == the item joins a vertex to itself
---   IsEmptyItem n item         == the item puts no edge between two different vertices
---   IsFirstHigh n items v      == v is the first vertex at which the items put more than 63 edges
---   IsParted n items           == no vertex has more than 63 edges, and some two have no chain of edges between them
---   IsFirstFault n items fault == the fault is the first that stands in the items for n vertices: that of an item stands
---                                 where all items before it are right, and that of the whole list where all items are
+--   IsSize n                        == the number of vertices is within the limits
+--   JoinsNoVertex n item            == the item names a number that is none of n vertices
+--   IsLoop n item                   == the item joins a vertex to itself
+--   IsEmptyItem n item              == the item puts no edge between two different vertices
+--   IsFirstHigh n items v           == v is the first vertex at which the items put more than 63
+--                                      edges
+--   IsParted n items                == no vertex has more than 63 edges, and some two have no chain
+--                                      of edges between them
+--   IsFirstGraphFault n items fault == the fault is the first that stands in the items for n
+--                                      vertices: that of an item stands where all items before it
+--                                      are right, and that of the whole list where all items are
 use Rattle.std.specs.Prelude.{◌≡◌, ◌≢◌, ℕ, ◌<◌, ◌≤◌, List, ◌⊎◌}
 use Rattle.dg_theory.specs.Multigraph.{JoinedIn}
 use Rattle.dg_graph.specs.Items.{Item, IsItems, IsRightBefore, HasItem, edges_listed, valence_listed}
@@ -17,8 +20,8 @@ use Rattle.dg_graph.specs.declared.fault.GraphFault.TheVariants.{Size, NoVertex,
 abbrev pub IsSize : ℕ → Type 0
 IsSize n = (1 ≤ n) × (n ≤ MAX_VERTICES)
 
-abbrev pub NamesNoVertex : ℕ → Item → Type 0
-NamesNoVertex n item = (n ≤ item.0) ⊎ (n ≤ item.1)
+abbrev pub JoinsNoVertex : ℕ → Item → Type 0
+JoinsNoVertex n item = (n ≤ item.0) ⊎ (n ≤ item.1)
 
 pub record IsLoop (n : ℕ) (item : Item) : Type 0 where
   pub vertex : item.0 < n
@@ -43,10 +46,12 @@ pub record IsParted (n : ℕ) (items : List Item) : Type 0 where
   pub other_vertex : other < n
   pub parted : ¬ JoinedIn n (edges_listed items) one other
 
-abbrev pub IsFirstFault : ℕ → List Item → GraphFault → Type 0
-IsFirstFault n items Size = ¬ IsSize n
-IsFirstFault n items (NoVertex i) = IsSize n × IsRightBefore n items i × HasItem items i (NamesNoVertex n)
-IsFirstFault n items (Loop i) = IsSize n × IsRightBefore n items i × HasItem items i (IsLoop n)
-IsFirstFault n items (Multiplicity i) = IsSize n × IsRightBefore n items i × HasItem items i (IsEmptyItem n)
-IsFirstFault n items (Valence v) = IsSize n × IsItems n items × IsFirstHigh n items v
-IsFirstFault n items NotConnected = IsSize n × IsItems n items × IsParted n items
+abbrev pub IsFirstGraphFault : ℕ → List Item → GraphFault → Type 0
+IsFirstGraphFault n items Size = ¬ IsSize n
+IsFirstGraphFault n items (NoVertex i) =
+    IsSize n × IsRightBefore n items i × HasItem items i (JoinsNoVertex n)
+IsFirstGraphFault n items (Loop i) = IsSize n × IsRightBefore n items i × HasItem items i (IsLoop n)
+IsFirstGraphFault n items (Multiplicity i) =
+    IsSize n × IsRightBefore n items i × HasItem items i (IsEmptyItem n)
+IsFirstGraphFault n items (Valence v) = IsSize n × IsItems n items × IsFirstHigh n items v
+IsFirstGraphFault n items NotConnected = IsSize n × IsItems n items × IsParted n items

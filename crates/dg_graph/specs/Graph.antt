@@ -1,5 +1,6 @@
 -- The limits of a graph on a table.
---   IsGraph g == a connected multigraph without loops, of 1 to 16 vertices, with at most 63 edges at each vertex
+--   IsGraph g == a connected multigraph without loops, of 1 to 16 vertices, with at most 63 edges
+--                at each vertex
 use Rattle.std.specs.Prelude.{ℕ, ◌<◌, ◌≤◌}
 use Rattle.dg_theory.specs.Multigraph.{Multigraph, IsMultigraph, valence}
 use Rattle.dg_graph.specs.declared.limits.TheConstants.{MAX_VERTICES, MAX_VALENCE}

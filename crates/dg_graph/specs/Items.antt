@@ -1,5 +1,5 @@
--- A graph given by a list of items. An item is two vertices and the number of edges that it puts between them;
--- a pair of vertices that stands in several items has the sum of their edges.
+-- A graph given by a list of items. An item is two vertices and the number of edges that it puts
+-- between them; a pair of vertices that stands in several items has the sum of their edges.
 --   Item                     == two vertices, and the number of edges between them
 --   edges_put item u v       == how many edges the item puts between u and v
 --   edges_listed items u v   == how many edges the list puts between u and v
@@ -18,7 +18,8 @@ abbrev pub Item : Type 0
 Item = ℕ × ℕ × ℕ
 
 abbrev pub edges_put : Item → ℕ → ℕ → ℕ
-edges_put item u v = if (item.0 == u && item.1 == v) || (item.0 == v && item.1 == u) then item.2 else 0
+edges_put item u v =
+    if (item.0 == u && item.1 == v) || (item.0 == v && item.1 == u) then item.2 else 0
 
 unfoldable pub edges_listed : List Item → ℕ → ℕ → ℕ
 edges_listed items u v = sum_by (λ item. edges_put item u v) items
@@ -33,7 +34,8 @@ pub record IsItem (n : ℕ) (item : Item) : Type 0 where
   pub edges : 1 ≤ item.2
 
 abbrev pub IsRightBefore : ℕ → List Item → ℕ → Type 0
-IsRightBefore n items i = (k : ℕ) (item : Item) → k < i → slice_get items k ≡ Some item → IsItem n item
+IsRightBefore n items i =
+    (k : ℕ) (item : Item) → k < i → slice_get items k ≡ Some item → IsItem n item
 
 abbrev pub IsItems : ℕ → List Item → Type 0
 IsItems n items = IsRightBefore n items (length items)

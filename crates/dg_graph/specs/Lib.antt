@@ -1,5 +1,5 @@
--- What a reader of the contracts has to believe: graphs within the limits, how they are given and refused, edges that
--- are added, and sets of vertices.
+-- What a reader of the contracts has to believe: graphs within the limits, how they are given and
+-- refused, edges that are added, and sets of vertices.
 pub mod Graph
 pub mod Items
 pub mod Faults

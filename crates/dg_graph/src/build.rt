@@ -3,7 +3,7 @@
 ghost use Rattle.std.specs.Prelude.{◌≡◌, ◌≢◌, ℕ, ◌+◌, ◌<◌, ◌≤◌, MatchOption, min, slice_index};
 ghost use Rattle.dg_theory.specs.Multigraph.{entry};
 ghost use Rattle.dg_graph.specs.Items.{IsItem, IsItems, edges_put, edges_listed};
-ghost use Rattle.dg_graph.specs.Faults.{IsFirstFault, IsSize};
+ghost use Rattle.dg_graph.specs.Faults.{IsFirstGraphFault, IsSize};
 
 use crate::fault::GraphFault;
 use crate::limits::MAX_VERTICES;
@@ -12,7 +12,7 @@ use crate::table::Table;
 /// The first fault of a single item.
 pub fn first_item_fault(size: usize, items: &[(u8, u8, u8)]) -> Option<GraphFault>
     requires { IsSize size }
-    ensures { MatchOption result (IsItems size items.now) (IsFirstFault size items.now) }
+    ensures { MatchOption result (IsItems size items.now) (IsFirstGraphFault size items.now) }
 {
     for (i, &(u, v, edges)) in items.iter().enumerate() {
         let (u, v) = (usize::from(u), usize::from(v));

@@ -2,7 +2,7 @@
 
 ghost use Rattle.std.specs.Prelude.{◌≡◌, ℕ, ◌<◌, ◌≤◌, true, false, MatchOption, MatchBool, slice_index};
 ghost use Rattle.dg_theory.specs.Multigraph.{entry};
-ghost use Rattle.dg_graph.specs.Search.{is_in, IsNextTo, IsSettled, IsJoined, IsApart};
+ghost use Rattle.dg_graph.specs.Search.{is_in, IsNextTo, IsInOrApart, IsJoined, IsApart};
 
 use crate::limits::MAX_VERTICES;
 use crate::table::Table;
@@ -27,9 +27,10 @@ pub fn is_connected(size: usize, table: &Table) -> bool
 fn next_reached(size: usize, table: &Table, reached: &[bool; MAX_VERTICES]) -> Option<usize>
     requires { size ≤ MAX_VERTICES }
     ensures { MatchOption result
-        ((u : ℕ) → u < size → IsSettled size (entry table.now) reached.now u)
-        (λ v. (v < size) × (is_in reached.now v ≡ false) × IsNextTo size (entry table.now v) reached.now
-        × ((u : ℕ) → u < v → IsSettled size (entry table.now) reached.now u)) }
+        ((u : ℕ) → u < size → IsInOrApart size (entry table.now) reached.now u)
+        (λ v. (v < size) × (is_in reached.now v ≡ false) ×
+        IsNextTo size (entry table.now v) reached.now
+        × ((u : ℕ) → u < v → IsInOrApart size (entry table.now) reached.now u)) }
 {
     for v in 0..size {
         if !reached[v] && is_next_to(size, &table[v], reached) {

@@ -6,7 +6,7 @@ ghost use Rattle.dg_theory.specs.Multigraph.{edges_between, valence, genus};
 ghost use Rattle.dg_theory.specs.Joins.{with_edge};
 ghost use Rattle.dg_graph.specs.Graph.{IsGraph};
 ghost use Rattle.dg_graph.specs.Items.{IsGiven};
-ghost use Rattle.dg_graph.specs.Faults.{IsFirstFault};
+ghost use Rattle.dg_graph.specs.Faults.{IsFirstGraphFault};
 ghost use Rattle.dg_graph.specs.Joins.{IsJoinable, RefusesJoin};
 
 use crate::build::{first_item_fault, table_of};
@@ -30,15 +30,16 @@ impl Model for Graph {
     ghost Value = { Multigraph };
 
     ghost use Rattle.std.proofs.Common.{sym};
-    ghost use Rattle.dg_graph.specs.Valences.{valences_of, IsKept};
+    ghost use Rattle.dg_graph.specs.Valences.{valences_of, IsGraphWith};
 
     ghost view = { λ a. record { size = a.size; table = a.table } };
 
-    ghost invariant = { λ a. IsKept (record { size = a.size; table = a.table }) a.valences };
+    ghost invariant = { λ a. IsGraphWith (record { size = a.size; table = a.table }) a.valences };
 
     ghost inverse = { λ g. record { size = g.size; table = g.table; valences = valences_of g } };
 
-    ghost inverse_ok = { λ a h i. record { size = a.size; table = a.table; valences = sym h.valences i } };
+    ghost inverse_ok = { λ a h i.
+        record { size = a.size; table = a.table; valences = sym h.valences i } };
 }
 
 impl Graph {
@@ -48,7 +49,7 @@ impl Graph {
     /// The first fault is reported: `Size`; then item by item `NoVertex`, `Loop`, `Multiplicity`; then `Valence` for
     /// the least vertex with more than 63 edges; then `NotConnected`.
     pub fn new(size: usize, items: &[(u8, u8, u8)]) -> Result<Graph, GraphFault>
-        ensures { MatchResult result (IsGiven size items.now) (IsFirstFault size items.now) }
+        ensures { MatchResult result (IsGiven size items.now) (IsFirstGraphFault size items.now) }
     {
         if size == 0 || size > MAX_VERTICES {
             return Err(GraphFault::Size);
@@ -103,7 +104,9 @@ impl Graph {
     /// Whether as many edges as may be meet at a vertex.
     fn is_full(&self, v: usize) -> bool
         requires { v < self.now.size }
-        ensures { MatchBool result (MAX_VALENCE ≤ valence self.now v) (valence self.now v < MAX_VALENCE) }
+        ensures { MatchBool result
+            (MAX_VALENCE ≤ valence self.now v)
+            (valence self.now v < MAX_VALENCE) }
     {
         u32::from(self.valence(v)) >= MAX_VALENCE
     }

@@ -25,7 +25,8 @@ impl<T> Known<T> {
     /// What a note knows. The condition is that it knows a value.
     pub fn of(note: &mut Note<T>) -> Known<T>
         requires { (x : T) × (note.old.known ≡ Some x) }
-        ensures { (note.new ≡ note.old) × (result.cell ≡ note.old.cell) × (note.old.known ≡ Some result.value) }
+        ensures { (note.new ≡ note.old) × (result.cell ≡ note.old.cell) ×
+            (note.old.known ≡ Some result.value) }
     {
         let _ = note;
         Known {

@@ -12,7 +12,7 @@
 --   set_members      the set of the vertices of names that are given rightly
 --   one_set          there is one such set
 --   other_name       the name of another vertex is another name
---   IsNext names done name v      == the vertex v of the names, all different, is named next
+--   IsNamedNext names done name v == the vertex v of the names, all different, is named next
 --   one_member       with one name more the set has one vertex more
 --   HasPlace names name           == the name has a place among the names, or none
 --   HasTaken names given left set == `left` are the last of the names given, and the set has those before them
@@ -161,7 +161,7 @@ abbrev pub HasPlace : List (List ℕ) → List ℕ → Type 0
 HasPlace names name = ((v : ℕ) × (place_of names name ≡ Some v)) ⊎ (place_of names name ≡ None)
 
 -- the vertex v of the names, all different, that is named next
-pub record IsNext (names done : List (List ℕ)) (name : List ℕ) (v : ℕ) : Type 0 where
+pub record IsNamedNext (names done : List (List ℕ)) (name : List ℕ) (v : ℕ) : Type 0 where
   pub distinct : IsDistinct bytes_eq names
   pub place : place_of names name ≡ Some v
   pub fresh : has done name ≡ false
@@ -299,7 +299,7 @@ module _ (names : List (List ℕ)) where
           ∙ apart_from_distinct bytes_eq names v w [] distinct less also
 
   pub is_next : (done : List (List ℕ)) (name : List ℕ) (set v : ℕ) → IsDistinct bytes_eq names
-      → place_of names name ≡ Some v → IsSetOf names done set → in_set set v ≡ false → IsNext names done name v
+      → place_of names name ≡ Some v → IsSetOf names done set → in_set set v ≡ false → IsNamedNext names done name v
   is_next done name set v distinct place known absent =
       let found = vertex_named name v place in
       record {
@@ -308,7 +308,7 @@ module _ (names : List (List ℕ)) where
         fresh = ap (has done) (sym found.1) ∙ sym (known.members v found.0) ∙ absent;
       }
 
-  pub one_member : (done : List (List ℕ)) (name : List ℕ) (set more v : ℕ) → IsNext names done name v
+  pub one_member : (done : List (List ℕ)) (name : List ℕ) (set more v : ℕ) → IsNamedNext names done name v
       → IsSetOf names done set → in_set more v ≡ true
       → ((w : ℕ) → w ≢ v → in_set more w ≡ in_set set w) → IsSetOf names (done ++ name ∷ []) more
   one_member done name set more v next known here others = record {

@@ -21,7 +21,7 @@ use Rattle.dg_lines.specs.Cuts.{before, after, words, items}
 use Rattle.dg_lines.specs.CommandWords.{words_wanted, IsWellFormed, name_part, number_part, others_than, given_names, given_numbers, IsNumberFor, AreGiven, command_words}
 use Rattle.dg_lines.specs.Commands.{number_given, IsScriptWord, IsSetOf, Means, IsCommandLine}
 use Rattle.dg_lines.specs.Keywords.{AreWords}
-use Rattle.dg_lines.specs.LineFaults.{IsRefused, IsLineFault}
+use Rattle.dg_lines.specs.LineFaults.{AreRefused, IsLineFault}
 use Rattle.dg_lines.specs.LineLaws.{AreAlike, LinesHaveOneMeaning}
 use Rattle.dg_lines.proofs.Cutting.{line_words}
 use Rattle.dg_lines.proofs.Decided.{IsDecided}
@@ -38,17 +38,17 @@ same_words one other ones others e = (cc, cc)
 module _ (names : List (List ℕ)) (line keyword : List ℕ) (rest : List (List ℕ))
     (cut : words line ≡ keyword ∷ rest) where
   pub line_read : (result : Result Command LineFault) → IsWellFormed keyword rest
-      → MatchResult result (λ command. Means names command keyword rest) (λ fault. IsRefused names fault keyword rest)
+      → MatchResult result (λ command. Means names command keyword rest) (λ fault. AreRefused names fault keyword rest)
       → IfOk result (λ command. IsCommandLine names command line) × IfErr result (λ fault. IsLineFault names fault line)
   line_read (Ok command) formed read =
       (record { keyword = keyword; rest = rest; cut = cut; formed = formed; means = read }, tt)
   line_read (Err fault) formed read = (tt, record { keyword = keyword; rest = rest; cut = cut; refused = read })
 
-  refused_at : (fault : LineFault) → IsLineFault names fault line → IsRefused names fault keyword rest
+  refused_at : (fault : LineFault) → IsLineFault names fault line → AreRefused names fault keyword rest
   refused_at fault known =
       let same = same_words known.keyword keyword known.rest rest (sym known.cut ∙ cut) in
-      subst (λ k. IsRefused names fault k rest) same.0
-      (subst (IsRefused names fault known.keyword) same.1 known.refused)
+      subst (λ k. AreRefused names fault k rest) same.0
+      (subst (AreRefused names fault known.keyword) same.1 known.refused)
 
   means_at : (c : Command) → IsCommandLine names c line → Means names c keyword rest
   means_at c known =
@@ -107,14 +107,14 @@ module _ (names : List (List ℕ)) (keyword : List ℕ) (rest : List (List ℕ))
   not_wanted e f = let no : false ≡ true = sym (ap is_some e) ∙ f in cc
 
   no_fault : (c : Command) (fault : LineFault) → IsWellFormed keyword rest → Means names c keyword rest
-      → IsRefused names fault keyword rest → ⊥
+      → AreRefused names fault keyword rest → ⊥
   no_fault c Seat formed means refused = refused
   no_fault c Word formed means refused = unwanted refused formed
   no_fault c Form formed means refused = refused.1 formed
   no_fault c Name formed means refused = refused.1 (means_good c means).0
   no_fault c Number formed means refused = refused.2 (means_good c means).1
 
-  one_refusal : (one other : LineFault) → IsRefused names one keyword rest → IsRefused names other keyword rest
+  one_refusal : (one other : LineFault) → AreRefused names one keyword rest → AreRefused names other keyword rest
       → one ≡ other
   one_refusal Seat other a b = absurd a
   one_refusal Word Seat a b = absurd b
@@ -251,7 +251,7 @@ module _ (names : List (List ℕ)) (keyword : List ℕ) (rest : List (List ℕ))
 -- what the words come to
 abbrev Spells : List (List ℕ) → List ℕ → List (List ℕ) → Type 0
 Spells names keyword rest = (result : Result Command LineFault)
-    × MatchResult result (λ command. Means names command keyword rest) (λ fault. IsRefused names fault keyword rest)
+    × MatchResult result (λ command. Means names command keyword rest) (λ fault. AreRefused names fault keyword rest)
 
 -- what a command word and so many words after it come to
 abbrev Reads : List ℕ → ℕ → Type 0
@@ -396,7 +396,7 @@ module _ (names : List (List ℕ)) (line : List ℕ) where
   some_meaning : (keyword : List ℕ) (rest : List (List ℕ)) → words line ≡ keyword ∷ rest → HasMeaning
   some_meaning keyword rest cut = go (words_wanted keyword) refl
     where
-      refused : (fault : LineFault) → IsRefused names fault keyword rest → HasMeaning
+      refused : (fault : LineFault) → AreRefused names fault keyword rest → HasMeaning
       refused fault bad = inr (fault, record { keyword = keyword; rest = rest; cut = cut; refused = bad })
 
       read : IsWellFormed keyword rest → Spells names keyword rest → HasMeaning

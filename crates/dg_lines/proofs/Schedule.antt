@@ -7,7 +7,7 @@ use Rattle.std.proofs.Common.{◌≡◌, ℕ, zero, suc, ◌+◌, length, List, 
 use Rattle.std.proofs.lemmas.List.{append-nil, length-append}
 use Rattle.dg_game.specs.declared.step.Step.{Step}
 use Rattle.dg_lines.specs.Steps.{IsStepLine}
-use Rattle.dg_lines.specs.Schedules.{AreStepsOf, AreSeated}
+use Rattle.dg_lines.specs.Schedules.{AreStepsOf, HaveSeats}
 
 pub record AreRead (names : List (List ℕ)) (all left : List (List ℕ)) (steps : List Step) : Type 0 where
   pub front : List (List ℕ)
@@ -54,7 +54,7 @@ some_line (s ∷ steps) [] k step count e = absurd (omega arith)
 some_line (s ∷ steps) (line ∷ lines) zero step count e = (line, refl)
 some_line (s ∷ steps) (line ∷ lines) (suc k) step count e = some_line steps lines k step (omega arith) e
 
-pub steps_seated : (names : List (List ℕ)) (steps : List Step) (lines : List (List ℕ)) → AreStepsOf names steps lines → AreSeated steps
+pub steps_seated : (names : List (List ℕ)) (steps : List Step) (lines : List (List ℕ)) → AreStepsOf names steps lines → HaveSeats steps
 steps_seated names steps lines known k step e =
     let line = some_line steps lines k step known.count e in
     let spelled = known.each k step line.0 e line.1 in

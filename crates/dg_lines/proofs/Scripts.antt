@@ -27,7 +27,7 @@ use Rattle.dg_file.specs.Names.{has, place_of, name_at}
 use Rattle.dg_lines.specs.Cuts.{after}
 use Rattle.dg_lines.specs.CommandWords.{IsNumberWithin, AreGiven, name_part, number_part}
 use Rattle.dg_lines.specs.Commands.{number_given, IsScriptOf}
-use Rattle.dg_lines.proofs.Given.{same_bytes, vertex_named, IsNext, is_next, other_name, HasTaken, none_taken, one_taken, all_there}
+use Rattle.dg_lines.proofs.Given.{same_bytes, vertex_named, IsNamedNext, is_next, other_name, HasTaken, none_taken, one_taken, all_there}
 
 abbrev pub IsEntryText : List ℕ → Type 0
 IsEntryText text = IsNumberWithin (neg_ℤ (pos MAX_ENTRY)) (pos MAX_ENTRY) text
@@ -215,7 +215,7 @@ module _ (text : List ℕ) where
 
 module _ (names done told : List (List ℕ)) (entries : List ℤ) (flag : Bool)
     (known : AreRead names done told entries flag) where
-  one_read : (name text : List ℕ) (o : Option ℤ) (v : ℕ) → IsNext names done name v → length names ≤ 16
+  one_read : (name text : List ℕ) (o : Option ℤ) (v : ℕ) → IsNamedNext names done name v → length names ≤ 16
       → IsSpelled text o → AreRead names (done ++ name ∷ []) (told ++ text ∷ [])
       (slice_set entries v (unwrap_or o (pos 0))) (flag && is_some o)
   one_read name text o v next few is = record {

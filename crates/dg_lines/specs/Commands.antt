@@ -12,7 +12,7 @@ use Rattle.std.specs.Prelude.{◌≡◌, ℕ, ◌<◌, ◌≤◌, ◌^◌, ℤ, 
 use Rattle.std.specs.Int.{w64}
 use Rattle.std.specs.Int.RustNames.{unsigned_abs}
 use Rattle.std.specs.Fmt.{signed_decimal}
-use Rattle.dg_graph.specs.Sets.{in_set, IsWithin}
+use Rattle.dg_graph.specs.Sets.{in_set, IsSetBelow}
 use Rattle.dg_chips.specs.Vector.{Vector, at}
 use Rattle.dg_chips.specs.declared.limits.TheConstants.{MAX_ENTRY}
 use Rattle.dg_chips.specs.declared.moves.Move.{Move}
@@ -27,7 +27,7 @@ use Rattle.dg_lines.specs.CommandWords.{IsWellFormed, name_part, number_part, Ar
 pub record IsSetOf (names : List (List ℕ)) (given : List (List ℕ)) (set : ℕ) : Type 0 where
   pub are_given : AreGiven names given
   pub members : (v : ℕ) → v < length names → in_set set v ≡ has given (name_at names v)
-  pub within : IsWithin (length names) (in_set set)
+  pub within : IsSetBelow (length names) (in_set set)
 
 unfoldable pub number_given : List (List ℕ) → List ℤ → List ℕ → ℤ
 number_given [] numbers name = pos 0

@@ -4,7 +4,7 @@ ghost use Rattle.std.specs.Option.{option_copied};
 ghost use Rattle.dg_lines.specs.Cuts.{items, words_after};
 ghost use Rattle.dg_lines.specs.CommandWords.{IsWellFormed, AreGiven};
 ghost use Rattle.dg_lines.specs.Commands.{IsSetOf, IsScriptWord, Means, IsCommandLine};
-ghost use Rattle.dg_lines.specs.LineFaults.{IsRefused, IsLineFault};
+ghost use Rattle.dg_lines.specs.LineFaults.{AreRefused, IsLineFault};
 ghost use Rattle.dg_lines.specs.Steps.{IsSeated, IsStepLine, IsStepFault};
 ghost use Rattle.dg_lines.specs.Keywords.{alone, single, double, AreWords};
 
@@ -153,7 +153,7 @@ fn with_one(keyword: Single, word: &[u8], names: &Names) -> Result<Command, Line
     requires { IsWellFormed (single keyword) (word.now ∷ []) }
     ensures { MatchResult result
         (λ command. Means names.now command (single keyword) (word.now ∷ []))
-        (λ fault. IsRefused names.now fault (single keyword) (word.now ∷ [])) }
+        (λ fault. AreRefused names.now fault (single keyword) (word.now ∷ [])) }
 {
     match keyword {
         Single::Lend => match names.place(word) {
@@ -189,7 +189,7 @@ fn with_two(
     requires { IsWellFormed (double keyword) (first.now ∷ second.now ∷ []) }
     ensures { MatchResult result
         (λ command. Means names.now command (double keyword) (first.now ∷ second.now ∷ []))
-        (λ fault. IsRefused names.now fault (double keyword) (first.now ∷ second.now ∷ [])) }
+        (λ fault. AreRefused names.now fault (double keyword) (first.now ∷ second.now ∷ [])) }
 {
     let Some(u) = names.place(first) else {
         return Err(LineFault::Name);
@@ -236,7 +236,7 @@ fn named_set(text: &[u8], names: &Names) -> Option<u16>
 fn named_script(text: &[u8], names: &Names) -> Result<Script, LineFault>
     requires { IsWellFormed (codes "script") (text.now ∷ []) }
     ensures { MatchResult result (IsScriptWord names.now text.now)
-        (λ fault. IsRefused names.now fault (codes "script") (text.now ∷ [])) }
+        (λ fault. AreRefused names.now fault (codes "script") (text.now ∷ [])) }
 {
     let size = names.len();
     let mut given = 0;

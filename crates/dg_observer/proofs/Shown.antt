@@ -20,7 +20,8 @@ use Rattle.dg_game.proofs.StateLaws.{shows_joined}
 use Rattle.dg_game.proofs.StepLaw.{no_entry, one_more_entry}
 use Rattle.dg_observer.specs.Watched.{shown_by, PositionsAreShown}
 
-shown_next : (o : Opening) (K : List Entry) (request : Request) (reply : Reply) (d : Vector) → Replies o K request reply →
+shown_next : (o : Opening) (K : List Entry) (request : Request) (reply : Reply) (d : Vector) →
+    Replies o K request reply →
     Shows (position_after o K) d → Shows (after_reply (position_after o K) request reply) (shown_by reply d)
 shown_next o K (Move m) (Moved e) d right shows = record { size = right.size; amounts = right.amounts }
 shown_next o K (Move m) (Refused refusal) d right shows = shows
@@ -40,7 +41,8 @@ shown_next o K request reply d right shows = absurd right
 shown_along : (o : Opening) (K L : List Entry) (d last : Vector) → IsLegal o (K ++ L) → Shows (position_after o K) d →
     FoldsTo (λ old e next. next ≡ shown_by e.reply old) d L last → Shows (position_after o (K ++ L)) last
 shown_along o K [] d last legal shows same =
-    subst (λ (H : List Entry). Shows (position_after o H) last) (sym (append-nil K)) (subst (Shows (position_after o K)) same shows)
+    subst (λ (H : List Entry). Shows (position_after o H) last) (sym (append-nil K))
+    (subst (Shows (position_after o K)) same shows)
 shown_along o K (e ∷ L) d last legal shows (next, step, rest) =
     let whole : (K ++ e ∷ []) ++ L ≡ K ++ e ∷ L = append_assoc K (e ∷ []) L in
     let before : take (length K) (K ++ e ∷ L) ≡ K = take-append_seam K (e ∷ L) in
@@ -53,5 +55,7 @@ shown_along o K (e ∷ L) d last legal shows (next, step, rest) =
 
 pub positions_shown : PositionsAreShown
 positions_shown o H d opening legal folds =
-    let start : Shows (position_after o []) o.divisor = rw (no_entry o) (record { size = opening.size; amounts = λ v below. refl }) in
-    shown_along o [] H o.divisor d legal start (subst (λ (first : Vector). FoldsTo (λ old e next. next ≡ shown_by e.reply old) first H d) folds.begun folds.steps)
+    let start : Shows (position_after o []) o.divisor =
+    rw (no_entry o) (record { size = opening.size; amounts = λ v below. refl }) in
+    shown_along o [] H o.divisor d legal start
+    (subst (λ (first : Vector). FoldsTo (λ old e next. next ≡ shown_by e.reply old) first H d) folds.begun folds.steps)

@@ -1,15 +1,19 @@
 -- What three observers keep.
 --   counted n                 == one more than n, as far as 64 bits go
---   gift_counted_by reply n   == that where the reply accepts a gift, a levy or a join, and n where it does not
---   gift_counted n e          == that for the reply of the entry e
---   shown_by reply d          == the amounts that the reply shows as it changed them, and d where it changed nothing
+--   gift_counted_by reply n   == that where the reply accepts a gift, a levy or a join, and n where
+--                                it does not
+--   gifts_after_entry n e     == that for the reply of the entry e
+--   shown_by reply d          == the amounts that the reply shows as it changed them, and d where
+--                                it changed nothing
 --   is_move request           == whether the request is a move
 --   is_refused reply          == whether the reply is a refusal
 --   is_refused_move e         == whether the entry is a move that was refused
---   counted_at counts seat    == the counts of the seats 1 to 64 with one more for the seat, as far as 32 bits go
---   refusal_counted counts e  == that for the entry's seat where the entry is a refused move, and the counts where it is not
---   PositionsAreShown         == amounts that are kept so from the start on, over all entries of a legal history, are the
---                                position after it
+--   counted_at counts seat    == the counts of the seats 1 to 64 with one more for the seat, as far
+--                                as 32 bits go
+--   refusal_counted counts e  == that for the entry's seat where the entry is a refused move, and
+--                                the counts where it is not
+--   PositionsAreShown         == amounts that are kept so from the start on, over all entries of a
+--                                legal history, are the position after it
 use Rattle.std.specs.Prelude.{◌≡◌, ℕ, ◌+◌, ◌-◌, ◌^◌, ◌&&◌, min, Bool, true, false, cond, leb, List, slice_set}
 use Rattle.std.specs.List.{slice_index_or}
 use Rattle.dg_chips.specs.Opening.{Opening, IsOpening}
@@ -32,8 +36,8 @@ gift_counted_by (Given gifts d) n = counted n
 gift_counted_by (Joined gifts d) n = counted n
 gift_counted_by reply n = n
 
-abbrev pub gift_counted : ℕ → Entry → ℕ
-gift_counted n e = gift_counted_by e.reply n
+abbrev pub gifts_after_entry : ℕ → Entry → ℕ
+gifts_after_entry n e = gift_counted_by e.reply n
 
 abbrev pub shown_by : Reply → Vector → Vector
 shown_by (Moved d) old = d
@@ -52,10 +56,12 @@ abbrev pub is_refused_move : Entry → Bool
 is_refused_move e = is_move e.request && is_refused e.reply
 
 abbrev pub counted_at : List ℕ → ℕ → List ℕ
-counted_at counts seat = slice_set counts (seat - 1) (min (slice_index_or counts (seat - 1) 0 + 1) (2 ^ 32 - 1))
+counted_at counts seat =
+    slice_set counts (seat - 1) (min (slice_index_or counts (seat - 1) 0 + 1) (2 ^ 32 - 1))
 
 abbrev pub refusal_counted : List ℕ → Entry → List ℕ
-refusal_counted counts e = cond (is_refused_move e && leb 1 e.seat && leb e.seat 64) (counted_at counts e.seat) counts
+refusal_counted counts e =
+    cond (is_refused_move e && leb 1 e.seat && leb e.seat 64) (counted_at counts e.seat) counts
 
 abbrev pub PositionsAreShown : Type 0
 PositionsAreShown = (o : Opening) (H : List Entry) (d : Vector) → IsOpening o → IsLegal o H

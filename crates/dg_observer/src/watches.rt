@@ -15,13 +15,13 @@ pub struct Gifts;
 
 impl Watch for Gifts {
     ghost use Rattle.std.specs.Prelude.{◌≡◌};
-    ghost use Rattle.dg_observer.specs.Watched.{gift_counted};
+    ghost use Rattle.dg_observer.specs.Watched.{gifts_after_entry};
 
     type State = u64;
 
     ghost begins = { λ n. n ≡ 0 };
 
-    ghost goes_on = { λ n e m. m ≡ gift_counted n e };
+    ghost goes_on = { λ n e m. m ≡ gifts_after_entry n e };
 
     fn step(&self, count: &u64, entry: &Entry) -> Result<u64, AllocError> {
         match entry.reply {

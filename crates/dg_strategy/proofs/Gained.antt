@@ -62,7 +62,8 @@ keeps_itself : (x : SeatView) → Keeps x x
 keeps_itself x = record { number = refl; mine = refl; told = refl; past = refl }
 
 module _ (A : Choosing) (o : Opening) (seats cap : ℕ) where
-  pub a_move : (x : SeatView) (r : ℕ × Entry) (y : SeatView) → IsTurnBy A o seats cap x r y → ¬ (r.1.request ≡ Claim) → IsMove r.1.request
+  pub a_move : (x : SeatView) (r : ℕ × Entry) (y : SeatView) → IsTurnBy A o seats cap x r y → ¬ (r.1.request ≡ Claim) →
+      IsMove r.1.request
   a_move x r y turn other = asks turn.answer turn.answered.request'
     where
       asks : (m : Option Move) → r.1.request ≡ request_for m → IsMove r.1.request
@@ -73,7 +74,8 @@ module _ (A : Choosing) (o : Opening) (seats cap : ℕ) where
   abbrev pub Moved : SeatView → SeatView → ℕ → Type 0
   Moved x y n = (es : List (ℕ × Entry)) × FoldsTo (IsTurnBy A o seats cap) x es y × AreMoves es × (length es ≡ n)
 
-  pub one_more : (x y z : SeatView) (r : ℕ × Entry) (n : ℕ) → Moved x y n → IsTurnBy A o seats cap y r z → ¬ (r.1.request ≡ Claim) → Moved x z (n + 1)
+  pub one_more : (x y z : SeatView) (r : ℕ × Entry) (n : ℕ) → Moved x y n → IsTurnBy A o seats cap y r z →
+      ¬ (r.1.request ≡ Claim) → Moved x z (n + 1)
   one_more x y z r n (es, steps, moves, count) turn other = (
     es ++ r ∷ [],
     FoldsTo-push (IsTurnBy A o seats cap) x es y r z steps turn,
@@ -81,18 +83,19 @@ module _ (A : Choosing) (o : Opening) (seats cap : ℕ) where
     omega (arith, count, length-append es (r ∷ [])),
   )
 
-  pub claimed_by : (x y z : SeatView) (r : ℕ × Entry) (i n : ℕ) → Moved x y i → i < n → IsTurnBy A o seats cap y r z → r.1.request ≡ Claim →
-      IsClaimed (IsTurnBy A o seats cap) n x z r
+  pub claimed_by : (x y z : SeatView) (r : ℕ × Entry) (i n : ℕ) → Moved x y i → i < n → IsTurnBy A o seats cap y r z →
+      r.1.request ≡ Claim → IsClaimed (IsTurnBy A o seats cap) n x z r
   claimed_by x y z r i n (es, steps, moves, count) few turn claim = record {
     entries = es;
-    gained = gained_by A o seats cap x (es ++ r ∷ []) z z (FoldsTo-push (IsTurnBy A o seats cap) x es y r z steps turn) (keeps_itself z);
+    gained = gained_by A o seats cap x (es ++ r ∷ []) z z (FoldsTo-push (IsTurnBy A o seats cap) x es y r z steps turn)
+        (keeps_itself z);
     moves = moves;
     few = omega (arith, count, few);
     claim = claim;
   }
 
-  pub stopped_by : (i n : ℕ) (x y z : SeatView) (fault : Fault) → Moved x y i → i < n → Keeps y z → RefusesCall o seats cap z fault →
-      IsStopped (IsTurnBy A o seats cap) o seats cap n x z fault
+  pub stopped_by : (i n : ℕ) (x y z : SeatView) (fault : Fault) → Moved x y i → i < n → Keeps y z →
+      RefusesCall o seats cap z fault → IsStopped (IsTurnBy A o seats cap) o seats cap n x z fault
   stopped_by i n x y z fault (es, steps, moves, count) few kept refused = record {
     entries = es;
     gained = gained_by A o seats cap x es y z steps kept;
@@ -109,7 +112,8 @@ module _ (A : Choosing) (o : Opening) (seats cap : ℕ) where
     count = count;
   }
 
-module _ (T S : SeatView → ℕ × Entry → SeatView → Type 0) (also : (x : SeatView) (r : ℕ × Entry) (y : SeatView) → T x r y → S x r y) where
+module _ (T S : SeatView → ℕ × Entry → SeatView → Type 0)
+    (also : (x : SeatView) (r : ℕ × Entry) (y : SeatView) → T x r y → S x r y) where
   steps_as : (x : SeatView) (es : List (ℕ × Entry)) (y : SeatView) → FoldsTo T x es y → FoldsTo S x es y
   steps_as x [] y same = same
   steps_as x (r ∷ es) y (z, step, rest) = (z, also x r z step, steps_as z es y rest)
@@ -124,7 +128,8 @@ module _ (T S : SeatView → ℕ × Entry → SeatView → Type 0) (also : (x : 
     told = gained.told;
   }
 
-  pub played_as : {N : Type 0} (n : ℕ) (x y : SeatView) (ended : Ended N) → IsPlayed T n x y ended → IsPlayed S n x y ended
+  pub played_as : {N : Type 0} (n : ℕ) (x y : SeatView) (ended : Ended N) → IsPlayed T n x y ended →
+      IsPlayed S n x y ended
   played_as n x y (Settled r) played = record {
     entries = played.entries;
     gained = gained_as x (played.entries ++ r ∷ []) y played.gained;
@@ -139,7 +144,8 @@ module _ (T S : SeatView → ℕ × Entry → SeatView → Type 0) (also : (x : 
     count = played.count;
   }
 
-  pub stopped_as : (o : Opening) (seats cap n : ℕ) (x y : SeatView) (fault : Fault) → IsStopped T o seats cap n x y fault → IsStopped S o seats cap n x y fault
+  pub stopped_as : (o : Opening) (seats cap n : ℕ) (x y : SeatView) (fault : Fault) →
+      IsStopped T o seats cap n x y fault → IsStopped S o seats cap n x y fault
   stopped_as o seats cap n x y fault stopped = record {
     entries = stopped.entries;
     gained = gained_as x stopped.entries y stopped.gained;

@@ -43,7 +43,8 @@ module _ {X : Type 0} (P : X → Bool) where
 
   kept : (b : Bool) (x : X) (F xs : List X) → length F ≤ length xs → (length F ≡ length xs → F ≡ xs) →
       length (cond b (x ∷ F) F) ≡ length (x ∷ xs) → cond b (x ∷ F) F ≡ x ∷ xs
-  kept true x F xs few same count = let rest : length F ≡ length xs = omega (arith, count) in ap (λ ys. x ∷ ys) (same rest)
+  kept true x F xs few same count = let rest : length F ≡ length xs =
+      omega (arith, count) in ap (λ ys. x ∷ ys) (same rest)
   kept false x F xs few same count = absurd (omega (arith, few, count))
 
   -- a filter that leaves as many leaves all
@@ -59,7 +60,8 @@ alone s K ps own count =
     ap length own ∙ count ∙ sym (length-enumerate_from 0 K) in
     sym (entries_enumerated 0 K) ∙ ap entries (sym (filter_whole P (enumerate_from 0 K) all) ∙ own)
 
-greedy_along : (o : Opening) (seats cap n : ℕ) (x : SeatView) (H : List Entry) (last : SeatView) → x.number ≡ 1 → length x.mine ≡ n →
+greedy_along : (o : Opening) (seats cap n : ℕ) (x : SeatView) (H : List Entry) (last : SeatView) → x.number ≡ 1 →
+    length x.mine ≡ n →
     FoldsTo (IsSettlerTurn greedily o seats cap) x (enumerate_from n H) last → AreGreedy o (entries x.mine) H
 greedy_along o seats cap n x [] last one count steps = tt
 greedy_along o seats cap n x (e ∷ H) last one count (z, step, rest) =
@@ -67,12 +69,14 @@ greedy_along o seats cap n x (e ∷ H) last one count (z, step, rest) =
     let answered = turn.answered in
     let place : n ≡ length turn.history = answered.place in
     let K = turn.history ++ e ∷ [] in
-    let more : length z.mine ≡ n + 1 = ap length answered.mine ∙ omega (arith, length-append x.mine ((n, e) ∷ []), count) in
+    let more : length z.mine ≡ n + 1 =
+    ap length answered.mine ∙ omega (arith, length-append x.mine ((n, e) ∷ []), count) in
     let whole : length z.mine ≡ length K = omega (arith, more, place, length-append turn.history (e ∷ [])) in
     let known : entries z.mine ≡ entries x.mine ++ e ∷ [] =
     ap entries answered.mine ∙ map-append (λ (p : ℕ × Entry). p.1) x.mine ((n, e) ∷ []) in
     let same : turn.history ≡ entries x.mine =
-    append_cancel_right turn.history (entries x.mine) (e ∷ []) (alone z.number K z.mine answered.holds.mine whole ∙ known) in
+    append_cancel_right turn.history (entries x.mine) (e ∷ [])
+    (alone z.number K z.mine answered.holds.mine whole ∙ known) in
     let call : IsGreedyCall (position_after o turn.history) e.request = record {
       amounts = turn.amounts;
       shown = turn.shown;
@@ -82,7 +86,8 @@ greedy_along o seats cap n x (e ∷ H) last one count (z, step, rest) =
     } in (
       answered.seat ∙ one,
       subst (λ (L : List Entry). IsGreedyCall (position_after o L) e.request) same call,
-      subst (λ (L : List Entry). AreGreedy o L H) known (greedy_along o seats cap (n + 1) z H last (answered.number ∙ one) more rest),
+      subst (λ (L : List Entry). AreGreedy o L H) known
+          (greedy_along o seats cap (n + 1) z H last (answered.number ∙ one) more rest),
     )
 
 moves_in : (es : List (ℕ × Entry)) → AreMoves es → AllMoves (entries es)
@@ -95,12 +100,14 @@ claim_won : (o : Opening) (seats cap : ℕ) (x : SeatView) (es : List (ℕ × En
 claim_won o seats cap x [] r last (z, step, same) claim = none step.strategy.turn.answer refl
   where
     none : (m : Option Move) → step.strategy.turn.answer ≡ m → r.1.reply ≡ Won
-    none (Some m) is = absurd (subst IsMove (sym step.strategy.turn.answered.request' ∙ claim) (subst (λ a. IsMove (request_for a)) (sym is) tt))
+    none (Some m) is = absurd
+        (subst IsMove (sym step.strategy.turn.answered.request' ∙ claim)
+        (subst (λ a. IsMove (request_for a)) (sym is) tt))
     none None is = step.won is
 claim_won o seats cap x (p ∷ es) r last (z, step, rest) claim = claim_won o seats cap z es r last rest claim
 
-module _ (o : Opening) (seats cap n : ℕ) (x y : SeatView) (H : List Entry) (one : x.number ≡ 1) (fresh : x.mine ≡ []) (legal : IsLegal o H)
-    (seated : AreSeated 1 H) (held : Holds H y) where
+module _ (o : Opening) (seats cap n : ℕ) (x y : SeatView) (H : List Entry) (one : x.number ≡ 1) (fresh : x.mine ≡ [])
+    (legal : IsLegal o H) (seated : AreSeated 1 H) (held : Holds H y) where
   numbered : (es : List (ℕ × Entry)) → Gains (IsSettlerTurn greedily o seats cap) x es y → es ≡ enumerate_from 0 H
   numbered es gained =
       let mine : y.mine ≡ es = gained.mine ∙ ap (λ ps. ps ++ es) fresh in
@@ -116,7 +123,8 @@ module _ (o : Opening) (seats cap n : ℕ) (x y : SeatView) (H : List Entry) (on
       (greedy_along o seats cap 0 x H gained.last one (ap length fresh)
       (subst (λ ps. FoldsTo (IsSettlerTurn greedily o seats cap) x ps gained.last) (numbered es gained) gained.steps))
 
-  pub greedy_game : {N : Type 0} (ended : Ended N) → IsPlayed (IsSettlerTurn greedily o seats cap) n x y ended → IsGreedyGame o n H (is_settled ended)
+  pub greedy_game : {N : Type 0} (ended : Ended N) → IsPlayed (IsSettlerTurn greedily o seats cap) n x y ended →
+      IsGreedyGame o n H (is_settled ended)
   greedy_game Turns played =
       let is = history_is played.entries played.gained in
       record {
@@ -124,7 +132,8 @@ module _ (o : Opening) (seats cap n : ℕ) (x y : SeatView) (H : List Entry) (on
         greedy = greedy_whole played.entries played.gained;
         ends = (
           subst AllMoves (sym is) (moves_in played.entries played.moves),
-          ap length (sym (entries_enumerated 0 H)) ∙ ap length (ap entries (sym (numbered played.entries played.gained)))
+          ap length (sym (entries_enumerated 0 H))
+              ∙ ap length (ap entries (sym (numbered played.entries played.gained)))
               ∙ length-map played.entries (λ (p : ℕ × Entry). p.1) ∙ played.count,
         );
       }
@@ -149,8 +158,9 @@ none_else xs [] x is one = refl
 none_else xs (z ∷ rest) x is one = absurd (omega (arith, one, ap length is, length-append (z ∷ rest) (x ∷ [])))
 
 -- the only seat of a table that was opened, played on by it, and closed
-pub game_of : {N : Type 0} (o : Opening) (cap n k m : ℕ) (xs rest ys : List SeatView) (x y : SeatView) (H : List Entry) (ended : Ended N) →
-    k ≡ 1 → m ≡ 1 → AreFresh k xs → xs ≡ rest ++ x ∷ [] → IsPlayed (IsSettlerTurn greedily o m cap) n x y ended → ys ≡ rest ++ y ∷ [] →
+pub game_of : {N : Type 0} (o : Opening) (cap n k m : ℕ) (xs rest ys : List SeatView) (x y : SeatView) (H : List Entry)
+    (ended : Ended N) → k ≡ 1 → m ≡ 1 → AreFresh k xs → xs ≡ rest ++ x ∷ [] →
+    IsPlayed (IsSettlerTurn greedily o m cap) n x y ended → ys ≡ rest ++ y ∷ [] →
     IsClosed o m cap ys H → IsGreedyGame o n H (is_settled ended)
 game_of o cap n k m xs rest ys x y H ended one alone_there fresh before played after closed =
     let none : rest ≡ [] = none_else xs rest x before (fresh.count ∙ one) in

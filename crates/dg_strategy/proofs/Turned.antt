@@ -33,7 +33,8 @@ move_answered : (p : Position) (m : Move) (reply : Reply) → IsPlayable p.graph
 move_answered p m (Moved d) playable replies = (tt, refl)
 move_answered p (Lend v) (Refused NoVertex) playable replies = absurd (omega (arith, playable, replies))
 move_answered p (Borrow v) (Refused NoVertex) playable replies = absurd (omega (arith, playable, replies))
-move_answered p (Fire m) (Refused NoVertex) playable (v, past, inside) = absurd (omega (arith, past, playable.1 v inside))
+move_answered p (Fire m) (Refused NoVertex) playable (v, past, inside) =
+    absurd (omega (arith, past, playable.1 v inside))
 move_answered p (Script s) (Refused NoVertex) playable replies = absurd replies
 move_answered p (Lend v) (Refused Empty) playable replies = absurd replies
 move_answered p (Borrow v) (Refused Empty) playable replies = absurd replies
@@ -67,12 +68,13 @@ settler_moves A settles g d m graph size may = borrows m (settles.moves g d m gr
     borrows m debt = absurd debt
 
 -- the graph that a turn finds is within the limits
-graph_found : (A : Choosing) (o : Opening) (seats cap : ℕ) (x : SeatView) (r : ℕ × Entry) (y : SeatView) → IsGraph o.graph →
-    (turn : IsTurnBy A o seats cap x r y) → IsGraph (position_after o turn.history).graph
+graph_found : (A : Choosing) (o : Opening) (seats cap : ℕ) (x : SeatView) (r : ℕ × Entry) (y : SeatView) →
+    IsGraph o.graph → (turn : IsTurnBy A o seats cap x r y) → IsGraph (position_after o turn.history).graph
 graph_found A o seats cap x r y graph turn =
     graphs_hold o turn.history graph (legal_part o turn.history (r.1 ∷ []) turn.answered.history.legal)
 
-module _ (A : Choosing) (o : Opening) (seats cap : ℕ) (opening : IsGraph o.graph) (x : SeatView) (r : ℕ × Entry) (y : SeatView) where
+module _ (A : Choosing) (o : Opening) (seats cap : ℕ) (opening : IsGraph o.graph) (x : SeatView) (r : ℕ × Entry)
+    (y : SeatView) where
   -- the reply to what was answered, and what is known of it where the answer is a move that can be made
   answered : (gives : GivesMoves A) (turn : IsTurnBy A o seats cap x r y) (m : Option Move) → turn.answer ≡ m →
       (IsMove r.1.request → IsMadeOrPastRange r.1.reply) × (gift_counted r.1.reply ≡ 0)
@@ -108,8 +110,10 @@ module _ (A : Choosing) (o : Opening) (seats cap : ℕ) (opening : IsGraph o.gra
       let p = position_after o turn.history in
       let won : turn.answer ≡ None → r.1.reply ≡ Won = λ is.
       let chosen = rw is at turn.chosen in
-      let effective : IsEffective p.graph.size (at turn.amounts) = settles.claims p.graph turn.amounts graph turn.shown.size chosen in
-      let replies : RepliesToClaim p r.1.reply = subst (λ q. Replies o turn.history q r.1.reply) (ap request_for is) turn.answered.reply in
+      let effective : IsEffective p.graph.size (at turn.amounts) =
+      settles.claims p.graph turn.amounts graph turn.shown.size chosen in
+      let replies : RepliesToClaim p r.1.reply =
+      subst (λ q. Replies o turn.history q r.1.reply) (ap request_for is) turn.answered.reply in
       claim_won p r.1.reply (λ v below. rw (← turn.shown.amounts v below) (effective v below)) replies in
       record {
         strategy = kept;

@@ -1,11 +1,12 @@
--- The greedy strategy (Corry and Perkinson, chapter 3: a vertex in debt borrows, until nobody is in debt), where it is always
--- the least vertex in debt that borrows.
---   IsGreedyCall p request     == the request is for the borrowing by the least vertex in debt at the position p; it is a claim
---                                 where nobody is in debt there
---   AreGreedy o K H            == each of the entries H is of seat 1, and is so asked for, after the history K and those before it
+-- The greedy strategy (Corry and Perkinson, chapter 3: a vertex in debt borrows, until nobody is in
+-- debt), where it is always the least vertex in debt that borrows.
+--   IsGreedyCall p request     == the request is for the borrowing by the least vertex in debt at
+--                                 the position p; it is a claim where nobody is in debt there
+--   AreGreedy o K H            == each of the entries H is of seat 1, and is so asked for, after
+--                                 the history K and those before it
 --   AllMoves H                 == each of the entries H is a move
---   EndsSo n H settled         == there are n entries, all moves; or, where it is settled, fewer moves than n, and then a claim that
---                                 is won
+--   EndsSo n H settled         == there are n entries, all moves; or, where it is settled, fewer
+--                                 moves than n, and then a claim that is won
 --   IsGreedyGame o n H settled == the history H from the opening o is legal and greedy, and ends so
 use Rattle.std.specs.Prelude.{◌≡◌, ℕ, ◌<◌, Bool, true, false, List, [], ◌∷◌, ◌++◌, length, Option, ⊤}
 use Rattle.dg_chips.specs.Opening.{Opening}
@@ -31,7 +32,8 @@ pub record IsGreedyCall (p : Position) (request : Request) : Type 0 where
 
 abbrev pub AreGreedy : Opening → List Entry → List Entry → Type 0
 AreGreedy o K [] = ⊤
-AreGreedy o K (e ∷ H) = (e.seat ≡ 1) × IsGreedyCall (position_after o K) e.request × AreGreedy o (K ++ e ∷ []) H
+AreGreedy o K (e ∷ H) =
+    (e.seat ≡ 1) × IsGreedyCall (position_after o K) e.request × AreGreedy o (K ++ e ∷ []) H
 
 abbrev pub AllMoves : List Entry → Type 0
 AllMoves [] = ⊤
@@ -39,7 +41,8 @@ AllMoves (e ∷ H) = IsMove e.request × AllMoves H
 
 abbrev pub EndsSo : ℕ → List Entry → Bool → Type 0
 EndsSo n H false = AllMoves H × (length H ≡ n)
-EndsSo n H true = (moves : List Entry) × (claim : Entry) × (H ≡ moves ++ claim ∷ []) × AllMoves moves × (length moves < n)
+EndsSo n H true = (moves : List Entry) × (claim : Entry) × (H ≡ moves ++ claim ∷ []) ×
+    AllMoves moves × (length moves < n)
     × (claim.request ≡ Claim) × (claim.reply ≡ Won)
 
 pub record IsGreedyGame (o : Opening) (n : ℕ) (H : List Entry) (settled : Bool) : Type 0 where

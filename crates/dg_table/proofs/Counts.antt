@@ -12,7 +12,7 @@ use Rattle.std.proofs.lemmas.Bool.{ne_eqb, cases_eq}
 use Rattle.dg_game.specs.declared.entry.Entry.{Entry}
 use Rattle.dg_game.specs.declared.entry.TheConstants.{MAX_SEATS}
 use Rattle.dg_game.proofs.ListLaws.{more_holds}
-use Rattle.dg_table.specs.Lock.{AreCounted}
+use Rattle.dg_table.specs.Lock.{AreCountsOf}
 use Rattle.dg_table.specs.Seats.{AreSeated}
 use Rattle.dg_table.specs.Seats.{entries_of}
 use Rattle.dg_table.proofs.Entries.{entries_from, own_more, other_more}
@@ -24,9 +24,9 @@ seated_more n H e seated least most k x at = elim (more_holds H e k x at) [
   | inr last ↦ rw last.1 (least, most)
 ]
 
-pub counted_more : (counts : List ℕ) (H : List Entry) (e : Entry) (s c : ℕ) → AreCounted counts H →
+pub counted_more : (counts : List ℕ) (H : List Entry) (e : Entry) (s c : ℕ) → AreCountsOf counts H →
     length counts ≡ MAX_SEATS → e.seat ≡ s + 1 → s < MAX_SEATS → c ≡ get_or counts s 0 + 1 →
-    AreCounted (set counts s c) (H ++ e ∷ [])
+    AreCountsOf (set counts s c) (H ++ e ∷ [])
 counted_more counts H e s c counted places own inside more t below = elim (cases_eq t s) [
   | inl same ↦
       let mine = own_more (t + 1) H e (own ∙ ap (λ i. i + 1) (sym same)) in
@@ -43,7 +43,7 @@ counted_more counts H e s c counted places own inside more t below = elim (cases
       get_or-set_other counts s t c 0 apart ∙ counted t below ∙ ap length (sym (other_more (t + 1) H e another))
 ]
 
-pub counted_none : (counts : List ℕ) → ((s : ℕ) → s < MAX_SEATS → get_or counts s 0 ≡ 0) → AreCounted counts []
+pub counted_none : (counts : List ℕ) → ((s : ℕ) → s < MAX_SEATS → get_or counts s 0 ≡ 0) → AreCountsOf counts []
 counted_none counts zeros s below = zeros s below
 
 none_from : (s n : ℕ) (H : List Entry) → ((k : ℕ) (e : Entry) → slice_get H k ≡ Some e → e.seat ≢ s) →
@@ -124,7 +124,7 @@ counted_from m n (e ∷ H) seated =
     let rest = counted_from m (n + 1) H (λ k x at. seated (suc k) x at) in
     omega arith
 
-pub all_counted : (counts : List ℕ) (H : List Entry) → AreCounted counts H → length counts ≡ MAX_SEATS →
+pub all_counted : (counts : List ℕ) (H : List Entry) → AreCountsOf counts H → length counts ≡ MAX_SEATS →
     AreSeated MAX_SEATS H → sum counts ≡ length H
 all_counted counts H counted places seated =
     let own : ℕ → ℕ = λ s. length (entries_of (s + 1) H) in

@@ -28,7 +28,7 @@ use Rattle.dg_game.specs.declared.finding.Finding.TheVariants.{Judged, Ranked}
 use Rattle.dg_game.specs.declared.look.LookData.{LookData}
 use Rattle.dg_game.proofs.LegalLaws.{legal_looks}
 use Rattle.dg_game.proofs.StepLaw.{vertices_stay}
-use Rattle.dg_table.specs.Lock.{IsKept}
+use Rattle.dg_table.specs.Lock.{IsKeptLook}
 use Rattle.dg_table.specs.Looks.{LastLook, HasVertices, IsLastLook, IsLookOf, is_look, last_look, asks_look}
 use Rattle.dg_table.specs.Settled.{IsCarriedTo}
 
@@ -46,15 +46,15 @@ pub last_kept : (ps : List (ℕ × Entry)) (p : ℕ × Entry) → is_look p ≡ 
 last_kept ps p test =
     ap (last_or None) (filter-append is_look ps (p ∷ []) ∙ ap (λ (b : Bool). filter is_look ps ++ cond b (p ∷ []) []) test ∙ append-nil (filter is_look ps))
 
-pub look_kept : (o : Opening) (ps : List (ℕ × Entry)) (p : ℕ × Entry) (look : Option LookData) → is_look p ≡ false → IsKept o ps look →
-    IsKept o (ps ++ p ∷ []) look
+pub look_kept : (o : Opening) (ps : List (ℕ × Entry)) (p : ℕ × Entry) (look : Option LookData) → is_look p ≡ false → IsKeptLook o ps look →
+    IsKeptLook o (ps ++ p ∷ []) look
 look_kept o ps p None test kept = record { last = last_kept ps p test ∙ kept.last; vertices = tt }
 look_kept o ps p (Some x) test kept =
     let (q, last, of) = kept.last in
     record { last = (q, last_kept ps p test ∙ last, of); vertices = kept.vertices }
 
 pub look_seen : (o : Opening) (ps : List (ℕ × Entry)) (p : ℕ × Entry) (x : LookData) → IsLookOf p x → HasVertices o.graph.size x →
-    IsKept o (ps ++ p ∷ []) (Some x)
+    IsKeptLook o (ps ++ p ∷ []) (Some x)
 look_seen o ps p x of vertices = record { last = (p, last_after ps p of.look, of); vertices = vertices }
 
 pub look_of : (ps : List (ℕ × Entry)) (p : ℕ × Entry) (x : LookData) → p.1.request ≡ Look →

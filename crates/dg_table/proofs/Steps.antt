@@ -26,7 +26,7 @@ use Rattle.dg_table.specs.Answered.{IsAnsweredAfter}
 use Rattle.dg_table.specs.Faults.{RefusesStep, RefusesSettling}
 use Rattle.dg_table.specs.declared.fault.Fault.{Fault}
 use Rattle.dg_table.specs.declared.fault.Fault.TheVariants.{OutOfMemory, Full, Log}
-use Rattle.dg_table.specs.Lock.{IsUnderLock, IsKept, IsSeated}
+use Rattle.dg_table.specs.Lock.{IsUnderLock, IsKeptLook, IsSeatState}
 use Rattle.dg_log.specs.Numbered.{IsBeginning}
 use Rattle.dg_table.specs.Histories.{IsHistoryOf}
 use Rattle.dg_table.specs.Looks.{IsLookOf}
@@ -55,9 +55,9 @@ history_more o n cap H e seated least most room legal = record {
 }
 
 pub kept_more : {o : Opening} {n cap s : ℕ} {mine told second : List (ℕ × Entry)} {past : List Entry} {look : Option LookData}
-    (H : List Entry) (e : Entry) (next : Option LookData) → IsSeated o n cap s mine told past second look →
-    IsHistoryOf o n cap (H ++ e ∷ []) → entries_of s H ≡ mine → e.seat ≡ s → IsKept o (mine ++ (length H, e) ∷ []) next →
-    IsSeated o n cap s (mine ++ (length H, e) ∷ []) told (H ++ e ∷ []) second next
+    (H : List Entry) (e : Entry) (next : Option LookData) → IsSeatState o n cap s mine told past second look →
+    IsHistoryOf o n cap (H ++ e ∷ []) → entries_of s H ≡ mine → e.seat ≡ s → IsKeptLook o (mine ++ (length H, e) ∷ []) next →
+    IsSeatState o n cap s (mine ++ (length H, e) ∷ []) told (H ++ e ∷ []) second next
 kept_more {o} {n} {cap} {s} {mine} {told} {second} {past} {look} H e next seated found held own last = record {
   least = seated.least;
   most = seated.most;

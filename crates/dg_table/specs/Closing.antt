@@ -12,7 +12,7 @@
 --   SomeKeepsMore H xs           == one of the seats xs is not admissible after H
 --   RefusesClose H n xs s        == s is the least seat that is missing; or s is 0, none is missing, and one of the
 --                                   seats is not admissible after H
---   IsRefused o n cap xs s       == after some history of the table the close with the seats xs is refused with s
+--   IsCloseRefused o n cap xs s  == after some history of the table the close with the seats xs is refused with s
 use Rattle.std.specs.Prelude.{◌≡◌, ℕ, ◌+◌, ◌<◌, ◌≤◌, List, length, slice_get, Some, ◌⊎◌, sum}
 use Rattle.std.specs.List.{slice_index}
 use Rattle.dg_theory.specs.Multigraph.{Multigraph}
@@ -61,5 +61,5 @@ SomeKeepsMore H xs = (i : ℕ) × (x : SeatView) × (slice_get xs i ≡ Some x) 
 abbrev pub RefusesClose : List Entry → ℕ → List SeatView → ℕ → Type 0
 RefusesClose H n xs s = IsMissing n xs s ⊎ ((s ≡ 0) × IsComplete n xs × SomeKeepsMore H xs)
 
-abbrev pub IsRefused : Opening → ℕ → ℕ → List SeatView → ℕ → Type 0
-IsRefused o n cap xs s = (H : List Entry) × IsHistoryOf o n cap H × RefusesClose H n xs s
+abbrev pub IsCloseRefused : Opening → ℕ → ℕ → List SeatView → ℕ → Type 0
+IsCloseRefused o n cap xs s = (H : List Entry) × IsHistoryOf o n cap H × RefusesClose H n xs s

@@ -1,11 +1,11 @@
 -- What the lock holds.
---   AreCounted counts H        == the place of each seat, from 0, has the number of its entries in H
+--   AreCountsOf counts H       == the place of each seat, from 0, has the number of its entries in H
 --   IsUnderLock o n H game counts   == the game and the counts are those of the legal history H, whose entries are of the
 --                                 seats 1 to n
 --   IsReady cap H x            == the history H has room for an entry of the seat x, which is admissible, and holds what
 --                                 it knows
---   IsKept o ps look           == the look that is kept is the last of the entries ps, and has the vertices of the opening o
---   IsSeated o n cap s ps qs H d look   == what the seat s of n keeps fits together: the history H that it found is one of the
+--   IsKeptLook o ps look       == the look that is kept is the last of the entries ps, and has the vertices of the opening o
+--   IsSeatState o n cap s ps qs H d look == what the seat s of n keeps fits together: the history H that it found is one of the
 --                                      table, with the entries ps as its own; the digest d is of the entries qs that it was told
 --                                      of, and look is its last look
 use Rattle.std.specs.Prelude.{◌≡◌, ℕ, ◌+◌, ◌<◌, ◌≤◌, List, length, Option, IfSome}
@@ -21,14 +21,14 @@ use Rattle.dg_table.specs.Histories.{IsHistoryOf}
 use Rattle.dg_table.specs.Looks.{HasVertices, IsLastLook}
 use Rattle.dg_table.specs.Seats.{SeatView, Holds, IsAdmissible, AreSeated, entries_of}
 
-abbrev pub AreCounted : List ℕ → List Entry → Type 0
-AreCounted counts H = (s : ℕ) → s < MAX_SEATS → slice_index counts s ≡ length (entries_of (s + 1) H)
+abbrev pub AreCountsOf : List ℕ → List Entry → Type 0
+AreCountsOf counts H = (s : ℕ) → s < MAX_SEATS → slice_index counts s ≡ length (entries_of (s + 1) H)
 
 pub record IsUnderLock (o : Opening) (n : ℕ) (H : List Entry) (game : State) (counts : List ℕ) : Type 0 where
   pub legal : IsLegal o H
   pub game' : LeadsTo o H game
   pub seated : AreSeated n H
-  pub counted : AreCounted counts H
+  pub counted : AreCountsOf counts H
   pub places : length counts ≡ MAX_SEATS
   pub few : n ≤ MAX_SEATS
 
@@ -39,15 +39,15 @@ pub record IsReady (cap : ℕ) (H : List Entry) (x : SeatView) : Type 0 where
   pub admissible : IsAdmissible H x
   pub holds : Holds H x
 
-pub record IsKept (o : Opening) (ps : List (ℕ × Entry)) (look : Option LookData) : Type 0 where
+pub record IsKeptLook (o : Opening) (ps : List (ℕ × Entry)) (look : Option LookData) : Type 0 where
   pub last : IsLastLook ps look
   pub vertices : IfSome look (HasVertices o.graph.size)
 
-pub record IsSeated (o : Opening) (n cap s : ℕ) (ps qs : List (ℕ × Entry)) (H : List Entry) (d : List (ℕ × Entry))
+pub record IsSeatState (o : Opening) (n cap s : ℕ) (ps qs : List (ℕ × Entry)) (H : List Entry) (d : List (ℕ × Entry))
     (look : Option LookData) : Type 0 where
   pub least : 1 ≤ s
   pub most : s ≤ n
   pub found : IsHistoryOf o n cap H
   pub own : entries_of s H ≡ ps
   pub told_said : d ≡ qs
-  pub look_kept : IsKept o ps look
+  pub look_kept : IsKeptLook o ps look

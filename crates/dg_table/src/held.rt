@@ -12,7 +12,7 @@ ghost use Rattle.dg_table.specs.Faults.{RefusesStep, RefusesSettling};
 ghost use Rattle.dg_table.specs.declared.fault.Fault.TheVariants.{Log as LogFault};
 ghost use Rattle.dg_game.specs.declared.entry.Entry.{Entry as EntryData};
 ghost use Rattle.dg_table.specs.Histories.{IsHistoryOf};
-ghost use Rattle.dg_table.specs.Lock.{IsReady, IsKept};
+ghost use Rattle.dg_table.specs.Lock.{IsReady, IsKeptLook};
 ghost use Rattle.dg_table.specs.Looks.{IsLookOf};
 ghost use Rattle.dg_table.specs.Opened.{MayHaveSeats};
 ghost use Rattle.dg_table.specs.Seats.{SeatView, Holds, IsAdmissible};
@@ -322,7 +322,7 @@ impl<N: Name> Held<N> {
 fn keep_look(look: &mut Option<LookData>, game: &Game, entry: &Entry)
     ensures { (o : Opening) (H : List EntryData) (ps : List (ℕ × EntryData)) →
         LeadsTo o H game.now → Replies o H entry.now.request entry.now.reply →
-        IsKept o ps look.old → IsKept o (ps ++ (length H, entry.now) ∷ []) look.new }
+        IsKeptLook o ps look.old → IsKeptLook o (ps ++ (length H, entry.now) ∷ []) look.new }
 {
     match (&entry.request, &entry.reply) {
         (Request::Look, Reply::Looked(gifts, position, graph)) => {

@@ -27,7 +27,7 @@ impl<N: Name> Model for Seat<N> {
     ghost use Rattle.std.specs.Prelude.{◌&&◌, nat_lt, length};
     ghost use Rattle.std.specs.Vec.{vec_len, vec_capacity};
     ghost use Rattle.dg_table.specs.Seats.{SeatView};
-    ghost use Rattle.dg_table.specs.Lock.{IsSeated};
+    ghost use Rattle.dg_table.specs.Lock.{IsSeatState};
 
     ghost Value = { SeatView };
 
@@ -40,7 +40,7 @@ impl<N: Name> Model for Seat<N> {
       hears = nat_lt (vec_len x.told) (vec_capacity x.told);
     } };
 
-    ghost invariant = { λ x. IsSeated N.start N.seats (length N.cells) x.number x.mine.items x.told.items x.past x.told_digest x.look };
+    ghost invariant = { λ x. IsSeatState N.start N.seats (length N.cells) x.number x.mine.items x.told.items x.past x.told_digest x.look };
 }
 
 impl<N: Name> Seat<N> {

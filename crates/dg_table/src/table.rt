@@ -3,7 +3,7 @@ ghost use Rattle.std.specs.Prelude.{◌≡◌, length, IfOk, IfErr, MatchResult}
 ghost use Rattle.dg_game.specs.Look.{IsFoundFor};
 ghost use Rattle.dg_game.specs.Schedule.{asked};
 ghost use Rattle.dg_table.specs.Answered.{IsAnswered};
-ghost use Rattle.dg_table.specs.Closing.{IsClosed, AreTotals, IsRefused};
+ghost use Rattle.dg_table.specs.Closing.{IsClosed, AreTotals, IsCloseRefused};
 ghost use Rattle.dg_table.specs.Faults.{RefusesCall};
 ghost use Rattle.dg_table.specs.Looks.{IsLookOf};
 ghost use Rattle.dg_table.specs.Opened.{AreFresh, RefusesOpening};
@@ -183,7 +183,7 @@ impl<N: Name> Table<N> {
             (λ a. IsClosed N.start N.seats (length N.cells) seats.items a.pen.entries ×
             AreTotals N.start N.seats seats.items a.pen.entries a.entries a.gifts a.graph a.position a.calls)
             (λ f. (f.seats.items ≡ seats.items) ×
-            IsRefused N.start N.seats (length N.cells) seats.items f.missing) }
+            IsCloseRefused N.start N.seats (length N.cells) seats.items f.missing) }
     {
         let Table {
             held,

@@ -15,7 +15,7 @@
 use Rattle.std.proofs.Common.{◌≡◌, ℕ, ◌+◌, ◌≤◌, ◌==◌, cond, true, false, List, [], ◌∷◌, ◌++◌, length, slice_get, Option, Some, None, arith, refl, sym, ap, subst, ◌∙◌, append_assoc, append-nil, length-append}
 use Rattle.std.specs.Option.{is_none}
 use Rattle.dg_chips.specs.Opening.{Opening}
-use Rattle.dg_game.specs.Rehearsal.{IsPlaying, PlaysOn, StopsAt}
+use Rattle.dg_game.specs.Rehearsal.{IsPlaying, PlaysOn, StopsPlay}
 use Rattle.dg_game.specs.ScheduleFaults.{IsFirstFault}
 use Rattle.dg_game.specs.declared.entry.Entry.{Entry}
 use Rattle.dg_game.specs.declared.schedule.Rehearsal.{Rehearsal}
@@ -74,7 +74,7 @@ played_more o names steps step e r t text longer number plays counted written kn
     }
 
 pub stopped_at : (o : Opening) (names : List (List ℕ)) (steps : List Step) (step : Step) (r : Rehearsal) (text : List ℕ) (fault : RehearseFault)
-    → StopsAt r step fault → IsPlayed o names steps r text → IsStopped o (steps ++ step ∷ []) fault
+    → StopsPlay r step fault → IsPlayed o names steps r text → IsStopped o (steps ++ step ∷ []) fault
 stopped_at o names steps step r text fault stops known more =
     subst (λ (all : List Step). IsFirstFault o.graph.size all fault) (sym (together steps more step))
     (stops o known.history (steps ++ step ∷ more) (known.playing (step ∷ more)) (next_is steps more step (length known.history) known.count))

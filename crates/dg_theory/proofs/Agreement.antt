@@ -26,10 +26,12 @@ effective-cong n D E same effective v below = omega (arith, ints, same v below, 
 pub fired-here : (g : Multigraph) (D E s : Amounts) → AgreeOn g.size D E → AgreeOn g.size (fired g D s) (fired g E s)
 fired-here g D E s same v below = omega (arith, ints, same v below)
 
-pub played-cong : (g : Multigraph) (D E : Amounts) (l : List Play) → AgreeOn g.size D E → AgreeOn g.size (played g D l) (played g E l)
+pub played-cong : (g : Multigraph) (D E : Amounts) (l : List Play) → AgreeOn g.size D E →
+    AgreeOn g.size (played g D l) (played g E l)
 played-cong g D E [] same = same
 played-cong g D E (p ∷ l) same =
-    played-cong g (fired g D (script_of_play p)) (fired g E (script_of_play p)) l (fired-here g D E (script_of_play p) same)
+    played-cong g (fired g D (script_of_play p)) (fired g E (script_of_play p)) l
+    (fired-here g D E (script_of_play p) same)
 
 pub winnable-cong : (g : Multigraph) (D E : Amounts) → AgreeOn g.size D E → IsWinnable g D → IsWinnable g E
 winnable-cong g D E same (l, effective) =

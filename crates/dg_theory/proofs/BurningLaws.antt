@@ -60,7 +60,8 @@ rest_fires g q D l solvent order = record {
 pub never_burns : (g : Multigraph) (q : ℕ) (D : Amounts) (l : List ℕ) (T : ℕ → Bool) (v : ℕ) → BurnsInOrder g q D l →
     FiresFreely g q D T → T v ≡ true → among l v ≡ false
 never_burns g q D l T v order free member = false_from_ne_true (among l v) (λ burnt.
-    let (u, below, inside, less) = burnt_of_set g q D l T v order.begun.first (may_burn g q D l order) free.without burnt member in
+    let (u, below, inside, less) =
+    burnt_of_set g q D l T v order.begun.first (may_burn g q D l order) free.without burnt member in
     let other : u ≢ q = λ same. both_ways _ free.without (ap T (sym same) ∙ inside) in
     let enough : pos (edges_out g T u) ≤ℤ D u = fired-inside g D T u inside (free.no_debt u below other) in
     absurd (omega (arith, ints)))
@@ -83,7 +84,8 @@ pub burnt_reduced : (g : Multigraph) (q : ℕ) (D : Amounts) (l : List ℕ) → 
     ((v : ℕ) → v < g.size → among l v ≡ true) → IsReduced g q D
 burnt_reduced g q D l solvent order all = record {
   no_debt = solvent;
-  none_fires = λ S without u below member. burnt_of_set g q D l S u order.begun.first (may_burn g q D l order) without (all u below) member;
+  none_fires = λ S without u below member. burnt_of_set g q D l S u order.begun.first (may_burn g q D l order) without
+      (all u below) member;
 }
 
 pub reduced_burnt : (g : Multigraph) (q : ℕ) (D : Amounts) (l : List ℕ) → BurnsInOrder g q D l → IsReduced g q D →

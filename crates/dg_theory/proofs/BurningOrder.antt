@@ -3,8 +3,8 @@
 --   among_first      the first element of a list is in it
 --   first_where      the first element of a list that passes a test, and its place
 --   into-le-out      as many edges at most lead into one set as lead out of another, if the two sets are disjoint
---   burnt_of_set     if vertices burn, q first, and one of them is in a set without q, some vertex of the set holds fewer
---                    dollars than edges lead from it out of the set: the first one of the set that burns
+--   burnt_of_set     if vertices burn, q first, and one of them is in a set without q, some vertex of the set holds
+--                    fewer dollars than edges lead from it out of the set: the first one of the set that burns
 --   may_burn         in the order in which vertices burn, each may burn when those before it have
 --   q_burns          q burns
 use Rattle.std.proofs.Common.{◌≡◌, ℕ, zero, suc, ◌<◌, ◌≤◌, ◌==◌, Bool, true, false, List, [], ◌∷◌, take, arith, refl, sym, ap, ◌∙◌, ⊎_elim}

@@ -1,10 +1,11 @@
--- The order in which all vertices burn, where what burns is reduced for q and in debt at q: in each set with a vertex, one
--- holds fewer dollars than edges lead from it out of the set. In that order each vertex holds fewer dollars than edges lead
--- from it to earlier vertices.
+-- The order in which all vertices burn, where what burns is reduced for q and in debt at q: in each set with a vertex,
+-- one holds fewer dollars than edges lead from it out of the set. In that order each vertex holds fewer dollars than
+-- edges lead from it to earlier vertices.
 --   AllFall g R            in each set with a vertex, some vertex falls
 --   falls_if_owing         so it is where R is reduced for q and in debt at q
 --   later S place v        the vertices of the set S that are not earlier than v
---   IsBurning g R S n place   the vertices of S are placed from n on, no two alike, and each holds fewer dollars than edges
+--   IsBurning g R S n place   the vertices of S are placed from n on, no two alike, and each holds fewer dollars than
+--                             edges
 --                          lead from it out of the set of those that are not earlier
 --   later-within           what a vertex put before the others does to the sets of those that are not earlier
 --   burning_next           a vertex that falls in S can be put before those of the set S without it
@@ -22,7 +23,7 @@ use Rattle.dg_theory.specs.Reduced.{edges_out, IsReduced}
 use Rattle.dg_theory.proofs.Counting.{count_of, count_of-some, count_of-more, member_or_none}
 use Rattle.dg_theory.proofs.Leaving.{removed, removed-here, removed-other, removed-of}
 use Rattle.dg_theory.proofs.Levels.{level, in_level, level_in}
-use Rattle.dg_theory.proofs.Unburnt.{Falls, IsWithin, out-le-out}
+use Rattle.dg_theory.proofs.Unburnt.{Falls, IsPartOf, out-le-out}
 use Rattle.dg_theory.proofs.OrderDivisors.{order_divisor}
 use Rattle.dg_theory.proofs.OrderDegrees.{AreApart}
 
@@ -57,7 +58,7 @@ put-other place v n w other = grind (arith, nat_tests)
 
 later-within : (g : Multigraph) (R : Amounts) (S : ℕ → Bool) (v n : ℕ) (place : Amounts) →
     IsBurning g R (removed S v) (suc n) place → (u : ℕ) → u < g.size → u ≢ v → removed S v u ≡ true →
-    IsWithin g (later S (put place v n) u) (later (removed S v) place u)
+    IsPartOf g (later S (put place v n) u) (later (removed S v) place u)
 later-within g R S v n place burning u inside other member w below not_earlier =
     let (in_S, level_w) = and_parts (S w) _ not_earlier in
     let at_u : put place v n u ≡ place u = put-other place v n u other in
@@ -73,9 +74,11 @@ burning_next : (g : Multigraph) (R : Amounts) (S : ℕ → Bool) (v n : ℕ) (pl
     IsBurning g R (removed S v) (suc n) place → IsBurning g R S n (put place v n)
 burning_next g R S v n place (vertex, member, less) burning =
     let here : (u : ℕ) → u ≡ v → put place v n u ≡ pos n = λ u same. ap (put place v n) same ∙ put-here place v n in
-    let stays : (u : ℕ) → u ≢ v → S u ≡ true → removed S v u ≡ true = λ u other in_S. removed-other S v u other ∙ in_S in
+    let stays : (u : ℕ) → u ≢ v → S u ≡ true → removed S v u ≡ true =
+    λ u other in_S. removed-other S v u other ∙ in_S in
     let past : (u : ℕ) → u < g.size → u ≢ v → S u ≡ true → pos (suc n) ≤ℤ put place v n u =
-    λ u inside other in_S. omega (arith, ints, put-other place v n u other, burning.from u inside (stays u other in_S)) in
+    λ u inside other in_S. omega
+    (arith, ints, put-other place v n u other, burning.from u inside (stays u other in_S)) in
     record {
       from = λ u inside in_S. ⊎_elim
           (λ (same : u ≡ v). omega (arith, ints, here u same))
@@ -94,14 +97,16 @@ burning_next g R S v n place (vertex, member, less) burning =
           (cases_eq u v);
       falls = λ u inside in_S. ⊎_elim
           (λ (same : u ≡ v).
-          let within : IsWithin g (later S (put place v n) u) S = λ w _ not_earlier. (and_parts (S w) _ not_earlier).0 in
+          let within : IsPartOf g (later S (put place v n) u) S =
+          λ w _ not_earlier. (and_parts (S w) _ not_earlier).0 in
           let out : edges_out g S u ≤ edges_out g (later S (put place v n) u) u =
           out-le-out g (later S (put place v n) u) S u within in
           let at : R u ≡ R v = ap R same in
           let edges : edges_out g S u ≡ edges_out g S v = ap (edges_out g S) same in
           omega (arith, ints))
           (λ (other : u ≡ v → ⊥).
-          let known : R u <ℤ pos (edges_out g (later (removed S v) place u) u) = burning.falls u inside (stays u other in_S) in
+          let known : R u <ℤ pos (edges_out g (later (removed S v) place u) u) =
+          burning.falls u inside (stays u other in_S) in
           let out : edges_out g (later (removed S v) place u) u ≤ edges_out g (later S (put place v n) u) u =
           out-le-out g (later S (put place v n) u) (later (removed S v) place u) u
           (later-within g R S v n place burning u inside other (stays u other in_S)) in
@@ -112,7 +117,8 @@ burning_next g R S v n place (vertex, member, less) burning =
 abbrev Placed : Multigraph → Amounts → (ℕ → Bool) → ℕ → Type 0
 Placed g R S n = (place : Amounts) × IsBurning g R S n place
 
-none_to_place : (g : Multigraph) (R : Amounts) (S : ℕ → Bool) (n : ℕ) → ((u : ℕ) → u < g.size → S u ≡ false) → Placed g R S n
+none_to_place : (g : Multigraph) (R : Amounts) (S : ℕ → Bool) (n : ℕ) → ((u : ℕ) → u < g.size → S u ≡ false) →
+    Placed g R S n
 none_to_place g R S n none = (
   λ _. pos 0,
   record {
@@ -146,5 +152,6 @@ pub burns_below : (g : Multigraph) (R place : Amounts) → IsBurning g R (λ _. 
     AreApart g.size place × ((v : ℕ) → v < g.size → R v ≤ℤ order_divisor g place v)
 burns_below g R place burning = (
   λ v w inside within. burning.apart v w inside within refl refl,
-  λ v inside. let less : R v <ℤ pos (edges_out g (level place (place v)) v) = burning.falls v inside refl in omega (arith, ints),
+  λ v inside. let less : R v <ℤ pos (edges_out g (level place (place v)) v) =
+      burning.falls v inside refl in omega (arith, ints),
 )

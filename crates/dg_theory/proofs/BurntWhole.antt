@@ -6,5 +6,6 @@ use Rattle.dg_theory.proofs.BurningOrder.{burnt_of_set}
 pub burns_to_reduced : BurnsToReduced
 burns_to_reduced g q D l graph vertex solvent burns = record {
   no_debt = solvent;
-  none_fires = λ S without u below member. burnt_of_set g q D l S u burns.first burns.next without (burns.all u below) member;
+  none_fires = λ S without u below member. burnt_of_set g q D l S u burns.first burns.next without
+      (burns.all u below) member;
 }

@@ -21,8 +21,8 @@ use Rattle.dg_theory.proofs.Potential.{IsPotential, as_script}
 abbrev pub borrowed : (ℕ → ℕ) → Amounts
 borrowed c = opposite (as_script c)
 
-pub borrowed_gains : (g : Multigraph) (q : ℕ) (c : ℕ → ℕ) (D : Amounts) (v : ℕ) → IsPotential g q c → v < g.size → v ≢ q →
-    (D v +ℤ pos 1) ≤ℤ fired g D (borrowed c) v
+pub borrowed_gains : (g : Multigraph) (q : ℕ) (c : ℕ → ℕ) (D : Amounts) (v : ℕ) → IsPotential g q c → v < g.size →
+    v ≢ q → (D v +ℤ pos 1) ≤ℤ fired g D (borrowed c) v
 borrowed_gains g q c D v potential inside other =
     let less : (gain g (as_script c) v +ℤ pos 1) ≤ℤ pos 0 = potential.loses v inside other in
     let both : gain g (as_script c) v +ℤ gain g (borrowed c) v ≡ pos 0 = gain-opposite g (as_script c) v in

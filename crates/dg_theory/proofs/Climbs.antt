@@ -73,7 +73,8 @@ lower_counts_more : (g : Multigraph) (q m K : ℕ) (s : Amounts) (x y : ℤ) (u 
 lower_counts_more g q m K s x y u gentle vertex high step low =
     let without : level s x q ≡ false = off_level s x q (omega (arith, ints)) in
     let out : Leaves g.size (edges_between g) (level s x) =
-    JoinedIn-leaves (level s x) vertex (in_level s x u high) (gentle.graph.connected u q vertex gentle.vertex) without in
+    JoinedIn-leaves (level s x) vertex (in_level s x u high)
+    (gentle.graph.connected u q vertex gentle.vertex) without in
     let cut : IsCut g (level s x) s out.a out.b = record {
       from = out.from;
       to = out.to;

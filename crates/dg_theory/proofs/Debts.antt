@@ -74,7 +74,8 @@ farther_same g q level j k D v distance inside far =
 pub farther_stays : (g : Multigraph) (q : ℕ) (level : ℕ → ℕ) (j k : ℕ) (D : Amounts) (v : ℕ) → IsDistance g q level →
     v < g.size → j < level v → pos 0 ≤ℤ D v → pos 0 ≤ℤ fired_nearer g level j k D v
 farther_stays g q level j k D v distance inside far rich =
-    let same : fired_nearer g level j k D v ≡ D v = farther_same g q level j k D v distance inside far in omega (arith, ints)
+    let same : fired_nearer g level j k D v ≡ D v =
+    farther_same g q level j k D v distance inside far in omega (arith, ints)
 
 pub level_gains : (g : Multigraph) (q : ℕ) (level : ℕ → ℕ) (j k : ℕ) (D : Amounts) (v : ℕ) → IsDistance g q level →
     v < g.size → valence g v ≤ 63 → 0 < j → level v ≡ j →
@@ -88,8 +89,10 @@ level_gains g q level j k D v distance inside few some at =
     let counts : (if nearer level j u then edges_between g v u else 0) ≡ edges_between g v u =
     ap (λ b. if b then edges_between g v u else 0) near in
     let most : edges_into g (nearer level j) v ≤ valence g v = into-le-valence g (nearer level j) v in
-    let high : edges_into g (nearer level j) v * k ≤ 63 * k = mul-le (edges_into g (nearer level j) v) k 63 k (omega arith) (omega arith) in
-    let low : 1 * k ≤ edges_into g (nearer level j) v * k = mul-le 1 k (edges_into g (nearer level j) v) k (omega arith) (omega arith) in
+    let high : edges_into g (nearer level j) v * k ≤ 63 * k =
+    mul-le (edges_into g (nearer level j) v) k 63 k (omega arith) (omega arith) in
+    let low : 1 * k ≤ edges_into g (nearer level j) v * k =
+    mul-le 1 k (edges_into g (nearer level j) v) k (omega arith) (omega arith) in
     let got : gain g (multiple (pos k) (indicator (nearer level j))) v ≡ pos (edges_into g (nearer level j) v * k) =
     gain-all_outside g (pos k) (nearer level j) v outside in
     (omega (arith, ints), omega (arith, ints))
@@ -100,8 +103,10 @@ pub nearer_loses : (g : Multigraph) (level : ℕ → ℕ) (j k : ℕ) (D : Amoun
 nearer_loses g level j k D v few near =
     let inner : nearer level j v ≡ true = lt-ltb (level v) j near in
     let most : edges_out g (nearer level j) v ≤ valence g v = out-le-valence g (nearer level j) v in
-    let high : edges_out g (nearer level j) v * k ≤ 63 * k = mul-le (edges_out g (nearer level j) v) k 63 k (omega arith) (omega arith) in
-    let lost : gain g (multiple (pos k) (indicator (nearer level j))) v +ℤ pos (edges_out g (nearer level j) v * k) ≡ pos 0 =
+    let high : edges_out g (nearer level j) v * k ≤ 63 * k =
+    mul-le (edges_out g (nearer level j) v) k 63 k (omega arith) (omega arith) in
+    let lost : gain g (multiple (pos k) (indicator (nearer level j))) v +ℤ pos (edges_out g (nearer level j) v * k)
+    ≡ pos 0 =
     gain-all_inside g (pos k) (nearer level j) v inner in
     (omega (arith, ints), omega (arith, ints))
 
@@ -114,7 +119,8 @@ changes_little g level j k D v few =
     (λ (far : j ≤ level v).
     let outside : nearer level j v ≡ false = le-ltb (level v) j far in
     let most : edges_into g (nearer level j) v ≤ valence g v = into-le-valence g (nearer level j) v in
-    let high : edges_into g (nearer level j) v * k ≤ 63 * k = mul-le (edges_into g (nearer level j) v) k 63 k (omega arith) (omega arith) in
+    let high : edges_into g (nearer level j) v * k ≤ 63 * k =
+    mul-le (edges_into g (nearer level j) v) k 63 k (omega arith) (omega arith) in
     let got : gain g (multiple (pos k) (indicator (nearer level j))) v ≡ pos (edges_into g (nearer level j) v * k) =
     gain-all_outside g (pos k) (nearer level j) v outside in
     (omega (arith, ints), omega (arith, ints)))

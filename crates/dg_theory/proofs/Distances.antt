@@ -9,6 +9,7 @@ pub not_q : (g : Multigraph) (q : ℕ) (level : ℕ → ℕ) (v : ℕ) → IsDis
 not_q g q level v distance far same =
     let at : level v ≡ level q = ap level same in let nearest : level q ≡ 0 = distance.start in absurd (omega arith)
 
-pub level_positive : (g : Multigraph) (q : ℕ) (level : ℕ → ℕ) (v : ℕ) → IsDistance g q level → v < g.size → v ≢ q → 0 < level v
+pub level_positive : (g : Multigraph) (q : ℕ) (level : ℕ → ℕ) (v : ℕ) → IsDistance g q level → v < g.size → v ≢ q →
+    0 < level v
 level_positive g q level v distance inside other =
     let (u, below, edge, step) = distance.stepped v inside other in omega arith

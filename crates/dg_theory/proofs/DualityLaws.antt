@@ -4,8 +4,8 @@
 --   IsDual g D k l       k less l is the degree of D, plus 1, less the genus
 --   dual-degree          the degree of the dual
 --   dual_of_dual         for the dual, k and l have exchanged their parts
---   loss_from_order      where the dual less F owes, what it lacks of the divisor of the order is a loss that D can't bear:
---                        it leaves what the reversed order's divisor less F is fired to
+--   loss_from_order      where the dual less F owes, what it lacks of the divisor of the order is a loss that D can't
+--                        bear: it leaves what the reversed order's divisor less F is fired to
 --   pass_of_dual         so where D passes its test, the dual passes its own
 --   dual_tests           and the other way round
 --   loss_of_dual         a loss that the dual can't bear shows one that D can't bear
@@ -46,7 +46,8 @@ winnable_or_owes g D graph some =
     let (place, burning) = burning_exists g (fired g D s) (falls_if_owing g 0 (fired g D s) some reduced debt) in
     let (apart, below) = burns_below g (fired g D s) place burning in
     inr (record { script = s; place = place; apart = apart; below = below }))
-    (λ (paid : pos 0 ≤ℤ fired g D s 0). inl ((reduced_decides g 0 D (fired g D s) some (equivalent-fired g D s) reduced).1 paid))
+    (λ (paid : pos 0 ≤ℤ fired g D s 0). inl
+    ((reduced_decides g 0 D (fired g D s) some (equivalent-fired g D s) reduced).1 paid))
 
 abbrev pub IsDual : Multigraph → Amounts → ℕ → ℕ → Type 0
 IsDual g D k l = pos k -ℤ pos l ≡ (degree g.size D +ℤ pos 1) -ℤ genus g

@@ -62,7 +62,14 @@ held-symmetric g c s =
 pub gain-symmetric : (g : Multigraph) (c s : Amounts) → IsMultigraph g →
     sum_below g.size (λ v. c v *ℤ gain g s v) ≡ sum_below g.size (λ v. s v *ℤ gain g c v)
 gain-symmetric g c s graph =
-    omega (arith, ints, weighted_gains g c s, weighted_gains g s c, crossing-symmetric g c s graph, held-symmetric g c s)
+    omega (
+      arith,
+      ints,
+      weighted_gains g c s,
+      weighted_gains g s c,
+      crossing-symmetric g c s graph,
+      held-symmetric g c s,
+    )
 
 pub gains_cancel : (g : Multigraph) (s : Amounts) → IsMultigraph g → sum_below g.size (gain g s) ≡ pos 0
 gains_cancel g s graph =

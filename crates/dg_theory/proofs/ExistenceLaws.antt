@@ -71,4 +71,5 @@ rich_is_winnable g D graph some rich =
     let low : degree g.size (fired g D s) <ℤ genus g = reduced_below_genus g 0 (fired g D s) graph some reduced debt in
     let same : degree g.size (fired g D s) ≡ degree g.size D = degree_stays g D s graph in
     absurd (omega (arith, ints)))
-    (λ (paid : pos 0 ≤ℤ fired g D s 0). (reduced_decides g 0 D (fired g D s) some (equivalent-fired g D s) reduced).1 paid)
+    (λ (paid : pos 0 ≤ℤ fired g D s 0).
+    (reduced_decides g 0 D (fired g D s) some (equivalent-fired g D s) reduced).1 paid)

@@ -16,7 +16,8 @@ use Rattle.dg_theory.proofs.SumLaws.{sum_below-add, sum_below-cong, sum_below-ze
 
 pub gain-add : (g : Multigraph) (s t : Amounts) (v : ℕ) → gain g s v +ℤ gain g t v ≡ gain g (λ w. s w +ℤ t w) v
 gain-add g s t v =
-    sym (sum_below-add g.size (λ w. pos (edges_between g v w) *ℤ (s w -ℤ s v)) (λ w. pos (edges_between g v w) *ℤ (t w -ℤ t v)))
+    sym (sum_below-add g.size (λ w. pos (edges_between g v w) *ℤ (s w -ℤ s v))
+    (λ w. pos (edges_between g v w) *ℤ (t w -ℤ t v)))
     ∙ sum_below-cong g.size _ _ (λ w below. mul-change (edges_between g v w) (s w) (t w) (s v) (t v))
 
 pub fired-fired : FiringAddsUp

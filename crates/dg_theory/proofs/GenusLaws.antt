@@ -1,10 +1,12 @@
 -- The degree of a divisor that is reduced for q and in debt at q. All vertices but q form a set; as long as it has a
 -- vertex, one that holds fewer dollars than edges lead from it out of the set leaves, until none is left.
---   IsPaid g q R S        q is not in S, and the sum of R + 1 outside S is at most R q + 1 and the number of edges there
+--   IsPaid g q R S        q is not in S, and the sum of R + 1 outside S is at most R q + 1 and the number of edges
+--                         there
 --   paid_start            so it is where only q is outside S
 --   paid_next             so it stays if a vertex leaves that holds fewer dollars than it has edges out of S
 --   paid_to_end           if the divisor is reduced, so it is for a set without vertices
---   reduced_below_genus   the law: then the degree and the number of vertices are at most R q + 1 and the number of edges
+--   reduced_below_genus   the law: then the degree and the number of vertices are at most R q + 1 and the number of
+--                         edges
 use Rattle.std.proofs.Common.{◌≡◌, ℕ, zero, suc, ◌+◌, ◌<◌, ◌≤◌, Bool, true, false, arith, refl, ⊎_elim}
 use Rattle.std.specs.Prelude.{◌≤ℤ◌, ◌<ℤ◌}
 use Rattle.std.proofs.lemmas.Int.{ints}
@@ -50,8 +52,12 @@ paid_next g q R S v graph before inside member less = record {
 pub paid_to_end : (g : Multigraph) (q : ℕ) (R : Amounts) → IsMultigraph g → IsReduced g q R → (k : ℕ) (S : ℕ → Bool) →
     count_of g.size S ≤ k → IsPaid g q R S →
     (T : ℕ → Bool) × IsPaid g q R T × ((w : ℕ) → w < g.size → T w ≡ false)
-paid_to_end g q R graph reduced zero S few paid =
-    (S, paid, λ w below. false_from_ne_true (S w) (λ member. absurd (omega (arith, count_of-some g.size S w below member))))
+paid_to_end g q R graph reduced zero S few paid = (
+  S,
+  paid,
+  λ w below. false_from_ne_true (S w)
+      (λ member. absurd (omega (arith, count_of-some g.size S w below member))),
+)
 paid_to_end g q R graph reduced (suc k) S few paid =
     ⊎_elim
     (λ (some : (u : ℕ) × (u < g.size) × (S u ≡ true)).
@@ -65,7 +71,8 @@ paid_to_end g q R graph reduced (suc k) S few paid =
 pub reduced_below_genus : ReducedBelowGenus
 reduced_below_genus g q R graph vertex reduced debt =
     let S : ℕ → Bool = removed (λ _. true) q in
-    let (T, end, none) = paid_to_end g q R graph reduced (count_of g.size S) S (omega arith) (paid_start g q R vertex) in
+    let (T, end, none) =
+    paid_to_end g q R graph reduced (count_of g.size S) S (omega arith) (paid_start g q R vertex) in
     let paid = end.paid in
     let weight : burnt_weight g.size R T ≡ degree g.size R +ℤ pos g.size = burnt_weight-all g.size R T none in
     let edges : burnt_edges g.size (edges_between g) T ≡ edge_count g =

@@ -3,7 +3,8 @@
 --   height-mono      more steps weigh no less
 --   height-next      and one step more weighs over M times as much more
 --   sum_of_valences  the sum of all valences, which bounds each
---   weight_at        the weight of a place in an order of n places: the height of n less that of the places from there on
+--   weight_at        the weight of a place in an order of n places: the height of n less that of the places from there
+--                    on
 --   order_potential  the weights by the places of such an order are a potential for q
 --   has_potential    so every multigraph has one for each of its vertices
 use Rattle.std.proofs.Common.{◌≡◌, ℕ, zero, suc, ◌+◌, ◌-◌, ◌*◌, ◌<◌, ◌≤◌, Bool, true, arith, ap, ⊎_elim}
@@ -53,7 +54,8 @@ later_loses g place n u v below inside edge earlier few =
     let top_u : height M (n - place u) ≤ height M n = height-mono M (n - place u) n (omega arith) in
     let steep : K + (M * K + 1) ≤ height M (n - place u) = height-next M (n - place v) (n - place u) (omega arith) in
     let sum : (gain g (as_script (λ w. weight_at g n (place w))) v +ℤ pos (M * K + 1)) ≤ℤ pos (valence g v * K) =
-    pulled g.size (edges_between g v) (λ w. pos (weight_at g n (place w)) -ℤ pos (weight_at g n (place v))) K (M * K + 1) u
+    pulled g.size (edges_between g v) (λ w. pos (weight_at g n (place w)) -ℤ pos (weight_at g n (place v))) K
+    (M * K + 1) u
     (λ w _ _. omega (arith, ints)) below edge (omega (arith, ints)) in
     let few_edges : valence g v ≤ M = total_below-term g.size (valence g) v inside in
     let most : valence g v * K ≤ M * K = mul-le (valence g v) K M K few_edges (omega arith) in
@@ -64,7 +66,8 @@ pub order_potential : (g : Multigraph) (q : ℕ) (S : ℕ → Bool) (place : ℕ
 order_potential g q S place n order all = record {
   none_at_q =
       let first : n - place q ≡ n = omega (arith, order.first) in
-      let same : height (sum_of_valences g) (n - place q) ≡ height (sum_of_valences g) n = ap (height (sum_of_valences g)) first in
+      let same : height (sum_of_valences g) (n - place q) ≡ height (sum_of_valences g) n =
+      ap (height (sum_of_valences g)) first in
       omega arith;
   loses = λ v inside other.
       let (u, below, in_u, edge, earlier) = order.after v (all v inside) other in

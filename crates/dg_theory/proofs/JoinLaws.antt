@@ -37,13 +37,15 @@ one_more-other (x ∷ row) zero (suc w) other = refl
 one_more-other (x ∷ row) (suc v) zero other = refl
 one_more-other (x ∷ row) (suc v) (suc w) other = one_more-other row v w (λ same. other (ap suc same))
 
-row-same : (table : List (List ℕ)) (u v : ℕ) → slice_index_or (entry_more table u v) u [] ≡ one_more (slice_index_or table u []) v
+row-same : (table : List (List ℕ)) (u v : ℕ) →
+    slice_index_or (entry_more table u v) u [] ≡ one_more (slice_index_or table u []) v
 row-same [] zero v = refl
 row-same [] (suc u) v = row-same [] u v
 row-same (row ∷ table) zero v = refl
 row-same (row ∷ table) (suc u) v = row-same table u v
 
-row-other : (table : List (List ℕ)) (u v a : ℕ) → a ≢ u → slice_index_or (entry_more table u v) a [] ≡ slice_index_or table a []
+row-other : (table : List (List ℕ)) (u v a : ℕ) → a ≢ u →
+    slice_index_or (entry_more table u v) a [] ≡ slice_index_or table a []
 row-other [] zero v zero other = absurd (other refl)
 row-other [] zero v (suc a) other = refl
 row-other [] (suc u) v zero other = refl
@@ -55,7 +57,8 @@ row-other (row ∷ table) (suc u) v (suc a) other = row-other table u v a (λ sa
 
 pub entry_more-same : (table : List (List ℕ)) (u v : ℕ) → entry (entry_more table u v) u v ≡ entry table u v + 1
 unfolding entry
-entry_more-same table u v = ap (λ (row : List ℕ). slice_index row v) (row-same table u v) ∙ one_more-same (slice_index_or table u []) v
+entry_more-same table u v =
+    ap (λ (row : List ℕ). slice_index row v) (row-same table u v) ∙ one_more-same (slice_index_or table u []) v
 
 pub entry_more-column : (table : List (List ℕ)) (u v b : ℕ) → b ≢ v → entry (entry_more table u v) u b ≡ entry table u b
 unfolding entry
@@ -68,9 +71,10 @@ entry_more-row table u v a b other = ap (λ (row : List ℕ). slice_index row b)
 
 -- a cell and the one across the diagonal, one after the other
 both_more : (before middle after : ℕ → ℕ → ℕ) (u v : ℕ) → u ≢ v →
-    middle u v ≡ before u v + 1 → ((b : ℕ) → b ≢ v → middle u b ≡ before u b) → ((a b : ℕ) → a ≢ u → middle a b ≡ before a b) →
-    after v u ≡ middle v u + 1 → ((b : ℕ) → b ≢ u → after v b ≡ middle v b) → ((a b : ℕ) → a ≢ v → after a b ≡ middle a b) →
-    (a b : ℕ) → after a b ≡ before a b + on_pair u v a b
+    middle u v ≡ before u v + 1 → ((b : ℕ) → b ≢ v → middle u b ≡ before u b) →
+    ((a b : ℕ) → a ≢ u → middle a b ≡ before a b) →
+    after v u ≡ middle v u + 1 → ((b : ℕ) → b ≢ u → after v b ≡ middle v b) →
+    ((a b : ℕ) → a ≢ v → after a b ≡ middle a b) → (a b : ℕ) → after a b ≡ before a b + on_pair u v a b
 both_more before middle after u v different at row others back column rest a b = grind (arith, nat_tests)
 
 pub edge_is_added : EdgeIsAdded
@@ -135,4 +139,5 @@ total_more n f h u v w first second different added = elim (cases_eq w u) [
 pub valence_grows : ValenceGrows
 valence_grows g u v first second different w =
     rw (size_stays g u v)
-    (total_more g.size (edges_between (with_edge g u v) w) (edges_between g w) u v w first second different (edge_is_added g u v different w))
+    (total_more g.size (edges_between (with_edge g u v) w) (edges_between g w) u v w first second different
+    (edge_is_added g u v different w))

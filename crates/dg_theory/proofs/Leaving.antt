@@ -78,7 +78,8 @@ burnt_edges-last : (n : ℕ) (e : ℕ → ℕ → ℕ) (S : ℕ → Bool) → S 
     burnt_edges (suc n) e (removed S n) ≡ burnt_edges (suc n) e S + total_below (suc n) (λ w. off (S w) (e n w))
 burnt_edges-last n e S member =
     let before : burnt_edges n e (removed S n) ≡ burnt_edges n e S = burnt_edges-before n e S n (omega arith) in
-    let row : off (removed S n n) (total_below n (λ w. off (removed S n w) (e n w))) ≡ total_below n (λ w. off (S w) (e n w)) =
+    let row : off (removed S n n) (total_below n (λ w. off (removed S n w) (e n w)))
+    ≡ total_below n (λ w. off (S w) (e n w)) =
     ap (λ (b : Bool). off b (total_below n (λ w. off (removed S n w) (e n w)))) (removed-here S n)
     ∙ outside_total-before n S n (e n) (omega arith) in
     let none : off (S n) (total_below n (λ w. off (S w) (e n w))) ≡ 0 =

@@ -21,7 +21,8 @@ use Rattle.dg_theory.specs.RankLaws.{EquivalentLoss, LossOnce, LossBoundsRank}
 use Rattle.dg_theory.proofs.RankLaws.{less_winnable}
 use Rattle.dg_theory.proofs.Equivalence.{equivalent-sym}
 
-loss_carried : (g : Multigraph) (D E : Amounts) (k : ℕ) (F : Amounts) → AreEquivalent g D E → IsFirstLoss g D k F → IsFirstLoss g E k F
+loss_carried : (g : Multigraph) (D E : Amounts) (k : ℕ) (F : Amounts) → AreEquivalent g D E → IsFirstLoss g D k F →
+    IsFirstLoss g E k F
 loss_carried g D E k F same loss = record {
   effective = loss.effective;
   of_degree = loss.of_degree;

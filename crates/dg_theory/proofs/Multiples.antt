@@ -39,7 +39,8 @@ multiple-on k S v member =
 pub multiple-off : (k : ℤ) (S : ℕ → Bool) (v : ℕ) → S v ≡ false → multiple k (indicator S) v ≡ pos 0
 multiple-off k S v missing = ap (λ (b : Bool). k *ℤ (if b then pos 1 else pos 0)) missing ∙ *ℤ-zero k
 
-pub multiple-within : (k : ℤ) (S : ℕ → Bool) (v M : ℕ) → unsigned_abs k ≤ M → unsigned_abs (multiple k (indicator S) v) ≤ M
+pub multiple-within : (k : ℤ) (S : ℕ → Bool) (v M : ℕ) → unsigned_abs k ≤ M →
+    unsigned_abs (multiple k (indicator S) v) ≤ M
 multiple-within k S v M small = ⊎_elim
     (λ (member : S v ≡ true). rw (multiple-on k S v member) small)
     (λ (missing : S v ≡ false). rw (multiple-off k S v missing) (omega arith))

@@ -34,8 +34,8 @@ one_counts false true e both neither = omega arith
 one_counts false false e both neither = absurd (neither refl refl)
 
 -- no edges join two vertices with the same place
-no_edges : (g : Multigraph) (place : Amounts) (v w : ℕ) → IsMultigraph g → AreApart g.size place → v < g.size → w < g.size →
-    place v ≤ℤ place w → place w ≤ℤ place v → edges_between g v w ≡ 0
+no_edges : (g : Multigraph) (place : Amounts) (v w : ℕ) → IsMultigraph g → AreApart g.size place → v < g.size →
+    w < g.size → place v ≤ℤ place w → place w ≤ℤ place v → edges_between g v w ≡ 0
 no_edges g place v w graph apart inside within less more =
     let same : v ≡ w = apart v w inside within (omega (arith, ints)) in
     ap (λ (u : ℕ). edges_between g u w) same ∙ graph.loopless w
@@ -65,7 +65,8 @@ paired_total zero h e shared loopless = refl
 paired_total (suc n) h e shared loopless =
     let before : total_below n (λ v. total_below n (h v)) ≡ total_below n (λ v. total_below v (e v)) =
     paired_total n h e (λ v w inside within. shared v w (omega arith) (omega arith)) loopless in
-    let column : total_below n (λ v. total_below n (h v) + h v n) ≡ total_below n (λ v. total_below n (h v)) + total_below n (λ v. h v n) =
+    let column : total_below n (λ v. total_below n (h v) + h v n)
+    ≡ total_below n (λ v. total_below n (h v)) + total_below n (λ v. h v n) =
     total_below-add n (λ v. total_below n (h v)) (λ v. h v n) in
     let row : total_below n (h n) + total_below n (λ v. h v n) ≡ total_below n (e n) =
     sym (total_below-add n (h n) (λ v. h v n))
@@ -76,18 +77,22 @@ paired_total (suc n) h e shared loopless =
 pub earlier_total : (g : Multigraph) (place : Amounts) → IsMultigraph g → AreApart g.size place →
     total_below g.size (earlier g place) ≡ edge_count g
 earlier_total g place graph apart =
-    paired_total g.size (λ v w. if level place (place v) w then 0 else edges_between g v w) (edges_between g) (λ v w inside within.
+    paired_total g.size (λ v w. if level place (place v) w then 0 else edges_between g v w) (edges_between g)
+    (λ v w inside within.
     let back : edges_between g w v ≡ edges_between g v w = graph.symmetric w v in
-    ap (λ (e : ℕ). (if level place (place v) w then 0 else edges_between g v w) + (if level place (place w) v then 0 else e)) back
+    ap (λ (e : ℕ). (if level place (place v) w then 0 else edges_between g v w) +
+    (if level place (place w) v then 0 else e)) back
     ∙ one_counts (level place (place v) w) (level place (place w) v) (edges_between g v w)
-    (λ later sooner. no_edges g place v w graph apart inside within (level_in place (place v) w later) (level_in place (place w) v sooner))
+    (λ later sooner. no_edges g place v w graph apart inside within (level_in place (place v) w later)
+    (level_in place (place w) v sooner))
     (λ sooner later. omega (arith, ints, level_off place (place v) w sooner, level_off place (place w) v later)))
     graph.loopless
 
 pub order_divisor-degree : (g : Multigraph) (place : Amounts) → IsMultigraph g → AreApart g.size place →
     degree g.size (order_divisor g place) ≡ genus g -ℤ pos 1
 order_divisor-degree g place graph apart =
-    let all : sum_below g.size (λ v. order_divisor g place v +ℤ pos 1) ≡ degree g.size (order_divisor g place) +ℤ pos g.size =
+    let all : sum_below g.size (λ v. order_divisor g place v +ℤ pos 1)
+    ≡ degree g.size (order_divisor g place) +ℤ pos g.size =
     burnt_weight-all g.size (order_divisor g place) (λ _. false) (λ _ _. refl) in
     let edges : sum_below g.size (λ v. order_divisor g place v +ℤ pos 1) ≡ pos (total_below g.size (earlier g place)) =
     sum_below-total g.size _ (earlier g place) (λ v _. omega (arith, ints)) in
@@ -98,7 +103,8 @@ canonical-degree g graph =
     let place : Amounts = λ v. pos v in
     let apart : AreApart g.size place = λ v w _ _ same. omega (arith, ints) in
     let apart' : AreApart g.size (opposite place) = λ v w _ _ same. omega (arith, ints) in
-    let both : degree g.size (canonical g) ≡ degree g.size (order_divisor g place) +ℤ degree g.size (order_divisor g (opposite place)) =
+    let both : degree g.size (canonical g)
+    ≡ degree g.size (order_divisor g place) +ℤ degree g.size (order_divisor g (opposite place)) =
     sum_below-cong g.size (canonical g) _ (order_divisor-reversed g place graph apart)
     ∙ sum_below-add g.size (order_divisor g place) (order_divisor g (opposite place)) in
     omega (arith, ints, order_divisor-degree g place graph apart, order_divisor-degree g (opposite place) graph apart')

@@ -1,5 +1,5 @@
--- The divisor of an order of the vertices (Baker and Norine 2007, section 3.2). An order is told by a place for each vertex, a
--- whole number; one vertex is earlier than another where its place is less.
+-- The divisor of an order of the vertices (Baker and Norine 2007, section 3.2). An order is told by a place for each
+-- vertex, a whole number; one vertex is earlier than another where its place is less.
 --   earlier g place v        how many edges lead from v to earlier vertices
 --   order_divisor g place    at each vertex a dollar less than so many
 --   first_in                 in a set with a vertex, some vertex has the least place
@@ -37,7 +37,8 @@ first_in n S place u inside member =
     let within : (w : ℕ) → S w ≡ true → f w ≡ neg_ℤ (place w) =
     λ w in_w. ap (λ (b : Bool). height b (place u) (place w)) in_w in
     ⊎_elim
-    (λ (in_v : S v ≡ true). (v, below, in_v, λ w under in_w. omega (arith, ints, top w under, within w in_w, within v in_v)))
+    (λ (in_v : S v ≡ true).
+    (v, below, in_v, λ w under in_w. omega (arith, ints, top w under, within w in_w, within v in_v)))
     (λ (off_v : S v ≡ false).
     let out : f v ≡ neg_ℤ (place u) -ℤ pos 1 = ap (λ (b : Bool). height b (place u) (place v)) off_v in
     absurd (omega (arith, ints, top u inside, within u member, out)))

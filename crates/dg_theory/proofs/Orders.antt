@@ -1,6 +1,6 @@
 -- An order of the vertices in which each but q comes after one of its neighbours.
---   IsOrder g q S place n   q is in the set S and has place 0; each other vertex of S has a neighbour in S of an earlier
---                           place; and all places in S are below n
+--   IsOrder g q S place n   q is in the set S and has place 0; each other vertex of S has a neighbour in S of an
+--                           earlier place; and all places in S are below n
 --   order_start             the set of q alone has such an order
 --   order_next              a neighbour of a vertex of S can be added, at the place n
 --   order_exists            so in a multigraph all vertices have such an order
@@ -52,17 +52,20 @@ order_start g q = record {
   after = λ v member other. absurd (other (eqb-true v q member));
 }
 
-order_next : (g : Multigraph) (q : ℕ) (S : ℕ → Bool) (place : ℕ → ℕ) (n a b : ℕ) → IsMultigraph g → IsOrder g q S place n →
+order_next : (g : Multigraph) (q : ℕ) (S : ℕ → Bool) (place : ℕ → ℕ) (n a b : ℕ) → IsMultigraph g →
+    IsOrder g q S place n →
     a < g.size → S a ≡ true → S b ≡ false → 0 < edges_between g a b → IsOrder g q (added S b) (placed place b n) (suc n)
 order_next g q S place n a b graph order from within outside edge =
     let apart : (w : ℕ) → S w ≡ true → w ≢ b = λ w member same. both_ways _ outside (ap S (sym same) ∙ member) in
     let stays : (w : ℕ) → S w ≡ true → added S b w ≡ true = λ w member. added-other S b w (apart w member) ∙ member in
-    let old : (w : ℕ) → S w ≡ true → placed place b n w ≡ place w = λ w member. placed-other place b n w (apart w member) in
+    let old : (w : ℕ) → S w ≡ true → placed place b n w ≡ place w =
+    λ w member. placed-other place b n w (apart w member) in
     record {
       start = stays q order.start;
       first = old q order.start ∙ order.first;
       before = λ v member. ⊎_elim
-          (λ (same : v ≡ b). let at : placed place b n v ≡ n = ap (placed place b n) same ∙ placed-here place b n in omega arith)
+          (λ (same : v ≡ b). let at : placed place b n v ≡ n = ap (placed place b n) same ∙ placed-here place b n in
+          omega arith)
           (λ (other : v ≡ b → ⊥).
           let known : S v ≡ true = sym (added-other S b v other) ∙ member in
           omega (arith, old v known, order.before v known))
@@ -98,7 +101,8 @@ order_grows g q graph vertex (suc k) S place n few order =
     let out : Leaves g.size (edges_between g) S =
     JoinedIn-leaves S vertex order.start (graph.connected q some.0 vertex some.1) (not-true _ some.2) in
     let fewer : count_of g.size (λ w. not (added S out.b w)) < count_of g.size (λ w. not (S w)) =
-    count_of-more g.size (λ w. not (added S out.b w)) (λ w. not (S w)) (λ w missing. not_from_false _ (added-kept S out.b w (not-true _ missing)))
+    count_of-more g.size (λ w. not (added S out.b w)) (λ w. not (S w))
+    (λ w missing. not_from_false _ (added-kept S out.b w (not-true _ missing)))
     out.b out.to (not_from_true _ (added-here S out.b)) (not_from_false _ out.outside) in
     order_grows g q graph vertex k (added S out.b) (placed place out.b n) (suc n) (omega arith)
     (order_next g q S place n out.a out.b graph order out.from out.within out.outside out.edge))
@@ -108,4 +112,5 @@ order_grows g q graph vertex (suc k) S place n few order =
 pub order_exists : (g : Multigraph) (q : ℕ) → IsMultigraph g → q < g.size →
     (T : ℕ → Bool) × (place : ℕ → ℕ) × (n : ℕ) × IsOrder g q T place n × ((w : ℕ) → w < g.size → T w ≡ true)
 order_exists g q graph vertex =
-    order_grows g q graph vertex (count_of g.size (λ w. not (w == q))) (λ w. w == q) (λ _. 0) 1 (omega arith) (order_start g q)
+    order_grows g q graph vertex (count_of g.size (λ w. not (w == q))) (λ w. w == q) (λ _. 0) 1 (omega arith)
+    (order_start g q)

@@ -28,7 +28,8 @@ abbrev pub total_script : List Play → Amounts
 total_script [] w = pos 0
 total_script (p ∷ l) w = script_of_play p w +ℤ total_script l w
 
-pub played-total : (g : Multigraph) (D : Amounts) (l : List Play) (v : ℕ) → played g D l v ≡ fired g D (total_script l) v
+pub played-total : (g : Multigraph) (D : Amounts) (l : List Play) (v : ℕ) →
+    played g D l v ≡ fired g D (total_script l) v
 played-total g D [] v = sym (fired-constant g D (pos 0) v)
 played-total g D (p ∷ l) v =
     played-total g (fired g D (script_of_play p)) l v ∙ fired-fired g D (script_of_play p) (total_script l) v

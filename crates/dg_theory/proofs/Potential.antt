@@ -38,11 +38,13 @@ pub record IsPotential (g : Multigraph) (q : ℕ) (c : ℕ → ℕ) : Type 0 whe
   pub loses : (v : ℕ) → v < g.size → v ≢ q → (gain g (as_script c) v +ℤ pos 1) ≤ℤ pos 0
 
 pub level_weight-mono : (i j : ℕ) → i ≤ j → level_weight i ≤ level_weight j
-level_weight-mono i zero less = let none : i ≡ 0 = omega arith in let same : level_weight i ≡ level_weight 0 = ap level_weight none in omega arith
+level_weight-mono i zero less = let none : i ≡ 0 = omega arith in let same : level_weight i ≡ level_weight 0 =
+    ap level_weight none in omega arith
 level_weight-mono i (suc j) less =
     ⊎_elim
     (λ (same : i ≡ suc j). let at : level_weight i ≡ level_weight (suc j) = ap level_weight same in omega arith)
-    (λ (other : i ≡ suc j → ⊥). let before : level_weight i ≤ level_weight j = level_weight-mono i j (omega arith) in omega arith)
+    (λ (other : i ≡ suc j → ⊥). let before : level_weight i ≤ level_weight j = level_weight-mono i j (omega arith) in
+    omega arith)
     (cases_eq i (suc j))
 
 pub step_ratio : (i : ℕ) → i < 14 → 64 ^ (14 - i) ≡ 64 * 64 ^ (14 - suc i)
@@ -97,7 +99,8 @@ pub levels_pull : (g : Multigraph) (c : ℕ → ℕ) (v u K L : ℕ) → valence
 levels_pull g c v u K L few steep inside edge low high =
     let sum : (gain g (as_script c) v +ℤ pos L) ≤ℤ pos (valence g v * K) =
     pulled g.size (edges_between g v) (λ w. pos (c w) -ℤ pos (c v)) K L u
-    (λ w below joined. let at : c w ≤ c v + K = high w below joined in omega (arith, ints)) inside edge (omega (arith, ints)) in
+    (λ w below joined. let at : c w ≤ c v + K = high w below joined in omega (arith, ints)) inside edge
+    (omega (arith, ints)) in
     let most : valence g v * K ≤ 63 * K = mul-le (valence g v) K 63 K few (omega arith) in
     omega (arith, ints)
 
@@ -130,8 +133,8 @@ off_q_loses g q level v j graph distance small few inside other at =
     omega arith))
     (cases_lt j 14)
 
-pub levels_are_potential : (g : Multigraph) (q : ℕ) (level : ℕ → ℕ) → IsMultigraph g → IsDistance g q level → g.size ≤ 16 →
-    ((v : ℕ) → v < g.size → valence g v ≤ 63) → IsPotential g q (weights level)
+pub levels_are_potential : (g : Multigraph) (q : ℕ) (level : ℕ → ℕ) → IsMultigraph g → IsDistance g q level →
+    g.size ≤ 16 → ((v : ℕ) → v < g.size → valence g v ≤ 63) → IsPotential g q (weights level)
 levels_are_potential g q level graph distance small few = record {
   none_at_q = ap level_weight distance.start;
   loses = λ v inside other.

@@ -13,9 +13,25 @@ mulz-add (pos zero) a b = omega (arith, ints, zero-*ℤ (a +ℤ b), zero-*ℤ a,
 mulz-add (pos (suc k)) a b =
     omega (arith, ints, suc_ℤ-*ℤ (pos k) (a +ℤ b), suc_ℤ-*ℤ (pos k) a, suc_ℤ-*ℤ (pos k) b, mulz-add (pos k) a b)
 mulz-add (negsuc zero) a b =
-    omega (arith, ints, pred_ℤ-*ℤ (pos 0) (a +ℤ b), pred_ℤ-*ℤ (pos 0) a, pred_ℤ-*ℤ (pos 0) b, zero-*ℤ (a +ℤ b), zero-*ℤ a, zero-*ℤ b)
+    omega (
+      arith,
+      ints,
+      pred_ℤ-*ℤ (pos 0) (a +ℤ b),
+      pred_ℤ-*ℤ (pos 0) a,
+      pred_ℤ-*ℤ (pos 0) b,
+      zero-*ℤ (a +ℤ b),
+      zero-*ℤ a,
+      zero-*ℤ b,
+    )
 mulz-add (negsuc (suc k)) a b =
-    omega (arith, ints, pred_ℤ-*ℤ (negsuc k) (a +ℤ b), pred_ℤ-*ℤ (negsuc k) a, pred_ℤ-*ℤ (negsuc k) b, mulz-add (negsuc k) a b)
+    omega (
+      arith,
+      ints,
+      pred_ℤ-*ℤ (negsuc k) (a +ℤ b),
+      pred_ℤ-*ℤ (negsuc k) a,
+      pred_ℤ-*ℤ (negsuc k) b,
+      mulz-add (negsuc k) a b,
+    )
 
 pub mul-change : (k : ℕ) (a b c d : ℤ) → pos k *ℤ (a -ℤ c) +ℤ pos k *ℤ (b -ℤ d) ≡ pos k *ℤ ((a +ℤ b) -ℤ (c +ℤ d))
 mul-change k a b c d =

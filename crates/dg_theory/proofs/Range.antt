@@ -41,8 +41,8 @@ use Rattle.dg_theory.proofs.SumLaws.{sum_below-cong}
 use Rattle.dg_theory.proofs.Distances.{level_positive}
 use Rattle.dg_theory.proofs.Debts.{fired_nearer, farther_stays, level_gains, changes_little}
 
-pub within_level : (c B : ℕ) (x z : ℤ) → unsigned_abs x ≤ B → c ≤ B → x ≤ℤ (z +ℤ pos (63 * c)) → z ≤ℤ (x +ℤ pos (63 * c)) →
-    unsigned_abs z ≤ 64 * B
+pub within_level : (c B : ℕ) (x z : ℤ) → unsigned_abs x ≤ B → c ≤ B → x ≤ℤ (z +ℤ pos (63 * c)) →
+    z ≤ℤ (x +ℤ pos (63 * c)) → unsigned_abs z ≤ 64 * B
 within_level c B x z small few up down =
     let (low, high) = within_abs x B small in
     abs_within z (64 * B) (omega (arith, ints)) (omega (arith, ints))
@@ -53,7 +53,8 @@ level_limit g level j k B D v few often small =
     let (up, down) = changes_little g level j k D v few in
     within_level k B (D v) (fired_nearer g level j k D v) small often down up
 
-pub level_paid : (g : Multigraph) (q : ℕ) (level : ℕ → ℕ) (j k : ℕ) (D : Amounts) (v : ℕ) → IsDistance g q level → v < g.size →
+pub level_paid : (g : Multigraph) (q : ℕ) (level : ℕ → ℕ) (j k : ℕ) (D : Amounts) (v : ℕ) → IsDistance g q level →
+    v < g.size →
     valence g v ≤ 63 → 0 < j → level v ≡ j → pos 0 ≤ℤ (D v +ℤ pos k) → pos 0 ≤ℤ fired_nearer g level j k D v
 level_paid g q level j k D v distance inside few some at enough =
     let (more, most) = level_gains g q level j k D v distance inside few some at in omega (arith, ints)
@@ -88,7 +89,8 @@ limit_step M j few =
     ap (λ (y : ℕ). M * y) (next ∙ power) ∙ (sym (mul_assoc M x 64) ∙ mul_comm (M * x) 64)
 
 pub limit_last : (M : ℕ) → M ≤ 2000000 → M * 64 ^ (15 - 0) < 2 ^ 111
-limit_last M small = let most : M * 64 ^ 15 ≤ 2000000 * 64 ^ 15 = mul-le M (64 ^ 15) 2000000 (64 ^ 15) small (omega arith) in omega arith
+limit_last M small = let most : M * 64 ^ 15 ≤ 2000000 * 64 ^ 15 =
+    mul-le M (64 ^ 15) 2000000 (64 ^ 15) small (omega arith) in omega arith
 
 sum_below-nonneg : (n : ℕ) (f : ℕ → ℤ) → ((w : ℕ) → w < n → pos 0 ≤ℤ f w) → pos 0 ≤ℤ sum_below n f
 sum_below-nonneg zero f rich = omega (arith, ints)
@@ -106,7 +108,8 @@ sum_below-one (suc n) q f inside rich =
     let before : pos 0 ≤ℤ sum_below n f = sum_below-nonneg n f (λ w below. rich w (omega arith) (omega arith)) in
     omega (arith, ints))
     (λ (other : q ≡ n → ⊥).
-    let before : f q ≤ℤ sum_below n f = sum_below-one n q f (omega arith) (λ w below off_q. rich w (omega arith) off_q) in
+    let before : f q ≤ℤ sum_below n f =
+    sum_below-one n q f (omega arith) (λ w below off_q. rich w (omega arith) off_q) in
     let last : pos 0 ≤ℤ f n = rich n (omega arith) (omega arith) in
     omega (arith, ints))
     (cases_eq q n)
@@ -124,7 +127,8 @@ sum_below-two (suc n) q v f vertex inside apart rich =
     (λ (other : v ≡ n → ⊥). ⊎_elim
     (λ (last_q : q ≡ n).
     let at : f q ≡ f n = ap f last_q in
-    let before : f v ≤ℤ sum_below n f = sum_below-one n v f (omega arith) (λ w below _. rich w (omega arith) (omega arith)) in
+    let before : f v ≤ℤ sum_below n f =
+    sum_below-one n v f (omega arith) (λ w below _. rich w (omega arith) (omega arith)) in
     omega (arith, ints))
     (λ (other_q : q ≡ n → ⊥).
     let before : (f v +ℤ f q) ≤ℤ sum_below n f = sum_below-two n q v f (omega arith) (omega arith) apart fewer in
@@ -156,7 +160,8 @@ led_step g q D E S k graph led without often solvent = record {
   sum = degree_stays g E (multiple k (indicator S)) graph ∙ led.sum;
   rises =
       let got : gain g (multiple k (indicator S)) q ≡ pos (edges_into g S q) *ℤ k = gain-all_outside g k S q without in
-      let some : (pos (edges_into g S q) *ℤ pos 0) ≤ℤ (pos (edges_into g S q) *ℤ k) = mul-mono (edges_into g S q) (pos 0) k often in
+      let some : (pos (edges_into g S q) *ℤ pos 0) ≤ℤ (pos (edges_into g S q) *ℤ k) =
+      mul-mono (edges_into g S q) (pos 0) k often in
       let none : pos (edges_into g S q) *ℤ pos 0 ≡ pos 0 = *ℤ-zero (pos (edges_into g S q)) in
       let before : D q ≤ℤ E q = led.rises in
       omega (arith, ints);

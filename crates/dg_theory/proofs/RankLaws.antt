@@ -23,7 +23,8 @@ use Rattle.dg_theory.proofs.Equivalence.{equivalent-less}
 use Rattle.dg_theory.proofs.ExistenceLaws.{rich_is_winnable}
 use Rattle.dg_theory.proofs.Giving.{win_more, degree-less, degree-only_at, effective-only_at, none_of_degree_0, degree-winnable}
 
-pub less_winnable : (g : Multigraph) (D E F : Amounts) → AreEquivalent g D E → IsWinnable g (less D F) ↔ IsWinnable g (less E F)
+pub less_winnable : (g : Multigraph) (D E F : Amounts) → AreEquivalent g D E →
+    IsWinnable g (less D F) ↔ IsWinnable g (less E F)
 less_winnable g D E F same = equivalent-winnable g (less D F) (less E F) (equivalent-less g D E F same)
 
 pub equivalent-rank : EquivalentRank
@@ -55,7 +56,8 @@ rank_zero g D = (
       win_more g (less D (λ _. pos 0)) D (λ v below. omega (arith, ints))
       (rank (λ _. pos 0) (λ v below. omega (arith, ints)) (sum_below-zero g.size (λ _. pos 0) (λ w below. refl))),
   λ win E effective of_degree.
-      win_more g D (less D E) (λ v below. omega (arith, ints, none_of_degree_0 g.size E effective of_degree v below)) win,
+      win_more g D (less D E)
+      (λ v below. omega (arith, ints, none_of_degree_0 g.size E effective of_degree v below)) win,
 )
 
 pub rich_rank : RichRank

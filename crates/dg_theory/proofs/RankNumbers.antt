@@ -49,8 +49,10 @@ rank_passes g D (negsuc n) k (none, fails) low = absurd (omega (arith, ints))
 pub rank_once : RankOnce
 rank_once g D (pos j) (pos k) (passes, fails) (passes', fails') =
     ap pos (omega (arith, not_above g D j k fails passes', not_above g D k j fails' passes))
-rank_once g D (pos j) (negsuc n) (passes, fails) (none, fails') = absurd (fails' (rank_down g D 0 j (omega arith) passes))
-rank_once g D (negsuc m) (pos k) (none, fails) (passes, fails') = absurd (fails (rank_down g D 0 k (omega arith) passes))
+rank_once g D (pos j) (negsuc n) (passes, fails) (none, fails') =
+    absurd (fails' (rank_down g D 0 j (omega arith) passes))
+rank_once g D (negsuc m) (pos k) (none, fails) (passes, fails') =
+    absurd (fails (rank_down g D 0 k (omega arith) passes))
 rank_once g D (negsuc m) (negsuc n) (none, fails) (none', fails') = ap negsuc (none ∙ sym none')
 
 pub rank_of_dual : RankOfDual

@@ -83,7 +83,8 @@ rank_of_sum g D E j k rank rank' F effective of_degree =
     win_more g (λ v. less D A v +ℤ less E (less F A) v) (less (λ v. D v +ℤ E v) F) (λ v below. omega (arith, ints))
     (sum_winnable g (less D A) (less E (less F A)) (rank A part.effective part.of_degree) rest)
 
-canonical_below : (g : Multigraph) (k : ℕ) → IsMultigraph g → 0 < g.size → HasRankAtLeast g (canonical g) k → pos k <ℤ genus g
+canonical_below : (g : Multigraph) (k : ℕ) → IsMultigraph g → 0 < g.size → HasRankAtLeast g (canonical g) k →
+    pos k <ℤ genus g
 canonical_below g k graph some rank =
     by_lt_z (pos k) (genus g)
     (λ (low : pos k <ℤ genus g). low)

@@ -54,13 +54,18 @@ distance-gradual g q = record {
       let next : reached g q (suc (wait g.size (λ k. reached g q k w))) v ≡ true =
       reached-next g q (wait g.size (λ k. reached g q k w)) w v w_below edge
       (wait-end g.size (λ k. reached g q k w) (reached-lasts g q w) near) in
-      omega (arith, wait-over g.size (λ k. reached g q k v) (suc (wait g.size (λ k. reached g q k w))) (reached-lasts g q v) next))
+      omega (
+        arith,
+        wait-over g.size (λ k. reached g q k v) (suc (wait g.size (λ k. reached g q k w)))
+            (reached-lasts g q v) next,
+      ))
       (λ (far : g.size ≤ wait g.size (λ k. reached g q k w)). omega (arith, wait-few g.size (λ k. reached g q k v)))
       (cases_lt (wait g.size (λ k. reached g q k w)) g.size);
 }
 
 -- with the distance k of v taken apart
-nearer-at : (g : Multigraph) (q v k : ℕ) → IsGradual g q (distance_from g q) → k < g.size → distance_from g q v ≡ k → v ≢ q →
+nearer-at : (g : Multigraph) (q v k : ℕ) → IsGradual g q (distance_from g q) → k < g.size → distance_from g q v ≡ k →
+    v ≢ q →
     v < g.size → (u : ℕ) × (u < g.size) × (0 < edges_between g v u) × (distance_from g q u + 1 ≡ distance_from g q v)
 unfolding distance_from
 nearer-at g q v zero gradual few at other vertex =
@@ -71,10 +76,12 @@ nearer-at g q v (suc k) gradual few at other vertex =
     let on : reached g q (wait g.size (λ k. reached g q k v)) v ≡ true =
     wait-end g.size (λ k. reached g q k v) (reached-lasts g q v) (omega arith) in
     let off : reached g q k v ≡ false = false_from_ne_true (reached g q k v) (λ early.
-    let short : wait g.size (λ k. reached g q k v) ≤ k = wait-over g.size (λ k. reached g q k v) k (reached-lasts g q v) early in
+    let short : wait g.size (λ k. reached g q k v) ≤ k =
+    wait-over g.size (λ k. reached g q k v) k (reached-lasts g q v) early in
     absurd (omega arith)) in
     let (u, below, in_u, edge) = reached-back g q k v off (sym (ap (λ j. reached g q j v) at) ∙ on) in
-    let short : wait g.size (λ k. reached g q k u) ≤ k = wait-over g.size (λ k. reached g q k u) k (reached-lasts g q u) in_u in
+    let short : wait g.size (λ k. reached g q k u) ≤ k =
+    wait-over g.size (λ k. reached g q k u) k (reached-lasts g q u) in_u in
     let step : distance_from g q v ≤ distance_from g q u + 1 = gradual.close v u vertex below edge in
     (u, below, edge, omega arith)
 

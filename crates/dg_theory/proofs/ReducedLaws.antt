@@ -2,7 +2,8 @@
 --   reduced_once     equivalent divisors that are both reduced for q agree on the vertices
 --   effective_from   a reduced divisor that is not in debt at q is effective
 --   paid_at_q        a reduced divisor from which a script clears all debts is not in debt at q
---   reduced_decides  a divisor is winnable exactly where the reduced divisor that it is equivalent to is not in debt at q
+--   reduced_decides  a divisor is winnable exactly where the reduced divisor that it is equivalent to is not in debt at
+--                    q
 use Rattle.std.proofs.Common.{◌≡◌, ℕ, ◌<◌, [], arith, ap, sym, ◌∙◌, ⊎_elim}
 use Rattle.std.proofs.lemmas.Bool.{cases_eq}
 use Rattle.std.proofs.lemmas.Int.{ints}
@@ -35,7 +36,8 @@ effective_from g q R reduced paid v inside =
     (λ (other : v ≡ q → ⊥). reduced.no_debt v inside other)
     (cases_eq v q)
 
-paid_at_q : (g : Multigraph) (q : ℕ) (R s : Amounts) → q < g.size → IsReduced g q R → IsEffective g.size (fired g R s) → pos 0 ≤ℤ R q
+paid_at_q : (g : Multigraph) (q : ℕ) (R s : Amounts) → q < g.size → IsReduced g q R → IsEffective g.size (fired g R s) →
+    pos 0 ≤ℤ R q
 paid_at_q g q R s vertex reduced effective =
     let most : IsLargest g.size s q = q_lends_most g q R s vertex reduced (λ v inside _. effective v inside) in
     let lost : gain g s q ≤ℤ pos 0 = lends_most_gains_none g s q most in

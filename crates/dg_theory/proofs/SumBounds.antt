@@ -48,7 +48,8 @@ mul-mono (suc k) x y less = omega (arith, ints, suc_ℤ-*ℤ (pos k) x, suc_ℤ-
 pub mul-grows : (k : ℕ) (x : ℤ) → 0 < k → pos 0 ≤ℤ x → x ≤ℤ (pos k *ℤ x)
 mul-grows zero x some high = absurd (omega arith)
 mul-grows (suc zero) x some high = omega (arith, ints, suc_ℤ-*ℤ (pos 0) x, zero-*ℤ x)
-mul-grows (suc (suc k)) x some high = omega (arith, ints, suc_ℤ-*ℤ (pos (suc k)) x, mul-grows (suc k) x (omega arith) high)
+mul-grows (suc (suc k)) x some high =
+    omega (arith, ints, suc_ℤ-*ℤ (pos (suc k)) x, mul-grows (suc k) x (omega arith) high)
 
 pub sum_below-le_term : (n : ℕ) (f : ℕ → ℤ) → ((w : ℕ) → w < n → f w ≤ℤ pos 0) → (v : ℕ) → v < n → sum_below n f ≤ℤ f v
 sum_below-le_term zero f low v inside = absurd (omega arith)

@@ -28,7 +28,8 @@ sum_below-zero (suc n) f none =
     let last : f n ≡ pos 0 = none n (omega arith) in
     omega (arith, ints)
 
-pub sum_below-more : (n : ℕ) (f : ℕ → ℤ) (s x z : ℤ) → s ≡ sum_below n f → x ≡ f n → z ≡ s +ℤ x → z ≡ sum_below (n + 1) f
+pub sum_below-more : (n : ℕ) (f : ℕ → ℤ) (s x z : ℤ) → s ≡ sum_below n f → x ≡ f n → z ≡ s +ℤ x →
+    z ≡ sum_below (n + 1) f
 sum_below-more n f s x z before last whole = rw add-one (omega (arith, ints))
 
 pub sum_below-differ_at : (n : ℕ) (f h : ℕ → ℤ) (v : ℕ) → v < n → ((w : ℕ) → w < n → w ≢ v → f w ≡ h w) →

@@ -21,5 +21,6 @@ pub sum_below-swap : (m n : ℕ) (f : ℕ → ℕ → ℤ) →
     sum_below m (λ v. sum_below n (λ w. f v w)) ≡ sum_below n (λ w. sum_below m (λ v. f v w))
 sum_below-swap zero n f = sym (sum_below-zero n (λ _. pos 0) (λ w below. refl))
 sum_below-swap (suc m) n f =
-    let rows : sum_below m (λ v. sum_below n (λ w. f v w)) ≡ sum_below n (λ w. sum_below m (λ v. f v w)) = sum_below-swap m n f in
+    let rows : sum_below m (λ v. sum_below n (λ w. f v w)) ≡ sum_below n (λ w. sum_below m (λ v. f v w)) =
+    sum_below-swap m n f in
     omega (arith, ints, sum_below-add n (λ w. sum_below m (λ v. f v w)) (λ w. f m w))

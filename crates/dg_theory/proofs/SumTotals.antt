@@ -18,6 +18,7 @@ pub sum_below-minus : (n : ℕ) (f : ℕ → ℤ) (h : ℕ → ℕ) → ((w : �
     sum_below n f +ℤ pos (total_below n h) ≡ pos 0
 sum_below-minus zero f h cancels = refl
 sum_below-minus (suc n) f h cancels =
-    let before : sum_below n f +ℤ pos (total_below n h) ≡ pos 0 = sum_below-minus n f h (λ w below. cancels w (omega arith)) in
+    let before : sum_below n f +ℤ pos (total_below n h) ≡ pos 0 =
+    sum_below-minus n f h (λ w below. cancels w (omega arith)) in
     let last : f n +ℤ pos (h n) ≡ pos 0 = cancels n (omega arith) in
     omega (arith, ints)

@@ -24,8 +24,8 @@ use Rattle.dg_theory.proofs.Leaving.{removed, removed-here, removed-other, remov
 abbrev pub Falls : Multigraph → Amounts → (ℕ → Bool) → ℕ → Type 0
 Falls g D T v = (v < g.size) × (T v ≡ true) × (D v <ℤ pos (edges_out g T v))
 
-abbrev pub IsWithin : Multigraph → (ℕ → Bool) → (ℕ → Bool) → Type 0
-IsWithin g T S = (w : ℕ) → w < g.size → T w ≡ true → S w ≡ true
+abbrev pub IsPartOf : Multigraph → (ℕ → Bool) → (ℕ → Bool) → Type 0
+IsPartOf g T S = (w : ℕ) → w < g.size → T w ≡ true → S w ≡ true
 
 abbrev pub AreVertices : Multigraph → (ℕ → Bool) → Type 0
 AreVertices g S = (v : ℕ) → S v ≡ true → v < g.size
@@ -35,7 +35,7 @@ abbrev all_but : Multigraph → ℕ → ℕ → Bool
 all_but g q = removed (λ v. nat_lt v g.size) q
 
 abbrev pub Holds : Multigraph → ℕ → Amounts → (ℕ → Bool) → Type 0
-Holds g q D S = (T : ℕ → Bool) → T q ≡ false → ((v : ℕ) × Falls g D T v) ⊎ IsWithin g T S
+Holds g q D S = (T : ℕ → Bool) → T q ≡ false → ((v : ℕ) × Falls g D T v) ⊎ IsPartOf g T S
 
 -- edges that count where b fails, and where c fails
 out-le-out-once : (b c : Bool) (e : ℕ) → (c ≡ true → b ≡ true) → (if b then 0 else e) ≤ (if c then 0 else e)
@@ -43,7 +43,7 @@ out-le-out-once true c e kept = omega arith
 out-le-out-once false true e kept = absurd (both_ways _ refl (kept refl))
 out-le-out-once false false e kept = omega arith
 
-pub out-le-out : (g : Multigraph) (T S : ℕ → Bool) (v : ℕ) → IsWithin g T S → edges_out g S v ≤ edges_out g T v
+pub out-le-out : (g : Multigraph) (T S : ℕ → Bool) (v : ℕ) → IsPartOf g T S → edges_out g S v ≤ edges_out g T v
 out-le-out g T S v within =
     total_below-le g.size _ _ (λ w below. out-le-out-once (S w) (T w) (edges_between g v w) (within w below))
 
@@ -57,7 +57,7 @@ holds_next : (g : Multigraph) (q : ℕ) (D : Amounts) (S : ℕ → Bool) (v : �
 holds_next g q D S v holds (inside, member, less) T without =
     ⊎_elim
     (λ (falls : (u : ℕ) × Falls g D T u). inl falls)
-    (λ (within : IsWithin g T S). ⊎_elim
+    (λ (within : IsPartOf g T S). ⊎_elim
     (λ (in_T : T v ≡ true). inl (v, (inside, in_T, omega (arith, ints, out-le-out g T S v within))))
     (λ (off_T : T v ≡ false). inr (λ w below in_w.
     let other : w ≢ v = λ same. both_ways _ off_T (ap T (sym same) ∙ in_w) in
@@ -98,7 +98,7 @@ reduced_if g q D S solvent holds empty = record {
   no_debt = solvent;
   none_fires = λ T without u below member. ⊎_elim
       (λ (falls : (v : ℕ) × Falls g D T v). (falls.0, falls.1.0, falls.1.1, falls.1.2))
-      (λ (within : IsWithin g T S). absurd (both_ways _ (empty u below) (within u below member)))
+      (λ (within : IsPartOf g T S). absurd (both_ways _ (empty u below) (within u below member)))
       (holds T without);
 }
 
@@ -106,8 +106,8 @@ abbrev pub FiresSome : Multigraph → ℕ → Amounts → Type 0
 FiresSome g q D = (S : ℕ → Bool) × FiresFreely g q D S × ((v : ℕ) × (v < g.size) × (S v ≡ true))
 
 -- with at most k vertices in S
-burnt_down : (g : Multigraph) (q : ℕ) (D : Amounts) → HasNoDebtOff g q D → (k : ℕ) (S : ℕ → Bool) → count_of g.size S ≤ k →
-    AreVertices g S → S q ≡ false → Holds g q D S → IsReduced g q D ⊎ FiresSome g q D
+burnt_down : (g : Multigraph) (q : ℕ) (D : Amounts) → HasNoDebtOff g q D → (k : ℕ) (S : ℕ → Bool) →
+    count_of g.size S ≤ k → AreVertices g S → S q ≡ false → Holds g q D S → IsReduced g q D ⊎ FiresSome g q D
 burnt_down g q D solvent zero S few vertices without holds =
     inl (reduced_if g q D S solvent holds (λ w below. false_from_ne_true (S w) (λ member.
     absurd (omega (arith, count_of-some g.size S w below member)))))

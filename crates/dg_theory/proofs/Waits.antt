@@ -73,7 +73,8 @@ wait-on (suc n) R k lasts off below = ⊎_elim
   where
     still : (R : ℕ → Bool) (j k : ℕ) → Lasts R → R k ≡ false → j ≤ k → R j ≡ false
     still R j k lasts off early = ⊎_elim
-        (λ (on : R j ≡ true). let end : R k ≡ true = lasts-to R j k lasts on early in let clash : ⊥ = cc in absurd clash)
+        (λ (on : R j ≡ true). let end : R k ≡ true = lasts-to R j k lasts on early in let clash : ⊥ = cc in
+        absurd clash)
         (λ (out : R j ≡ false). out)
         (cases_Bool (R j))
 

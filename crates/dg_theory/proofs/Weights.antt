@@ -52,7 +52,8 @@ weight_is g q c D none solvent =
 pub lendings_weigh : (g : Multigraph) (q : ℕ) (c k : ℕ → ℕ) → IsPotential g q c → k q ≡ 0 →
     (sum_below g.size (λ v. as_script k v *ℤ gain g (as_script c) v) +ℤ pos (total_below g.size k)) ≤ℤ pos 0
 lendings_weigh g q c k potential keeps =
-    let each : (v : ℕ) → v < g.size → (as_script k v *ℤ gain g (as_script c) v +ℤ pos (k v)) ≤ℤ pos 0 = λ v inside. ⊎_elim
+    let each : (v : ℕ) → v < g.size → (as_script k v *ℤ gain g (as_script c) v +ℤ pos (k v)) ≤ℤ pos 0 =
+    λ v inside. ⊎_elim
     (λ (same : v ≡ q).
     let none : k v ≡ 0 = ap k same ∙ keeps in
     rw none (omega (arith, ints, zero-*ℤ (gain g (as_script c) v))))
@@ -65,7 +66,8 @@ lendings_weigh g q c k potential keeps =
     let parts : sum_below g.size (λ v. as_script k v *ℤ gain g (as_script c) v +ℤ pos (k v))
     ≡ sum_below g.size (λ v. as_script k v *ℤ gain g (as_script c) v) +ℤ sum_below g.size (λ v. pos (k v)) =
     sum_below-add g.size _ _ in
-    let count : sum_below g.size (λ v. pos (k v)) ≡ pos (total_below g.size k) = sum_below-total g.size _ k (λ v _. refl) in
+    let count : sum_below g.size (λ v. pos (k v)) ≡ pos (total_below g.size k) =
+    sum_below-total g.size _ k (λ v _. refl) in
     omega (arith, ints)
 
 pub weight_falls : (g : Multigraph) (q : ℕ) (c k : ℕ → ℕ) (D : Amounts) → IsMultigraph g → IsPotential g q c → k q ≡ 0 →
@@ -74,13 +76,15 @@ pub weight_falls : (g : Multigraph) (q : ℕ) (c k : ℕ → ℕ) (D : Amounts) 
 weight_falls g q c k D graph potential keeps solvent after =
     let before_is : sum_below g.size (λ v. as_script c v *ℤ D v) ≡ pos (weight_of g c D) =
     weight_is g q c D potential.none_at_q solvent in
-    let after_is : sum_below g.size (λ v. as_script c v *ℤ fired g D (as_script k) v) ≡ pos (weight_of g c (fired g D (as_script k))) =
+    let after_is : sum_below g.size (λ v. as_script c v *ℤ fired g D (as_script k) v)
+    ≡ pos (weight_of g c (fired g D (as_script k))) =
     weight_is g q c (fired g D (as_script k)) potential.none_at_q after in
     let parts : sum_below g.size (λ v. as_script c v *ℤ fired g D (as_script k) v)
     ≡ sum_below g.size (λ v. as_script c v *ℤ D v) +ℤ sum_below g.size (λ v. as_script c v *ℤ gain g (as_script k) v) =
     sum_below-cong g.size _ _ (λ v _. mulz-add (pos (c v)) (D v) (gain g (as_script k) v)) ∙ sum_below-add g.size _ _ in
     let turned : sum_below g.size (λ v. as_script c v *ℤ gain g (as_script k) v)
-    ≡ sum_below g.size (λ v. as_script k v *ℤ gain g (as_script c) v) = gain-symmetric g (as_script c) (as_script k) graph in
+    ≡ sum_below g.size (λ v. as_script k v *ℤ gain g (as_script c) v) =
+    gain-symmetric g (as_script c) (as_script k) graph in
     let low : (sum_below g.size (λ v. as_script k v *ℤ gain g (as_script c) v) +ℤ pos (total_below g.size k)) ≤ℤ pos 0 =
     lendings_weigh g q c k potential keeps in
     omega (arith, ints)
@@ -97,7 +101,8 @@ pub weight_falls_by_firings : (g : Multigraph) (q : ℕ) (c : ℕ → ℕ) (D : 
     IsMultigraph g → IsPotential g q c → HasNoDebtOff g q D → S q ≡ false → pos 1 ≤ℤ k →
     HasNoDebtOff g q (fired g D (multiple k (indicator S))) → v < g.size → S v ≡ true →
     weight_of g c (fired g D (multiple k (indicator S))) < weight_of g c D
-weight_falls_by_firings g q c D S (negsuc n) v graph potential solvent without often after inside member = absurd (omega (arith, ints))
+weight_falls_by_firings g q c D S (negsuc n) v graph potential solvent without often after inside member =
+    absurd (omega (arith, ints))
 weight_falls_by_firings g q c D S (pos n) v graph potential solvent without often after inside member =
     let k : ℕ → ℕ = λ w. n * one_if (S w) in
     let same : (w : ℕ) → w < g.size → fired g D (multiple (pos n) (indicator S)) w ≡ fired g D (as_script k) w =
@@ -120,7 +125,8 @@ pub weight_falls_by_set : (g : Multigraph) (q : ℕ) (c : ℕ → ℕ) (D : Amou
     weight_of g c (fired g D (indicator S)) < weight_of g c D
 weight_falls_by_set g q c D S v graph potential solvent free inside member =
     let same : (w : ℕ) → w < g.size → fired g D (multiple (pos 1) (indicator S)) w ≡ fired g D (indicator S) w =
-    λ w below. fired-cong g D (multiple (pos 1) (indicator S)) (indicator S) w below (λ u _. multiple-once (indicator S) u) in
+    λ w below. fired-cong g D (multiple (pos 1) (indicator S)) (indicator S) w below
+    (λ u _. multiple-once (indicator S) u) in
     let falls : weight_of g c (fired g D (multiple (pos 1) (indicator S))) < weight_of g c D =
     weight_falls_by_firings g q c D S (pos 1) v graph potential solvent free.without (omega (arith, ints))
     (λ w below other. rw (same w below) (free.no_debt w below other)) inside member in

@@ -1,15 +1,17 @@
--- Dhar's burning algorithm (Dhar 1990; Corry and Perkinson, chapter 3; Baker and Norine 2007, section 5.1). From a
--- divisor without debt off q: q burns first; then, again and again, of the vertices that more edges join to burnt ones
--- than they hold dollars, the least burns.
+-- Dhar's burning algorithm (Dhar 1990; Corry and Perkinson, chapter 3; Baker and Norine 2007,
+-- section 5.1). From a divisor without debt off q: q burns first; then, again and again, of the
+-- vertices that more edges join to burnt ones than they hold dollars, the least burns.
 --   among l v              == whether v is in the list l
 --   edges_into g B v       == how many edges lead from v to vertices of the set B
 --   MayBurn g D B v        == v is not in B, and more edges join it to B than it holds dollars
 --   BurnsNext g D B v      == v is the least that may burn
---   BurnsSoFar g q D l     == l is q, and then vertices each of which burns next after those before it
+--   BurnsSoFar g q D l     == l is q, and then vertices each of which burns next after those before
+--                             it
 --   BurnsInOrder g q D l   == l is the order in which vertices burn, to the end
---   BurnsAll g q D l       == l names each vertex once, q first, and each later one may burn when those before it have,
---                             whether or not it is the least
---   FiresFreely g q D S    == S is a set of vertices without q, and nobody off q is in debt once S has fired
+--   BurnsAll g q D l       == l names each vertex once, q first, and each later one may burn when
+--                             those before it have, whether or not it is the least
+--   FiresFreely g q D S    == S is a set of vertices without q, and nobody off q is in debt once S
+--                             has fired
 --   IsGreatestFree g q D S == S fires freely, and holds every vertex of every set that fires freely
 use Rattle.std.specs.Prelude.{◌≡◌, ℕ, suc, ◌<◌, ◌==◌, Bool, true, false, if◌then◌else◌, List, slice_get, take, Some, pos, ◌<ℤ◌}
 use Rattle.std.specs.List.{list_any}

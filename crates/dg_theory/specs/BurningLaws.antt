@@ -14,17 +14,18 @@ abbrev pub unburnt_by : Multigraph → List ℕ → ℕ → Bool
 unburnt_by g l v = nat_lt v g.size && not (among l v)
 
 abbrev pub UnburntFires : Type 0
-UnburntFires = (g : Multigraph) (q : ℕ) (D : Amounts) (l : List ℕ) → IsMultigraph g → q < g.size → HasNoDebtOff g q D →
-    BurnsInOrder g q D l → IsGreatestFree g q D (unburnt_by g l)
+UnburntFires = (g : Multigraph) (q : ℕ) (D : Amounts) (l : List ℕ) → IsMultigraph g → q < g.size →
+    HasNoDebtOff g q D → BurnsInOrder g q D l → IsGreatestFree g q D (unburnt_by g l)
 
 abbrev pub GreatestIsOne : Type 0
-GreatestIsOne = (g : Multigraph) (q : ℕ) (D : Amounts) (S T : ℕ → Bool) → IsGreatestFree g q D S → IsGreatestFree g q D T →
-    (v : ℕ) → S v ≡ T v
+GreatestIsOne = (g : Multigraph) (q : ℕ) (D : Amounts) (S T : ℕ → Bool) → IsGreatestFree g q D S →
+    IsGreatestFree g q D T → (v : ℕ) → S v ≡ T v
 
 abbrev pub BurntIsReduced : Type 0
-BurntIsReduced = (g : Multigraph) (q : ℕ) (D : Amounts) (l : List ℕ) → IsMultigraph g → q < g.size → HasNoDebtOff g q D →
+BurntIsReduced = (g : Multigraph) (q : ℕ) (D : Amounts) (l : List ℕ) → IsMultigraph g → q < g.size →
+    HasNoDebtOff g q D →
     BurnsInOrder g q D l → (((v : ℕ) → v < g.size → among l v ≡ true) ↔ IsReduced g q D)
 
 abbrev pub BurnsToReduced : Type 0
-BurnsToReduced = (g : Multigraph) (q : ℕ) (D : Amounts) (l : List ℕ) → IsMultigraph g → q < g.size → HasNoDebtOff g q D →
-    BurnsAll g q D l → IsReduced g q D
+BurnsToReduced = (g : Multigraph) (q : ℕ) (D : Amounts) (l : List ℕ) → IsMultigraph g → q < g.size →
+    HasNoDebtOff g q D → BurnsAll g q D l → IsReduced g q D

@@ -1,17 +1,20 @@
--- The theorem of Riemann and Roch for multigraphs (Baker and Norine 2007, theorem 1.12; Corry and Perkinson, chapter 5), and
--- what follows from it. The dual of a divisor D is the canonical divisor less D. A function of src/laws.rt promises them.
---   RiemannRoch  == the rank of a divisor D less that of its dual is the degree of D, plus 1, less the genus
+-- The theorem of Riemann and Roch for multigraphs (Baker and Norine 2007, theorem 1.12; Corry and
+-- Perkinson, chapter 5), and what follows from it. The dual of a divisor D is the canonical divisor
+-- less D. A function of src/laws.rt promises them.
+--   RiemannRoch  == the rank of a divisor D less that of its dual is the degree of D, plus 1, less
+--                   the genus
 --   RankOfDual   == so the rank of D tells that of the dual, and -1 is no exception
---   DualTests    == the same of rank tests: where k less l is the degree of D, plus 1, less the genus, D has a rank of at
---                   least k exactly where the dual has one of at least l
---   LossOfDual   == and where the dual can't bear the loss of some effective divisor of degree l, D can't bear that of some
---                   effective divisor of degree k
---   HighRank     == where k is at least the genus, a divisor with a rank of at least k has a degree of at least the genus and
---                   k more
+--   DualTests    == the same of rank tests: where k less l is the degree of D, plus 1, less the
+--                   genus, D has a rank of at least k exactly where the dual has one of at least l
+--   LossOfDual   == and where the dual can't bear the loss of some effective divisor of degree l, D
+--                   can't bear that of some effective divisor of degree k
+--   HighRank     == where k is at least the genus, a divisor with a rank of at least k has a degree
+--                   of at least the genus and k more
 --   RankOnce     == a divisor has at most one rank
---   RankOfSum    == the rank of a sum is at least the sum of the ranks, where neither is -1 (lemma 2.1)
---   Clifford     == where the rank of the dual is at least 0, that of D is at most half of its degree (Clifford's theorem,
---                   corollary 3.5)
+--   RankOfSum    == the rank of a sum is at least the sum of the ranks, where neither is -1 (lemma
+--                   2.1)
+--   Clifford     == where the rank of the dual is at least 0, that of D is at most half of its
+--                   degree (Clifford's theorem, corollary 3.5)
 use Rattle.std.specs.Prelude.{◌≡◌, ℕ, ◌+◌, ◌<◌, ◌↔◌, ℤ, pos, ◌+ℤ◌, ◌-ℤ◌, ◌≤ℤ◌}
 use Rattle.dg_theory.specs.Multigraph.{Multigraph, IsMultigraph, genus}
 use Rattle.dg_theory.specs.Firing.{Amounts, degree, IsEffective}
@@ -20,11 +23,13 @@ use Rattle.dg_theory.specs.Rank.{less, canonical, HasRankAtLeast, IsRank}
 
 abbrev pub RiemannRoch : Type 0
 RiemannRoch = (g : Multigraph) (D : Amounts) (r s : ℤ) → IsMultigraph g → 0 < g.size →
-    IsRank g D r → IsRank g (less (canonical g) D) s → r -ℤ s ≡ (degree g.size D +ℤ pos 1) -ℤ genus g
+    IsRank g D r → IsRank g (less (canonical g) D) s →
+    r -ℤ s ≡ (degree g.size D +ℤ pos 1) -ℤ genus g
 
 abbrev pub RankOfDual : Type 0
 RankOfDual = (g : Multigraph) (D : Amounts) (r s : ℤ) → IsMultigraph g → 0 < g.size →
-    r -ℤ s ≡ (degree g.size D +ℤ pos 1) -ℤ genus g → IsRank g D r → IsRank g (less (canonical g) D) s
+    r -ℤ s ≡ (degree g.size D +ℤ pos 1) -ℤ genus g → IsRank g D r →
+    IsRank g (less (canonical g) D) s
 
 abbrev pub DualTests : Type 0
 DualTests = (g : Multigraph) (D : Amounts) (k l : ℕ) → IsMultigraph g → 0 < g.size →
@@ -34,7 +39,8 @@ DualTests = (g : Multigraph) (D : Amounts) (k l : ℕ) → IsMultigraph g → 0 
 abbrev pub LossOfDual : Type 0
 LossOfDual = (g : Multigraph) (D F : Amounts) (k l : ℕ) → IsMultigraph g → 0 < g.size →
     pos k -ℤ pos l ≡ (degree g.size D +ℤ pos 1) -ℤ genus g →
-    IsEffective g.size F → degree g.size F ≡ pos l → ¬ IsWinnable g (less (less (canonical g) D) F) →
+    IsEffective g.size F → degree g.size F ≡ pos l →
+    ¬ IsWinnable g (less (less (canonical g) D) F) →
     (E : Amounts) × IsEffective g.size E × (degree g.size E ≡ pos k) × (¬ IsWinnable g (less D E))
 
 abbrev pub HighRank : Type 0
@@ -45,9 +51,10 @@ abbrev pub RankOnce : Type 0
 RankOnce = (g : Multigraph) (D : Amounts) (r s : ℤ) → IsRank g D r → IsRank g D s → r ≡ s
 
 abbrev pub RankOfSum : Type 0
-RankOfSum = (g : Multigraph) (D E : Amounts) (j k : ℕ) → HasRankAtLeast g D j → HasRankAtLeast g E k →
-    HasRankAtLeast g (λ v. D v +ℤ E v) (j + k)
+RankOfSum = (g : Multigraph) (D E : Amounts) (j k : ℕ) → HasRankAtLeast g D j →
+    HasRankAtLeast g E k → HasRankAtLeast g (λ v. D v +ℤ E v) (j + k)
 
 abbrev pub Clifford : Type 0
-Clifford = (g : Multigraph) (D : Amounts) (k : ℕ) → IsMultigraph g → 0 < g.size → HasRankAtLeast g D k →
+Clifford = (g : Multigraph) (D : Amounts) (k : ℕ) → IsMultigraph g → 0 < g.size →
+    HasRankAtLeast g D k →
     HasRankAtLeast g (less (canonical g) D) 0 → (pos k +ℤ pos k) ≤ℤ degree g.size D

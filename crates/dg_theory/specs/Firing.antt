@@ -1,12 +1,14 @@
 -- Divisors, scripts and firing (Corry and Perkinson, chapters 1 and 2).
--- A divisor gives each vertex an amount of dollars, and a negative one is a debt. A script tells how often each
--- vertex lends, and a negative number is so many borrowings. Both are whole numbers for the vertices.
+-- A divisor gives each vertex an amount of dollars, and a negative one is a debt. A script tells
+-- how often each vertex lends, and a negative number is so many borrowings. Both are whole numbers
+-- for the vertices.
 --   Amounts             == a whole number for each vertex: a divisor, or a script
 --   degree n D          == the sum of the amounts of n vertices
 --   IsEffective n D     == none of n vertices is in debt
 --   HasNoDebtOff g q D  == none of the vertices but q is in debt; q may be
 --   AgreeOn n D E       == D and E hold the same amount at each of n vertices
---   gain g s v          == what v gets by the script: along each edge to w, what w lends less what v lends
+--   gain g s v          == what v gets by the script: along each edge to w, what w lends less what
+--                          v lends
 --   fired g D s         == the divisor after every vertex has lent as often as the script s says
 --   FiresTo g s D E     == firing D by the script s gives E
 --   AreEquivalent g D E == D and E are linearly equivalent: some script fires D to E

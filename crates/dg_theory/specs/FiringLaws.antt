@@ -1,21 +1,27 @@
--- The laws of firing, for every multigraph, divisor, script and vertex. The functions of src/laws.rt promise them.
+-- The laws of firing, for every multigraph, divisor, script and vertex. The functions of
+-- src/laws.rt promise them.
 --   FiringAddsUp             == to fire by s and then by t is to fire by their sum
 --   ConstantScriptsDoNothing == a script that is the same at every vertex changes no amount
---   SameByConstant           == two scripts give the same amounts exactly where they differ by a constant
+--   SameByConstant           == two scripts give the same amounts exactly where they differ by a
+--                               constant
 --   FiringKeepsDegree        == firing keeps the degree
 use Rattle.std.specs.Prelude.{◌≡◌, ℕ, ◌↔◌, ℤ, ◌+ℤ◌}
 use Rattle.dg_theory.specs.Multigraph.{Multigraph, IsMultigraph}
 use Rattle.dg_theory.specs.Firing.{Amounts, degree, AgreeOn, fired}
 
 abbrev pub FiringAddsUp : Type 0
-FiringAddsUp = (g : Multigraph) (D s t : Amounts) (v : ℕ) → fired g (fired g D s) t v ≡ fired g D (λ w. s w +ℤ t w) v
+FiringAddsUp = (g : Multigraph) (D s t : Amounts) (v : ℕ) →
+    fired g (fired g D s) t v ≡ fired g D (λ w. s w +ℤ t w) v
 
 abbrev pub ConstantScriptsDoNothing : Type 0
-ConstantScriptsDoNothing = (g : Multigraph) (D s : Amounts) (x : ℤ) → AgreeOn g.size s (λ _. x) → AgreeOn g.size (fired g D s) D
+ConstantScriptsDoNothing =
+    (g : Multigraph) (D s : Amounts) (x : ℤ) → AgreeOn g.size s (λ _. x) →
+    AgreeOn g.size (fired g D s) D
 
 abbrev pub SameByConstant : Type 0
 SameByConstant = (g : Multigraph) (D s t : Amounts) → IsMultigraph g →
     (AgreeOn g.size (fired g D s) (fired g D t) ↔ ((x : ℤ) × AgreeOn g.size s (λ v. t v +ℤ x)))
 
 abbrev pub FiringKeepsDegree : Type 0
-FiringKeepsDegree = (g : Multigraph) (D s : Amounts) → IsMultigraph g → degree g.size (fired g D s) ≡ degree g.size D
+FiringKeepsDegree = (g : Multigraph) (D s : Amounts) → IsMultigraph g →
+    degree g.size (fired g D s) ≡ degree g.size D

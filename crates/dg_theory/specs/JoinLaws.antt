@@ -1,5 +1,6 @@
 -- The laws of one edge more, for every multigraph. A function of src/laws.rt promises them.
---   EdgeIsAdded        == between u and v there is one edge more, and between all others there are as many as before
+--   EdgeIsAdded        == between u and v there is one edge more, and between all others there are
+--                         as many as before
 --   JoinedIsMultigraph == with an edge between two different vertices a multigraph is one
 --   ValenceGrows       == that edge meets its two vertices, and no other
 --   SizeStays          == an edge more leaves the number of vertices
@@ -12,7 +13,9 @@ EdgeIsAdded = (g : Multigraph) (u v : ℕ) → u ≢ v → (a b : ℕ) →
     edges_between (with_edge g u v) a b ≡ edges_between g a b + on_pair u v a b
 
 abbrev pub JoinedIsMultigraph : Type 0
-JoinedIsMultigraph = (g : Multigraph) (u v : ℕ) → IsMultigraph g → u < g.size → v < g.size → u ≢ v → IsMultigraph (with_edge g u v)
+JoinedIsMultigraph =
+    (g : Multigraph) (u v : ℕ) → IsMultigraph g → u < g.size → v < g.size → u ≢ v →
+    IsMultigraph (with_edge g u v)
 
 abbrev pub ValenceGrows : Type 0
 ValenceGrows = (g : Multigraph) (u v : ℕ) → u < g.size → v < g.size → u ≢ v → (w : ℕ) →

@@ -1,5 +1,5 @@
--- One edge more. A row of numbers may end anywhere, and so may a table of rows: what is read past the end is 0, and
--- what is added there is put behind as many zeros, or empty rows, as it takes.
+-- One edge more. A row of numbers may end anywhere, and so may a table of rows: what is read past
+-- the end is 0, and what is added there is put behind as many zeros, or empty rows, as it takes.
 --   one_more row v        == the row with its number at v one higher
 --   entry_more table u v  == the table with its number in row u and column v one higher
 --   with_edge g u v       == the multigraph g with one more edge between u and v

@@ -1,10 +1,11 @@
 -- Finite multigraphs (Baker and Norine 2007, section 1; Corry and Perkinson, chapter 1).
--- A multigraph has the vertices 0, 1, .. up to its size, and a table: the number in row u and column v
--- tells how many edges join u and v.
+-- A multigraph has the vertices 0, 1, .. up to its size, and a table: the number in row u and
+-- column v tells how many edges join u and v.
 --   Multigraph          == a number of vertices, and a table
 --   entry table u v     == the number in row u and column v, and 0 outside the table
 --   edges_between g u v == how many edges join u and v
---   JoinedIn n e u v    == a chain of edges leads from u to v, where e tells the edges and n the number of vertices
+--   JoinedIn n e u v    == a chain of edges leads from u to v, where e tells the edges and n the
+--                          number of vertices
 --   IsMultigraph g      == symmetric, without loops, and connected
 --   valence g v         == how many edges meet at v
 --   edge_count g        == how many edges there are, each pair of vertices counted once

@@ -1,10 +1,12 @@
--- The laws of rank (Baker and Norine 2007, section 1; Corry and Perkinson, chapter 5). The functions of src/laws.rt
--- promise them.
+-- The laws of rank (Baker and Norine 2007, section 1; Corry and Perkinson, chapter 5). The
+-- functions of src/laws.rt promise them.
 --   EquivalentRank  == of equivalent divisors either both have a rank of at least k or neither has
---   EquivalentLoss  == the first loss of a divisor is the first loss of each that is equivalent to it
+--   EquivalentLoss  == the first loss of a divisor is the first loss of each that is equivalent to
+--                      it
 --   RankBelow       == a divisor whose rank is at least k + 1 has a rank of at least k
 --   RankZero        == the rank is at least 0 exactly where the divisor is winnable
---   RichRank        == a divisor whose degree is at least the genus and k more has a rank of at least k
+--   RichRank        == a divisor whose degree is at least the genus and k more has a rank of at
+--                      least k
 --   PoorRank        == a divisor whose degree is less than k has no rank of at least k
 --   LossOnce        == two first losses of degree k of one divisor agree on the vertices
 --   LossBoundsRank  == where there is a first loss of degree k, the rank is not at least k
@@ -15,14 +17,16 @@ use Rattle.dg_theory.specs.Play.{IsWinnable}
 use Rattle.dg_theory.specs.Rank.{HasRankAtLeast, IsFirstLoss}
 
 abbrev pub EquivalentRank : Type 0
-EquivalentRank = (g : Multigraph) (D E : Amounts) (k : ℕ) → AreEquivalent g D E → (HasRankAtLeast g D k ↔ HasRankAtLeast g E k)
+EquivalentRank = (g : Multigraph) (D E : Amounts) (k : ℕ) → AreEquivalent g D E →
+    (HasRankAtLeast g D k ↔ HasRankAtLeast g E k)
 
 abbrev pub EquivalentLoss : Type 0
 EquivalentLoss = (g : Multigraph) (D E : Amounts) (k : ℕ) (F : Amounts) → AreEquivalent g D E →
     (IsFirstLoss g D k F ↔ IsFirstLoss g E k F)
 
 abbrev pub RankBelow : Type 0
-RankBelow = (g : Multigraph) (D : Amounts) (k : ℕ) → HasRankAtLeast g D (k + 1) → HasRankAtLeast g D k
+RankBelow = (g : Multigraph) (D : Amounts) (k : ℕ) → HasRankAtLeast g D (k + 1) →
+    HasRankAtLeast g D k
 
 abbrev pub RankZero : Type 0
 RankZero = (g : Multigraph) (D : Amounts) → HasRankAtLeast g D 0 ↔ IsWinnable g D
@@ -36,8 +40,9 @@ PoorRank = (g : Multigraph) (D : Amounts) (k : ℕ) → IsMultigraph g → 0 < g
     degree g.size D <ℤ pos k → ¬ HasRankAtLeast g D k
 
 abbrev pub LossOnce : Type 0
-LossOnce = (g : Multigraph) (D : Amounts) (k : ℕ) (E F : Amounts) → IsFirstLoss g D k E → IsFirstLoss g D k F →
-    AgreeOn g.size E F
+LossOnce = (g : Multigraph) (D : Amounts) (k : ℕ) (E F : Amounts) → IsFirstLoss g D k E →
+    IsFirstLoss g D k F → AgreeOn g.size E F
 
 abbrev pub LossBoundsRank : Type 0
-LossBoundsRank = (g : Multigraph) (D : Amounts) (k : ℕ) (E : Amounts) → IsFirstLoss g D k E → ¬ HasRankAtLeast g D k
+LossBoundsRank = (g : Multigraph) (D : Amounts) (k : ℕ) (E : Amounts) → IsFirstLoss g D k E →
+    ¬ HasRankAtLeast g D k

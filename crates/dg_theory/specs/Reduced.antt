@@ -1,7 +1,7 @@
 -- Reduced divisors (Baker and Norine 2007, section 3.1; Corry and Perkinson, chapter 3).
 --   edges_out g S v == how many edges lead from v to vertices outside the set S
---   IsReduced g q D == nobody off q is in debt, and each nonempty set of vertices without q has a vertex that would
---                      fall into debt if the set fired
+--   IsReduced g q D == nobody off q is in debt, and each nonempty set of vertices without q has a
+--                      vertex that would fall into debt if the set fired
 use Rattle.std.specs.Prelude.{◌≡◌, ℕ, ◌<◌, Bool, true, false, if◌then◌else◌, pos, ◌<ℤ◌}
 use Rattle.dg_theory.specs.Sums.{total_below}
 use Rattle.dg_theory.specs.Multigraph.{Multigraph, edges_between}

@@ -1,7 +1,8 @@
--- The laws of reduced divisors, for every multigraph and divisor (Baker and Norine 2007, section 3.1; Corry and Perkinson,
--- chapter 3). The functions of src/laws.rt promise them.
+-- The laws of reduced divisors, for every multigraph and divisor (Baker and Norine 2007, section
+-- 3.1; Corry and Perkinson, chapter 3). The functions of src/laws.rt promise them.
 --   ReducedOnce    == equivalent divisors that are both reduced for q agree on the vertices
---   ReducedDecides == a divisor is winnable exactly where the reduced divisor that it is equivalent to is not in debt at q
+--   ReducedDecides == a divisor is winnable exactly where the reduced divisor that it is equivalent
+--                     to is not in debt at q
 use Rattle.std.specs.Prelude.{ℕ, ◌<◌, ◌↔◌, pos, ◌≤ℤ◌}
 use Rattle.dg_theory.specs.Multigraph.{Multigraph}
 use Rattle.dg_theory.specs.Firing.{Amounts, AgreeOn, AreEquivalent}
@@ -13,5 +14,5 @@ ReducedOnce = (g : Multigraph) (q : ℕ) (D E : Amounts) → q < g.size → AreE
     IsReduced g q D → IsReduced g q E → AgreeOn g.size D E
 
 abbrev pub ReducedDecides : Type 0
-ReducedDecides = (g : Multigraph) (q : ℕ) (D R : Amounts) → q < g.size → AreEquivalent g D R → IsReduced g q R →
-    (IsWinnable g D ↔ (pos 0 ≤ℤ R q))
+ReducedDecides = (g : Multigraph) (q : ℕ) (D R : Amounts) → q < g.size → AreEquivalent g D R →
+    IsReduced g q R → (IsWinnable g D ↔ (pos 0 ≤ℤ R q))

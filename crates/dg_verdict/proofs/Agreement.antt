@@ -8,7 +8,8 @@ use Rattle.dg_chips.specs.Vector.{at}
 use Rattle.dg_verdict.specs.Right.{IsRight}
 use Rattle.dg_verdict.specs.declared.verdict.Verdict.{Verdict}
 
-pub right-cong : (g : Multigraph) (q : ℕ) (D E : Amounts) (x : Verdict) → AgreeOn g.size D E → IsRight g q D x → IsRight g q E x
+pub right-cong : (g : Multigraph) (q : ℕ) (D E : Amounts) (x : Verdict) → AgreeOn g.size D E → IsRight g q D x →
+    IsRight g q E x
 right-cong g q D E x same right = record {
   script_size = right.script_size;
   reduced_size = right.reduced_size;

@@ -36,7 +36,8 @@ only_q g q D S T vertex none lit =
       left = begun.left;
     }
 
-pub order-first : (g : Multigraph) (q : ℕ) (D : Amounts) (order : List ℕ) (S T : ℕ → Bool) → q < g.size → 0 < length order →
+pub order-first : (g : Multigraph) (q : ℕ) (D : Amounts) (order : List ℕ) (S T : ℕ → Bool) → q < g.size →
+    0 < length order →
     slice_index_or order 0 0 ≡ q → ((v : ℕ) → S v ≡ false) → IsWith S q T → IsOrderSoFar g q D (take 1 order) 1 T
 order-first g q D order S T vertex some first none lit =
     let one : take 1 order ≡ q ∷ [] = take_more order 0 0 some ∙ ap (λ (v : ℕ). v ∷ []) first in
@@ -72,6 +73,8 @@ order-fails g q D order (suc j) S state later inside long none burns =
     slice_get-get_or (take g.size order) (suc j) 0 (omega (arith, length-take g.size order))
     ∙ ap Some (get_or-take g.size order (suc j) 0 inside) in
     let may : MayBurn g D (among (take (suc j) (take g.size order))) v = burns.next j v place in
-    let shorter : take (suc j) (take g.size order) ≡ take (suc j) order = take-take (suc j) g.size order (omega arith) in
-    let may' : MayBurn g D (among (take (suc j) order)) v = subst (λ (l : List ℕ). MayBurn g D (among l) v) shorter may in
+    let shorter : take (suc j) (take g.size order) ≡ take (suc j) order =
+    take-take (suc j) g.size order (omega arith) in
+    let may' : MayBurn g D (among (take (suc j) order)) v =
+    subst (λ (l : List ℕ). MayBurn g D (among l) v) shorter may in
     none (subst (λ B. MayBurn g D B v) (λ k w. sym (state.same w) k) may')

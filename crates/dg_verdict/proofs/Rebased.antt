@@ -31,9 +31,11 @@ pub rebased_small : (q : ℕ) (x : Verdict) (m : Vector) → IsRebasable q x m �
 rebased_small q x m can v inside =
     let t : Amounts = λ w. at x.script w -ℤ at m w +ℤ at m q in
     let leads : (w : ℕ) → w < can.graph.size → at x.reduced w ≡ fired can.graph (fired can.graph can.start (at m)) t w =
-    rebased_leads can.graph q can.start (at x.reduced) (at x.script) (at m) t can.right.led (λ w below. omega (arith, ints)) in
+    rebased_leads can.graph q can.start (at x.reduced) (at x.script) (at m) t can.right.led
+    (λ w below. omega (arith, ints)) in
     let near : unsigned_abs (t v -ℤ t q) ≤ 225 * (1000000 + 62) =
-    script_near can.graph q (fired can.graph can.start (at m)) (at x.reduced) t 1000000 can.is_graph can.vertex can.in_range
+    script_near can.graph q (fired can.graph can.start (at m))
+    (at x.reduced) t 1000000 can.is_graph can.vertex can.in_range
     can.right.reduced leads v (omega (arith, can.right.script_size)) in
     let at_q : at x.script q ≡ pos 0 = can.right.at_q in
     let same : t v -ℤ t q ≡ t v = omega (arith, ints) in

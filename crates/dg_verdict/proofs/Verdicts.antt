@@ -11,7 +11,8 @@ use Rattle.dg_theory.specs.Burning.{BurnsInOrder, BurnsAll}
 use Rattle.dg_theory.proofs.BurningOrder.{may_burn}
 use Rattle.dg_theory.proofs.BurningLaws.{reduced_burnt}
 
-pub all_in_order : (g : Multigraph) (q : ℕ) (D : Amounts) (l : List ℕ) → BurnsInOrder g q D l → IsReduced g q D → BurnsAll g q D l
+pub all_in_order : (g : Multigraph) (q : ℕ) (D : Amounts) (l : List ℕ) → BurnsInOrder g q D l → IsReduced g q D →
+    BurnsAll g q D l
 all_in_order g q D l order reduced = record {
   first = order.begun.first;
   next = may_burn g q D l order;

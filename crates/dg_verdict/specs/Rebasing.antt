@@ -1,6 +1,7 @@
 -- Verdicts that are carried along a drift, which is what some moves together lend.
---   IsRebasable q x m == the verdict x is right for some divisor of a graph and vertex q, and firing that divisor by the
---                        drift m leaves all amounts within the limit of a divisor
+--   IsRebasable q x m == the verdict x is right for some divisor of a graph and vertex q, and
+--                        firing that divisor by the drift m leaves all amounts within the limit of
+--                        a divisor
 use Rattle.std.specs.Prelude.{◌≡◌, ℕ, ◌<◌}
 use Rattle.dg_theory.specs.Multigraph.{Multigraph}
 use Rattle.dg_theory.specs.Firing.{Amounts, fired}

@@ -1,7 +1,8 @@
--- Right verdicts. A verdict tells whether a divisor is winnable, with what shows it: a script, the reduced divisor to
--- which the script leads, and an order in which all vertices burn.
---   IsRight g q D x == the script is 0 at q and leads from D to a divisor that is reduced for q; the first vertices of
---                      the order show that it is; and the verdict says winnable exactly where D is
+-- Right verdicts. A verdict tells whether a divisor is winnable, with what shows it: a script, the
+-- reduced divisor to which the script leads, and an order in which all vertices burn.
+--   IsRight g q D x == the script is 0 at q and leads from D to a divisor that is reduced for q;
+--                      the first vertices of the order show that it is; and the verdict says
+--                      winnable exactly where D is
 use Rattle.std.specs.Prelude.{◌≡◌, ℕ, ◌↔◌, true, take, pos}
 use Rattle.dg_theory.specs.Multigraph.{Multigraph}
 use Rattle.dg_theory.specs.Firing.{Amounts, FiresTo}

@@ -17,7 +17,8 @@ pub fn rebase(q: usize, verdict: &Verdict, drift: &Drift) -> Verdict
     ensures winnable { result.winnable ≡ verdict.now.winnable }
     ensures reduced { result.reduced ≡ verdict.now.reduced }
     ensures order { result.order ≡ verdict.now.order }
-    ensures right { (g : Multigraph) (D : Amounts) → IsMultigraph g → q < g.size → IsRight g q D verdict.now →
+    ensures right { (g : Multigraph) (D : Amounts) → IsMultigraph g → q < g.size →
+        IsRight g q D verdict.now →
         drift.now.size ≡ g.size → IsRight g q (fired g D (at drift.now)) result }
     ensures size { result.script.size ≡ verdict.now.script.size }
     ensures entries { (v : ℕ) → v < result.script.size →

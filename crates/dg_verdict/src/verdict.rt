@@ -29,8 +29,10 @@ pub fn judge(graph: &Graph, q: usize, divisor: &Divisor) -> Verdict
     requires size { divisor.now.size ≡ graph.now.size }
     requires vertex { q < graph.now.size }
     ensures right { IsRight graph.now q (at divisor.now) result }
-    ensures order { BurnsInOrder graph.now q (at result.reduced) (take graph.now.size result.order) }
-    ensures rest { (i : ℕ) → graph.now.size ≤ i → i < MAX_VERTICES → slice_index_or result.order i 0 ≡ 0 }
+    ensures order { BurnsInOrder graph.now q (at result.reduced)
+        (take graph.now.size result.order) }
+    ensures rest { (i : ℕ) → graph.now.size ≤ i → i < MAX_VERTICES →
+        slice_index_or result.order i 0 ≡ 0 }
 {
     judge_by(graph, &Aim::new(graph, q), q, divisor)
 }
@@ -41,8 +43,10 @@ pub fn judge_aimed(graph: &Graph, aim: &Aim, q: usize, divisor: &Divisor) -> Ver
     requires size { divisor.now.size ≡ graph.now.size }
     requires vertex { q < graph.now.size }
     ensures right { IsRight graph.now q (at divisor.now) result }
-    ensures order { BurnsInOrder graph.now q (at result.reduced) (take graph.now.size result.order) }
-    ensures rest { (i : ℕ) → graph.now.size ≤ i → i < MAX_VERTICES → slice_index_or result.order i 0 ≡ 0 }
+    ensures order { BurnsInOrder graph.now q (at result.reduced)
+        (take graph.now.size result.order) }
+    ensures rest { (i : ℕ) → graph.now.size ≤ i → i < MAX_VERTICES →
+        slice_index_or result.order i 0 ≡ 0 }
 {
     if aim.may_serve(graph, q) {
         judge_by(graph, aim, q, divisor)
@@ -56,8 +60,10 @@ fn judge_by(graph: &Graph, aim: &Aim, q: usize, divisor: &Divisor) -> Verdict
     requires size { divisor.now.size ≡ graph.now.size }
     requires vertex { q < graph.now.size }
     ensures right { IsRight graph.now q (at divisor.now) result }
-    ensures order { BurnsInOrder graph.now q (at result.reduced) (take graph.now.size result.order) }
-    ensures rest { (i : ℕ) → graph.now.size ≤ i → i < MAX_VERTICES → slice_index_or result.order i 0 ≡ 0 }
+    ensures order { BurnsInOrder graph.now q (at result.reduced)
+        (take graph.now.size result.order) }
+    ensures rest { (i : ℕ) → graph.now.size ≤ i → i < MAX_VERTICES →
+        slice_index_or result.order i 0 ≡ 0 }
 {
     // The clauses of `size` say that graph and divisor are within their limits.
     let _size = graph.size();

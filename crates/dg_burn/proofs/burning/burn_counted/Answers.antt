@@ -20,7 +20,8 @@ burn_vertex-requires-clause-spare c = λ w. fire-spare c.args.graph.now c.args.h
 
 pub burning-init : goal.burning-init
 burning-init c = record {
-  state = burning-lit c.args.graph.now c.args.q (dollars c.args.held.now) (in_set c.new-fire.result.reached) _ c.requires
+  state = burning-lit c.args.graph.now c.args.q (dollars c.args.held.now)
+      (in_set c.new-fire.result.reached) _ c.requires
       c.new-fire.ensures.none_burns c.burn_vertex.ensures.reached;
   fire = fire-more c.args.graph.now c.args.held.now c.new-fire.result c.burn_vertex.new.self c.args.q
       c.size-size.ensures.graph.multigraph c.requires (c.new-fire.ensures.none_burns c.args.q)
@@ -49,7 +50,8 @@ burn_vertex-requires-in-Some-clause-vertex c =
 
 pub burn_vertex-requires-in-Some-clause-room : goal.burn_vertex-requires-in-Some-clause-room
 burn_vertex-requires-in-Some-clause-room c = λ w.
-    fire-room c.args.graph.now c.args.held.now c.burning.fire c.in-Some.v w c.size-size.ensures.graph c.burning.invariant.fire
+    fire-room c.args.graph.now c.args.held.now c.burning.fire c.in-Some.v w c.size-size.ensures.graph
+    c.burning.invariant.fire
 
 pub burn_vertex-requires-in-Some-clause-spare : goal.burn_vertex-requires-in-Some-clause-spare
 burn_vertex-requires-in-Some-clause-spare c = λ w.
@@ -74,14 +76,16 @@ burning-preserved c =
     ) in
     record {
       state = rw (take_more_set c.burning.order c.burning.count c.in-Some.v within)
-          (burning-more _ _ _ _ _ _ _ c.in-Some.v c.burning.invariant.state burns c.burn_vertex-in-Some.ensures.reached);
+          (burning-more _ _ _ _ _ _ _ c.in-Some.v c.burning.invariant.state burns
+          c.burn_vertex-in-Some.ensures.reached);
       fire = fire-more c.args.graph.now c.args.held.now c.burning.fire c.burn_vertex-in-Some.new.self c.in-Some.v
           c.size-size.ensures.graph.multigraph burns.may.vertex
           (least_new _ _ _ _ c.size-size.ensures.graph c.burning.invariant.fire c.in-Some.ensures) c.burning.invariant.fire
           c.burn_vertex-in-Some.ensures.reached c.burn_vertex-in-Some.ensures.joined c.burn_vertex-in-Some.ensures.here
           c.burn_vertex-in-Some.ensures.others;
       places = length-set _ _ _ ∙ c.burning.invariant.places;
-      rest = λ i past. get_or-set_other c.burning.order c.burning.count i c.in-Some.v 0 (omega arith) ∙ c.burning.invariant.rest i (omega arith);
+      rest = λ i past. get_or-set_other c.burning.order c.burning.count i c.in-Some.v 0 (omega arith)
+          ∙ c.burning.invariant.rest i (omega arith);
     }
 
 pub returns-clause-order : goal.returns-clause-order
@@ -94,13 +98,16 @@ returns-clause-left c =
 
 pub returns-clause-unburnt : goal.returns-clause-unburnt
 returns-clause-unburnt c =
-    rest_is_free c.args.graph.now c.args.q (dollars c.args.held.now) (take c.burning.count c.burning.order) c.complement.result
-    c.size-size.ensures.graph.multigraph c.requires (λ v _ _. omega (arith, ints)) (returns-clause-order c) (returns-clause-left c)
+    rest_is_free c.args.graph.now c.args.q (dollars c.args.held.now)
+    (take c.burning.count c.burning.order) c.complement.result
+    c.size-size.ensures.graph.multigraph c.requires (λ v _ _. omega (arith, ints)) (returns-clause-order c)
+    (returns-clause-left c)
 
 pub returns-clause-joined : goal.returns-clause-joined
 returns-clause-joined c = λ v.
     c.burning.invariant.fire.counts v
-    ∙ rest_counts c.args.graph.now (take c.burning.count c.burning.order) (in_set c.burning.fire.reached) c.complement.result v
+    ∙ rest_counts c.args.graph.now (take c.burning.count c.burning.order)
+    (in_set c.burning.fire.reached) c.complement.result v
     c.burning.invariant.state.same (returns-clause-left c)
 
 pub returns-clause-whole : goal.returns-clause-whole

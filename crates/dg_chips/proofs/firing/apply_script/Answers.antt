@@ -17,7 +17,8 @@ made c = record {
 }
 
 pub returns-in-Ok : goal.returns-in-Ok
-returns-in-Ok c = moved _ _ _ _ _ _ _ (made (goal.at.returns-in-Ok c).After-size-2) c.in-Ok.ensures.0 c.in-Ok.ensures.1 c.in-Ok.ensures.2
+returns-in-Ok c = moved _ _ _ _ _ _ _
+    (made (goal.at.returns-in-Ok c).After-size-2) c.in-Ok.ensures.0 c.in-Ok.ensures.1 c.in-Ok.ensures.2
 
 pub returns-in-Err : goal.returns-in-Err
 returns-in-Err c =

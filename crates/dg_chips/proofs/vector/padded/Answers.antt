@@ -16,7 +16,10 @@ loop-v-preserved g c =
     let within : c.loop-v.v < length c.loop-v.padded = omega arith in
     record {
       size = length-set _ _ _ ∙ c.loop-v.invariant.size;
-      same = filled c.args.zero c.loop-v.padded c.loop-v.v _ (λ w. slice_index_or c.args.numbers.now w c.args.zero) within
-          (c.index-numbers-v.is ∙ get_or_default c.args.numbers.now c.loop-v.v c.index-numbers-v.result c.args.zero c.loop-v-test.true) c.loop-v.invariant.same;
+      same = filled c.args.zero c.loop-v.padded c.loop-v.v _
+          (λ w. slice_index_or c.args.numbers.now w c.args.zero) within
+          (c.index-numbers-v.is
+          ∙ get_or_default c.args.numbers.now c.loop-v.v c.index-numbers-v.result c.args.zero c.loop-v-test.true)
+          c.loop-v.invariant.same;
       zero = rest c.args.zero c.loop-v.padded c.loop-v.v _ c.loop-v.invariant.zero;
     }

@@ -4,14 +4,14 @@ use Rattle.dg_chips.specs.Opening.{Opening}
 use Rattle.dg_file.specs.Content.{Content}
 use Rattle.dg_file.specs.Names.{place_of}
 use Rattle.dg_file.specs.TableFiles.{IsTable, IsTableFile}
-use Rattle.dg_file.specs.FileLaws.{AreAlike}
+use Rattle.dg_file.specs.FileLaws.{AreSameOpenings}
 use Rattle.dg_file.proofs.OneContent.{found-once, same-value, same-content}
 use Rattle.dg_file.proofs.OneTable.{at-one}
 use Rattle.dg_file.proofs.OneFile.{file-none, file-one}
 use Rattle.dg_file.proofs.laws.files_have_one_meaning.Goals as goal
 
 alike : (content : Content) (o p : Opening) (names others : List (List ℕ)) → IsTable content o names
-    → IsTable content p others → AreAlike o p × (names ≡ others)
+    → IsTable content p others → AreSameOpenings o p × (names ≡ others)
 alike content o p names others a b =
     let same : names ≡ others = a.given ∙ sym b.given in (
       record {
@@ -24,7 +24,7 @@ alike content o p names others a b =
     )
 
 one-table : (bytes : List ℕ) (o p : Opening) (names others : List (List ℕ)) → IsTableFile bytes o names
-    → IsTableFile bytes p others → AreAlike o p × (names ≡ others)
+    → IsTableFile bytes p others → AreSameOpenings o p × (names ≡ others)
 one-table bytes o p names others a b =
     let value : a.value ≡ b.value = same-value bytes a.value b.value a.reads b.reads in
     let content : a.content ≡ b.content = same-content b.value a.content b.content (rw value at a.says) b.says in

@@ -1,7 +1,7 @@
 use Rattle.std.proofs.Common.{ℕ, ◌<◌}
 use Rattle.dg_theory.specs.Multigraph.{entry}
-use Rattle.dg_graph.specs.Search.{IsSettled}
+use Rattle.dg_graph.specs.Search.{IsInOrApart}
 use Rattle.dg_graph.proofs.connected.next_reached.Given as goal
 
 abbrev pub invariant-loop-v : goal.invariant-loop-v
-invariant-loop-v l = (u : ℕ) → u < l.v → IsSettled l.size (entry l.table) l.reached u
+invariant-loop-v l = (u : ℕ) → u < l.v → IsInOrApart l.size (entry l.table) l.reached u

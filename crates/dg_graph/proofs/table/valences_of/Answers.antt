@@ -17,10 +17,12 @@ pub loop-v-preserved : goal.loop-v-preserved
 unfolding entry
 loop-v-preserved c = record {
   places = length-set _ _ _ ∙ c.loop-v.invariant.places;
-  same = filled-more c.loop-v.valences c.loop-v.v c.row_sum.result (valence (record { size = c.args.size; table = c.args.table.now }))
+  same = filled-more c.loop-v.valences c.loop-v.v c.row_sum.result
+      (valence (record { size = c.args.size; table = c.args.table.now }))
       (omega arith) c.row_sum.ensures.sum c.loop-v.invariant.same;
 }
 
 pub returns : goal.returns
 unfolding valences_of
-returns c = fill_by_all _ c.loop-v.valences 16 0 c.loop-v.invariant.places (λ k below. c.loop-v.invariant.same k (omega arith))
+returns c = fill_by_all _ c.loop-v.valences 16 0 c.loop-v.invariant.places
+    (λ k below. c.loop-v.invariant.same k (omega arith))

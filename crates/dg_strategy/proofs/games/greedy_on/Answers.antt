@@ -5,7 +5,10 @@ use Rattle.dg_strategy.proofs.games.greedy_on.Goals as goal
 pub returns-in-Ok-history : goal.returns-in-Ok-history
 returns-in-Ok-history g c =
     rw (c.in-Ok-history.ensures, c.is_settled-settled.ensures)
-    (game_of g.N.Name.start (length g.N.Name.cells) c.args.turns c.args.count g.N.Name.seats c.in-Ok.opened.1.items c.pop.new.self.items c.push.new.self.items
+    (game_of g.N.Name.start
+    (length g.N.Name.cells) c.args.turns c.args.count g.N.Name.seats c.in-Ok.opened.1.items c.pop.new.self.items
+    c.push.new.self.items
     c.in-Some.seat c.settle_out.new.seat c.in-Ok-close.audit.pen.entries c.in-Ok-settle_out.ended
-    c.requires.one (sym c.requires.seats ∙ c.requires.one) c.in-Ok.ensures c.in-Some.ensures.items c.in-Ok-settle_out.ensures
+    c.requires.one (sym c.requires.seats
+    ∙ c.requires.one) c.in-Ok.ensures c.in-Some.ensures.items c.in-Ok-settle_out.ensures
     (search rules) c.in-Ok-close.ensures.0)

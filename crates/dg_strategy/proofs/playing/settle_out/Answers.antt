@@ -14,7 +14,8 @@ returns-in-Ok g c =
     let A = g.C.Choose.may_answer c.settler.inside.choice in
     let graph : IsGraph o.graph = (subst IsOpening c.start.ensures c.graph-graph.ensures.opening).graph in
     rw (← c.settler.view_is)
-    (played_as (IsTurnBy A o seats cap) (IsSettlerTurn A o seats cap) (λ x r y turn. settler_turn A o seats cap graph x r y c.settler.invariant turn)
+    (played_as (IsTurnBy A o seats cap) (IsSettlerTurn A o seats cap)
+    (λ x r y turn. settler_turn A o seats cap graph x r y c.settler.invariant turn)
     c.args.turns c.args.seat.now c.turns_by.new.seat c.in-Ok.ended c.in-Ok.ensures)
 
 pub returns-in-Err : goal.returns-in-Err
@@ -25,5 +26,6 @@ returns-in-Err g c =
     let A = g.C.Choose.may_answer c.settler.inside.choice in
     let graph : IsGraph o.graph = (subst IsOpening c.start.ensures c.graph-graph.ensures.opening).graph in
     rw (← c.settler.view_is)
-    (stopped_as (IsTurnBy A o seats cap) (IsSettlerTurn A o seats cap) (λ x r y turn. settler_turn A o seats cap graph x r y c.settler.invariant turn)
+    (stopped_as (IsTurnBy A o seats cap) (IsSettlerTurn A o seats cap)
+    (λ x r y turn. settler_turn A o seats cap graph x r y c.settler.invariant turn)
     o seats cap c.args.turns c.args.seat.now c.turns_by.new.seat c.in-Err.fault c.in-Err.ensures)

@@ -7,7 +7,8 @@ use Rattle.dg_verdict.proofs.checking.all_burn.Goals as goal
 
 pub loop-i-init : goal.loop-i-init
 loop-i-init c =
-    order-first c.args.graph.now c.args.q (at c.args.chips.now) c.args.order.now (in_set 0) _ c.requires.vertex (omega arith)
+    order-first c.args.graph.now c.args.q (at c.args.chips.now) c.args.order.now (in_set 0) _ c.requires.vertex
+    (omega arith)
     (grind arith) in_set-none c.with_vertex-reached.ensures
 
 pub returns-then-not-may_burn : goal.returns-then-not-may_burn
@@ -18,7 +19,8 @@ returns-then-not-may_burn c =
 pub loop-i-preserved : goal.loop-i-preserved
 loop-i-preserved c =
     order-more c.args.graph.now c.args.q (at c.args.chips.now) c.args.order.now c.loop-i.i (in_set c.loop-i.reached) _
-    c.from-v.result c.loop-i.invariant (omega (arith, c.size-size.ensures.graph.few)) (grind arith) c.if-not-may_burn.ensures
+    c.from-v.result c.loop-i.invariant (omega (arith, c.size-size.ensures.graph.few))
+    (grind arith) c.if-not-may_burn.ensures
     c.with_vertex-reached-in-loop-i.ensures
 
 pub returns : goal.returns

@@ -16,9 +16,11 @@ use Rattle.dg_verdict.proofs.checking.check.Goals as goal
 
 pub returns : goal.returns
 returns c =
-    let leads : FiresTo c.args.graph.now (at c.args.verdict.now.script) (at c.args.divisor.now) (at c.args.verdict.now.reduced) = search rules in
+    let leads : FiresTo c.args.graph.now (at c.args.verdict.now.script) (at c.args.divisor.now)
+    (at c.args.verdict.now.reduced) = search rules in
     let solvent : HasNoDebtOff c.args.graph.now c.args.q (at c.args.verdict.now.reduced) = search rules in
-    let burns : BurnsAll c.args.graph.now c.args.q (at c.args.verdict.now.reduced) (take c.args.graph.now.size c.args.verdict.now.order) =
+    let burns : BurnsAll c.args.graph.now c.args.q (at c.args.verdict.now.reduced)
+    (take c.args.graph.now.size c.args.verdict.now.order) =
     search rules in
     let reduced : IsReduced c.args.graph.now c.args.q (at c.args.verdict.now.reduced) =
     burns_to_reduced c.args.graph.now c.args.q (at c.args.verdict.now.reduced) _ c.size-size.ensures.graph.multigraph

@@ -6,5 +6,6 @@ rebased-requires-clause-limit c = rebased_small c.args.q c.args.verdict.now c.ar
 
 pub returns-clause-right : goal.returns-clause-right
 returns-clause-right c = λ g D graph vertex right drift.
-    rebased_right g c.args.q D c.args.verdict.now c.args.drift.now c.rebased.result vertex right drift c.rebased.ensures.size
+    rebased_right g c.args.q D c.args.verdict.now c.args.drift.now c.rebased.result vertex right drift
+    c.rebased.ensures.size
     c.rebased.ensures.entries

@@ -19,8 +19,12 @@ led c = λ v inside.
 
 pub returns-clause-right : goal.returns-clause-right
 returns-clause-right c =
-    let (to, from) = reduced_decides c.args.graph.now c.args.q (at c.args.divisor.now) (at c.reduce_certified-found.result.reduced.divisor)
-    c.requires.vertex (at c.reduce_certified-found.result.reduced.script, led (goal.at.returns-clause-right c).After-reduce_certified-found)
+    let (to, from) = reduced_decides c.args.graph.now c.args.q (at c.args.divisor.now)
+    (at c.reduce_certified-found.result.reduced.divisor)
+    c.requires.vertex (
+      at c.reduce_certified-found.result.reduced.script,
+      led (goal.at.returns-clause-right c).After-reduce_certified-found,
+    )
     c.reduce_certified-found.ensures.reduction.reduced in
     record {
       script_size = c.reduce_certified-found.ensures.reduction.sizes.1;

@@ -6,21 +6,53 @@ use Rattle.std.proofs.lemmas.Int.{ints, to_z-of_z}
 use Rattle.std.proofs.lemmas.List.{get_or_past}
 use Rattle.std.proofs.Math.IntN.{ℤ, pos, ◌+ℤ◌, ◌-ℤ◌, ◌*ℤ◌}
 use mir.Val.{to_z, of_z}
-use Rattle.dg_theory.specs.Multigraph.{edges_between, valence}
+use Rattle.dg_theory.specs.Multigraph.{valence}
 use Rattle.dg_theory.specs.Firing.{fired, only_at}
 use Rattle.dg_theory.proofs.Absolute.{within_abs}
 use Rattle.dg_chips.specs.Vector.{Vector, at}
 use Rattle.dg_chips.proofs.VectorLaws.{filled-set, within_all}
 use Rattle.dg_chips.proofs.OneLending.{fired-lender, fired-outside, held_gain, read_back}
 use Rattle.dg_chips.proofs.divisor.Divisor.after_lending.Goals as goal
+use Rattle.dg_chips.proofs.divisor.Divisor.after_lending.Goals.{After-carried_once-in-loop-w}
+
+-- what comes to the vertex at hand is little
+few : (c : After-carried_once-in-loop-w) → unsigned_abs c.carried_once-in-loop-w.result ≤ 255
+few c =
+    let once : unsigned_abs (to_z w32 (of_z w32 c.args.times)) ≤ 1 =
+    rw (to_z-of_z w32 c.args.times c.ranges.times) c.requires.times in
+    omega (arith, c.carried_once-in-loop-w.ensures.limit)
+
+-- the amount there and what comes to it, and what the amount there is after the lending
+abbrev sum : After-carried_once-in-loop-w → ℤ
+sum c = to_z w32 (of_z w32 (slice_index_or c.loop-w.amounts c.loop-w.w (pos 0)))
+    +ℤ to_z w32 (of_z w32 c.carried_once-in-loop-w.result)
+
+abbrev wanted : After-carried_once-in-loop-w → ℤ
+wanted c = fired c.args.graph.now (at c.args.self.now) (only_at c.args.v (to_z w32 (of_z w32 c.args.times))) c.loop-w.w
+
+after : (c : After-carried_once-in-loop-w) → to_z w32 (of_z w32 (sum c)) ≡ wanted c
+after c =
+    let w : ℕ = c.loop-w.w in
+    held_gain _ _ _ _ (c.loop-w.invariant.small w (omega arith)) (few c)
+    (c.carried_once-in-loop-w.ensures.product
+    ∙ ap (λ (k : ℕ). pos k *ℤ to_z w32 (of_z w32 c.args.times)) (c.row-row.ensures w))
+    (c.loop-w.invariant.ahead w (omega arith))
+
+kept : (c : After-carried_once-in-loop-w) → to_z w32 (of_z w32 (slice_index_or
+    (slice_set c.loop-w.amounts c.loop-w.w (to_z w32 (of_z w32 (sum c)))) c.loop-w.w (pos 0))) ≡ wanted c
+kept c = read_back c.loop-w.amounts c.loop-w.w (sum c) (wanted c) (omega arith) (after c)
 
 pub loop-w-init : goal.loop-w-init
 loop-w-init c =
     let x : ℤ = to_z w32 (of_z w32 c.args.times) in
     let xs : List ℤ = c.self.inside.amounts in
-    let y : ℤ = to_z w32 (of_z w32 (to_z w32 (of_z w32 (slice_index_or xs c.args.v (pos 0))) -ℤ to_z w32 (of_z w32 c.carried_once.result))) in
-    let same : (u : ℕ) → slice_index_or xs u (pos 0) ≡ at c.args.self.now u = λ u. ap (λ (d : Vector). at d u) c.self.view_is in
-    let right : (u : ℕ) → unsigned_abs (slice_index_or xs u (pos 0)) ≤ 1000000 = within_all 1000000 _ c.self.invariant in
+    let y : ℤ = to_z w32
+    (of_z w32 (to_z w32 (of_z w32 (slice_index_or xs c.args.v (pos 0))) -ℤ to_z w32 (of_z w32 c.carried_once.result)))
+    in
+    let same : (u : ℕ) → slice_index_or xs u (pos 0) ≡ at c.args.self.now u =
+    λ u. ap (λ (d : Vector). at d u) c.self.view_is in
+    let right : (u : ℕ) → unsigned_abs (slice_index_or xs u (pos 0)) ≤ 1000000 =
+    within_all 1000000 _ c.self.invariant in
     let places : length xs ≡ 16 = omega arith in
     let within : c.args.v < length xs = omega arith in
     let once : unsigned_abs x ≤ 1 = rw (to_z-of_z w32 c.args.times c.ranges.times) c.requires.times in
@@ -29,16 +61,20 @@ loop-w-init c =
     let few : unsigned_abs c.carried_once.result ≤ 255 = omega (arith, c.carried_once.ensures.limit) in
     let (low, high) = within_abs c.carried_once.result 255 few in
     let (low', high') = within_abs (slice_index_or xs c.args.v (pos 0)) 1000000 (right c.args.v) in
-    let here : y ≡ at c.args.self.now c.args.v -ℤ pos (valence c.args.graph.now c.args.v) *ℤ x = omega (arith, ints, same c.args.v) in
-    let lent : slice_index_or (slice_set xs c.args.v y) c.args.v (pos 0) ≡ y = get_or-set_same xs c.args.v y (pos 0) within in
-    let others : (u : ℕ) → u ≢ c.args.v → slice_index_or (slice_set xs c.args.v y) u (pos 0) ≡ slice_index_or xs u (pos 0) =
+    let here : y ≡ at c.args.self.now c.args.v -ℤ pos (valence c.args.graph.now c.args.v) *ℤ x =
+    omega (arith, ints, same c.args.v) in
+    let lent : slice_index_or (slice_set xs c.args.v y) c.args.v (pos 0) ≡ y =
+    get_or-set_same xs c.args.v y (pos 0) within in
+    let others : (u : ℕ) → u ≢ c.args.v →
+    slice_index_or (slice_set xs c.args.v y) u (pos 0) ≡ slice_index_or xs u (pos 0) =
     λ u other. get_or-set_other xs c.args.v u y (pos 0) other in
     let near : unsigned_abs y ≤ 1000255 = omega (arith, ints) in
     record {
       size = length-set _ _ _ ∙ places;
       done = λ u none. absurd (omega arith);
       near = λ u none. absurd (omega arith);
-      ahead = λ u _. fired-lender c.args.graph.now (at c.args.self.now) (λ w. slice_index_or (slice_set xs c.args.v y) w (pos 0)) c.args.v x
+      ahead = λ u _. fired-lender c.args.graph.now (at c.args.self.now)
+          (λ w. slice_index_or (slice_set xs c.args.v y) w (pos 0)) c.args.v x
           c.size-size.ensures.graph.multigraph c.requires.vertex (lent ∙ here) (λ w other. others w other ∙ same w) u;
       small = λ u _. ⊎_elim
           (λ (equal : u ≡ c.args.v). rw (equal, lent) near)
@@ -48,76 +84,54 @@ loop-w-init c =
 
 pub overflow_add-amounts : goal.overflow_add-amounts
 overflow_add-amounts c =
-    let x : ℤ = to_z w32 (of_z w32 c.args.times) in
-    let once : unsigned_abs x ≤ 1 = rw (to_z-of_z w32 c.args.times c.ranges.times) c.requires.times in
-    let few : unsigned_abs c.carried_once-in-loop-w.result ≤ 255 = omega (arith, c.carried_once-in-loop-w.ensures.limit) in
-    let (low, high) = within_abs c.carried_once-in-loop-w.result 255 few in
-    let (low', high') = within_abs (slice_index_or c.loop-w.amounts c.loop-w.w (pos 0)) 1000255 (c.loop-w.invariant.small c.loop-w.w (omega arith)) in
+    let got : ℤ = c.carried_once-in-loop-w.result in
+    let (low, high) = within_abs got 255 (few (goal.at.overflow_add-amounts c).After-carried_once-in-loop-w) in
+    let (low', high') =
+    within_abs (slice_index_or c.loop-w.amounts c.loop-w.w (pos 0)) 1000255
+    (c.loop-w.invariant.small c.loop-w.w (omega arith)) in
     omega (arith, ints)
 
 pub returns-then-from-gt-MAX_AMOUNT : goal.returns-then-from-gt-MAX_AMOUNT
 returns-then-from-gt-MAX_AMOUNT c =
     let x : ℤ = to_z w32 (of_z w32 c.args.times) in
     let w : ℕ = c.loop-w.w in
-    let xs : List ℤ = c.loop-w.amounts in
-    let sum : ℤ = to_z w32 (of_z w32 (slice_index_or xs w (pos 0))) +ℤ to_z w32 (of_z w32 c.carried_once-in-loop-w.result) in
-    let y : ℤ = to_z w32 (of_z w32 sum) in
-    let once : unsigned_abs x ≤ 1 = rw (to_z-of_z w32 c.args.times c.ranges.times) c.requires.times in
-    let few : unsigned_abs c.carried_once-in-loop-w.result ≤ 255 = omega (arith, c.carried_once-in-loop-w.ensures.limit) in
-    let got : c.carried_once-in-loop-w.result ≡ pos (edges_between c.args.graph.now c.args.v w) *ℤ x =
-    c.carried_once-in-loop-w.ensures.product ∙ ap (λ (k : ℕ). pos k *ℤ x) (c.row-row.ensures w) in
-    let within : w < length xs = omega arith in
-    let after : y ≡ fired c.args.graph.now (at c.args.self.now) (only_at c.args.v x) w =
-    held_gain _ _ _ _ (c.loop-w.invariant.small w (omega arith)) few got (c.loop-w.invariant.ahead w (omega arith)) in
-    let kept : to_z w32 (of_z w32 (slice_index_or (slice_set xs w y) w (pos 0)))
-    ≡ fired c.args.graph.now (at c.args.self.now) (only_at c.args.v x) w =
-    read_back xs w sum _ within after in
+    let kept = kept (goal.at.returns-then-from-gt-MAX_AMOUNT c).After-carried_once-in-loop-w in
     let far : 1000000 < unsigned_abs (fired c.args.graph.now (at c.args.self.now) (only_at c.args.v x) w) =
     omega (arith, ap unsigned_abs kept, c.unsigned_abs.ensures.value) in
     let held : x ≡ c.args.times = to_z-of_z w32 c.args.times c.ranges.times in
     let sized : c.self.inside.size ≡ c.args.self.now.size = ap (λ (d : Vector). d.size) c.self.view_is in
     elim (cases_lt w c.args.graph.now.size) [
       | inl below ↦
-          (w, below, subst (λ (z : ℤ). 1000000 < unsigned_abs (fired c.args.graph.now (at c.args.self.now) (only_at c.args.v z) w)) held far)
+          let moved = λ (z : ℤ). fired c.args.graph.now (at c.args.self.now) (only_at c.args.v z) w in
+          (w, below, subst (λ (z : ℤ). 1000000 < unsigned_abs (moved z)) held far)
       | inr past ↦
           let empty : at c.args.self.now w ≡ pos 0 =
           sym (ap (λ (d : Vector). at d w) c.self.view_is) ∙ c.self.invariant.inside w (omega arith) in
           let none : fired c.args.graph.now (at c.args.self.now) (only_at c.args.v x) w ≡ pos 0 =
-          fired-outside c.args.graph.now (at c.args.self.now) c.args.v x w c.size-size.ensures.graph.multigraph c.requires.vertex (omega arith) empty in
+          fired-outside c.args.graph.now (at c.args.self.now) c.args.v x w c.size-size.ensures.graph.multigraph
+          c.requires.vertex (omega arith) empty in
           absurd (omega (arith, ap unsigned_abs none))
     ]
 
 pub loop-w-preserved : goal.loop-w-preserved
 loop-w-preserved c =
-    let x : ℤ = to_z w32 (of_z w32 c.args.times) in
     let w : ℕ = c.loop-w.w in
     let xs : List ℤ = c.loop-w.amounts in
-    let sum : ℤ = to_z w32 (of_z w32 (slice_index_or xs w (pos 0))) +ℤ to_z w32 (of_z w32 c.carried_once-in-loop-w.result) in
-    let y : ℤ = to_z w32 (of_z w32 sum) in
-    let once : unsigned_abs x ≤ 1 = rw (to_z-of_z w32 c.args.times c.ranges.times) c.requires.times in
-    let few : unsigned_abs c.carried_once-in-loop-w.result ≤ 255 = omega (arith, c.carried_once-in-loop-w.ensures.limit) in
-    let got : c.carried_once-in-loop-w.result ≡ pos (edges_between c.args.graph.now c.args.v w) *ℤ x =
-    c.carried_once-in-loop-w.ensures.product ∙ ap (λ (k : ℕ). pos k *ℤ x) (c.row-row.ensures w) in
     let within : w < length xs = omega arith in
-    let after : y ≡ fired c.args.graph.now (at c.args.self.now) (only_at c.args.v x) w =
-    held_gain _ _ _ _ (c.loop-w.invariant.small w (omega arith)) few got (c.loop-w.invariant.ahead w (omega arith)) in
-    let kept : to_z w32 (of_z w32 (slice_index_or (slice_set xs w y) w (pos 0)))
-    ≡ fired c.args.graph.now (at c.args.self.now) (only_at c.args.v x) w =
-    read_back xs w sum _ within after in
-    let near : unsigned_abs (fired c.args.graph.now (at c.args.self.now) (only_at c.args.v x) w) ≤ 1000000 =
-    omega (arith, ap unsigned_abs kept, c.unsigned_abs.ensures.value) in
-    let others : (u : ℕ) → w + 1 ≤ u → slice_index_or (slice_set xs w y) u (pos 0) ≡ slice_index_or xs u (pos 0) =
-    λ u above. let other : u ≢ w = omega arith in get_or-set_other xs w u y (pos 0) other in
+    let here = (goal.at.loop-w-preserved c).After-carried_once-in-loop-w in
+    let kept = kept here in
+    let others = λ (u : ℕ) (above : w + 1 ≤ u).
+    let other : u ≢ w = omega arith in get_or-set_other xs w u (to_z w32 (of_z w32 (sum here))) (pos 0) other in
     record {
       size = length-set _ _ _ ∙ c.loop-w.invariant.size;
-      done = filled-set xs w y (fired c.args.graph.now (at c.args.self.now) (only_at c.args.v x)) within after c.loop-w.invariant.done;
-      near = below_more _ _ c.loop-w.invariant.near near;
+      done = filled-set xs w _ _ within (after here) c.loop-w.invariant.done;
+      near = below_more _ _ c.loop-w.invariant.near (omega (arith, ap unsigned_abs kept, c.unsigned_abs.ensures.value));
       ahead = λ u above. rw (others u above) (c.loop-w.invariant.ahead u (omega arith));
       small = λ u above. rw (others u above) (c.loop-w.invariant.small u (omega arith));
     }
 
-pub invariant_of-result : goal.invariant_of-result
-invariant_of-result c =
+pub of_row-requires : goal.of_row-requires
+of_row-requires c =
     let x : ℤ = to_z w32 (of_z w32 c.args.times) in
     let sized : c.self.inside.size ≡ c.args.self.now.size = ap (λ (d : Vector). d.size) c.self.view_is in
     let empty : (u : ℕ) → c.args.graph.now.size ≤ u → at c.args.self.now u ≡ pos 0 =
@@ -127,7 +141,8 @@ invariant_of-result c =
       within = λ u below. rw (c.loop-w.invariant.done u (omega arith)) (c.loop-w.invariant.near u (omega arith));
       inside = λ u past. elim (cases_lt u 16) [
         | inl below ↦ c.loop-w.invariant.done u (omega arith)
-            ∙ fired-outside c.args.graph.now (at c.args.self.now) c.args.v x u c.size-size.ensures.graph.multigraph c.requires.vertex (omega arith)
+            ∙ fired-outside c.args.graph.now
+            (at c.args.self.now) c.args.v x u c.size-size.ensures.graph.multigraph c.requires.vertex (omega arith)
             (empty u (omega arith))
         | inr above ↦ get_or_past c.loop-w.amounts u (pos 0) (omega arith)
       ];

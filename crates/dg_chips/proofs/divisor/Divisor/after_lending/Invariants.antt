@@ -13,6 +13,7 @@ invariant-loop-w l = record {
   done : (u : ℕ) → u < l.w → slice_index_or l.amounts u (pos 0) ≡ fired l.graph (at l.self) (only_at l.v l.times) u;
   near : (u : ℕ) → u < l.w → unsigned_abs (fired l.graph (at l.self) (only_at l.v l.times) u) ≤ 1000000;
   ahead : (u : ℕ) → l.w ≤ u →
-      slice_index_or l.amounts u (pos 0) +ℤ pos (edges_between l.graph l.v u) *ℤ l.times ≡ fired l.graph (at l.self) (only_at l.v l.times) u;
+      slice_index_or l.amounts u (pos 0) +ℤ pos (edges_between l.graph l.v u) *ℤ l.times
+      ≡ fired l.graph (at l.self) (only_at l.v l.times) u;
   small : (u : ℕ) → l.w ≤ u → unsigned_abs (slice_index_or l.amounts u (pos 0)) ≤ 1000255;
 }

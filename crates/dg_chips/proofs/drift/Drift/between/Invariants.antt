@@ -1,14 +1,12 @@
-use Rattle.std.proofs.Common.{◌≡◌, ℕ, ◌<◌, ◌≤◌, length}
-use Rattle.std.specs.List.{slice_index_or}
+use Rattle.std.proofs.Common.{ℕ, ◌<◌, ◌≤◌}
 use Rattle.std.specs.Int.RustNames.{unsigned_abs}
-use Rattle.std.proofs.Math.IntN.{pos, ◌-ℤ◌}
+use Rattle.std.proofs.Math.IntN.{◌-ℤ◌}
 use Rattle.dg_chips.specs.Vector.{at}
+use Rattle.dg_chips.proofs.VectorLaws.{IsFilled}
 use Rattle.dg_chips.proofs.drift.Drift.between.Given as goal
 
 abbrev pub invariant-loop-v : goal.invariant-loop-v
 invariant-loop-v l = record {
-  size : length l.entries ≡ 16;
-  same : (w : ℕ) → w < l.v → slice_index_or l.entries w (pos 0) ≡ at l.first w -ℤ at l.second w;
-  zero : (w : ℕ) → l.v ≤ w → slice_index_or l.entries w (pos 0) ≡ pos 0;
+  filled : IsFilled l.entries l.v (λ w. at l.first w -ℤ at l.second w);
   near : (w : ℕ) → w < l.v → unsigned_abs (at l.first w -ℤ at l.second w) ≤ 100000000000000;
 }

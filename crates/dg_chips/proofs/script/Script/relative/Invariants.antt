@@ -1,12 +1,7 @@
-use Rattle.std.proofs.Common.{◌≡◌, ℕ, ◌<◌, ◌≤◌, length}
-use Rattle.std.specs.List.{slice_index_or}
-use Rattle.std.proofs.Math.IntN.{pos, ◌-ℤ◌}
+use Rattle.std.proofs.Math.IntN.{◌-ℤ◌}
 use Rattle.dg_chips.specs.Vector.{at}
+use Rattle.dg_chips.proofs.VectorLaws.{IsFilled}
 use Rattle.dg_chips.proofs.script.Script.relative.Given as goal
 
 abbrev pub invariant-loop-v : goal.invariant-loop-v
-invariant-loop-v l = record {
-  size : length l.entries ≡ 16;
-  same : (w : ℕ) → w < l.v → slice_index_or l.entries w (pos 0) ≡ at l.lendings w -ℤ at l.lendings l.q;
-  zero : (w : ℕ) → l.v ≤ w → slice_index_or l.entries w (pos 0) ≡ pos 0;
-}
+invariant-loop-v l = IsFilled l.entries l.v (λ w. at l.lendings w -ℤ at l.lendings l.q)

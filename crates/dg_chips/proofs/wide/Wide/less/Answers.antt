@@ -1,18 +1,11 @@
-use Rattle.std.proofs.Common.{◌≤◌, ◌<◌, ◌^◌, length, length-set, arith, ◌∙◌}
+use Rattle.std.proofs.Common.{◌≤◌, ◌^◌, arith}
 use Rattle.std.specs.Int.RustNames.{unsigned_abs}
 use Rattle.std.proofs.lemmas.Int.{ints}
-use Rattle.std.proofs.Math.IntN.{◌-ℤ◌}
 use Rattle.dg_chips.specs.Vector.{at}
-use Rattle.dg_chips.proofs.VectorLaws.{filled-set, rest-set}
+use Rattle.dg_chips.proofs.VectorLaws.{filled_more}
 use Rattle.dg_chips.proofs.wide.Wide.less.Goals as goal
 
 pub loop-v-preserved : goal.loop-v-preserved
 loop-v-preserved c =
-    let within : c.loop-v.v < length c.loop-v.amounts = omega arith in
     let small : unsigned_abs (at c.args.self.now c.loop-v.v) ≤ 2 ^ 126 = c.requires.range c.loop-v.v (omega arith) in
-    record {
-      size = length-set _ _ _ ∙ c.loop-v.invariant.size;
-      same = filled-set c.loop-v.amounts c.loop-v.v _ (λ w. at c.args.self.now w -ℤ at c.args.divisor.now w) within
-          (omega (arith, ints)) c.loop-v.invariant.same;
-      zero = rest-set c.loop-v.amounts c.loop-v.v _ c.loop-v.invariant.zero;
-    }
+    filled_more _ _ _ _ (omega arith) (omega (arith, ints)) c.loop-v.invariant

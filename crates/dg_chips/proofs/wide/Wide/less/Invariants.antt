@@ -1,12 +1,7 @@
-use Rattle.std.proofs.Common.{◌≡◌, ℕ, ◌<◌, ◌≤◌, length}
-use Rattle.std.specs.List.{slice_index_or}
-use Rattle.std.proofs.Math.IntN.{pos, ◌-ℤ◌}
+use Rattle.std.proofs.Math.IntN.{◌-ℤ◌}
 use Rattle.dg_chips.specs.Vector.{at}
+use Rattle.dg_chips.proofs.VectorLaws.{IsFilled}
 use Rattle.dg_chips.proofs.wide.Wide.less.Given as goal
 
 abbrev pub invariant-loop-v : goal.invariant-loop-v
-invariant-loop-v l = record {
-  size : length l.amounts ≡ 16;
-  same : (w : ℕ) → w < l.v → slice_index_or l.amounts w (pos 0) ≡ at l.self w -ℤ at l.divisor w;
-  zero : (w : ℕ) → l.v ≤ w → slice_index_or l.amounts w (pos 0) ≡ pos 0;
-}
+invariant-loop-v l = IsFilled l.amounts l.v (λ w. at l.self w -ℤ at l.divisor w)

@@ -28,14 +28,16 @@ valences_of-valences-requires c =
 
 pub invariant_of-result : goal.invariant_of-result
 invariant_of-result c = record {
-  graph = cells-graph c.args.size c.args.items.now c.table_of-table.result (omega arith, omega arith) c.in_default.ensures
+  graph = cells-graph c.args.size c.args.items.now c.table_of-table.result
+      (omega arith, omega arith) c.in_default.ensures
       c.table_of-table.ensures c.in_default-first_high.ensures c.if-not-is_connected.ensures;
   valences = c.valences_of-valences.ensures;
 }
 
 pub returns : goal.returns
 returns c = record {
-  graph = cells-graph c.args.size c.args.items.now c.table_of-table.result (omega arith, omega arith) c.in_default.ensures
+  graph = cells-graph c.args.size c.args.items.now c.table_of-table.result
+      (omega arith, omega arith) c.in_default.ensures
       c.table_of-table.ensures c.in_default-first_high.ensures c.if-not-is_connected.ensures;
   size = refl;
   right = c.in_default.ensures;

@@ -2,7 +2,7 @@ use Rattle.std.proofs.Common.{◌≡◌, ℕ, [], ◌∷◌, ◌++◌, length, a
 use Rattle.dg_game.specs.Replies.{Replies}
 use Rattle.dg_game.specs.declared.entry.Entry.{Entry}
 use Rattle.dg_log.specs.Written.{Written}
-use Rattle.dg_table.specs.Lock.{IsKept}
+use Rattle.dg_table.specs.Lock.{IsKeptLook}
 use Rattle.dg_table.proofs.Steps.{held_more, history_more, kept_more, answered}
 use Rattle.dg_table.proofs.held.Held.enter.Goals as goal
 
@@ -35,7 +35,7 @@ invariant_of-seat g c =
     let entry : c.entry.result.now ≡ e = c.entry.ensures ∙ ap (λ (r : ℕ × Entry). r.1) receipt in
     let shown = subst (λ (x : Entry). Replies g.N.Name.start H x.request x.reply) (sym entry) replies in
     let seen =
-    subst (λ (x : Entry). IsKept g.N.Name.start (c.seat.inside.mine.items ++ (length H, x) ∷ []) c.keep_look.new.look) entry
+    subst (λ (x : Entry). IsKeptLook g.N.Name.start (c.seat.inside.mine.items ++ (length H, x) ∷ []) c.keep_look.new.look) entry
     (c.keep_look.ensures g.N.Name.start H c.seat.inside.mine.items c.self.invariant.0.game' shown
     c.seat.invariant.look_kept) in
     let seated = c.seat.invariant in
