@@ -41,7 +41,8 @@ totals_apart : (n : ℕ) (S : ℕ → Bool) (f : ℕ → ℕ) →
     total_below n (λ w. if S w then f w else 0) + total_below n (λ w. if S w then 0 else f w) ≡ total_below n f
 totals_apart zero S f = refl
 totals_apart (suc n) S f =
-    let before : total_below n (λ w. if S w then f w else 0) + total_below n (λ w. if S w then 0 else f w) ≡ total_below n f =
+    let before : total_below n (λ w. if S w then f w else 0) + total_below n (λ w. if S w then 0 else f w)
+    ≡ total_below n f =
     totals_apart n S f in
     let last : (if S n then f n else 0) + (if S n then 0 else f n) ≡ f n = apart (S n) (f n) in
     omega arith
@@ -49,14 +50,16 @@ totals_apart (suc n) S f =
 pub edges_apart : (g : Multigraph) (S : ℕ → Bool) (v : ℕ) → edges_into g S v + edges_out g S v ≡ valence g v
 edges_apart g S v = totals_apart g.size S (edges_between g v)
 
-pub rest_lends : (g : Multigraph) (S : ℕ → Bool) (v : ℕ) → S v ≡ true → gain g (indicator S) v ≡ pos 0 -ℤ pos (edges_out g S v)
+pub rest_lends : (g : Multigraph) (S : ℕ → Bool) (v : ℕ) → S v ≡ true →
+    gain g (indicator S) v ≡ pos 0 -ℤ pos (edges_out g S v)
 rest_lends g S v inside = omega (arith, ints, gain-inside g S v inside)
 
 pub rest_receives : (g : Multigraph) (S : ℕ → Bool) (v : ℕ) → S v ≡ false →
     gain g (indicator S) v ≡ pos (valence g v) -ℤ pos (edges_out g S v)
 rest_receives g S v outside = omega (arith, ints, gain-outside g S v outside, edges_apart g S v)
 
-pub gain_small : (g : Multigraph) (S : ℕ → Bool) (v : ℕ) → IsGraph g → unsigned_abs (gain g (indicator S) v) ≤ valence g v
+pub gain_small : (g : Multigraph) (S : ℕ → Bool) (v : ℕ) → IsGraph g →
+    unsigned_abs (gain g (indicator S) v) ≤ valence g v
 gain_small g S v graph =
     let into : edges_into g S v ≤ valence g v = into-le-valence g S v in
     let out : edges_out g S v ≤ valence g v = out-le-valence g S v in
@@ -76,10 +79,12 @@ gain_past g S v graph past =
 
 once : (g : Multigraph) (D : Amounts) (S : ℕ → Bool) (w : ℕ) → w < g.size →
     fired g D (multiple (pos 1) (indicator S)) w ≡ fired g D (indicator S) w
-once g D S w below = fired-cong g D (multiple (pos 1) (indicator S)) (indicator S) w below (λ u _. multiple-once (indicator S) u)
+once g D S w below =
+    fired-cong g D (multiple (pos 1) (indicator S)) (indicator S) w below (λ u _. multiple-once (indicator S) u)
 
 pub once_more : (g : Multigraph) (v : ℕ) (S : ℕ → Bool) (x y z : Vector) → IsGraph g → v < g.size →
-    IsRepaying g v x y → FiresFreely g v (at y) S → z.size ≡ g.size → FiresTo g (indicator S) (at y) (at z) → IsRepaying g v x z
+    IsRepaying g v x y → FiresFreely g v (at y) S → z.size ≡ g.size → FiresTo g (indicator S) (at y) (at z) →
+    IsRepaying g v x z
 once_more g v S x y z graph vertex state free size fires = record {
   size = size;
   led = led-cong g v (at x) (fired g (at y) (multiple (pos 1) (indicator S))) (at z) vertex
@@ -105,4 +110,5 @@ once_falls g v S x y z u graph vertex state free member fires =
 
 pub once_limit : (g : Multigraph) (v : ℕ) (x y : Vector) → IsGraph g → v < g.size → IsRepaying g v x y →
     ((w : ℕ) → w < g.size → unsigned_abs (at x w) ≤ 2 ^ 26) → (w : ℕ) → w < g.size → unsigned_abs (at y w) ≤ 17 * 2 ^ 26
-once_limit g v x y graph vertex state range w inside = led_limit g v (at x) (at y) (2 ^ 26) w vertex graph.few range state.led inside
+once_limit g v x y graph vertex state range w inside =
+    led_limit g v (at x) (at y) (2 ^ 26) w vertex graph.few range state.led inside

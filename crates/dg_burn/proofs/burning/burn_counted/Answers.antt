@@ -11,7 +11,8 @@ use Rattle.dg_burn.proofs.Fires.{fire-unlit, fire-room, fire-spare, fire-more, b
 use Rattle.dg_burn.proofs.burning.burn_counted.Goals as goal
 
 pub burn_vertex-requires-clause-room : goal.burn_vertex-requires-clause-room
-burn_vertex-requires-clause-room c = λ w. fire-room c.args.graph.now c.args.held.now c.new-fire.result c.args.q w c.size-size.ensures.graph
+burn_vertex-requires-clause-room c =
+    λ w. fire-room c.args.graph.now c.args.held.now c.new-fire.result c.args.q w c.size-size.ensures.graph
     (fire-unlit c.args.graph.now c.args.held.now c.new-fire.result c.new-fire.ensures)
 
 pub burn_vertex-requires-clause-spare : goal.burn_vertex-requires-clause-spare

@@ -60,7 +60,8 @@ loop-w-preserved c =
 
 -- what the vertex lends itself, and all that it gets
 lends : (c : After-carried_lightly) →
-    (c.carried_lightly.result ≡ pos (valence c.args.graph.now c.args.v) *ℤ slice_index_or c.args.lendings.now c.args.v (pos 0))
+    (c.carried_lightly.result
+    ≡ pos (valence c.args.graph.now c.args.v) *ℤ slice_index_or c.args.lendings.now c.args.v (pos 0))
     × (unsigned_abs c.carried_lightly.result < 2 ^ 30) × (unsigned_abs (to_z w32 c.loop-w.sum-bits) < 2 ^ 30)
 lends c =
     let s : Amounts = λ w. slice_index_or c.args.lendings.now w (pos 0) in

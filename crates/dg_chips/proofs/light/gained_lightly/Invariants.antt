@@ -6,4 +6,5 @@ use Rattle.dg_theory.specs.Multigraph.{edges_between}
 use Rattle.dg_chips.proofs.light.gained_lightly.Given as goal
 
 abbrev pub invariant-loop-w : goal.invariant-loop-w
-invariant-loop-w l = l.sum ≡ sum_below l.w (λ u. pos (edges_between l.graph l.v u) *ℤ slice_index_or l.lendings u (pos 0))
+invariant-loop-w l =
+    l.sum ≡ sum_below l.w (λ u. pos (edges_between l.graph l.v u) *ℤ slice_index_or l.lendings u (pos 0))
