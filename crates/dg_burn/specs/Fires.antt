@@ -1,6 +1,6 @@
--- A fire on a graph: which vertices burn, how many edges join each vertex to them, and how many dollars
--- more each holds. No vertex has more than 63 edges, so who holds more than 127 dollars burns as who
--- holds 127.
+-- A fire on a graph: which vertices burn, how many edges join each vertex to them, and how many
+-- dollars more each holds. No vertex has more than 63 edges, so who holds more than 127 dollars
+-- burns as who holds 127.
 --   dollars held v    == what v holds, where a list tells it
 --   capped z          == the amount z, but 0 for a debt and 64 for more than 64: as no vertex has
 --                        more than 63 edges, it burns with one exactly where it burns with the
@@ -11,8 +11,8 @@
 --   IsOut x           == no vertex has more edges to those that burn than it holds dollars
 --   IsLeastToBurn x v == v is the least vertex that has
 --   IsFire g l x      == what is counted at each vertex are its edges to those that burn; each that
---                        does not burn holds what l tells, and each that does holds 127 dollars, too
---                        many to burn again
+--                        does not burn holds what l tells, and each that does holds 127 dollars,
+--                        too many to burn again
 use Rattle.std.specs.Prelude.{◌≡◌, ℕ, ◌<◌, min, true, false, List, ℤ, pos, negsuc, ◌-ℤ◌, ◌≤ℤ◌, ◌<ℤ◌, slice_index}
 use Rattle.std.specs.List.{slice_index_or}
 use Rattle.dg_theory.specs.Multigraph.{Multigraph}

@@ -47,7 +47,8 @@ small_held z small =
 
 pub light-valence : (g : Multigraph) (s : Amounts) (v u : ℕ) → IsLight g s → valence g v * unsigned_abs (s u) < 2 ^ 30
 light-valence g s v u light =
-    let most : valence g v * unsigned_abs (s u) ≤ valence g v * light.most = mul-le-mul (omega arith) (light.within u) in
+    let most : valence g v * unsigned_abs (s u) ≤ valence g v * light.most =
+    mul-le-mul (omega arith) (light.within u) in
     omega (arith, light.room v)
 
 pub light-edges : (g : Multigraph) (s : Amounts) (v w u : ℕ) → IsGraph g → IsLight g s →

@@ -1,5 +1,6 @@
 -- Firings by which no vertex gets or loses much.
---   IsLight g s == the edges of any vertex, each with as many dollars as any vertex lends or borrows, carry less than 2^30
+--   IsLight g s == the edges of any vertex, each with as many dollars as any vertex lends or
+--                  borrows, carry less than 2^30
 use Rattle.std.specs.Prelude.{ℕ, ◌*◌, ◌^◌, ◌<◌, ◌≤◌}
 use Rattle.std.specs.Int.RustNames.{unsigned_abs}
 use Rattle.dg_theory.specs.Multigraph.{Multigraph, valence}

@@ -7,7 +7,8 @@ use Rattle.std.proofs.lemmas.Bool.{cases_lt}
 use Rattle.dg_rank.specs.Trials.{IsNumbering, AreCounted, ComesBefore}
 use Rattle.dg_rank.proofs.Lists.{before_both}
 
-pub lower_number : (n k : ℕ) (P : List ℕ → Type 0) (c : ℕ) (nth : ℕ → List ℕ) (i j : ℕ) → IsNumbering n k P c nth → i < c →
+pub lower_number : (n k : ℕ) (P : List ℕ → Type 0) (c : ℕ) (nth : ℕ → List ℕ) (i j : ℕ) → IsNumbering n k P c nth →
+    i < c →
     ComesBefore (nth i) (nth j) → i < j
 lower_number n k P c nth i j numbers small before = ⊎_elim
     (λ (low : i < j). low)
@@ -20,7 +21,8 @@ lower_number n k P c nth i j numbers small before = ⊎_elim
     (cases_lt j i)))
     (cases_lt i j)
 
-pub no_lower : (n k : ℕ) (P : List ℕ → Type 0) (c d : ℕ) (f g : ℕ → List ℕ) → IsNumbering n k P c f → IsNumbering n k P d g →
+pub no_lower : (n k : ℕ) (P : List ℕ → Type 0) (c d : ℕ) (f g : ℕ → List ℕ) → IsNumbering n k P c f →
+    IsNumbering n k P d g →
     (i j : ℕ) → i < c → f i ≡ g j → i ≤ j
 no_lower n k P c d f g first second zero j small same = omega arith
 no_lower n k P c d f g first second (suc i) j small same =
@@ -32,7 +34,8 @@ no_lower n k P c d f g first second (suc i) j small same =
     let lower : m < j = lower_number n k P d g m j second within next in
     omega arith
 
-as_many : (n k : ℕ) (P : List ℕ → Type 0) (c d : ℕ) (f g : ℕ → List ℕ) → IsNumbering n k P c f → IsNumbering n k P d g → c ≤ d
+as_many : (n k : ℕ) (P : List ℕ → Type 0) (c d : ℕ) (f g : ℕ → List ℕ) → IsNumbering n k P c f → IsNumbering n k P d g →
+    c ≤ d
 as_many n k P zero d f g first second = omega arith
 as_many n k P (suc c) d f g first second =
     let last : c < suc c = omega arith in

@@ -21,7 +21,8 @@ limits_trial n k c i limits small =
     ((numbered n k).each i (omega arith)).0
 
 pub some_trial : (n k : ℕ) → 0 < n → 0 < trial_count n k
-some_trial n k some = let more : trial_count 1 k ≤ trial_count n k = count_grows 1 n k some in omega (arith, one_place k)
+some_trial n k some = let more : trial_count 1 k ≤ trial_count n k =
+    count_grows 1 n k some in omega (arith, one_place k)
 
 more_trials : (n j k : ℕ) → 0 < n → j ≤ k → (c : ℕ) × (MAX_TRIALS < c) × AreCounted n j AnyTrial c →
     (c : ℕ) × (MAX_TRIALS < c) × AreCounted n k AnyTrial c

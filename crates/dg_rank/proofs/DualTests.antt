@@ -23,7 +23,8 @@ pub decided : {P Q : Type 0} (b : Bool) → P ↔ Q → MatchBool b P (¬ P) →
 decided true same holds = same.0 holds
 decided false same fails = λ q. fails (same.1 q)
 
-pub unsettled-cong : (g : Multigraph) (D E : Amounts) (k : ℕ) → AgreeOn g.size D E → IsUnsettled g E k → IsUnsettled g D k
+pub unsettled-cong : (g : Multigraph) (D E : Amounts) (k : ℕ) → AgreeOn g.size D E → IsUnsettled g E k →
+    IsUnsettled g D k
 unsettled-cong g D E k same unsettled =
     let alike : degree g.size D ≡ degree g.size E = sum_below-cong g.size D E same in
     record { least = omega (arith, ints, unsettled.least); most = omega (arith, ints, unsettled.most) }

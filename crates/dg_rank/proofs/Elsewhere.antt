@@ -54,14 +54,17 @@ only_at-more v k w = ⊎_elim
     (λ (other : w ≡ v → ⊥). omega (arith, ints, only_at-other v (pos k) w other))
     (cases_eq w v)
 
-pub gift_stays : (n : ℕ) (A B : Amounts) (v k : ℕ) → IsEffective n A → ((w : ℕ) → B w ≡ A w +ℤ only_at v (pos k) w) → IsEffective n B
+pub gift_stays : (n : ℕ) (A B : Amounts) (v k : ℕ) → IsEffective n A → ((w : ℕ) → B w ≡ A w +ℤ only_at v (pos k) w) →
+    IsEffective n B
 gift_stays n A B v k rich more w below = omega (arith, ints, rich w below, more w, only_at-more v k w)
 
-pub owed_at : (g : Multigraph) (A B : Amounts) (v k : ℕ) → IsEffective g.size A → ((w : ℕ) → B w ≡ A w -ℤ only_at v (pos k) w) →
+pub owed_at : (g : Multigraph) (A B : Amounts) (v k : ℕ) → IsEffective g.size A →
+    ((w : ℕ) → B w ≡ A w -ℤ only_at v (pos k) w) →
     HasNoDebtOff g v B
 owed_at g A B v k rich less w below other = omega (arith, ints, rich w below, less w, only_at-other v (pos k) w other)
 
-pub rich_small : (n : ℕ) (A : Amounts) (M w : ℕ) → IsEffective n A → degree n A ≤ℤ pos M → w < n → unsigned_abs (A w) ≤ M
+pub rich_small : (n : ℕ) (A : Amounts) (M w : ℕ) → IsEffective n A → degree n A ≤ℤ pos M → w < n →
+    unsigned_abs (A w) ≤ M
 rich_small n A M w rich total below =
     let low : pos 0 ≤ℤ A w = rich w below in
     let high : A w ≤ℤ degree n A = sum_below-one n w A below (λ u inside _. rich u inside) in
@@ -94,10 +97,12 @@ degree-taken n A B v k below less =
     sum_below-cong n B (λ w. A w -ℤ only_at v (pos k) w) (λ w _. less w)
     ∙ degree-less n A (only_at v (pos k)) ∙ ap (λ (d : ℤ). degree n A -ℤ d) (degree-only_at n v (pos k) below)
 
-pub form_degree : (g : Multigraph) (A : Amounts) (x : Vector) → IsMultigraph g → IsEffectiveForm g A x → degree g.size (at x) ≡ degree g.size A
+pub form_degree : (g : Multigraph) (A : Amounts) (x : Vector) → IsMultigraph g → IsEffectiveForm g A x →
+    degree g.size (at x) ≡ degree g.size A
 form_degree g A x graph form = sym (equivalent-degree g A (at x) graph form.led)
 
-pub more_equivalent : (g : Multigraph) (A B C : Amounts) → AreEquivalent g A B → AreEquivalent g (λ v. A v +ℤ C v) (λ v. B v +ℤ C v)
+pub more_equivalent : (g : Multigraph) (A B C : Amounts) → AreEquivalent g A B →
+    AreEquivalent g (λ v. A v +ℤ C v) (λ v. B v +ℤ C v)
 more_equivalent g A B C (s, leads) = (s, λ v below. omega (arith, ints, leads v below))
 
 pub told_by : (b : Bool) (g : Multigraph) (A B : Amounts) (z : Vector) → AreEquivalent g A B →
@@ -119,7 +124,8 @@ after_less g D E F m places moved v below =
     subst (λ (n : ℕ). amounts_of F v ≡ amounts_of E v -ℤ change n m v) places (moved.amounts v (omega arith)) in
     omega (arith, ints)
 
-pub next_told : (b : Bool) (g : Multigraph) (D : Amounts) (E F : List ℕ) (m : Moved) (x y : Vector) → length E ≡ g.size → IsMoved E F m →
+pub next_told : (b : Bool) (g : Multigraph) (D : Amounts) (E F : List ℕ) (m : Moved) (x y : Vector) →
+    length E ≡ g.size → IsMoved E F m →
     IsEffectiveForm g (less D (amounts_of E)) x →
     MatchBool b (IsEffectiveForm g (after_move g.size m (at x)) y) (¬ IsWinnable g (after_move g.size m (at x))) →
     MatchBool b (IsEffectiveForm g (less D (amounts_of F)) y) (¬ WinsWithout g D F)
@@ -135,9 +141,11 @@ pub left_degree : (g : Multigraph) (D : Amounts) (E : List ℕ) (x : Vector) →
     ((v : ℕ) → v < g.size → unsigned_abs (D v) ≤ 1999000) → IsEffectiveForm g (less D (amounts_of E)) x →
     degree g.size (at x) ≤ℤ pos 32000000
 left_degree g D E x graph range form =
-    let same : degree g.size (at x) ≡ degree g.size (less D (amounts_of E)) = form_degree g (less D (amounts_of E)) x graph.multigraph form in
+    let same : degree g.size (at x) ≡ degree g.size (less D (amounts_of E)) =
+    form_degree g (less D (amounts_of E)) x graph.multigraph form in
     let total : degree g.size (less D (amounts_of E)) ≤ℤ pos (g.size * 1999000) =
-    sum_below-at_most g.size 1999000 (less D (amounts_of E)) (λ w below. omega (arith, ints, (within_abs (D w) 1999000 (range w below)).1)) in
+    sum_below-at_most g.size 1999000 (less D (amounts_of E))
+    (λ w below. omega (arith, ints, (within_abs (D w) 1999000 (range w below)).1)) in
     let few : g.size ≤ 16 = graph.few in
     omega (arith, ints)
 
@@ -157,7 +165,8 @@ left_small n k c E B F v within trial inside small left =
     let (low, high) = within_abs (B v) 1999000 small in
     abs_within (F v) 2000000 (omega (arith, ints)) (omega (arith, ints))
 
-pub form_kept : (g : Multigraph) (A B : Amounts) (x y : Vector) → AgreeOn g.size A B → IsEffectiveForm g B x → y.size ≡ g.size →
+pub form_kept : (g : Multigraph) (A B : Amounts) (x y : Vector) → AgreeOn g.size A B → IsEffectiveForm g B x →
+    y.size ≡ g.size →
     ((v : ℕ) → v < g.size → at y v ≡ at x v) → IsEffectiveForm g A y
 form_kept g A B x y same form size kept = record {
   size = size;

@@ -52,7 +52,13 @@ listed_before n E d F held effective before =
       same = λ u lower.
           let below : u < n = omega arith in
           omega (arith, ints, before.same u lower, listed-amounts n F u effective below, held.amounts u below);
-      smaller = omega (arith, ints, before.smaller, listed-amounts n F before.place effective inside, held.amounts before.place inside);
+      smaller = omega (
+        arith,
+        ints,
+        before.smaller,
+        listed-amounts n F before.place effective inside,
+        held.amounts before.place inside,
+      );
     }
 
 wins_listed : (g : Multigraph) (D : Amounts) (k i : ℕ) (E : Amounts) → IsEffective g.size E →
@@ -62,7 +68,8 @@ wins_listed g D k i E effective here win =
     win_more g (less D (amounts_of (listed g.size E))) (less D E)
     (λ v inside. omega (arith, ints, listed-amounts g.size E v effective inside)) listed_wins
 
-pub found_rank : (g : Multigraph) (D : Amounts) (k c : ℕ) → IsWithinLimits g.size k c → AllWin g D k 0 c → HasRankAtLeast g D k
+pub found_rank : (g : Multigraph) (D : Amounts) (k c : ℕ) → IsWithinLimits g.size k c → AllWin g D k 0 c →
+    HasRankAtLeast g D k
 found_rank g D k c within wins E effective of_degree =
     let (i, below, here) = (numbered g.size k).all (listed g.size E) (listed-trial g.size k E effective of_degree) tt in
     wins_listed g D k i E effective here (wins i (omega arith) (omega (arith, limits_count g.size k c within)))
@@ -70,26 +77,30 @@ found_rank g D k c within wins E effective of_degree =
 pub nth-trial : (n k c i : ℕ) → IsWithinLimits n k c → i < c → IsTrial n k (nth_trial n k i)
 nth-trial n k c i within below = ((numbered n k).each i (omega (arith, limits_count n k c within))).0
 
-pub all_trials_win : (g : Multigraph) (D : Amounts) (k c : ℕ) → IsWithinLimits g.size k c → HasRankAtLeast g D k → AllWin g D k 0 c
+pub all_trials_win : (g : Multigraph) (D : Amounts) (k c : ℕ) → IsWithinLimits g.size k c → HasRankAtLeast g D k →
+    AllWin g D k 0 c
 all_trials_win g D k c within rank i from below =
     let trial : IsTrial g.size k (nth_trial g.size k i) = nth-trial g.size k c i within below in
     rank (amounts_of (nth_trial g.size k i)) (λ v inside. omega (arith, ints))
     (degree-trial g.size k (nth_trial g.size k i) trial)
 
-pub lost_rank : (g : Multigraph) (D : Amounts) (k c : ℕ) (E : List ℕ) → IsWithinLimits g.size k c → IsLossIn g D k 0 c E →
+pub lost_rank : (g : Multigraph) (D : Amounts) (k c : ℕ) (E : List ℕ) → IsWithinLimits g.size k c →
+    IsLossIn g D k 0 c E →
     ¬ HasRankAtLeast g D k
 lost_rank g D k c E within loss rank =
     loss.loses (subst (λ (L : List ℕ). WinsWithout g D L) (sym loss.trial)
     (all_trials_win g D k c within rank loss.number loss.from loss.to))
 
-pub found_decides : (g : Multigraph) (D : Amounts) (k c : ℕ) (found : Option (List ℕ)) (b : Bool) → IsWithinLimits g.size k c →
+pub found_decides : (g : Multigraph) (D : Amounts) (k c : ℕ) (found : Option (List ℕ)) (b : Bool) →
+    IsWithinLimits g.size k c →
     IsFound g D k 0 c found → is_some found ≡ not b → MatchBool b (HasRankAtLeast g D k) (¬ HasRankAtLeast g D k)
 found_decides g D k c (Some E) true within loss none = absurd (both_ways true none refl)
 found_decides g D k c (Some E) false within loss none = lost_rank g D k c E within loss
 found_decides g D k c None true within wins none = found_rank g D k c within wins
 found_decides g D k c None false within wins none = absurd (both_ways false refl none)
 
-pub loss-trial : (g : Multigraph) (D : Amounts) (k c : ℕ) (E : List ℕ) → IsWithinLimits g.size k c → IsLossIn g D k 0 c E →
+pub loss-trial : (g : Multigraph) (D : Amounts) (k c : ℕ) (E : List ℕ) → IsWithinLimits g.size k c →
+    IsLossIn g D k 0 c E →
     IsTrial g.size k E
 loss-trial g D k c E within loss =
     subst (λ (L : List ℕ). IsTrial g.size k L) (sym loss.trial) (nth-trial g.size k c loss.number within loss.to)
@@ -100,7 +111,8 @@ pub found_trial : (g : Multigraph) (D : Amounts) (k c : ℕ) (found : Option (Li
 found_trial g D k c (Some E) within loss = (g.size, c, within, loss-trial g D k c E within loss)
 found_trial g D k c None within wins = tt
 
-wins_before : (g : Multigraph) (D : Amounts) (k c : ℕ) (E : List ℕ) (d : Vector) (F : Amounts) → IsWithinLimits g.size k c →
+wins_before : (g : Multigraph) (D : Amounts) (k c : ℕ) (E : List ℕ) (d : Vector) (F : Amounts) →
+    IsWithinLimits g.size k c →
     IsLossIn g D k 0 c E → HoldsTrial g.size E d → IsEffective g.size F → degree g.size F ≡ pos k →
     IsBefore g.size F (at d) → IsWinnable g (less D F)
 wins_before g D k c E d F within loss held effective of_degree before =

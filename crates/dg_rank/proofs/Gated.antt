@@ -1,6 +1,6 @@
 -- Verdicts that are known before the workers pass the gate.
---   known_verdict   where the answer is a verdict that is right, or that no thread was started, it is that of a rank test
---                   with workers
+--   known_verdict   where the answer is a verdict that is right, or that no thread was started, it is that of a rank
+--                   test with workers
 use Rattle.std.proofs.Common.{◌≡◌, ℕ, sym, subst}
 use Rattle.std.specs.Prelude.{Result, MatchResult}
 use Rattle.std.proofs.lemmas.Result.{MatchResult-weaker}
@@ -11,8 +11,10 @@ use Rattle.dg_rank.specs.declared.rank_verdict.RankVerdict.{RankVerdict}
 use Rattle.dg_rank.specs.declared.rank_verdict.RankFault.{RankFault}
 use Rattle.dg_rank.specs.declared.rank_verdict.RankFault.TheVariants.{Spawn}
 
-pub known_verdict : (g : Multigraph) (D : Amounts) (k w : ℕ) (verdict : RankVerdict) (r : Result RankVerdict RankFault) →
-    IsWithin g.size k → MayHaveWorkers w → IsRankTest g D k verdict → MatchResult r (λ x. x ≡ verdict) (λ e. e ≡ Spawn) →
+pub known_verdict : (g : Multigraph) (D : Amounts) (k w : ℕ) (verdict : RankVerdict)
+    (r : Result RankVerdict RankFault) →
+    IsWithin g.size k → MayHaveWorkers w → IsRankTest g D k verdict →
+    MatchResult r (λ x. x ≡ verdict) (λ e. e ≡ Spawn) →
     MatchResult r (λ x. IsWithin g.size k × MayHaveWorkers w × IsRankTest g D k x) (IsRankFault g.size k w)
 known_verdict g D k w verdict r within workers right answer =
     MatchResult-weaker r answer

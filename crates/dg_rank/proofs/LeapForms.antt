@@ -53,7 +53,8 @@ held_before n k c i d r j v E split here low =
     let front : length (take d E) ≡ d = length-take-le d E (omega (arith, trial.places, split.inside)) in
     rw here.trial (get_or_append_left (take d E) (nth_trial (n - d) r j) 0 v (omega arith) ∙ get_or-take d E v 0 low)
 
-held_after : (n k c i d r j v : ℕ) (E : List ℕ) → IsSplit n k c i d r E → IsAmong n k c i d r j E → j < trial_count (n - d) r →
+held_after : (n k c i d r j v : ℕ) (E : List ℕ) → IsSplit n k c i d r E → IsAmong n k c i d r j E →
+    j < trial_count (n - d) r →
     d ≤ v → v < n → slice_index (nth_trial n k (i + j)) v ≤ r
 held_after n k c i d r j v E split here low past inside =
     let trial : IsTrial n k E = rw split.trial (limits_trial n k c i split.limits split.number) in
@@ -65,13 +66,15 @@ held_after n k c i d r j v E split here low past inside =
     get_or-append_right (take d E) (nth_trial (n - d) r j) d v 0 front past in
     rw here.trial (omega (arith, most, is, rest.amount))
 
-pub wins_among : (g : Multigraph) (D : Amounts) (k c i d r j : ℕ) (E : List ℕ) (x : Vector) → IsSplit g.size k c i d r E →
+pub wins_among : (g : Multigraph) (D : Amounts) (k c i d r j : ℕ) (E : List ℕ) (x : Vector) →
+    IsSplit g.size k c i d r E →
     IsRich g.size d r x → IsEffectiveForm g (less D (amounts_of E)) x → j < trial_count (g.size - d) r →
     WinsWithout g D (nth_trial g.size k (i + j))
 wins_among g D k c i d r j E x split rich form low =
     let G : List ℕ = nth_trial g.size k (i + j) in
     let here : IsAmong g.size k c i d r j E = among g.size k c i d r E split j low in
-    (equivalent-winnable g (less D (amounts_of G)) (λ v. at x v +ℤ (amounts_of E v -ℤ amounts_of G v)) (moved_form g D E G x form)).1 (
+    (equivalent-winnable g (less D (amounts_of G)) (λ v. at x v +ℤ (amounts_of E v -ℤ amounts_of G v))
+    (moved_form g D E G x form)).1 (
       [],
       λ v inside. ⊎_elim
           (λ (before : v < d).
@@ -112,7 +115,8 @@ landing_there n k c i d r E o =
 
 landing_else : (n k c i d r u : ℕ) (E : List ℕ) → IsOver n k c i d r E → u ≢ d → u ≢ n - 1 →
     slice_index (landing n d r E) u ≡ slice_index E u
-landing_else n k c i d r u E o apart inner = get_or-set_other (set E (n - 1) 0) d u r 0 apart ∙ get_or-set_other E (n - 1) u 0 0 inner
+landing_else n k c i d r u E o apart inner =
+    get_or-set_other (set E (n - 1) 0) d u r 0 apart ∙ get_or-set_other E (n - 1) u 0 0 inner
 
 landing_last : (n k c i d r : ℕ) (E : List ℕ) → IsOver n k c i d r E → slice_index (landing n d r E) (n - 1) ≡ 0
 landing_last n k c i d r E o =
@@ -133,8 +137,10 @@ landing_number n k c i d r E o =
     rw (← one) (all_first (n - 1 - d) r (drop d F) (omega (arith, length-drop d F, o.over))
     (get_or-drop d F 0 0 ∙ ap (slice_index F) (omega arith) ∙ landing_there n k c i d r E o)
     (λ u past. get_or-drop d F u 0 ∙ after (d + u) (omega arith))) in
-    let front : take d F ≡ take d E = take-set (set E (n - 1) 0) d r ∙ take-set-le d E (n - 1) 0 (omega (arith, o.over)) in
-    sym (take-append-drop d F) ∙ ap (λ (P : List ℕ). P ++ drop d F) front ∙ ap (λ (T : List ℕ). take d E ++ T) rest ∙ sym here.trial
+    let front : take d F ≡ take d E =
+    take-set (set E (n - 1) 0) d r ∙ take-set-le d E (n - 1) 0 (omega (arith, o.over)) in
+    sym (take-append-drop d F) ∙ ap (λ (P : List ℕ). P ++ drop d F) front ∙ ap (λ (T : List ℕ). take d E ++ T) rest
+    ∙ sym here.trial
   where
     after : (u : ℕ) → d < u → slice_index (landing n d r E) u ≡ 0
     after u past = ⊎_elim
@@ -157,13 +163,15 @@ landing_differs n k c i d r v E o inside = ⊎_elim
     (λ (there : v ≡ d).
     let other : v ≢ n - 1 = omega (arith, o.over) in
     let none : slice_index E v ≡ 0 = o.split.empty v (omega arith) (omega (arith, o.over)) in
-    let all : slice_index (landing n d r E) v ≡ r = ap (slice_index (landing n d r E)) there ∙ landing_there n k c i d r E o in
+    let all : slice_index (landing n d r E) v ≡ r =
+    ap (slice_index (landing n d r E)) there ∙ landing_there n k c i d r E o in
     let one : only_at d (pos r) v ≡ pos r = ap (only_at d (pos r)) there ∙ only_at-here d (pos r) in
     omega (arith, ints, only_at-other (n - 1) (pos r) v other))
     (λ (apart : v ≡ d → ⊥). ⊎_elim
     (λ (last : v ≡ n - 1).
     let all : slice_index E v ≡ r = ap (slice_index E) last ∙ o.split.last in
-    let none : slice_index (landing n d r E) v ≡ 0 = ap (slice_index (landing n d r E)) last ∙ landing_last n k c i d r E o in
+    let none : slice_index (landing n d r E) v ≡ 0 =
+    ap (slice_index (landing n d r E)) last ∙ landing_last n k c i d r E o in
     let one : only_at (n - 1) (pos r) v ≡ pos r = ap (only_at (n - 1) (pos r)) last ∙ only_at-here (n - 1) (pos r) in
     omega (arith, ints, only_at-other d (pos r) v apart))
     (λ (inner : v ≡ n - 1 → ⊥).

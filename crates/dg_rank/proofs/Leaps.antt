@@ -1,12 +1,13 @@
 -- Trials that differ after some places alone have successive numbers.
---   IsBlock P n r m k base i   == the trial of degree k on m places that begins with the amounts P, and holds after those, at n
---                                 places, what the trial number i of degree r does, has the number base + i
+--   IsBlock P n r m k base i   == the trial of degree k on m places that begins with the amounts P, and holds after
+--                                 those, at n places, what the trial number i of degree r does, has the number base + i
 --   block_of                   there is such a base for all that begin with P and hold r in all after it
 --   first_held                 where all is held at the last place, the number is 0
 --   all_first                  where all is held at the first place, it is the greatest
---   IsSplit n k c i d r E      == E is the trial number i of c, and from place d on holds r at its last place and nothing else
---   IsAmong n k c i d r j E    == the trial number i + j of c holds before place d what E does, and from there on what the trial
---                                 number j of degree r does
+--   IsSplit n k c i d r E      == E is the trial number i of c, and from place d on holds r at its last place and
+--                                 nothing else
+--   IsAmong n k c i d r j E    == the trial number i + j of c holds before place d what E does, and from there on what
+--                                 the trial number j of degree r does
 --   among                      the trials that differ from E from place d on alone come right after it
 use Rattle.std.proofs.Common.{◌≡◌, ℕ, zero, suc, ◌+◌, ◌-◌, ◌<◌, ◌≤◌, List, [], ◌∷◌, ◌++◌, length, take, drop, arith, refl, sym, ap, ◌∙◌}
 use Rattle.std.specs.Prelude.{slice_index}
@@ -30,12 +31,19 @@ record IsFirst (n a k base i : ℕ) : Type 0 where
 
 firsts : (n a k : ℕ) → (base : ℕ) × ((i : ℕ) → i < trial_count n k → IsFirst n a k base i)
 unfolding raised
-firsts n zero k = (0, λ i low. let start : 0 + i ≡ i = omega arith in let all : 0 + k ≡ k = omega arith in none k i low start all) where
+firsts n zero k = (
+  0,
+  λ i low. let start : 0 + i ≡ i = omega arith in let all : 0 + k ≡ k = omega arith in
+      none k i low start all,
+) where
   none : (k i : ℕ) → i < trial_count n k → 0 + i ≡ i → 0 + k ≡ k → IsFirst n 0 k 0 i
   none zero i low start all =
       record { within = rw (start, all) (omega (arith, count_broke n)); trial = rw (start, all) (nth_broke n i) }
   none (suc k) i low start all =
-      record { within = rw (start, all) (omega (arith, count_one_more n (suc k))); trial = rw (start, all) (nth_low n k i low) }
+      record {
+        within = rw (start, all) (omega (arith, count_one_more n (suc k)));
+        trial = rw (start, all) (nth_low n k i low);
+      }
 firsts n (suc a) k =
     let (base, each) = firsts n a k in
     let before : ℕ = trial_count n (suc (a + k)) in
@@ -85,10 +93,12 @@ block_of : (P : List ℕ) (n r m k : ℕ) → length P + n ≡ m → sum P + r �
     (base : ℕ) × ((i : ℕ) → i < trial_count n r → IsBlock P n r m k base i)
 block_of P n r m k size all = rw (← size, ← all) (blocked P n r)
 
-pub first_held : (n r : ℕ) (T : List ℕ) → length T ≡ suc n → ((u : ℕ) → u < n → slice_index T u ≡ 0) → slice_index T n ≡ r →
+pub first_held : (n r : ℕ) (T : List ℕ) → length T ≡ suc n → ((u : ℕ) → u < n → slice_index T u ≡ 0) →
+    slice_index T n ≡ r →
     T ≡ nth_trial (suc n) r 0
 first_held n r [] places empty held = absurd (omega arith)
-first_held zero r (a ∷ []) places empty held = ap (λ (x : ℕ). x ∷ []) held ∙ sym (one_amount r 0 (some_trial 1 r (omega arith)))
+first_held zero r (a ∷ []) places empty held =
+    ap (λ (x : ℕ). x ∷ []) held ∙ sym (one_amount r 0 (some_trial 1 r (omega arith)))
 first_held zero r (a ∷ b ∷ T) places empty held = absurd (omega arith)
 first_held (suc n) r (a ∷ T) places empty held =
     let rest : T ≡ nth_trial (suc n) r 0 = first_held n r T (omega arith) (λ u low. empty (suc u) (omega arith)) held in
@@ -98,7 +108,8 @@ first_held (suc n) r (a ∷ T) places empty held =
     none_first m zero = nth_broke (suc m) 0
     none_first m (suc s) = nth_low (suc m) s 0 (some_trial (suc m) (suc s) (omega arith))
 
-pub all_first : (n r : ℕ) (T : List ℕ) → length T ≡ suc n → slice_index T 0 ≡ r → ((u : ℕ) → 0 < u → slice_index T u ≡ 0) →
+pub all_first : (n r : ℕ) (T : List ℕ) → length T ≡ suc n → slice_index T 0 ≡ r →
+    ((u : ℕ) → 0 < u → slice_index T u ≡ 0) →
     T ≡ nth_trial (suc n) r (trial_count (suc n) r - 1)
 unfolding raised
 all_first n zero T places held empty =
@@ -112,8 +123,10 @@ all_first n (suc r) [] places held empty = absurd (omega arith)
 all_first n (suc r) (a ∷ T) places held empty =
     let before : ℕ = trial_count n (suc r) in
     let some : 0 < trial_count (suc n) r = some_trial (suc n) r (omega arith) in
-    let less : r ∷ T ≡ nth_trial (suc n) r (trial_count (suc n) r - 1) = all_first n r (r ∷ T) places refl (shifted empty) in
-    let number : trial_count (suc n) (suc r) - 1 ≡ before + (trial_count (suc n) r - 1) = omega (arith, count_more n r) in
+    let less : r ∷ T ≡ nth_trial (suc n) r (trial_count (suc n) r - 1) =
+    all_first n r (r ∷ T) places refl (shifted empty) in
+    let number : trial_count (suc n) (suc r) - 1 ≡ before + (trial_count (suc n) r - 1) =
+    omega (arith, count_more n r) in
     let back : before + (trial_count (suc n) r - 1) - before ≡ trial_count (suc n) r - 1 = omega arith in
     ap (λ (x : ℕ). x ∷ T) held ∙ ap raised less
     ∙ sym (ap (λ (j : ℕ). raised (nth_trial (suc n) r j)) back)
@@ -134,7 +147,8 @@ pub record IsSplit (n k c i d r : ℕ) (E : List ℕ) : Type 0 where
   pub last : slice_index E (n - 1) ≡ r
 
 -- it begins a block
-begins : (n k c i d r : ℕ) (E : List ℕ) → IsSplit n k c i d r E → (length (drop d E) ≡ n - d) × (drop d E ≡ nth_trial (n - d) r 0)
+begins : (n k c i d r : ℕ) (E : List ℕ) → IsSplit n k c i d r E → (length (drop d E) ≡ n - d) ×
+    (drop d E ≡ nth_trial (n - d) r 0)
 begins n k c i d r E split =
     let trial : IsTrial n k E = rw split.trial (limits_trial n k c i split.limits split.number) in
     let places : length (drop d E) ≡ n - d = omega (arith, length-drop d E, trial.places) in
@@ -149,7 +163,8 @@ pub record IsAmong (n k c i d r j : ℕ) (E : List ℕ) : Type 0 where
   pub within : i + j < c
   pub trial : nth_trial n k (i + j) ≡ take d E ++ nth_trial (n - d) r j
 
-pub among : (n k c i d r : ℕ) (E : List ℕ) → IsSplit n k c i d r E → (j : ℕ) → j < trial_count (n - d) r → IsAmong n k c i d r j E
+pub among : (n k c i d r : ℕ) (E : List ℕ) → IsSplit n k c i d r E → (j : ℕ) → j < trial_count (n - d) r →
+    IsAmong n k c i d r j E
 among n k c i d r E split j low =
     let trial : IsTrial n k E = rw split.trial (limits_trial n k c i split.limits split.number) in
     let (places, rest) = begins n k c i d r E split in
@@ -165,10 +180,12 @@ among n k c i d r E split j low =
     first.trial ∙ ap (λ (T : List ℕ). take d E ++ T) (sym rest) ∙ take-append-drop d E ∙ split.trial in
     let numbers : IsNumbering n k AnyTrial (trial_count n k) (nth_trial n k) = numbered n k in
     let least : base + 0 ≤ i =
-    no_lower n k AnyTrial (trial_count n k) (trial_count n k) (nth_trial n k) (nth_trial n k) numbers numbers (base + 0) i first.within
+    no_lower n k AnyTrial (trial_count n k) (trial_count n k) (nth_trial n k) (nth_trial n k) numbers numbers
+    (base + 0) i first.within
     begun in
     let most : i ≤ base + 0 =
-    no_lower n k AnyTrial (trial_count n k) (trial_count n k) (nth_trial n k) (nth_trial n k) numbers numbers i (base + 0)
+    no_lower n k AnyTrial (trial_count n k) (trial_count n k) (nth_trial n k) (nth_trial n k) numbers numbers i
+    (base + 0)
     (omega (arith, split.number)) (sym begun) in
     let same : base + j ≡ i + j = omega arith in
     record { within = omega (arith, here.within); trial = ap (nth_trial n k) (sym same) ∙ here.trial }

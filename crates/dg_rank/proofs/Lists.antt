@@ -21,17 +21,20 @@ no_places [] none = refl
 no_places (a ∷ E) none = absurd (omega arith)
 
 pub trial_cons : (n k a m : ℕ) (E : List ℕ) → IsTrial n k E → m ≡ a + k → IsTrial (suc n) m (a ∷ E)
-trial_cons n k a m E trial whole = record { places = omega (arith, trial.places); amount = omega (arith, trial.amount, sum_cons a E) }
+trial_cons n k a m E trial whole =
+    record { places = omega (arith, trial.places); amount = omega (arith, trial.amount, sum_cons a E) }
 
 pub trial_tail : (n k a m : ℕ) (E : List ℕ) → IsTrial (suc n) m (a ∷ E) → m ≡ a + k → IsTrial n k E
-trial_tail n k a m E trial whole = record { places = omega (arith, trial.places); amount = omega (arith, trial.amount, sum_cons a E) }
+trial_tail n k a m E trial whole =
+    record { places = omega (arith, trial.places); amount = omega (arith, trial.amount, sum_cons a E) }
 
 pub before_cons : (a : ℕ) (E F : List ℕ) → ComesBefore E F → ComesBefore (a ∷ E) (a ∷ F)
-before_cons a E F before = record { place = suc before.place; same = same_cons before.place before.same; smaller = before.smaller } where
-  same_cons : (p : ℕ) → ((u : ℕ) → u < p → slice_index E u ≡ slice_index F u) → (u : ℕ) → u < suc p →
-      slice_index (a ∷ E) u ≡ slice_index (a ∷ F) u
-  same_cons p same zero low = refl
-  same_cons p same (suc u) low = same u (omega arith)
+before_cons a E F before =
+    record { place = suc before.place; same = same_cons before.place before.same; smaller = before.smaller } where
+      same_cons : (p : ℕ) → ((u : ℕ) → u < p → slice_index E u ≡ slice_index F u) → (u : ℕ) → u < suc p →
+          slice_index (a ∷ E) u ≡ slice_index (a ∷ F) u
+      same_cons p same zero low = refl
+      same_cons p same (suc u) low = same u (omega arith)
 
 pub before_both : (E F : List ℕ) → ComesBefore E F → ComesBefore F E → ⊥
 before_both E F one other = ⊎_elim
@@ -51,7 +54,8 @@ no_sum (a ∷ E) none =
     let head : a ≡ 0 = none 0 in
     omega (arith, rest, head, sum_cons a E)
 
-pub heavier : (E F : List ℕ) (p : ℕ) → ((u : ℕ) → u < p → slice_index E u ≡ slice_index F u) → slice_index E p < slice_index F p →
+pub heavier : (E F : List ℕ) (p : ℕ) → ((u : ℕ) → u < p → slice_index E u ≡ slice_index F u) →
+    slice_index E p < slice_index F p →
     ((u : ℕ) → p < u → slice_index E u ≡ 0) → sum E < sum F
 heavier E [] p same smaller none = absurd (omega (arith, smaller))
 heavier [] (b ∷ F) zero same smaller none = omega (arith, smaller, sum_cons b F)
@@ -62,6 +66,7 @@ heavier (a ∷ E) (b ∷ F) zero same smaller none =
     let empty : sum E ≡ 0 = no_sum E (λ u. none (suc u) (omega arith)) in
     omega (arith, smaller, empty, sum_cons a E, sum_cons b F)
 heavier (a ∷ E) (b ∷ F) (suc p) same smaller none =
-    let less : sum E < sum F = heavier E F p (λ u low. same (suc u) (omega arith)) smaller (λ u high. none (suc u) (omega arith)) in
+    let less : sum E < sum F =
+    heavier E F p (λ u low. same (suc u) (omega arith)) smaller (λ u high. none (suc u) (omega arith)) in
     let head : a ≡ b = same 0 (omega arith) in
     omega (arith, less, head, sum_cons a E, sum_cons b F)

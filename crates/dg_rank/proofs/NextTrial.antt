@@ -27,11 +27,13 @@ next_before : (E F : List ℕ) (p : ℕ) → IsNext E F p → ComesBefore E F
 next_before E F p next = record { place = p; same = λ u low. sym (next.same u low); smaller = omega (arith, next.here) }
 
 -- the trial between would part from the first before the place that gets the dollar, there, or after it
-parts_before : (E F G : List ℕ) (p : ℕ) → IsNext E F p → (one : ComesBefore E G) (other : ComesBefore G F) → one.place < p → ⊥
+parts_before : (E F G : List ℕ) (p : ℕ) → IsNext E F p → (one : ComesBefore E G) (other : ComesBefore G F) →
+    one.place < p → ⊥
 parts_before E F G p next one other low = ⊎_elim
     (λ (l : one.place < other.place). omega (arith, one.smaller, other.same one.place l, next.same one.place low))
     (λ (h : other.place ≤ one.place). ⊎_elim
-    (λ (l : other.place < one.place). omega (arith, other.smaller, one.same other.place l, next.same other.place (omega arith)))
+    (λ (l : other.place < one.place). omega
+    (arith, other.smaller, one.same other.place l, next.same other.place (omega arith)))
     (λ (m : one.place ≤ other.place).
     let is : one.place ≡ other.place = omega arith in
     let less : slice_index G one.place < slice_index F one.place =
@@ -45,7 +47,8 @@ parts_after E F G p next amount one high =
     let more : sum E < sum G = heavier E G one.place one.same one.smaller (λ u past. next.none u (omega arith)) in
     omega arith
 
-parts_there : (E F G : List ℕ) (p : ℕ) → IsNext E F p → sum G ≡ sum E → length G ≡ length E → (other : ComesBefore G F) →
+parts_there : (E F G : List ℕ) (p : ℕ) → IsNext E F p → sum G ≡ sum E → length G ≡ length E →
+    (other : ComesBefore G F) →
     ((u : ℕ) → u < p → slice_index E u ≡ slice_index G u) → slice_index E p < slice_index G p → ⊥
 parts_there E F G p next amount places other same smaller = ⊎_elim
     (λ (low : other.place < p). omega (arith, other.smaller, same other.place low, next.same other.place low))

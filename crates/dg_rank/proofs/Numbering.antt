@@ -21,7 +21,8 @@ raised_trial n k (a ∷ E) trial = record {
 -- one more at the first place of both
 more_before : (a b : ℕ) (E F : List ℕ) (p : ℕ) → ((u : ℕ) → u < p → slice_index (a ∷ E) u ≡ slice_index (b ∷ F) u) →
     slice_index (a ∷ E) p < slice_index (b ∷ F) p → ComesBefore (suc a ∷ E) (suc b ∷ F)
-more_before a b E F zero same smaller = record { place = 0; same = λ u low. absurd (omega arith); smaller = omega (arith, smaller) }
+more_before a b E F zero same smaller =
+    record { place = 0; same = λ u low. absurd (omega arith); smaller = omega (arith, smaller) }
 more_before a b E F (suc p) same smaller = record { place = suc p; same = same_at; smaller = smaller } where
   same_at : (u : ℕ) → u < suc p → slice_index (suc a ∷ E) u ≡ slice_index (suc b ∷ F) u
   same_at zero low = ap suc (same 0 (omega arith))
@@ -42,7 +43,11 @@ none_before E (b ∷ F) some = record { place = 0; same = λ u low. absurd (omeg
 broke_numbered : (n c : ℕ) (f h : ℕ → List ℕ) → IsNumbering n 0 AnyTrial c f → ((i : ℕ) → h i ≡ 0 ∷ f i) →
     IsNumbering (suc n) 0 AnyTrial c h
 broke_numbered n c f h numbers is = record {
-  each = λ i low. (subst (λ (E : List ℕ). IsTrial (suc n) 0 E) (sym (is i)) (trial_cons n 0 0 0 (f i) (numbers.each i low).0 refl), tt);
+  each = λ i low. (
+    subst (λ (E : List ℕ). IsTrial (suc n) 0 E) (sym (is i))
+        (trial_cons n 0 0 0 (f i) (numbers.each i low).0 refl),
+    tt,
+  );
   all = λ E trial any. all E trial;
   ascending = λ i j less low.
       rw (is i, is j) (before_cons 0 (f i) (f j) (numbers.ascending i j less low));
@@ -63,7 +68,8 @@ record IsJoined (c : ℕ) (f g h : ℕ → List ℕ) : Type 0 where
   low : (i : ℕ) → i < c → h i ≡ 0 ∷ f i
   high : (i : ℕ) → h (c + i) ≡ raised (g i)
 
-joined_each : (n k c d : ℕ) (f g h : ℕ → List ℕ) → IsNumbering n (suc k) AnyTrial c f → IsNumbering (suc n) k AnyTrial d g →
+joined_each : (n k c d : ℕ) (f g h : ℕ → List ℕ) → IsNumbering n (suc k) AnyTrial c f →
+    IsNumbering (suc n) k AnyTrial d g →
     IsJoined c f g h → (i : ℕ) → i < c + d → IsTrial (suc n) (suc k) (h i)
 joined_each n k c d f g h first second whole i small = ⊎_elim
     (λ (low : i < c). rw (whole.low i low) (trial_cons n (suc k) 0 (suc k) (f i) (first.each i low).0 (omega arith)))
@@ -72,7 +78,8 @@ joined_each n k c d f g h first second whole i small = ⊎_elim
     rw is (raised_trial n k (g high.0) (second.each high.0 (omega (arith, high.1))).0))
     (parts c i)
 
-joined_all : (n k c d : ℕ) (f g h : ℕ → List ℕ) → IsNumbering n (suc k) AnyTrial c f → IsNumbering (suc n) k AnyTrial d g →
+joined_all : (n k c d : ℕ) (f g h : ℕ → List ℕ) → IsNumbering n (suc k) AnyTrial c f →
+    IsNumbering (suc n) k AnyTrial d g →
     IsJoined c f g h → (E : List ℕ) → IsTrial (suc n) (suc k) E → (i : ℕ) × (i < c + d) × (h i ≡ E)
 unfolding raised
 joined_all n k c d f g h first second whole [] trial = absurd (omega (arith, trial.places))
@@ -85,15 +92,18 @@ joined_all n k c d f g h first second whole (suc a ∷ E) trial =
     let (i, low, found) = second.all (a ∷ E) less tt in
     (c + i, omega arith, whole.high i ∙ ap raised found)
 
-joined_ascending : (n k c d : ℕ) (f g h : ℕ → List ℕ) → IsNumbering n (suc k) AnyTrial c f → IsNumbering (suc n) k AnyTrial d g →
+joined_ascending : (n k c d : ℕ) (f g h : ℕ → List ℕ) → IsNumbering n (suc k) AnyTrial c f →
+    IsNumbering (suc n) k AnyTrial d g →
     IsJoined c f g h → (i j : ℕ) → i < j → j < c + d → ComesBefore (h i) (h j)
 joined_ascending n k c d f g h first second whole i j less small = ⊎_elim
-    (λ (low : j < c). rw (whole.low i (omega arith), whole.low j low) (before_cons 0 (f i) (f j) (first.ascending i j less low)))
+    (λ (low : j < c). rw (whole.low i (omega arith), whole.low j low)
+    (before_cons 0 (f i) (f j) (first.ascending i j less low)))
     (λ (high : (m : ℕ) × (c + m ≡ j)).
     let below : high.0 < d = omega (arith, high.1) in
     let is : h j ≡ raised (g high.0) = ap h (sym high.1) ∙ whole.high high.0 in
     rw is (⊎_elim
-    (λ (low : i < c). rw (whole.low i low) (none_before (f i) (g high.0) (omega (arith, (second.each high.0 below).0.places))))
+    (λ (low : i < c). rw (whole.low i low)
+    (none_before (f i) (g high.0) (omega (arith, (second.each high.0 below).0.places))))
     (λ (other : (l : ℕ) × (c + l ≡ i)).
     let lower : other.0 < high.0 = omega (arith, high.1, other.1) in
     let here : h i ≡ raised (g other.0) = ap h (sym other.1) ∙ whole.high other.0 in
@@ -110,10 +120,12 @@ unfolding one_place_more with_place
 place_numbered n c f numbers zero = broke_numbered n (c 0) (f 0) (with_place c f 0) (numbers 0) (λ i. refl)
 place_numbered n c f numbers (suc k) =
     let first : IsNumbering n (suc k) AnyTrial (c (suc k)) (f (suc k)) = numbers (suc k) in
-    let second : IsNumbering (suc n) k AnyTrial (one_place_more c k) (with_place c f k) = place_numbered n c f numbers k in
+    let second : IsNumbering (suc n) k AnyTrial (one_place_more c k) (with_place c f k) =
+    place_numbered n c f numbers k in
     let whole : IsJoined (c (suc k)) (f (suc k)) (with_place c f k) (with_place c f (suc k)) = record {
       low = λ i low. sym (cond_below i (c (suc k)) (0 ∷ f (suc k) i) (raised (with_place c f k (i - c (suc k)))) low);
-      high = λ i. sym (cond_above (c (suc k) + i) (c (suc k)) (0 ∷ f (suc k) (c (suc k) + i)) _ (raised (with_place c f k i))
+      high = λ i. sym (cond_above (c (suc k) + i) (c (suc k)) (0 ∷ f (suc k) (c (suc k) + i)) _
+          (raised (with_place c f k i))
           (omega arith) (ap (λ (j : ℕ). raised (with_place c f k j)) (omega arith)));
     } in
     record {

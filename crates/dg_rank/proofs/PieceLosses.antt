@@ -37,7 +37,8 @@ wins_both g D k i m j first second l from to =
     (λ (after : m ≤ l). second l after to)
     (cases_lt l m)
 
-pub loss_before : (g : Multigraph) (D : Amounts) (k i m j : ℕ) (E : List ℕ) → m ≤ j → IsLossIn g D k i m E → IsLossIn g D k i j E
+pub loss_before : (g : Multigraph) (D : Amounts) (k i m j : ℕ) (E : List ℕ) → m ≤ j → IsLossIn g D k i m E →
+    IsLossIn g D k i j E
 loss_before g D k i m j E end loss = record {
   number = loss.number;
   from = loss.from;
@@ -47,7 +48,8 @@ loss_before g D k i m j E end loss = record {
   first = loss.first;
 }
 
-pub loss_after : (g : Multigraph) (D : Amounts) (k i m j : ℕ) (E : List ℕ) → i ≤ m → AllWin g D k i m → IsLossIn g D k m j E →
+pub loss_after : (g : Multigraph) (D : Amounts) (k i m j : ℕ) (E : List ℕ) → i ≤ m → AllWin g D k i m →
+    IsLossIn g D k m j E →
     IsLossIn g D k i j E
 loss_after g D k i m j E start wins loss = record {
   number = loss.number;
@@ -63,7 +65,8 @@ pub found_after : (g : Multigraph) (D : Amounts) (k i m j : ℕ) (found : Option
 found_after g D k i m j (Some E) start wins loss = loss_after g D k i m j E start wins loss
 found_after g D k i m j None start wins later = wins_both g D k i m j wins later
 
-pub outcome_after : (s : Search) (i m j : ℕ) (end : Outcome) → i ≤ m → AllWin s.graph (at s.chips) s.k i m → IsOutcome s m j end →
+pub outcome_after : (s : Search) (i m j : ℕ) (end : Outcome) → i ≤ m → AllWin s.graph (at s.chips) s.k i m →
+    IsOutcome s m j end →
     IsOutcome s i j end
 outcome_after s i m j (Lost E) start wins loss = loss_after s.graph (at s.chips) s.k i m j E start wins loss
 outcome_after s i m j Won start wins later = wins_both s.graph (at s.chips) s.k i m j wins later

@@ -1,7 +1,7 @@
 -- The search through a piece of the trials.
 --   win_next   where a piece wins and the next trial wins, the piece that is longer by that trial wins
---   IsReached g D k i j E x   == the trials from number i to number j win, and E is the last of them; x is what is left of D without
---                                it, fired to where there are no debts
+--   IsReached g D k i j E x   == the trials from number i to number j win, and E is the last of them; x is what is left
+--                                of D without it, fired to where there are no debts
 --   reached    a leap from the next trial reaches one further on
 use Rattle.std.proofs.Common.{◌≡◌, ℕ, ◌+◌, ◌<◌, ◌≤◌, List, arith, sym, subst, ⊎_elim}
 use Rattle.std.proofs.lemmas.Bool.{cases_eq, cases_lt}
@@ -33,7 +33,8 @@ pub record IsReached (g : Multigraph) (D : Amounts) (k i j : ℕ) (E : List ℕ)
   pub trial : E ≡ nth_trial g.size k j
   pub form : IsEffectiveForm g (less D (amounts_of E)) x
 
-pub reached : (g : Multigraph) (D : Amounts) (k c i j m : ℕ) (E : List ℕ) (x : Vector) → IsWithinLimits g.size k c → i ≤ j →
+pub reached : (g : Multigraph) (D : Amounts) (k c i j m : ℕ) (E : List ℕ) (x : Vector) → IsWithinLimits g.size k c →
+    i ≤ j →
     AllWin g D k i j → IsLeap g D k c j m E x → IsReached g D k i (j + m) E x
 reached g D k c i j m E x limits past wins leap = record {
   from = omega arith;

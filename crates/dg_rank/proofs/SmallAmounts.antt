@@ -31,7 +31,8 @@ total_below-part n zero f few = let none : n ≡ zero = omega arith in rw none (
 total_below-part n (suc m) f few =
     ⊎_elim
     (λ (same : n ≡ suc m). rw same (omega arith))
-    (λ (other : n ≡ suc m → ⊥). let before : total_below n f ≤ total_below m f = total_below-part n m f (omega arith) in omega arith)
+    (λ (other : n ≡ suc m → ⊥). let before : total_below n f ≤ total_below m f = total_below-part n m f (omega arith) in
+    omega arith)
     (cases_eq n (suc m))
 
 total_below-times : (n K : ℕ) (f : ℕ → ℕ) → ((w : ℕ) → w < n → f w ≤ K) → total_below n f ≤ n * K
@@ -45,7 +46,8 @@ total_below-times (suc n) K f low =
 pub edges_few : (g : Multigraph) → IsGraph g → edge_count g ≤ g.size * 63
 edges_few g graph =
     total_below-times g.size 63 (λ v. total_below v (edges_between g v)) (λ v inside.
-    let part : total_below v (edges_between g v) ≤ valence g v = total_below-part v g.size (edges_between g v) (omega arith) in
+    let part : total_below v (edges_between g v) ≤ valence g v =
+    total_below-part v g.size (edges_between g v) (omega arith) in
     omega (arith, part, graph.valences v inside))
 
 pub genus_small : (g : Multigraph) → IsGraph g → genus g ≤ℤ pos 1009
@@ -64,7 +66,8 @@ reduced_at_q g q R graph vertex reduced =
     let most : R q ≤ℤ sum_below g.size R = sum_below-one g.size q R vertex reduced.no_debt in
     let missing : Amounts = λ w. pos 62 -ℤ R w in
     let least : missing q ≤ℤ sum_below g.size missing =
-    sum_below-one g.size q missing vertex (λ w below other. omega (arith, ints, reduced_few g q R w graph reduced below other)) in
+    sum_below-one g.size q missing vertex
+    (λ w below other. omega (arith, ints, reduced_few g q R w graph reduced below other)) in
     let apart : sum_below g.size missing ≡ sum_below g.size (λ _. pos 62) -ℤ sum_below g.size R =
     sum_below-sub g.size (λ _. pos 62) R in
     (most, omega (arith, ints, sum_below-constant g.size 62))
@@ -94,7 +97,8 @@ reduced_small g q R graph vertex reduced k few least below v inside =
     omega (arith, ints, reduced_few g q R v graph reduced inside other, reduced.no_debt v inside other))
     (cases_eq v q)
 
-pub unsettled_small : (g : Multigraph) (q : ℕ) (D R : Amounts) (k : ℕ) → IsGraph g → q < g.size → k ≤ 1000 → IsUnsettled g D k →
+pub unsettled_small : (g : Multigraph) (q : ℕ) (D R : Amounts) (k : ℕ) → IsGraph g → q < g.size → k ≤ 1000 →
+    IsUnsettled g D k →
     AreEquivalent g D R → IsReduced g q R → (v : ℕ) → v < g.size → unsigned_abs (R v) ≤ 1999000
 unsettled_small g q D R k graph vertex few unsettled led reduced =
     let same : degree g.size D ≡ degree g.size R = equivalent-degree g D R graph.multigraph led in

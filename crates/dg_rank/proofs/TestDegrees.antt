@@ -1,5 +1,5 @@
--- The degrees of the tests that a rank is sought among: from the first, below which a divisor passes all, to the last, at which
--- it fails. As the numbers are small, none is cut off.
+-- The degrees of the tests that a rank is sought among: from the first, below which a divisor passes all, to the last,
+-- at which it fails. As the numbers are small, none is cut off.
 --   rich_below   below the first degree a divisor is rich for each
 --   first_small  the first is at least 0, at least by how much the ranks are apart, and small
 --   last_small   the last is at least the first and the genus, and small
@@ -16,13 +16,17 @@ use Rattle.std.proofs.lemmas.Int.{ints, clamps}
 use Rattle.std.proofs.Math.IntN.{ℤ, pos, ◌+ℤ◌, ◌-ℤ◌, nat_abs}
 use Rattle.dg_theory.proofs.DualityLaws.{natural}
 
-pub rich_below : (total genus apart first : ℤ) (j : ℕ) → apart ≡ (total +ℤ pos 1) -ℤ genus → unsigned_abs apart ≤ 17000000 →
-    first ≡ int_max (to_z w64 (of_z w64 apart)) (pos 0) → j < nat_abs (to_z w64 (of_z w64 first)) → (genus +ℤ pos j) ≤ℤ total
+pub rich_below : (total genus apart first : ℤ) (j : ℕ) → apart ≡ (total +ℤ pos 1) -ℤ genus →
+    unsigned_abs apart ≤ 17000000 →
+    first ≡ int_max (to_z w64 (of_z w64 apart)) (pos 0) → j < nat_abs (to_z w64 (of_z w64 first)) →
+    (genus +ℤ pos j) ≤ℤ total
 rich_below total genus apart first j is small top below = omega (arith, ints, clamps)
 
-pub first_small : (apart first : ℤ) → unsigned_abs apart ≤ 17000000 → first ≡ int_max (to_z w64 (of_z w64 apart)) (pos 0) →
+pub first_small : (apart first : ℤ) → unsigned_abs apart ≤ 17000000 →
+    first ≡ int_max (to_z w64 (of_z w64 apart)) (pos 0) →
     (pos 0 ≤ℤ first) × (apart ≤ℤ first) × (first ≤ℤ pos 17000000)
-first_small apart first small top = (omega (arith, ints, clamps), omega (arith, ints, clamps), omega (arith, ints, clamps))
+first_small apart first small top =
+    (omega (arith, ints, clamps), omega (arith, ints, clamps), omega (arith, ints, clamps))
 
 pub last_small : (first genus whole last : ℤ) → pos 0 ≤ℤ first → first ≤ℤ pos 17000000 → genus ≤ℤ pos 1009 →
     pos 0 ≤ℤ (genus +ℤ pos 16) → whole ≡ to_z w32 (of_z w32 genus) →
@@ -52,8 +56,10 @@ last_tested last n k same high none =
 pub count_within : (total : ℤ) (k : ℕ) → pos k ≤ℤ total → k ≤ unsigned_abs total + 1
 count_within total k low = omega (arith, ints)
 
-pub dual_degree : (total genus apart whole : ℤ) (k : ℕ) → apart ≡ (total +ℤ pos 1) -ℤ genus → unsigned_abs apart ≤ 17000000 →
-    genus ≤ℤ pos 1009 → pos 0 ≤ℤ (genus +ℤ pos 16) → k ≤ unsigned_abs total + 1 → total <ℤ (genus +ℤ pos k) → whole ≡ pos k →
+pub dual_degree : (total genus apart whole : ℤ) (k : ℕ) → apart ≡ (total +ℤ pos 1) -ℤ genus →
+    unsigned_abs apart ≤ 17000000 →
+    genus ≤ℤ pos 1009 → pos 0 ≤ℤ (genus +ℤ pos 16) → k ≤ unsigned_abs total + 1 → total <ℤ (genus +ℤ pos k) →
+    whole ≡ pos k →
     (n : ℕ) × (to_z w64 (of_z w64 (to_z w64 (of_z w64 whole) -ℤ to_z w64 (of_z w64 apart))) ≡ pos n) ×
     (n < 4294967296) × (pos k -ℤ pos n ≡ (total +ℤ pos 1) -ℤ genus)
 dual_degree total genus apart whole k is small most least few poor same =

@@ -24,7 +24,8 @@ pub degree-take : (n : ℕ) (E : List ℕ) → n ≤ length E → degree n (amou
 degree-take zero E few = refl
 degree-take (suc n) E few =
     let before : degree n (amounts_of E) ≡ pos (sum (take n E)) = degree-take n E (omega arith) in
-    let more : sum (take (n + 1) E) ≡ sum (take n E) + slice_index E n = sum_by_more (λ (x : ℕ). x) E n 0 (omega arith) in
+    let more : sum (take (n + 1) E) ≡ sum (take n E) + slice_index E n =
+    sum_by_more (λ (x : ℕ). x) E n 0 (omega arith) in
     let next : sum (take (suc n) E) ≡ sum (take n E) + slice_index E n = rw add-one at more in
     omega (arith, ints)
 

@@ -1,14 +1,16 @@
 -- The trial with a number, place by place.
 --   more_by a E             == the trial E with a more at its first place
---   IsSought n k i a rest   == the trial number i of degree k on n + 1 places is that with the number rest of a less, with
---                              a more at its first place
---   IsLast n k i rest       == the trial number i of degree k on n + 1 places holds all k at its first place, and has the
---                              number rest on the others
---   nth_low, nth_high, nth_broke   the trial with a number, where its first amount is 0, where it is more, and where there is
+--   IsSought n k i a rest   == the trial number i of degree k on n + 1 places is that with the number rest of a less,
+--                              with a more at its first place
+--   IsLast n k i rest       == the trial number i of degree k on n + 1 places holds all k at its first place, and has
+--                              the number rest on the others
+--   nth_low, nth_high, nth_broke   the trial with a number, where its first amount is 0, where it is more, and where
+--                                  there is
 --                              no dollar
 --   count_broke             without a dollar one place more makes no more trials
 --   sought_first            each trial is sought from its own number, with nothing more at its first place
---   sought_more             a trial is sought with one more, where its number is not below that of those that hold no more
+--   sought_more             a trial is sought with one more, where its number is not below that of those that hold no
+--                           more
 --   sought_here             where the number is below that, the first amount is found
 --   sought_last             a trial that is sought until nothing is left holds all at its first place
 --   one_amount              on one place there is but one trial
@@ -77,7 +79,8 @@ sought_more n k i a rest low sought high =
     let is : nth_trial (suc n) k i ≡ more_by a (nth_trial (suc n) (suc m) rest) =
     sought.trial ∙ ap (λ (d : ℕ). more_by a (nth_trial (suc n) d rest)) one in
     rw one (record {
-      trial = is ∙ ap (more_by a) (nth_high n m rest past) ∙ more_raised a (nth_trial (suc n) m (rest - trial_count n (suc m)));
+      trial = is ∙ ap (more_by a) (nth_high n m rest past)
+          ∙ more_raised a (nth_trial (suc n) m (rest - trial_count n (suc m)));
       number = omega (arith, count_more n m);
       limit = omega (arith, sought.limit);
     })

@@ -80,7 +80,8 @@ moved_amount : (E : List ℕ) (q : ℕ) → IsLastHeld E q → sum (moved E q) �
 moved_amount E q last =
     let other : q - 1 ≢ q = omega (arith, last.past) in
     let before : slice_index (set E q 0) (q - 1) ≡ slice_index E (q - 1) = get_or-set_other E q (q - 1) 0 0 other in
-    let end : slice_index (taken E q) (length E - 1) ≡ 0 = taken_after E q (length E - 1) last (omega (arith, last.within)) in
+    let end : slice_index (taken E q) (length E - 1) ≡ 0 =
+    taken_after E q (length E - 1) last (omega (arith, last.within)) in
     omega (
       arith,
       last.held,
@@ -92,7 +93,8 @@ moved_amount E q last =
     )
 
 -- only the last place differs from what was taken
-moved_inside : (E : List ℕ) (q u : ℕ) → IsLastHeld E q → u + 1 < length E → slice_index (moved E q) u ≡ slice_index (taken E q) u
+moved_inside : (E : List ℕ) (q u : ℕ) → IsLastHeld E q → u + 1 < length E →
+    slice_index (moved E q) u ≡ slice_index (taken E q) u
 moved_inside E q u last low =
     let one : u ≢ length E - 1 = omega arith in
     get_or-set_other (taken E q) (length E - 1) u _ 0 one
@@ -110,7 +112,8 @@ moved_next E q last =
       cleared = λ u more low. moved_inside E q u last low ∙ taken_after E q u last (omega arith);
     }
 
-pub following : (n k c i : ℕ) (E : List ℕ) (q : ℕ) → IsWithinLimits n k c → i + 1 < c → E ≡ nth_trial n k i → IsLastHeld E q →
+pub following : (n k c i : ℕ) (E : List ℕ) (q : ℕ) → IsWithinLimits n k c → i + 1 < c → E ≡ nth_trial n k i →
+    IsLastHeld E q →
     moved E q ≡ nth_trial n k (i + 1)
 following n k c i E q limits low is last =
     let count : c ≡ trial_count n k = limits_count n k c limits in
@@ -124,12 +127,14 @@ last_held E q (n, k, c, i, limits, low, is) within held after =
     record { past = past; within = within; held = held past; after = after }
 
 at_end : (E : List ℕ) (q v : ℕ) → IsLastHeld E q → v < length E → v ≡ length E - 1 →
-    amounts_of (moved E q) v ≡ amounts_of E v -ℤ change (length E) (record { place = q; others = slice_index E q - 1 }) v
+    amounts_of (moved E q) v
+    ≡ amounts_of E v -ℤ change (length E) (record { place = q; others = slice_index E q - 1 }) v
 at_end E q v last inside end =
     let t : ℕ = slice_index E q in
     let held : 0 < t = last.held in
     let there : slice_index (moved E q) v ≡ t - 1 =
-    ap (slice_index (moved E q)) end ∙ get_or-set_same (taken E q) (length E - 1) (t - 1) 0 (omega (arith, taken_length E q)) in
+    ap (slice_index (moved E q)) end
+    ∙ get_or-set_same (taken E q) (length E - 1) (t - 1) 0 (omega (arith, taken_length E q)) in
     let before : v ≢ q - 1 = omega (arith, last.past, last.within) in
     let none : only_at (q - 1) (pos 1) v ≡ pos 0 = only_at-other (q - 1) (pos 1) v before in
     let others : only_at (length E - 1) (pos (t - 1)) v ≡ pos (t - 1) =
@@ -137,7 +142,8 @@ at_end E q v last inside end =
     ⊎_elim
     (λ (same : v ≡ q).
     let here : slice_index E v ≡ t = ap (slice_index E) same in
-    let back : only_at q (pos (t - 1 + 1)) v ≡ pos (t - 1 + 1) = ap (only_at q (pos (t - 1 + 1))) same ∙ only_at-here q (pos (t - 1 + 1)) in
+    let back : only_at q (pos (t - 1 + 1)) v ≡ pos (t - 1 + 1) =
+    ap (only_at q (pos (t - 1 + 1))) same ∙ only_at-here q (pos (t - 1 + 1)) in
     omega (arith, ints))
     (λ (other : v ≡ q → ⊥).
     let here : slice_index E v ≡ 0 = last.after v (omega (arith, last.within)) in
@@ -146,7 +152,8 @@ at_end E q v last inside end =
     (cases_eq v q)
 
 before_end : (E : List ℕ) (q v : ℕ) → IsLastHeld E q → v + 1 < length E →
-    amounts_of (moved E q) v ≡ amounts_of E v -ℤ change (length E) (record { place = q; others = slice_index E q - 1 }) v
+    amounts_of (moved E q) v
+    ≡ amounts_of E v -ℤ change (length E) (record { place = q; others = slice_index E q - 1 }) v
 before_end E q v last inside =
     let t : ℕ = slice_index E q in
     let held : 0 < t = last.held in
@@ -158,7 +165,8 @@ before_end E q v last inside =
     (λ (same : v ≡ q).
     let here : slice_index E v ≡ t = ap (slice_index E) same in
     let gone : slice_index (taken E q) v ≡ 0 = taken_after E q v last (omega arith) in
-    let back : only_at q (pos (t - 1 + 1)) v ≡ pos (t - 1 + 1) = ap (only_at q (pos (t - 1 + 1))) same ∙ only_at-here q (pos (t - 1 + 1)) in
+    let back : only_at q (pos (t - 1 + 1)) v ≡ pos (t - 1 + 1) =
+    ap (only_at q (pos (t - 1 + 1))) same ∙ only_at-here q (pos (t - 1 + 1)) in
     let none : only_at (q - 1) (pos 1) v ≡ pos 0 = only_at-other (q - 1) (pos 1) v (omega arith) in
     omega (arith, ints))
     (λ (other : v ≡ q → ⊥).

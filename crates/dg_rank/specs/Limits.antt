@@ -1,5 +1,7 @@
--- How far rank tests go: 1 to 16 vertices, a degree of at most MAX_DEGREE, and at most MAX_TRIALS trials.
---   IsWithinLimits n k c == rank tests of degree k on n vertices are within the limits, and there are c trials
+-- How far rank tests go: 1 to 16 vertices, a degree of at most MAX_DEGREE, and at most MAX_TRIALS
+-- trials.
+--   IsWithinLimits n k c == rank tests of degree k on n vertices are within the limits, and there
+--                           are c trials
 --   IsPastLimits n k     == rank tests of degree k on n vertices are past one of the limits
 use Rattle.std.specs.Prelude.{◌≡◌, ℕ, ◌<◌, ◌≤◌, ◌⊎◌}
 use Rattle.dg_rank.specs.Trials.{AreCounted, AnyTrial}
@@ -14,4 +16,5 @@ pub record IsWithinLimits (n k c : ℕ) : Type 0 where
   pub limit : c ≤ MAX_TRIALS
 
 abbrev pub IsPastLimits : ℕ → ℕ → Type 0
-IsPastLimits n k = (n ≡ 0) ⊎ (MAX_VERTICES < n) ⊎ (MAX_DEGREE < k) ⊎ ((c : ℕ) × (MAX_TRIALS < c) × AreCounted n k AnyTrial c)
+IsPastLimits n k = (n ≡ 0) ⊎ (MAX_VERTICES < n) ⊎ (MAX_DEGREE < k) ⊎
+    ((c : ℕ) × (MAX_TRIALS < c) × AreCounted n k AnyTrial c)

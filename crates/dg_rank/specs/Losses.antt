@@ -1,12 +1,16 @@
 -- A piece of the trials, from one number up to another, for the divisor D.
 --   WinsWithout g D E       == D less the trial E is winnable
---   AllWin g D k i j        == D less each trial from number i up to, but not including, number j is winnable
---   IsLossIn g D k i j E    == E is the first trial of the piece from i up to j whose loss leaves D unwinnable
---   IsFound g D k i j found == what was found is the first loss of the piece, or nothing where all win
---   IsLeap g D k c i m E x  == of all c trials the one with number i and the next m win, and E is the last of them; x is what is
---                              left of D without it, fired to where there are no debts
---   IsTold g D k c told     == what is told of all c trials is so: the first loss, or that all win, or that those before some
---                              number win
+--   AllWin g D k i j        == D less each trial from number i up to, but not including, number j
+--                              is winnable
+--   IsLossIn g D k i j E    == E is the first trial of the piece from i up to j whose loss leaves D
+--                              unwinnable
+--   IsFound g D k i j found == what was found is the first loss of the piece, or nothing where all
+--                              win
+--   IsLeap g D k c i m E x  == of all c trials the one with number i and the next m win, and E is
+--                              the last of them; x is what is left of D without it, fired to where
+--                              there are no debts
+--   IsTold g D k c told     == what is told of all c trials is so: the first loss, or that all win,
+--                              or that those before some number win
 use Rattle.std.specs.Prelude.{◌≡◌, ℕ, ◌+◌, ◌<◌, ◌≤◌, List, Option, Some, None}
 use Rattle.dg_theory.specs.Multigraph.{Multigraph}
 use Rattle.dg_theory.specs.Firing.{Amounts}
@@ -37,7 +41,8 @@ abbrev pub IsFound : Multigraph → Amounts → ℕ → ℕ → ℕ → Option (
 IsFound g D k i j (Some E) = IsLossIn g D k i j E
 IsFound g D k i j None = AllWin g D k i j
 
-pub record IsLeap (g : Multigraph) (D : Amounts) (k c i m : ℕ) (E : List ℕ) (x : Vector) : Type 0 where
+pub record IsLeap (g : Multigraph) (D : Amounts) (k c i m : ℕ) (E : List ℕ)
+    (x : Vector) : Type 0 where
   pub within : i + m < c
   pub wins : AllWin g D k i (i + m + 1)
   pub trial : E ≡ nth_trial g.size k (i + m)

@@ -1,6 +1,7 @@
 -- From a trial to the next one.
---   change n m v       == what a trial on n vertices holds less at v after the move m, below 0 where it holds more: at a place it
---                         loses one dollar, which goes to the place before it, and others, which go to the last place
+--   change n m v       == what a trial on n vertices holds less at v after the move m, below 0
+--                         where it holds more: at a place it loses one dollar, which goes to the
+--                         place before it, and others, which go to the last place
 --   after_move n m D   == the amounts D with that more at each vertex
 --   IsMoved E F m      == F is the trial E after the move m
 use Rattle.std.specs.Prelude.{◌≡◌, ℕ, ◌+◌, ◌-◌, ◌<◌, pos, ◌+ℤ◌, ◌-ℤ◌, List, length}
@@ -9,7 +10,8 @@ use Rattle.dg_rank.specs.Divisors.{amounts_of}
 use Rattle.dg_rank.specs.declared.enumeration.Moved.{Moved}
 
 abbrev pub change : ℕ → Moved → Amounts
-change n m v = (only_at m.place (pos (m.others + 1)) v -ℤ only_at (m.place - 1) (pos 1) v) -ℤ only_at (n - 1) (pos m.others) v
+change n m v = (only_at m.place (pos (m.others + 1)) v -ℤ only_at (m.place - 1) (pos 1) v)
+    -ℤ only_at (n - 1) (pos m.others) v
 
 abbrev pub after_move : ℕ → Moved → Amounts → Amounts
 after_move n m D v = D v +ℤ change n m v

@@ -1,9 +1,10 @@
--- A way to number the trials, by the first amount: those with 0 there come first, then those with 1 or more, which are
--- the trials of one dollar less with one dollar added at the first place.
+-- A way to number the trials, by the first amount: those with 0 there come first, then those with 1
+-- or more, which are the trials of one dollar less with one dollar added at the first place.
 --   one_place_more c k    == with one place more: the sum of c 0, c 1, .. up to c k
 --   trial_count n k       == how many trials of degree k there are on n places
 --   raised E              == the trial E with one dollar more at its first place
---   with_place c nth k i  == the trial number i of degree k on one place more, where c and nth number those without it
+--   with_place c nth k i  == the trial number i of degree k on one place more, where c and nth
+--                            number those without it
 --   nth_trial n k i       == the trial number i of degree k on n places
 use Rattle.std.specs.Prelude.{ℕ, zero, suc, ◌+◌, ◌-◌, nat_lt, if◌then◌else◌, List, [], ◌∷◌}
 
@@ -23,7 +24,8 @@ raised (a ∷ E) = suc a ∷ E
 unfoldable pub with_place : (ℕ → ℕ) → (ℕ → ℕ → List ℕ) → ℕ → ℕ → List ℕ
 with_place c nth zero i = 0 ∷ nth zero i
 with_place c nth (suc k) i =
-    if nat_lt i (c (suc k)) then (0 ∷ nth (suc k) i) else (raised (with_place c nth k (i - c (suc k))))
+    if nat_lt i (c (suc k)) then (0 ∷ nth (suc k) i) else
+    (raised (with_place c nth k (i - c (suc k))))
 
 unfoldable pub nth_trial : ℕ → ℕ → ℕ → List ℕ
 nth_trial zero k i = []

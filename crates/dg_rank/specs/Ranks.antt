@@ -1,18 +1,23 @@
 -- What rank tests answer.
 --   IsWithin n k           == a rank test of degree k on n vertices is within the limits
 --   IsRankTest g D k x     == the verdict x of the rank test of degree k is right for D
---   IsUnsettled g D k      == what D less k dollars holds in all is at least 0 and less than the genus
---   IsRankInLimits g D r   == r is the rank of D, and the test of the next degree is within the limits
---   NeedsTooMany g D       == D needs too many rank tests: its rank is told by none within the limits, since D passes all
---                             that come before one past them
---   DualNeedsTooMany g D   == the dual of D is in range, and D or the dual needs too many rank tests
---   BothArePast g D k      == the rank test of degree k is past the limits, and so is that of the dual which passes where it
---                             passes
---   NeedsPastTests g D     == D passes all rank tests before one that is past the limits, as is that of the dual
+--   IsUnsettled g D k      == what D less k dollars holds in all is at least 0 and less than the
+--                             genus
+--   IsRankInLimits g D r   == r is the rank of D, and the test of the next degree is within the
+--                             limits
+--   NeedsTooMany g D       == D needs too many rank tests: its rank is told by none within the
+--                             limits, since D passes all that come before one past them
+--   DualNeedsTooMany g D   == the dual of D is in range, and D or the dual needs too many rank
+--                             tests
+--   BothArePast g D k      == the rank test of degree k is past the limits, and so is that of the
+--                             dual which passes where it passes
+--   NeedsPastTests g D     == D passes all rank tests before one that is past the limits, as is
+--                             that of the dual
 --   FailsFirstAt g D k     == k is the least degree of the rank tests that D fails
 --   MayHaveWorkers w       == a rank test may have w workers
---   IsRankFault n k w e    == a rank test with w workers is refused for this cause, and for no earlier one; whether memory
---                             was really wanting, or a thread did not start, no definition can say
+--   IsRankFault n k w e    == a rank test with w workers is refused for this cause, and for no
+--                             earlier one; whether memory was really wanting, or a thread did not
+--                             start, no definition can say
 use Rattle.std.specs.Prelude.{◌≡◌, ℕ, ◌<◌, ◌≤◌, ◌⊎◌, ℤ, pos, ◌+ℤ◌, ◌-ℤ◌, ◌≤ℤ◌, ◌<ℤ◌}
 use Rattle.dg_theory.specs.Multigraph.{Multigraph, genus}
 use Rattle.dg_theory.specs.Firing.{Amounts, degree}

@@ -1,8 +1,9 @@
--- Trials: the effective divisors of a degree, as lists of amounts in vertex order, and how many there are.
+-- Trials: the effective divisors of a degree, as lists of amounts in vertex order, and how many
+-- there are.
 --   IsTrial n k E             == n amounts, none a debt, that add up to k
 --   ComesBefore E F           == E holds less than F at the first place at which they differ
---   IsNumbering n k P c nth   == the trials with the property P are nth 0, nth 1, .. up to nth (c - 1), in their order,
---                                each once
+--   IsNumbering n k P c nth   == the trials with the property P are nth 0, nth 1, .. up to nth (c -
+--                                1), in their order, each once
 --   AreCounted n k P c        == there are c trials with the property P
 --   AnyTrial E                == the property that every trial has
 use Rattle.std.specs.Prelude.{◌≡◌, ℕ, ◌<◌, ⊤, List, length, slice_index}

@@ -103,7 +103,8 @@ fn search_from<'s, E, R: Threads, G: Gate>(
         return Ok(Outcome::Won);
     }
     let work = move || -> PieceEnd
-        requires { CanSearch search.now × MayHaveWorkers search.now.workers × (piece < search.now.workers) }
+        requires { CanSearch search.now × MayHaveWorkers search.now.workers ×
+            (piece < search.now.workers) }
         ensures { (result.piece ≡ piece) × IsOutcomeOf search.entry.now piece result.outcome }
     { search_piece(search, lost, gate, piece) };
     let Ok(thread) = scope.spawn_with(EndOf { search, piece }, work) else {
@@ -148,7 +149,8 @@ impl<'a> Promise<PieceEnd> for EndOf<'a> {
 
 // What trials come to, and others after them.
 fn first_of(here: Outcome, rest: Outcome) -> Outcome
-    ensures { (s : Search) (i m j : ℕ) → i ≤ m → m ≤ j → IsOutcome s i m here → IsOutcome s m j rest →
+    ensures { (s : Search) (i m j : ℕ) → i ≤ m → m ≤ j → IsOutcome s i m here →
+        IsOutcome s m j rest →
         IsOutcome s i j result }
 {
     match here {

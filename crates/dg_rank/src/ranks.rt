@@ -70,7 +70,8 @@ pub(crate) fn settled(graph: &Graph, divisor: &Divisor, k: u32) -> Option<RankVe
 /// The answer where this is the first loss of all trials, or where none was found. The condition is that it is a trial.
 pub(crate) fn verdict_on(k: u32, loss: Option<Trial>) -> RankVerdict
     requires { MatchOption loss ⊤ (λ E. (n : ℕ) × (c : ℕ) × IsWithinLimits n k c × IsTrial n k E) }
-    ensures { (g : Multigraph) (D x : Amounts) (c : ℕ) → IsWithinLimits g.size k c → AreEquivalent g D x →
+    ensures { (g : Multigraph) (D x : Amounts) (c : ℕ) → IsWithinLimits g.size k c →
+        AreEquivalent g D x →
         IsFound g x k 0 c loss → IsRankTest g D k result }
 {
     match loss {

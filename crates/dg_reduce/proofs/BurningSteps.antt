@@ -38,7 +38,8 @@ pub record IsBurningDown (g : Multigraph) (q : ℕ) (x y : Walk) : Type 0 where
   pub led : IsLed g q (at x.chips) (at y.chips)
   pub kept : at y.script q ≡ at x.script q
 
-pub burning_down-start : (g : Multigraph) (q : ℕ) (level : ℕ → ℕ) (x : Walk) → IsDistance g q level → IsCleared g level 1 x →
+pub burning_down-start : (g : Multigraph) (q : ℕ) (level : ℕ → ℕ) (x : Walk) → IsDistance g q level →
+    IsCleared g level 1 x →
     IsBurningDown g q x x
 burning_down-start g q level x distance cleared = record {
   tied = cleared.tied;
@@ -54,7 +55,8 @@ burning_down-more g q S m x y z graph vertex state without most fires = record {
   begun = fires.begun ∙ state.begun;
   led = led-cong g q (at x.chips) (fired g (at y.chips) (multiple m (indicator S))) (at z.chips) vertex
       (λ v inside. sym (fires.chips v inside))
-      (led_step g q (at x.chips) (at y.chips) S m graph.multigraph state.led without (omega (arith, ints, most.some)) most.no_debt);
+      (led_step g q (at x.chips) (at y.chips) S m graph.multigraph state.led without
+      (omega (arith, ints, most.some)) most.no_debt);
   kept =
       let more : at z.script q ≡ at y.script q +ℤ multiple m (indicator S) q = fires.script q vertex in
       let none : multiple m (indicator S) q ≡ pos 0 = multiple-off m S q without in
@@ -62,13 +64,16 @@ burning_down-more g q S m x y z graph vertex state without most fires = record {
       omega (arith, ints);
 }
 
-pub burning_down-falls : (g : Multigraph) (q : ℕ) (level : ℕ → ℕ) (S : ℕ → Bool) (m : ℤ) (x y z : Walk) (v : ℕ) → IsGraph g →
+pub burning_down-falls : (g : Multigraph) (q : ℕ) (level : ℕ → ℕ) (S : ℕ → Bool) (m : ℤ) (x y z : Walk) (v : ℕ) →
+    IsGraph g →
     IsDistance g q level → IsBurningDown g q x y → S q ≡ false → IsMost g q (at y.chips) S m → v < g.size → S v ≡ true →
     IsFired g S m y z → weight_of g (weights level) (at z.chips) < weight_of g (weights level) (at y.chips)
 burning_down-falls g q level S m x y z v graph distance state without most inside member fires =
-    let less : weight_of g (weights level) (fired g (at y.chips) (multiple m (indicator S))) < weight_of g (weights level) (at y.chips) =
+    let less : weight_of g (weights level) (fired g (at y.chips) (multiple m (indicator S)))
+    < weight_of g (weights level) (at y.chips) =
     weight_falls_by_firings g q (weights level) (at y.chips) S m v graph.multigraph
-    (levels_are_potential g q level graph.multigraph distance graph.few graph.valences) state.led.no_debt without most.some
+    (levels_are_potential g q level graph.multigraph distance graph.few graph.valences) state.led.no_debt without
+    most.some
     most.no_debt inside member in
     let now : weight_of g (weights level) (at z.chips)
     ≡ weight_of g (weights level) (fired g (at y.chips) (multiple m (indicator S))) =
@@ -80,10 +85,12 @@ chips_limit : (g : Multigraph) (q : ℕ) (level : ℕ → ℕ) (x y : Walk) → 
 chips_limit g q level x y graph vertex cleared state v inside =
     led_limit g q (at x.chips) (at y.chips) (limit_at 0) v vertex graph.few cleared.chips state.led inside
 
-pub burning_down-chips : (g : Multigraph) (q : ℕ) (level : ℕ → ℕ) (x y : Walk) → IsGraph g → q < g.size → IsCleared g level 1 x →
+pub burning_down-chips : (g : Multigraph) (q : ℕ) (level : ℕ → ℕ) (x y : Walk) → IsGraph g → q < g.size →
+    IsCleared g level 1 x →
     IsBurningDown g q x y → (v : ℕ) → v < g.size → unsigned_abs (at y.chips v) ≤ 2 ^ 120
 burning_down-chips g q level x y graph vertex cleared state v inside =
-    let most : unsigned_abs (at y.chips v) ≤ 17 * limit_at 0 = chips_limit g q level x y graph vertex cleared state v inside in
+    let most : unsigned_abs (at y.chips v) ≤ 17 * limit_at 0 =
+    chips_limit g q level x y graph vertex cleared state v inside in
     let small : limit_at 0 < 2 ^ 111 = limit_at-small 0 in
     omega arith
 
@@ -93,22 +100,26 @@ near_both a b m n apart near =
     let (low', high') = within_abs b n near in
     abs_within a (m + n) (omega (arith, ints)) (omega (arith, ints))
 
-pub burning_down-script : (g : Multigraph) (q : ℕ) (level : ℕ → ℕ) (x y : Walk) → IsGraph g → q < g.size → IsCleared g level 1 x →
+pub burning_down-script : (g : Multigraph) (q : ℕ) (level : ℕ → ℕ) (x y : Walk) → IsGraph g → q < g.size →
+    IsCleared g level 1 x →
     IsBurningDown g q x y → ((v : ℕ) → v < g.size → unsigned_abs (at x.start v) ≤ 2000000) →
     (v : ℕ) → v < g.size → unsigned_abs (at y.script v) ≤ 2 ^ 126
 burning_down-script g q level x y graph vertex cleared state range v inside =
-    let range' : (w : ℕ) → w < g.size → unsigned_abs (at y.start w) ≤ 2000000 = λ w below. rw (state.begun) (range w below) in
+    let range' : (w : ℕ) → w < g.size → unsigned_abs (at y.start w) ≤ 2000000 =
+    λ w below. rw (state.begun) (range w below) in
     let apart : unsigned_abs (at y.script v -ℤ at y.script q) ≤ 225 * (2000000 + 17 * limit_at 0) =
     script_between g q (at y.start) (at y.script) 2000000 (17 * limit_at 0) v graph.multigraph vertex graph.few
     (λ w below _. range' w below)
-    (λ w below _. rw (← state.tied.led w below) (chips_limit g q level x y graph vertex cleared state w below)) inside in
+    (λ w below _. rw (← state.tied.led w below) (chips_limit g q level x y graph vertex cleared state w below)) inside
+    in
     let at_q : unsigned_abs (at y.script q) ≤ limit_at 0 = rw (state.kept) (cleared.script q vertex) in
     let most : unsigned_abs (at y.script v) ≤ 225 * (2000000 + 17 * limit_at 0) + limit_at 0 =
     near_both (at y.script v) (at y.script q) (225 * (2000000 + 17 * limit_at 0)) (limit_at 0) apart at_q in
     let small : limit_at 0 < 2 ^ 111 = limit_at-small 0 in
     omega arith
 
-pub unburnt_member : (g : Multigraph) (q : ℕ) (D : Amounts) (l : List ℕ) (m : ℕ) → HasNoDebtOff g q D → BurnsInOrder g q D l →
+pub unburnt_member : (g : Multigraph) (q : ℕ) (D : Amounts) (l : List ℕ) (m : ℕ) → HasNoDebtOff g q D →
+    BurnsInOrder g q D l →
     IsGreatestFree g q D (in_set m) → ((m ≡ 0) ↔ IsReduced g q D) → m ≢ 0 → (v : ℕ) × (in_set m v ≡ true)
 unburnt_member g q D l m solvent order rest reduced some = ⊎_elim
     (λ (found : (v : ℕ) × (v < g.size) × (unburnt_by g l v ≡ true)).

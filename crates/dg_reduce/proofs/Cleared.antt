@@ -12,7 +12,8 @@ use Rattle.dg_chips.specs.Vector.{at}
 use Rattle.dg_reduce.specs.declared.fallback.walk.Walk.{Walk}
 use Rattle.dg_reduce.specs.States.{IsCleared, IsClearedOff}
 
-pub levels_cleared : (g : Multigraph) (q : ℕ) (level : ℕ → ℕ) (x : Walk) → IsDistance g q level → IsCleared g level 1 x →
+pub levels_cleared : (g : Multigraph) (q : ℕ) (level : ℕ → ℕ) (x : Walk) → IsDistance g q level →
+    IsCleared g level 1 x →
     IsClearedOff g q x
 levels_cleared g q level x distance cleared = record {
   tied = cleared.tied;

@@ -23,14 +23,16 @@ pub record IsRepaying (g : Multigraph) (v : ℕ) (x y : Vector) : Type 0 where
   pub led : IsLed g v (at x) (at y)
   pub equivalent : AreEquivalent g (at x) (at y)
 
-pub repaying-start : (g : Multigraph) (v : ℕ) (x : Vector) → x.size ≡ g.size → HasNoDebtOff g v (at x) → IsRepaying g v x x
+pub repaying-start : (g : Multigraph) (v : ℕ) (x : Vector) → x.size ≡ g.size → HasNoDebtOff g v (at x) →
+    IsRepaying g v x x
 repaying-start g v x size no_debt = record {
   size = size;
   led = led_start g v (at x) no_debt;
   equivalent = equivalent-refl g (at x) (at x) (λ w _. refl);
 }
 
-pub repaying-done : (g : Multigraph) (v : ℕ) (x y : Vector) → IsRepaying g v x y → pos 0 ≤ℤ at y v → IsEffectiveForm g (at x) y
+pub repaying-done : (g : Multigraph) (v : ℕ) (x y : Vector) → IsRepaying g v x y → pos 0 ≤ℤ at y v →
+    IsEffectiveForm g (at x) y
 repaying-done g v x y state paid = record {
   size = state.size;
   effective = λ w below. ⊎_elim

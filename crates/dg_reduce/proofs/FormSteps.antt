@@ -101,7 +101,8 @@ once_falls g v S x y z u graph vertex state free member fires =
     let less : weight_of g (weights (distance_from g v)) (fired g (at y) (indicator S))
     < weight_of g (weights (distance_from g v)) (at y) =
     weight_falls_by_set g v (weights (distance_from g v)) (at y) S u graph.multigraph
-    (levels_are_potential g v (distance_from g v) graph.multigraph (distance_from-is g v graph.multigraph vertex) graph.few graph.valences)
+    (levels_are_potential g v (distance_from g v) graph.multigraph
+    (distance_from-is g v graph.multigraph vertex) graph.few graph.valences)
     state.led.no_debt free (free.vertices u member) member in
     let now : weight_of g (weights (distance_from g v)) (at z)
     ≡ weight_of g (weights (distance_from g v)) (fired g (at y) (indicator S)) =

@@ -25,6 +25,7 @@ pub limit_at-small : (j : ℕ) → limit_at j < 2 ^ 111
 unfolding limit_at
 limit_at-small j =
     let power : 64 ^ (15 - j) ≤ 64 ^ 15 = pow-le-pow_right {n = 64} (omega arith) {i = 15 - j} {j = 15} (omega arith) in
-    let product : 2000000 * 64 ^ (15 - j) ≤ 2000000 * 64 ^ 15 = mul-le 2000000 (64 ^ (15 - j)) 2000000 (64 ^ 15) (omega arith) power in
+    let product : 2000000 * 64 ^ (15 - j) ≤ 2000000 * 64 ^ 15 =
+    mul-le 2000000 (64 ^ (15 - j)) 2000000 (64 ^ 15) (omega arith) power in
     let most : 2000000 * 64 ^ (15 - 0) < 2 ^ 111 = limit_last 2000000 (omega arith) in
     omega arith

@@ -62,7 +62,8 @@ debt_same n level j D m before paid = record {
       (cases_eq v n);
   owed = ⊎_elim
       (λ (none : m ≡ pos 0). inl none)
-      (λ (owed : (v : ℕ) × (v < n) × (level v ≡ j) × (D v +ℤ m ≡ pos 0)). let (v, below, on, just) = owed in inr (v, omega arith, on, just))
+      (λ (owed : (v : ℕ) × (v < n) × (level v ≡ j) × (D v +ℤ m ≡ pos 0)). let (v, below, on, just) = owed in
+      inr (v, omega arith, on, just))
       before.owed;
 }
 
@@ -103,7 +104,8 @@ nearer_fired : (g : Multigraph) (level : ℕ → ℕ) (j k : ℕ) (S : ℕ → B
     (v : ℕ) → v < g.size → at y.chips v ≡ fired_nearer g level j k (at x.chips) v
 nearer_fired g level j k S x y fires same v inside =
     fires.chips v inside
-    ∙ fired-cong g (at x.chips) (multiple (pos k) (indicator S)) (multiple (pos k) (indicator (nearer level j))) v inside
+    ∙ fired-cong g (at x.chips) (multiple (pos k) (indicator S))
+    (multiple (pos k) (indicator (nearer level j))) v inside
     (λ w below. ap (λ (b : Bool). pos k *ℤ (if b then pos 1 else pos 0)) (same w below))
 
 pub cleared_paid : (g : Multigraph) (q : ℕ) (level : ℕ → ℕ) (j : ℕ) (S : ℕ → Bool) (m : ℤ) (x y : Walk) → IsGraph g →
@@ -114,16 +116,19 @@ cleared_paid g q level j S (negsuc k) x y graph distance some few cleared debt f
 cleared_paid g q level j S (pos k) x y graph distance some few cleared debt fires same =
     let place : limit_at ((j + 1) - 1) ≡ limit_at j = ap limit_at (omega arith) in
     let next : limit_at (j - 1) ≡ 64 * limit_at j = limit_at-next j some few in
-    let now : (v : ℕ) → v < g.size → at y.chips v ≡ fired_nearer g level j k (at x.chips) v = nearer_fired g level j k S x y fires same in
+    let now : (v : ℕ) → v < g.size → at y.chips v ≡ fired_nearer g level j k (at x.chips) v =
+    nearer_fired g level j k S x y fires same in
     let before : (v : ℕ) → v < g.size → unsigned_abs (at x.chips v) ≤ limit_at j = λ v inside.
     let small : unsigned_abs (at x.chips v) ≤ limit_at ((j + 1) - 1) = cleared.chips v inside in omega arith in
     let often : k ≤ limit_at j = debt_within g.size level j (at x.chips) (pos k) (limit_at j) debt before in
     record {
       tied = fires.tied;
       clear = clear_step g level j (at y.chips)
-          (λ v inside far. rw (now v inside) (clear_stays g q level j k (at x.chips) distance cleared.clear v inside far))
+          (λ v inside far. rw (now v inside)
+          (clear_stays g q level j k (at x.chips) distance cleared.clear v inside far))
           (λ v inside on. rw (now v inside)
-          (level_paid g q level j k (at x.chips) v distance inside (graph.valences v inside) some on (debt.enough v inside on)));
+          (level_paid g q level j k (at x.chips) v distance inside (graph.valences v inside) some on
+          (debt.enough v inside on)));
       chips = λ v inside.
           let most : unsigned_abs (fired_nearer g level j k (at x.chips) v) ≤ 64 * limit_at j =
           level_limit g level j k (limit_at j) (at x.chips) v (graph.valences v inside) often (before v inside) in

@@ -38,7 +38,8 @@ pub record IsLeast (g : Multigraph) (D : Amounts) (S : ℕ → Bool) (n : ℕ) (
   pub some : pos 1 ≤ℤ m
   pub few : m ≤ℤ largest
   pub enough : (u : ℕ) → u < n → S u ≡ true → (pos (edges_out g S u) *ℤ m) ≤ℤ D u
-  pub last : ((u : ℕ) × (u < g.size) × Lacks g D S u (m +ℤ pos 1)) ⊎ ((m ≡ largest) × ((u : ℕ) → u < n → SendsNothing g S u))
+  pub last : ((u : ℕ) × (u < g.size) × Lacks g D S u (m +ℤ pos 1)) ⊎
+      ((m ≡ largest) × ((u : ℕ) → u < n → SendsNothing g S u))
 
 pub least_lower : (g : Multigraph) (D : Amounts) (S : ℕ → Bool) (n : ℕ) (m t : ℤ) → n < g.size → IsLeast g D S n m →
     LastsAt g D S n t → t <ℤ m → IsLeast g D S (n + 1) t
@@ -49,7 +50,8 @@ least_lower g D S n m t inside before at less = record {
       (λ (same : u ≡ n). rw same (at.enough (sym (ap S same) ∙ member)))
       (λ (other : u ≡ n → ⊥).
       let enough : (pos (edges_out g S u) *ℤ m) ≤ℤ D u = before.enough u (omega arith) member in
-      let fewer : (pos (edges_out g S u) *ℤ t) ≤ℤ (pos (edges_out g S u) *ℤ m) = mul-mono (edges_out g S u) t m (omega (arith, ints)) in
+      let fewer : (pos (edges_out g S u) *ℤ t) ≤ℤ (pos (edges_out g S u) *ℤ m) =
+      mul-mono (edges_out g S u) t m (omega (arith, ints)) in
       omega (arith, ints))
       (cases_eq u n);
   last = ⊎_elim
@@ -92,7 +94,8 @@ least_kept g D S n m t inside before at more = record {
 pub some_leaves : (g : Multigraph) (q : ℕ) (S : ℕ → Bool) (v : ℕ) → IsMultigraph g → q < g.size → S q ≡ false →
     v < g.size → S v ≡ true → (u : ℕ) × (u < g.size) × (S u ≡ true) × (0 < edges_out g S u)
 some_leaves g q S v graph vertex without inside member =
-    let out : Leaves g.size (edges_between g) S = JoinedIn-leaves S inside member (graph.connected v q inside vertex) without in
+    let out : Leaves g.size (edges_between g) S =
+    JoinedIn-leaves S inside member (graph.connected v q inside vertex) without in
     let term : (if S out.b then 0 else edges_between g out.a out.b) ≤ edges_out g S out.a =
     total_below-term g.size (λ w. if S w then 0 else edges_between g out.a w) out.b out.to in
     let counts : (if S out.b then 0 else edges_between g out.a out.b) ≡ edges_between g out.a out.b =
@@ -107,13 +110,15 @@ least_is_most g q D S m graph vertex free (v, inside, member) least = record {
   no_debt = λ u below other. ⊎_elim
       (λ (on : S u ≡ true).
       let enough : (pos (edges_out g S u) *ℤ m) ≤ℤ D u = least.enough u below on in
-      let lost : gain g (multiple m (indicator S)) u +ℤ pos (edges_out g S u) *ℤ m ≡ pos 0 = gain-all_inside g m S u on in
+      let lost : gain g (multiple m (indicator S)) u +ℤ pos (edges_out g S u) *ℤ m ≡ pos 0 =
+      gain-all_inside g m S u on in
       omega (arith, ints))
       (λ (off : S u ≡ false).
       let once : pos 0 ≤ℤ fired g D (indicator S) u = free.no_debt u below other in
       let got_once : gain g (indicator S) u ≡ pos (edges_into g S u) = gain-outside g S u off in
       let got : gain g (multiple m (indicator S)) u ≡ pos (edges_into g S u) *ℤ m = gain-all_outside g m S u off in
-      let more : (pos (edges_into g S u) *ℤ pos 1) ≤ℤ (pos (edges_into g S u) *ℤ m) = mul-mono (edges_into g S u) (pos 1) m least.some in
+      let more : (pos (edges_into g S u) *ℤ pos 1) ≤ℤ (pos (edges_into g S u) *ℤ m) =
+      mul-mono (edges_into g S u) (pos 1) m least.some in
       let one : pos (edges_into g S u) *ℤ pos 1 ≡ pos (edges_into g S u) =
       *ℤ_comm (pos (edges_into g S u)) (pos 1) ∙ one-mul (pos (edges_into g S u)) in
       omega (arith, ints))
@@ -131,7 +136,8 @@ least_is_most g q D S m graph vertex free (v, inside, member) least = record {
       least.last;
 }
 
-pub most_within : (g : Multigraph) (q : ℕ) (D : Amounts) (S : ℕ → Bool) (m : ℤ) (M : ℕ) → S q ≡ false → IsMost g q D S m →
+pub most_within : (g : Multigraph) (q : ℕ) (D : Amounts) (S : ℕ → Bool) (m : ℤ) (M : ℕ) → S q ≡ false →
+    IsMost g q D S m →
     ((v : ℕ) → v < g.size → unsigned_abs (D v) ≤ M) → unsigned_abs m ≤ M
 most_within g q D S m M without most small =
     let (u, below, on, less) = most.last in

@@ -1,6 +1,6 @@
 -- The steps of the search for the distances from vertex q.
---   spread-new, spread-reached, spread-apart   what becomes of a neighbour that is not reached, of a vertex that is, and of
---                                              one that is no neighbour
+--   spread-new, spread-reached, spread-apart   what becomes of a neighbour that is not reached, of a vertex that is,
+--                                              and of one that is no neighbour
 --   AreSpread         the levels after are those before with the neighbours of v that were not reached at level k
 --   by_spread         what follows in each of the three cases
 --   spread-lower      no level is raised
@@ -26,13 +26,15 @@ spread-new g v k level w far edge = grind (arith, nat_tests)
 spread-reached : (g : Multigraph) (v k : ℕ) (level : ℕ → ℕ) (w : ℕ) → level w < g.size → spread g v k level w ≡ level w
 spread-reached g v k level w near = grind (arith, nat_tests)
 
-spread-apart : (g : Multigraph) (v k : ℕ) (level : ℕ → ℕ) (w : ℕ) → edges_between g v w ≡ 0 → spread g v k level w ≡ level w
+spread-apart : (g : Multigraph) (v k : ℕ) (level : ℕ → ℕ) (w : ℕ) → edges_between g v w ≡ 0 →
+    spread g v k level w ≡ level w
 spread-apart g v k level w none = grind (arith, nat_tests)
 
 abbrev AreSpread : Multigraph → ℕ → ℕ → (ℕ → ℕ) → (ℕ → ℕ) → Type 0
 AreSpread g v k level after = (w : ℕ) → w < g.size → after w ≡ spread g v k level w
 
-by_spread : {P : Type 0} (g : Multigraph) (v k : ℕ) (level after : ℕ → ℕ) (w : ℕ) → AreSpread g v k level after → w < g.size →
+by_spread : {P : Type 0} (g : Multigraph) (v k : ℕ) (level after : ℕ → ℕ) (w : ℕ) → AreSpread g v k level after →
+    w < g.size →
     level w ≤ g.size → (level w < g.size → after w ≡ level w → P) →
     (level w ≡ g.size → 0 < edges_between g v w → after w ≡ k → P) → (level w ≡ g.size → after w ≡ g.size → P) → P
 by_spread g v k level after w spreads inside most near new apart =
@@ -50,7 +52,8 @@ by_spread g v k level after w spreads inside most near new apart =
 spread-lower : (g : Multigraph) (v k : ℕ) (level after : ℕ → ℕ) (w : ℕ) → AreSpread g v k level after → w < g.size →
     level w ≤ g.size → k ≤ g.size → after w ≤ level w
 spread-lower g v k level after w spreads inside most few =
-    by_spread g v k level after w spreads inside most (λ _ same. omega arith) (λ far _ new. omega arith) (λ far same. omega arith)
+    by_spread g v k level after w spreads inside most (λ _ same. omega arith) (λ far _ new. omega arith)
+    (λ far same. omega arith)
 
 spread-kept : (g : Multigraph) (v k : ℕ) (level after : ℕ → ℕ) (w : ℕ) → AreSpread g v k level after → w < g.size →
     level w ≤ g.size → k < g.size → after w < k → level w ≡ after w
@@ -82,10 +85,12 @@ reached_nearer g q k v level after graph vertex few state at spreads w inside ot
     by_spread g v (k + 1) level after w spreads inside (state.most w inside)
     (λ low same.
     let (x, below, edge, less) = state.nearer w inside other low in
-    let lower : after x ≤ level x = spread-lower g v (k + 1) level after x spreads below (state.most x below) (omega arith) in
+    let lower : after x ≤ level x =
+    spread-lower g v (k + 1) level after x spreads below (state.most x below) (omega arith) in
     (x, below, edge, omega arith))
     (λ far edge new.
-    let lower : after v ≤ level v = spread-lower g v (k + 1) level after v spreads vertex (state.most v vertex) (omega arith) in
+    let lower : after v ≤ level v =
+    spread-lower g v (k + 1) level after v spreads vertex (state.most v vertex) (omega arith) in
     let back : 0 < edges_between g w v = omega (arith, graph.symmetric w v) in
     (v, vertex, back, omega arith))
     (λ far same. absurd (omega arith))
@@ -102,7 +107,8 @@ reached_by g q k v level after graph few state spreads a inside edge =
     omega (arith, spreads a inside, spread-new g v (k + 1) level a far out))
 
 pub reached-passed : (g : Multigraph) (q k v : ℕ) (level after : ℕ → ℕ) → IsMultigraph g → q < g.size → v < g.size →
-    k + 1 < g.size → IsReached g q k v level → level v ≡ k → AreSpread g v (k + 1) level after → IsReached g q k (v + 1) after
+    k + 1 < g.size → IsReached g q k v level → level v ≡ k → AreSpread g v (k + 1) level after →
+    IsReached g q k (v + 1) after
 reached-passed g q k v level after graph start vertex few state at spreads =
     let lower : (w : ℕ) → w < g.size → after w ≤ level w =
     λ w inside. spread-lower g v (k + 1) level after w spreads inside (state.most w inside) (omega arith) in
@@ -173,4 +179,5 @@ pub levels-first : (g : Multigraph) (q n : ℕ) → q < g.size → n ≡ g.size 
 levels-first g q n vertex whole few =
     reached-first g q (slice_index (set (replicate 16 n) q 0)) vertex
     (get_or-set_same (replicate 16 n) q 0 0 (omega (arith, length-replicate 16 n)))
-    (λ v inside other. get_or-set_other (replicate 16 n) q v 0 0 other ∙ get_or-replicate 16 v n 0 (omega arith) ∙ whole)
+    (λ v inside other. get_or-set_other (replicate 16 n) q v 0 0 other ∙ get_or-replicate 16 v n 0 (omega arith)
+    ∙ whole)

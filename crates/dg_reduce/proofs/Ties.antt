@@ -28,7 +28,8 @@ tied-more g C D E s t u before now more v inside =
     ∙ fired-fired g C s u v
     ∙ fired-cong g C (λ w. s w +ℤ u w) t v inside (λ w below. sym (more w below))
 
-pub cleared-start : (g : Multigraph) (q : ℕ) (level : ℕ → ℕ) (x : Walk) → IsGraph g → IsDistance g q level → IsTied g x →
+pub cleared-start : (g : Multigraph) (q : ℕ) (level : ℕ → ℕ) (x : Walk) → IsGraph g → IsDistance g q level →
+    IsTied g x →
     ((v : ℕ) → v < g.size → unsigned_abs (at x.chips v) ≤ 2000000) → ((v : ℕ) → at x.script v ≡ pos 0) →
     IsCleared g level g.size x
 cleared-start g q level x graph distance tied range none =

@@ -1,6 +1,7 @@
--- The effective divisors that a divisor can be fired to: its complete linear system (Baker and Norine 2007, section 1;
--- Corry and Perkinson, chapter 2).
---   IsEffectiveForm g D x == x is in the complete linear system of D: nobody is in debt, and x is equivalent to D
+-- The effective divisors that a divisor can be fired to: its complete linear system (Baker and
+-- Norine 2007, section 1; Corry and Perkinson, chapter 2).
+--   IsEffectiveForm g D x == x is in the complete linear system of D: nobody is in debt, and x is
+--                            equivalent to D
 use Rattle.std.specs.Prelude.{◌≡◌}
 use Rattle.dg_theory.specs.Multigraph.{Multigraph}
 use Rattle.dg_theory.specs.Firing.{Amounts, IsEffective, AreEquivalent}

@@ -1,11 +1,13 @@
 -- Reductions: the reduced divisor that a divisor can be fired to, and the script that leads to it.
---   IsOnly g q D R s          == every script that is 0 at q and leads from D to a reduced divisor is s, and leads to R
---   IsReduction g q D bound x == x has a reduced divisor and a script that leads to it from D; the script is 0 at q and
---                                within the bound; and D has no other reduced divisor, and no other script that is 0
---                                at q and leads to it
---   IsBurningOrder g q D l    == l are the vertices in the order in which they burn from q, the least first, all of them,
---                                and then zeros up to 16 places
---   IsCertified g q D bound x == x has a reduction of D, and the order in which all vertices burn in the reduced divisor
+--   IsOnly g q D R s          == every script that is 0 at q and leads from D to a reduced divisor
+--                                is s, and leads to R
+--   IsReduction g q D bound x == x has a reduced divisor and a script that leads to it from D; the
+--                                script is 0 at q and within the bound; and D has no other reduced
+--                                divisor, and no other script that is 0 at q and leads to it
+--   IsBurningOrder g q D l    == l are the vertices in the order in which they burn from q, the
+--                                least first, all of them, and then zeros up to 16 places
+--   IsCertified g q D bound x == x has a reduction of D, and the order in which all vertices burn
+--                                in the reduced divisor
 use Rattle.std.specs.Prelude.{◌≡◌, ℕ, ◌<◌, ◌≤◌, List, take, pos}
 use Rattle.std.specs.List.{slice_index_or}
 use Rattle.std.specs.Int.RustNames.{unsigned_abs}
@@ -21,7 +23,8 @@ abbrev pub IsOnly : Multigraph → ℕ → Amounts → Amounts → Amounts → T
 IsOnly g q D R s = (t : Amounts) → t q ≡ pos 0 → IsReduced g q (fired g D t) →
     (v : ℕ) → v < g.size → (t v ≡ s v) × (fired g D t v ≡ R v)
 
-pub record IsReduction (g : Multigraph) (q : ℕ) (D : Amounts) (bound : ℕ) (x : Reduced) : Type 0 where
+pub record IsReduction (g : Multigraph) (q : ℕ) (D : Amounts) (bound : ℕ)
+    (x : Reduced) : Type 0 where
   pub sizes : (x.divisor.size ≡ g.size) × (x.script.size ≡ g.size)
   pub reduced : IsReduced g q (at x.divisor)
   pub led : FiresTo g (at x.script) D (at x.divisor)
@@ -33,6 +36,7 @@ pub record IsBurningOrder (g : Multigraph) (q : ℕ) (D : Amounts) (l : List ℕ
   pub burns : BurnsInOrder g q D (take g.size l)
   pub rest : (i : ℕ) → g.size ≤ i → i < 16 → slice_index_or l i 0 ≡ 0
 
-pub record IsCertified (g : Multigraph) (q : ℕ) (D : Amounts) (bound : ℕ) (x : Certified) : Type 0 where
+pub record IsCertified (g : Multigraph) (q : ℕ) (D : Amounts) (bound : ℕ)
+    (x : Certified) : Type 0 where
   pub reduction : IsReduction g q D bound x.reduced
   pub order : IsBurningOrder g q (at x.reduced.divisor) x.order

@@ -1,6 +1,6 @@
 -- What burning leaves, with its counts.
---   IsRest g q D x == the rest of the burning x has a member and fires freely, and x counts the edges of each vertex that
---                     lead out of it
+--   IsRest g q D x == the rest of the burning x has a member and fires freely, and x counts the
+--                     edges of each vertex that lead out of it
 use Rattle.std.specs.Prelude.{◌≡◌, ℕ, true, slice_index}
 use Rattle.dg_theory.specs.Multigraph.{Multigraph}
 use Rattle.dg_theory.specs.Firing.{Amounts}

@@ -1,13 +1,16 @@
 -- The states of a reduction.
---   IsTied g x                  == the script of the walk x leads from its amounts at the start to those now
+--   IsTied g x                  == the script of the walk x leads from its amounts at the start to
+--                                  those now
 --   IsFired g S k x y           == the walk y is x after k lendings of each vertex of the set S
---   limit_at j                  == 2000000 * 64 ^ (15 - j), which bounds all amounts before the debts of level j are
---                                  cleared
---   IsCleared g level j x       == in the walk x nobody of level j or farther is in debt, and its amounts and script are
---                                  within the limit of level j - 1, which is the next to be cleared
---   IsLargestDebt n level j D m == m is the largest debt of the vertices of level j, of n vertices; 0 where none owes
---   IsClearedOff g q x          == in the walk x nobody off q is in debt, and its amounts and script are within the limit
---                                  of level 0
+--   limit_at j                  == 2000000 * 64 ^ (15 - j), which bounds all amounts before the
+--                                  debts of level j are cleared
+--   IsCleared g level j x       == in the walk x nobody of level j or farther is in debt, and its
+--                                  amounts and script are within the limit of level j - 1, which is
+--                                  the next to be cleared
+--   IsLargestDebt n level j D m == m is the largest debt of the vertices of level j, of n vertices;
+--                                  0 where none owes
+--   IsClearedOff g q x          == in the walk x nobody off q is in debt, and its amounts and
+--                                  script are within the limit of level 0
 use Rattle.std.specs.Prelude.{◌≡◌, ℕ, ◌-◌, ◌*◌, ◌^◌, ◌<◌, ◌≤◌, Bool, ℤ, pos, ◌+ℤ◌, ◌≤ℤ◌, ◌⊎◌}
 use Rattle.std.specs.Int.RustNames.{unsigned_abs}
 use Rattle.dg_theory.specs.Multigraph.{Multigraph}
@@ -24,7 +27,8 @@ pub record IsTied (g : Multigraph) (x : Walk) : Type 0 where
 pub record IsFired (g : Multigraph) (S : ℕ → Bool) (k : ℤ) (x y : Walk) : Type 0 where
   pub tied : IsTied g y
   pub begun : y.start ≡ x.start
-  pub chips : (v : ℕ) → v < g.size → at y.chips v ≡ fired g (at x.chips) (multiple k (indicator S)) v
+  pub chips : (v : ℕ) → v < g.size →
+      at y.chips v ≡ fired g (at x.chips) (multiple k (indicator S)) v
   pub script : (v : ℕ) → v < g.size → at y.script v ≡ at x.script v +ℤ multiple k (indicator S) v
 
 unfoldable pub limit_at : ℕ → ℕ

@@ -32,7 +32,8 @@ pub(crate) fn order_by(
     requires known { IfSome known.now (λ x. IsWhole graph.now q x) }
     ensures { MatchOption result
         (¬ IsReduced graph.now q (at chips.now))
-        (λ order. IsReduced graph.now q (at chips.now) × IsBurningOrder graph.now q (at chips.now) order) }
+        (λ order. IsReduced graph.now q (at chips.now) ×
+        IsBurningOrder graph.now q (at chips.now) order) }
 {
     let _size = graph.size();
     if let Some(burning) = known {
@@ -50,7 +51,8 @@ pub fn order_if_reduced(graph: &Graph, q: usize, chips: &Wide) -> Option<[u8; 16
     requires vertex { q < graph.now.size }
     ensures { MatchOption result
         (¬ IsReduced graph.now q (at chips.now))
-        (λ order. IsReduced graph.now q (at chips.now) × IsBurningOrder graph.now q (at chips.now) order) }
+        (λ order. IsReduced graph.now q (at chips.now) ×
+        IsBurningOrder graph.now q (at chips.now) order) }
 {
     if !is_solvent_off(graph, q, chips) {
         return None;

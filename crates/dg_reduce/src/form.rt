@@ -153,10 +153,12 @@ impl Form {
     /// Lets each vertex that burning left lend once.
     fn fire(&mut self, graph: &Graph, rest: &Counted)
         requires size { self.old.size ≡ graph.now.size }
-        requires rest { (v : ℕ) → slice_index rest.now.joined v ≡ edges_out graph.now (in_set rest.now.burnt.unburnt) v }
+        requires rest { (v : ℕ) →
+            slice_index rest.now.joined v ≡ edges_out graph.now (in_set rest.now.burnt.unburnt) v }
         requires range { (v : ℕ) → v < graph.now.size → unsigned_abs (at self.old v) ≤ 2 ^ 31 - 64 }
         ensures size { self.new.size ≡ graph.now.size }
-        ensures fires { FiresTo graph.now (indicator (in_set rest.now.burnt.unburnt)) (at self.old) (at self.new) }
+        ensures fires { FiresTo graph.now (indicator (in_set rest.now.burnt.unburnt)) (at self.old)
+            (at self.new) }
     {
         let size = graph.size();
         let mut amounts = self.amounts;
@@ -170,7 +172,8 @@ impl Form {
 /// What a vertex gains where each vertex that burning left lends once.
 fn gained(graph: &Graph, rest: &Counted, v: usize) -> i32
     requires vertex { v < 16 }
-    requires rest { slice_index rest.now.joined v ≡ edges_out graph.now (in_set rest.now.burnt.unburnt) v }
+    requires rest { slice_index rest.now.joined v
+        ≡ edges_out graph.now (in_set rest.now.burnt.unburnt) v }
     ensures gain { result ≡ gain graph.now (indicator (in_set rest.now.burnt.unburnt)) v }
     ensures few { unsigned_abs result ≤ 63 }
 {

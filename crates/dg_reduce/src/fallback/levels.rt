@@ -29,7 +29,8 @@ pub fn levels_from(graph: &Graph, q: usize) -> [usize; 16]
 /// The levels after the neighbours of each vertex of a level are reached.
 fn with_next_level(graph: &Graph, levels: &[usize; 16], level: usize) -> [usize; 16]
     requires { level + 1 < graph.now.size }
-    ensures { (q : ℕ) → q < graph.now.size → IsReached graph.now q level 0 (slice_index levels.now) →
+    ensures { (q : ℕ) → q < graph.now.size →
+        IsReached graph.now q level 0 (slice_index levels.now) →
         IsReached graph.now q (level + 1) 0 (slice_index result) }
 {
     let mut reached = *levels;

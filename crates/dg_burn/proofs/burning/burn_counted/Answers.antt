@@ -27,7 +27,8 @@ burning-init c = record {
   fire = fire-more c.args.graph.now c.args.held.now c.new-fire.result c.burn_vertex.new.self c.args.q
       c.size-size.ensures.graph.multigraph c.requires (c.new-fire.ensures.none_burns c.args.q)
       (fire-unlit c.args.graph.now c.args.held.now c.new-fire.result c.new-fire.ensures)
-      c.burn_vertex.ensures.reached c.burn_vertex.ensures.joined c.burn_vertex.ensures.here c.burn_vertex.ensures.others;
+      c.burn_vertex.ensures.reached c.burn_vertex.ensures.joined c.burn_vertex.ensures.here
+      c.burn_vertex.ensures.others;
   places = refl;
   rest = none_after 15 c.args.q;
 }
@@ -81,7 +82,8 @@ burning-preserved c =
           c.burn_vertex-in-Some.ensures.reached);
       fire = fire-more c.args.graph.now c.args.held.now c.burning.fire c.burn_vertex-in-Some.new.self c.in-Some.v
           c.size-size.ensures.graph.multigraph burns.may.vertex
-          (least_new _ _ _ _ c.size-size.ensures.graph c.burning.invariant.fire c.in-Some.ensures) c.burning.invariant.fire
+          (least_new _ _ _ _ c.size-size.ensures.graph c.burning.invariant.fire c.in-Some.ensures)
+          c.burning.invariant.fire
           c.burn_vertex-in-Some.ensures.reached c.burn_vertex-in-Some.ensures.joined c.burn_vertex-in-Some.ensures.here
           c.burn_vertex-in-Some.ensures.others;
       places = length-set _ _ _ ∙ c.burning.invariant.places;

@@ -65,7 +65,8 @@ lends : (c : After-carried_lightly) →
     × (unsigned_abs c.carried_lightly.result < 2 ^ 30) × (unsigned_abs (to_z w32 c.loop-w.sum-bits) < 2 ^ 30)
 lends c =
     let s : Amounts = λ w. slice_index_or c.args.lendings.now w (pos 0) in
-    let (value, few) = light-flow (valence c.args.graph.now c.args.v) c.valence.result (s c.args.v) c.carried_lightly.result
+    let (value, few) = light-flow (valence c.args.graph.now c.args.v) c.valence.result
+    (s c.args.v) c.carried_lightly.result
     (light-valence c.args.graph.now s c.args.v c.args.v c.requires.light)
     (omega (arith, c.requires.small c.args.v)) c.valence.ensures c.carried_lightly.ensures in
     let all = light-sum c.args.graph.now s c.args.v c.loop-w.w c.size-size.ensures.graph c.requires.light in

@@ -9,7 +9,11 @@ act-requires-2 c = omega (arith, (c.act.ensures.leads c.args.start.now [] 1 c.ne
 
 pub settle-requires-clause-room : goal.settle-requires-clause-room
 settle-requires-clause-room c =
-    omega (arith, (c.act-2.ensures.leads c.args.start.now _ 1 (c.act.ensures.leads c.args.start.now [] 1 c.new-game.ensures)).entries)
+    omega (
+      arith,
+      (c.act-2.ensures.leads c.args.start.now _ 1
+          (c.act.ensures.leads c.args.start.now [] 1 c.new-game.ensures)).entries,
+    )
 
 pub settle-requires-clause-look : goal.settle-requires-clause-look
 settle-requires-clause-look c =
@@ -26,7 +30,8 @@ settle-requires-clause-look c =
 
 pub settle-requires-clause-found : goal.settle-requires-clause-found
 settle-requires-clause-found c =
-    let second = c.act-2.ensures.leads c.args.start.now _ 1 (c.act.ensures.leads c.args.start.now [] 1 c.new-game.ensures) in
+    let second = c.act-2.ensures.leads c.args.start.now _ 1
+    (c.act.ensures.leads c.args.start.now [] 1 c.new-game.ensures) in
     let q : c.from-q.result ≡ c.act-2.new.self.q = c.from-q.ensures ∙ c.q.ensures ∙ sym second.q in
     rw (← q) c.if-not-check.ensures
 

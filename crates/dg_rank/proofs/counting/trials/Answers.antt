@@ -6,7 +6,11 @@ use Rattle.dg_rank.proofs.counting.trials.Goals as goal
 
 pub returns-then-count-gt-MAX_TRIALS : goal.returns-then-count-gt-MAX_TRIALS
 returns-then-count-gt-MAX_TRIALS c =
-    inr (inr (inr (trial_count c.args.n c.args.k, omega arith, (nth_trial c.args.n c.args.k, numbered c.args.n c.args.k))))
+    inr (inr (inr (
+      trial_count c.args.n c.args.k,
+      omega arith,
+      (nth_trial c.args.n c.args.k, numbered c.args.n c.args.k),
+    )))
 
 pub returns : goal.returns
 returns c =

@@ -21,5 +21,6 @@ returns c =
     equivalent-rank g (at c.args.amounts.now) chips c.args.k
     (at c.reduce_wide-chips.result.script, c.reduce_wide-chips.ensures.led) in
     decided c.is_none.result (same.1, same.0)
-    (found_decides g chips c.args.k c.args.count c.first_loss.result c.is_none.result c.requires.limits c.first_loss.ensures
+    (found_decides g chips c.args.k c.args.count c.first_loss.result c.is_none.result c.requires.limits
+    c.first_loss.ensures
     c.is_none.ensures)

@@ -17,7 +17,8 @@ returns-then-rest-genus c =
     let g = c.args.graph.now in
     let rest : c.degree_left-rest.result ≡ degree g.size (at c.args.divisor.now) -ℤ pos c.args.k =
     rw c.requires.size at c.degree_left-rest.ensures in
-    rich_rank g (at c.args.divisor.now) c.args.k c.size-size.ensures.graph.multigraph (omega arith) (omega (arith, ints))
+    rich_rank g (at c.args.divisor.now) c.args.k c.size-size.ensures.graph.multigraph (omega arith)
+    (omega (arith, ints))
 
 pub returns-then-rest-lt0 : goal.returns-then-rest-lt0
 returns-then-rest-lt0 c rank =

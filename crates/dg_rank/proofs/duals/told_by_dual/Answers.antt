@@ -33,5 +33,7 @@ returns-then-all_win c count within =
 pub returns : goal.returns
 returns c count within =
     let (all, given, most) = c.requires.limits in
-    let g = c.args.graph.now in
-    (omega (arith, limits_count g.size c.args.k all given, limits_count g.size c.args.k count within), c.in_default-first_loss.ensures)
+    let g = c.args.graph.now in (
+      omega (arith, limits_count g.size c.args.k all given, limits_count g.size c.args.k count within),
+      c.in_default-first_loss.ensures,
+    )

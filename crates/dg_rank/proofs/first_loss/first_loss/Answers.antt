@@ -13,7 +13,8 @@ use Rattle.dg_rank.proofs.first_loss.first_loss.Goals as goal
 use Rattle.dg_rank.proofs.first_loss.first_loss.Goals.{After-with_number-trial, After-leap, After-advance-moved, Else-not-lose_elsewhere, After-leap-in-trials}
 
 -- the trial that the search begins with
-first : (c : After-with_number-trial) → c.with_number-trial.result ≡ nth_trial c.args.graph.now.size c.args.k c.args.from
+first : (c : After-with_number-trial) →
+    c.with_number-trial.result ≡ nth_trial c.args.graph.now.size c.args.k c.args.from
 first c = c.with_number-trial.ensures ∙ rw c.size.ensures.size refl
 
 pub left_without-requires-clause-trial : goal.left_without-requires-clause-trial
@@ -50,7 +51,14 @@ pub leap-requires-clause-trial : goal.leap-requires-clause-trial
 leap-requires-clause-trial c =
     let (count, within, few) = c.requires.limits in
     let size : c.in-Some.left.size ≡ c.args.graph.now.size = c.in-Some.ensures.size in
-    rw size (c.args.k, count, c.args.from, within, omega arith, first (goal.at.leap-requires-clause-trial c).After-with_number-trial)
+    rw size (
+      c.args.k,
+      count,
+      c.args.from,
+      within,
+      omega arith,
+      first (goal.at.leap-requires-clause-trial c).After-with_number-trial,
+    )
 
 pub leap-requires-clause-effective : goal.leap-requires-clause-effective
 leap-requires-clause-effective c =
@@ -60,14 +68,17 @@ leap-requires-clause-effective c =
 pub leap-requires-clause-degree : goal.leap-requires-clause-degree
 leap-requires-clause-degree c =
     let size : c.in-Some.left.size ≡ c.args.graph.now.size = c.in-Some.ensures.size in
-    rw size (left_degree c.args.graph.now (at c.args.chips.now) c.with_number-trial.result c.in-Some.left c.size.ensures.graph
+    rw size (left_degree c.args.graph.now
+    (at c.args.chips.now) c.with_number-trial.result c.in-Some.left c.size.ensures.graph
     c.requires.range c.in-Some.ensures)
 
-begun : (c : After-leap) → IsReached c.args.graph.now (at c.args.chips.now) c.args.k c.args.from (c.args.from + c.leap.result)
+begun : (c : After-leap) →
+    IsReached c.args.graph.now (at c.args.chips.now) c.args.k c.args.from (c.args.from + c.leap.result)
     c.leap.new.trial c.leap.new.left
 begun c =
     let (count, within, few) = c.requires.limits in
-    reached c.args.graph.now (at c.args.chips.now) c.args.k count c.args.from c.args.from c.leap.result c.leap.new.trial c.leap.new.left
+    reached c.args.graph.now
+    (at c.args.chips.now) c.args.k count c.args.from c.args.from c.leap.result c.leap.new.trial c.leap.new.left
     within (omega arith) (λ m from to. absurd (omega arith))
     (c.leap.ensures c.args.graph.now (at c.args.chips.now) c.args.k count c.args.from within (omega arith)
     (first (goal.at.After-leap c).After-with_number-trial) c.in-Some.ensures)
@@ -92,23 +103,31 @@ advance-moved-requires c =
 
 pub lose_elsewhere-requires-clause-degree : goal.lose_elsewhere-requires-clause-degree
 lose_elsewhere-requires-clause-degree c =
-    left_degree c.args.graph.now (at c.args.chips.now) c.trials.trial c.trials.left c.size.ensures.graph c.requires.range
+    left_degree c.args.graph.now
+    (at c.args.chips.now) c.trials.trial c.trials.left c.size.ensures.graph c.requires.range
     c.trials.invariant.form
 
 -- the trial after the one that was reached
 places : (c : After-advance-moved) → length c.trials.trial ≡ c.args.graph.now.size
 places c =
     let (count, within, few) = c.requires.limits in
-    trial_places c.args.graph.now.size c.args.k count c.trials.number c.trials.trial within (omega arith) c.trials.invariant.trial
+    trial_places c.args.graph.now.size c.args.k count c.trials.number c.trials.trial within
+    (omega arith) c.trials.invariant.trial
 
-next : (c : After-advance-moved) → c.advance-moved.new.self ≡ nth_trial c.args.graph.now.size c.args.k (c.trials.number + 1)
+next : (c : After-advance-moved) →
+    c.advance-moved.new.self ≡ nth_trial c.args.graph.now.size c.args.k (c.trials.number + 1)
 next c =
     let (count, within, few) = c.requires.limits in
-    c.advance-moved.ensures.next c.args.graph.now.size c.args.k count c.trials.number within (omega arith) c.trials.invariant.trial
+    c.advance-moved.ensures.next c.args.graph.now.size c.args.k count c.trials.number within
+    (omega arith) c.trials.invariant.trial
 
 pub lose_elsewhere-requires-clause-place : goal.lose_elsewhere-requires-clause-place
 lose_elsewhere-requires-clause-place c =
-    omega (arith, c.advance-moved.ensures.moved.within, places (goal.at.lose_elsewhere-requires-clause-place c).After-advance-moved)
+    omega (
+      arith,
+      c.advance-moved.ensures.moved.within,
+      places (goal.at.lose_elsewhere-requires-clause-place c).After-advance-moved,
+    )
 
 pub returns-then-not-lose_elsewhere : goal.returns-then-not-lose_elsewhere
 returns-then-not-lose_elsewhere c =
@@ -119,13 +138,16 @@ returns-then-not-lose_elsewhere c =
       to = omega arith;
       trial = next d;
       loses =
-          next_told false c.args.graph.now (at c.args.chips.now) c.trials.trial c.advance-moved.new.self c.advance-moved.result
-          c.trials.left c.trials.left (places d) c.advance-moved.ensures.moved c.trials.invariant.form c.if-not-lose_elsewhere.ensures;
+          next_told false c.args.graph.now
+          (at c.args.chips.now) c.trials.trial c.advance-moved.new.self c.advance-moved.result
+          c.trials.left c.trials.left
+          (places d) c.advance-moved.ensures.moved c.trials.invariant.form c.if-not-lose_elsewhere.ensures;
       first = c.trials.invariant.wins;
     }
 
 form : (c : Else-not-lose_elsewhere) →
-    IsEffectiveForm c.args.graph.now (less (at c.args.chips.now) (amounts_of c.advance-moved.new.self)) c.lose_elsewhere.new.left
+    IsEffectiveForm c.args.graph.now
+    (less (at c.args.chips.now) (amounts_of c.advance-moved.new.self)) c.lose_elsewhere.new.left
 form c =
     next_told true c.args.graph.now (at c.args.chips.now) c.trials.trial c.advance-moved.new.self c.advance-moved.result
     c.trials.left c.lose_elsewhere.new.left (places (goal.at.Else-not-lose_elsewhere c).After-advance-moved)
@@ -161,17 +183,22 @@ pub leap-requires-in-trials-clause-degree : goal.leap-requires-in-trials-clause-
 leap-requires-in-trials-clause-degree c =
     let d = (goal.at.leap-requires-in-trials-clause-degree c).Else-not-lose_elsewhere in
     let size : c.lose_elsewhere.new.left.size ≡ c.args.graph.now.size = (form d).size in
-    rw size (left_degree c.args.graph.now (at c.args.chips.now) c.advance-moved.new.self c.lose_elsewhere.new.left c.size.ensures.graph
+    rw size (left_degree c.args.graph.now
+    (at c.args.chips.now) c.advance-moved.new.self c.lose_elsewhere.new.left c.size.ensures.graph
     c.requires.range (form d))
 
 leapt : (c : After-leap-in-trials) → IsReached c.args.graph.now (at c.args.chips.now) c.args.k c.args.from
     (c.trials.number + 1 + c.leap-in-trials.result) c.leap-in-trials.new.trial c.leap-in-trials.new.left
 leapt c =
     let (count, within, few) = c.requires.limits in
-    reached c.args.graph.now (at c.args.chips.now) c.args.k count c.args.from (c.trials.number + 1) c.leap-in-trials.result
-    c.leap-in-trials.new.trial c.leap-in-trials.new.left within (omega (arith, c.trials.invariant.from)) c.trials.invariant.wins
-    (c.leap-in-trials.ensures c.args.graph.now (at c.args.chips.now) c.args.k count (c.trials.number + 1) within (omega arith)
-    (next (goal.at.After-leap-in-trials c).After-advance-moved) (form (goal.at.After-leap-in-trials c).Else-not-lose_elsewhere))
+    reached c.args.graph.now (at c.args.chips.now) c.args.k count c.args.from
+    (c.trials.number + 1) c.leap-in-trials.result
+    c.leap-in-trials.new.trial c.leap-in-trials.new.left within
+    (omega (arith, c.trials.invariant.from)) c.trials.invariant.wins
+    (c.leap-in-trials.ensures c.args.graph.now (at c.args.chips.now) c.args.k count (c.trials.number + 1) within
+    (omega arith)
+    (next (goal.at.After-leap-in-trials c).After-advance-moved)
+    (form (goal.at.After-leap-in-trials c).Else-not-lose_elsewhere))
 
 pub overflow_add-number-in-trials-2 : goal.overflow_add-number-in-trials-2
 overflow_add-number-in-trials-2 c =
@@ -185,7 +212,8 @@ overflow_add-number-in-trials-3 c =
 
 pub trials-preserved : goal.trials-preserved
 trials-preserved c =
-    let number : c.trials.number + (1 + c.leap-in-trials.result) ≡ c.trials.number + 1 + c.leap-in-trials.result = omega arith in
+    let number : c.trials.number + (1 + c.leap-in-trials.result) ≡ c.trials.number + 1 + c.leap-in-trials.result =
+    omega arith in
     rw number (leapt c)
 
 pub returns : goal.returns

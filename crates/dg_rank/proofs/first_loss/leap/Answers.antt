@@ -19,7 +19,8 @@ use Rattle.dg_rank.proofs.first_loss.leap.Goals.{After-get-dollars}
 few : (c : After-get-dollars) → c.get-dollars.result ≤ 1000
 few c =
     let (k, count, i, limits, low, is) = c.requires.trial in
-    let trial : IsTrial c.args.left.now.size k c.args.trial.now = rw is (limits_trial c.args.left.now.size k count i limits low) in
+    let trial : IsTrial c.args.left.now.size k c.args.trial.now =
+    rw is (limits_trial c.args.left.now.size k count i limits low) in
     let most : slice_index c.args.trial.now (c.size-last.result - 1) ≤ sum c.args.trial.now =
     get_or-le-sum_by (λ (x : ℕ). x) c.args.trial.now (c.size-last.result - 1) 0
     (omega (arith, c.size-last.ensures.size, trial.places, limits.some)) in
@@ -33,9 +34,11 @@ returns-then-place-last c g D k count i limits low is form =
     stays g D k count i c.args.trial.now c.args.left.now limits low is form
 
 small : (c : After-get-dollars) → (v : ℕ) → v < c.args.left.now.size → unsigned_abs (at c.args.left.now v) ≤ 32000000
-small c v inside = rich_small c.args.left.now.size (at c.args.left.now) 32000000 v c.requires.effective c.requires.degree inside
+small c v inside = rich_small c.args.left.now.size
+    (at c.args.left.now) 32000000 v c.requires.effective c.requires.degree inside
 
-last_inside : (c : After-get-dollars) → (c.size-last.result - 1 < c.args.left.now.size) × (c.size-last.result ≡ c.args.left.now.size)
+last_inside : (c : After-get-dollars) → (c.size-last.result - 1 < c.args.left.now.size) ×
+    (c.size-last.result ≡ c.args.left.now.size)
 last_inside c =
     let (k, count, i, limits, low, is) = c.requires.trial in
     let places : c.size-last.result ≡ c.args.left.now.size = c.size-last.ensures.size ∙ sym c.requires.size in
@@ -95,7 +98,8 @@ returns c g D k count i limits low is form =
       over = omega (arith, c.first_rich-place.ensures.within, size, end, c.if-place-last.false);
     } in
     rw (c.set-2.ensures, c.set.ensures, end)
-    (leaps g D k count i c.first_rich-place.result c.get-dollars.result c.count.result c.args.trial.now c.args.left.now c.take.new.self
+    (leaps g D k count i c.first_rich-place.result c.get-dollars.result c.count.result c.args.trial.now c.args.left.now
+    c.take.new.self
     over
     (λ u past inner. c.first_rich-place.ensures.rich u past (omega (arith, size)))
     form

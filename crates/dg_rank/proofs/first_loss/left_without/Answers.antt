@@ -15,15 +15,22 @@ use Rattle.dg_rank.proofs.first_loss.left_without.Goals as goal
 use Rattle.dg_rank.proofs.first_loss.left_without.Goals.{After-less, After-reduce_wide-left}
 
 -- the amounts without the trial's
-left : (c : After-less) → AgreeOn c.args.graph.now.size (less (at c.args.chips.now) (amounts_of c.args.trial.now)) (at c.less.result)
+left : (c : After-less) →
+    AgreeOn c.args.graph.now.size (less (at c.args.chips.now) (amounts_of c.args.trial.now)) (at c.less.result)
 left c v inside =
     let (k, count, within, trial) = c.requires.trial in
-    omega (arith, ints, c.less.ensures.amounts v (omega arith), c.to_divisor-lost.ensures.amounts v (omega (arith, trial.places)))
+    omega (
+      arith,
+      ints,
+      c.less.ensures.amounts v (omega arith),
+      c.to_divisor-lost.ensures.amounts v (omega (arith, trial.places)),
+    )
 
 -- they are fired to the reduced ones
 led : (c : After-reduce_wide-left) →
     AgreeOn c.args.graph.now.size (less (at c.args.chips.now) (amounts_of c.args.trial.now)) (at c.less.result) →
-    AreEquivalent c.args.graph.now (less (at c.args.chips.now) (amounts_of c.args.trial.now)) (at c.reduce_wide-left.result.divisor)
+    AreEquivalent c.args.graph.now (less (at c.args.chips.now) (amounts_of c.args.trial.now))
+    (at c.reduce_wide-left.result.divisor)
 led c same = equivalent-trans c.args.graph.now _ (at c.less.result) _
     (equivalent-refl c.args.graph.now _ (at c.less.result) same)
     (at c.reduce_wide-left.result.script, c.reduce_wide-left.ensures.led)
@@ -32,24 +39,28 @@ led c same = equivalent-trans c.args.graph.now _ (at c.less.result) _
 form : (c : After-reduce_wide-left) →
     AgreeOn c.args.graph.now.size (less (at c.args.chips.now) (amounts_of c.args.trial.now)) (at c.less.result) →
     pos 0 ≤ℤ at c.reduce_wide-left.result.divisor 0 →
-    IsEffectiveForm c.args.graph.now (less (at c.args.chips.now) (amounts_of c.args.trial.now)) c.reduce_wide-left.result.divisor
+    IsEffectiveForm c.args.graph.now
+    (less (at c.args.chips.now) (amounts_of c.args.trial.now)) c.reduce_wide-left.result.divisor
 form c same paid = record {
   size = c.reduce_wide-left.ensures.sizes.0;
-  effective = effective_from c.args.graph.now 0 (at c.reduce_wide-left.result.divisor) c.reduce_wide-left.ensures.reduced paid;
+  effective = effective_from c.args.graph.now 0
+      (at c.reduce_wide-left.result.divisor) c.reduce_wide-left.ensures.reduced paid;
   led = led c same;
 }
 
 pub reduce_wide-left-requires-clause-range : goal.reduce_wide-left-requires-clause-range
 reduce_wide-left-requires-clause-range c v inside =
     let (k, count, within, trial) = c.requires.trial in
-    left_small c.args.graph.now.size k count c.args.trial.now (at c.args.chips.now) (at c.less.result) v within trial inside
+    left_small c.args.graph.now.size k count c.args.trial.now (at c.args.chips.now)
+    (at c.less.result) v within trial inside
     (c.requires.range v inside)
     (omega (arith, ints, left (goal.at.reduce_wide-left-requires-clause-range c).After-less v inside))
 
 pub returns-then-get-lt0 : goal.returns-then-get-lt0
 returns-then-get-lt0 c = λ win.
     let paid : pos 0 ≤ℤ at c.reduce_wide-left.result.divisor 0 =
-    (reduced_decides c.args.graph.now 0 (less (at c.args.chips.now) (amounts_of c.args.trial.now)) (at c.reduce_wide-left.result.divisor)
+    (reduced_decides c.args.graph.now 0 (less (at c.args.chips.now) (amounts_of c.args.trial.now))
+    (at c.reduce_wide-left.result.divisor)
     (omega (arith, c.requires.graph.some))
     (led (goal.at.returns-then-get-lt0 c).After-reduce_wide-left (left (goal.at.returns-then-get-lt0 c).After-less))
     c.reduce_wide-left.ensures.reduced).0 win in
@@ -58,11 +69,14 @@ returns-then-get-lt0 c = λ win.
 pub of-requires : goal.of-requires
 of-requires c = record {
   range = λ v inside.
-      let good : IsEffectiveForm c.args.graph.now (less (at c.args.chips.now) (amounts_of c.args.trial.now)) c.reduce_wide-left.result.divisor =
-      form (goal.at.of-requires c).After-reduce_wide-left (left (goal.at.of-requires c).After-less) (omega (arith, ints)) in
+      let good : IsEffectiveForm c.args.graph.now
+      (less (at c.args.chips.now) (amounts_of c.args.trial.now)) c.reduce_wide-left.result.divisor =
+      form (goal.at.of-requires c).After-reduce_wide-left (left (goal.at.of-requires c).After-less)
+      (omega (arith, ints)) in
       let small : unsigned_abs (at c.reduce_wide-left.result.divisor v) ≤ 32000000 =
       rich_small c.args.graph.now.size (at c.reduce_wide-left.result.divisor) 32000000 v good.effective
-      (left_degree c.args.graph.now (at c.args.chips.now) c.args.trial.now c.reduce_wide-left.result.divisor c.requires.graph
+      (left_degree c.args.graph.now
+      (at c.args.chips.now) c.args.trial.now c.reduce_wide-left.result.divisor c.requires.graph
       c.requires.range good) (omega (arith, c.reduce_wide-left.ensures.sizes.0)) in
       omega arith;
 }

@@ -11,7 +11,8 @@ returns-in_err-trials-2 c =
     let D = at c.args.divisor.now in
     rw c.from_residual-in_err-trials-2.ensures
     (inr (needs_too_many g (less (canonical g) D) c.first_failing_of_dual-dual_fails.result
-    (rank_of_dual_before g D c.in_ok-fails.fails c.first_failing_of_dual-dual_fails.result c.size.ensures.graph.multigraph
+    (rank_of_dual_before g D c.in_ok-fails.fails c.first_failing_of_dual-dual_fails.result
+    c.size.ensures.graph.multigraph
     (omega arith) c.in_ok-fails.ensures c.first_failing_of_dual-dual_fails.ensures)
     (rw c.size-2.ensures.size at c.in_err-trials-2.ensures)))
 
@@ -19,10 +20,12 @@ pub returns : goal.returns
 returns c =
     let g = c.args.graph.now in
     let D = at c.args.divisor.now in (
-      in_limits g D c.in_ok-fails.fails c.in_ok-trials.field-0 _ (rank_before g D c.in_ok-fails.fails c.in_ok-fails.ensures)
+      in_limits g D c.in_ok-fails.fails c.in_ok-trials.field-0 _
+          (rank_before g D c.in_ok-fails.fails c.in_ok-fails.ensures)
           (omega (arith, ints, c.from.ensures)) (rw c.size.ensures.size at c.in_ok-trials.ensures),
       in_limits g (less (canonical g) D) c.first_failing_of_dual-dual_fails.result c.in_ok-trials-2.field-0 _
-          (rank_of_dual_before g D c.in_ok-fails.fails c.first_failing_of_dual-dual_fails.result c.size.ensures.graph.multigraph
+          (rank_of_dual_before g D c.in_ok-fails.fails c.first_failing_of_dual-dual_fails.result
+          c.size.ensures.graph.multigraph
           (omega arith) c.in_ok-fails.ensures c.first_failing_of_dual-dual_fails.ensures)
           (omega (arith, ints, c.from-2.ensures)) (rw c.size-2.ensures.size at c.in_ok-trials-2.ensures),
     )

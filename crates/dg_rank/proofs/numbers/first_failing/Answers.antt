@@ -39,10 +39,12 @@ loop-k-preserved c j below =
 pub overflow_cast-k-end : goal.overflow_cast-k-end
 overflow_cast-k-end c =
     let g = c.args.graph.now in
-    let (low, _, high) = first_small c.ranks_apart.result c.max-first.result c.ranks_apart.ensures.small c.max-first.ensures.value in
+    let (low, _, high) =
+    first_small c.ranks_apart.result c.max-first.result c.ranks_apart.ensures.small c.max-first.ensures.value in
     let (more, _, least) =
     last_small c.max-first.result c.genus.result c.from.result c.max-end.result low high
-    (rw c.genus.ensures (genus_small g c.size-size.ensures.graph)) (rw c.genus.ensures (genus_least g c.size-size.ensures.graph)) c.from.ensures c.max-end.ensures.value in
+    (rw c.genus.ensures (genus_small g c.size-size.ensures.graph))
+    (rw c.genus.ensures (genus_least g c.size-size.ensures.graph)) c.from.ensures c.max-end.ensures.value in
     let none : pos 0 ≤ℤ c.max-end.result = through (pos 0) c.max-first.result c.max-end.result low more in
     rw (one_more c.max-end.result none least) (omega (arith, ints))
 
@@ -50,12 +52,15 @@ pub unreachable-requires : goal.unreachable-requires
 unreachable-requires c =
     let g = c.args.graph.now in
     let D = at c.args.divisor.now in
-    let (low, apart, high) = first_small c.ranks_apart.result c.max-first.result c.ranks_apart.ensures.small c.max-first.ensures.value in
+    let (low, apart, high) =
+    first_small c.ranks_apart.result c.max-first.result c.ranks_apart.ensures.small c.max-first.ensures.value in
     let (more, whole, least) =
     last_small c.max-first.result c.genus.result c.from.result c.max-end.result low high
-    (rw c.genus.ensures (genus_small g c.size-size.ensures.graph)) (rw c.genus.ensures (genus_least g c.size-size.ensures.graph)) c.from.ensures c.max-end.ensures.value in
+    (rw c.genus.ensures (genus_small g c.size-size.ensures.graph))
+    (rw c.genus.ensures (genus_least g c.size-size.ensures.graph)) c.from.ensures c.max-end.ensures.value in
     let (last, same) = natural c.max-end.result (through (pos 0) c.max-first.result c.max-end.result low more) in
     not_all_pass g D last c.size-size.ensures.graph.multigraph (omega arith)
     (rw (c.genus.ensures, same) at whole)
-    (rw (c.ranks_apart.ensures.apart, same) at (through c.ranks_apart.result c.max-first.result c.max-end.result apart more))
+    (rw (c.ranks_apart.ensures.apart, same) at
+    (through c.ranks_apart.result c.max-first.result c.max-end.result apart more))
     (c.loop-k.invariant last (last_tested c.max-end.result last c.loop-k.k same least c.loop-k-test.false))

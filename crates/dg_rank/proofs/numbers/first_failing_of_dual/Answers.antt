@@ -16,7 +16,8 @@ overflow_cast-result c =
     dual_degree (degree g.size D) (genus g) c.ranks_apart.result c.from.result c.args.fails c.ranks_apart.ensures.apart
     c.ranks_apart.ensures.small (genus_small g c.size-size.ensures.graph) (genus_least g c.size-size.ensures.graph)
     (fails_low g D c.args.fails c.size-size.ensures.graph.multigraph c.requires.some c.requires.fails)
-    (not_rich g D c.args.fails c.size-size.ensures.graph.multigraph c.requires.some c.requires.fails.fails) c.from.ensures in
+    (not_rich g D c.args.fails c.size-size.ensures.graph.multigraph c.requires.some c.requires.fails.fails)
+    c.from.ensures in
     rw same (omega (arith, fits))
 
 pub returns : goal.returns
@@ -27,5 +28,6 @@ returns c =
     dual_degree (degree g.size D) (genus g) c.ranks_apart.result c.from.result c.args.fails c.ranks_apart.ensures.apart
     c.ranks_apart.ensures.small (genus_small g c.size-size.ensures.graph) (genus_least g c.size-size.ensures.graph)
     (fails_low g D c.args.fails c.size-size.ensures.graph.multigraph c.requires.some c.requires.fails)
-    (not_rich g D c.args.fails c.size-size.ensures.graph.multigraph c.requires.some c.requires.fails.fails) c.from.ensures in
+    (not_rich g D c.args.fails c.size-size.ensures.graph.multigraph c.requires.some c.requires.fails.fails)
+    c.from.ensures in
     rw same apart

@@ -8,5 +8,6 @@ pub returns : goal.returns
 returns c =
     let g = c.args.graph.now in
     let D = at c.args.divisor.now in
-    in_limits g D c.in_ok-fails.fails c.in_ok-trials.field-0 _ (rank_before g D c.in_ok-fails.fails c.in_ok-fails.ensures)
+    in_limits g D c.in_ok-fails.fails c.in_ok-trials.field-0 _
+    (rank_before g D c.in_ok-fails.fails c.in_ok-fails.ensures)
     (omega (arith, ints, c.from.ensures)) (rw c.size.ensures.size at c.in_ok-trials.ensures)

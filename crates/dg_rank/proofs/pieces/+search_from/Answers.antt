@@ -9,6 +9,7 @@ returns-in-Ok-rest g t c =
     let some : 0 < s.workers = omega arith in
     let inside : c.args.piece + 1 ≤ s.workers = omega arith in
     let kept = rw c.in-Ok.ensures.ok at c.join-outcome.ensures in
-    c.first_of.ensures s (piece_start s.count s.workers c.args.piece) (piece_start s.count s.workers (c.args.piece + 1)) s.count
+    c.first_of.ensures s (piece_start s.count s.workers c.args.piece)
+    (piece_start s.count s.workers (c.args.piece + 1)) s.count
     (piece_ends s.count s.workers c.args.piece some) (piece_within s.count s.workers (c.args.piece + 1) inside)
     kept.1 c.in-Ok-rest.ensures

@@ -18,9 +18,11 @@ returns-in-Some c =
     let s = c.args.search.now in
     let start = piece_start s.count s.workers c.args.piece in
     let loss : IsLossIn s.graph (at s.chips) s.k start c.min-to.result c.in-Some.trial =
-    loss_after s.graph (at s.chips) s.k start c.loop-from.from c.min-to.result c.in-Some.trial c.loop-from.invariant.start
+    loss_after s.graph (at s.chips) s.k start c.loop-from.from c.min-to.result c.in-Some.trial
+    c.loop-from.invariant.start
     c.loop-from.invariant.wins c.in-Some.ensures in
-    loss_before s.graph (at s.chips) s.k start c.min-to.result (piece_start s.count s.workers (c.args.piece + 1)) c.in-Some.trial
+    loss_before s.graph (at s.chips) s.k start c.min-to.result
+    (piece_start s.count s.workers (c.args.piece + 1)) c.in-Some.trial
     (omega arith) loss
 
 pub loop-from-preserved : goal.loop-from-preserved
@@ -31,5 +33,6 @@ loop-from-preserved c =
       start = omega arith;
       end = omega arith;
       wins =
-          wins_both s.graph (at s.chips) s.k start c.loop-from.from c.min-to.result c.loop-from.invariant.wins c.in_default.ensures;
+          wins_both s.graph (at s.chips) s.k start c.loop-from.from c.min-to.result c.loop-from.invariant.wins
+          c.in_default.ensures;
     }

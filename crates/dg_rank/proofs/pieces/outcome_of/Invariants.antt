@@ -8,7 +8,8 @@ abbrev pub invariant-loop-from : goal.invariant-loop-from
 invariant-loop-from l = record {
   start : piece_start l.search.count l.search.workers l.piece ≤ l.from;
   end : l.from ≤ l.end;
-  wins : AllWin l.search.graph (at l.search.chips) l.search.k (piece_start l.search.count l.search.workers l.piece) l.from;
+  wins : AllWin l.search.graph (at l.search.chips) l.search.k
+      (piece_start l.search.count l.search.workers l.piece) l.from;
 }
 
 abbrev pub decreases-loop-from : goal.decreases-loop-from

@@ -18,19 +18,24 @@ loss_after-loss-requires-clause-range c =
 
 pub loss_after-loss-requires-clause-told : goal.loss_after-loss-requires-clause-told
 loss_after-loss-requires-clause-told c =
-    let within : IsWithinLimits c.args.graph.now.size c.args.k c.in-Some.count = rw c.size-size.ensures.size at c.in-Some.ensures in
+    let within : IsWithinLimits c.args.graph.now.size c.args.k c.in-Some.count =
+    rw c.size-size.ensures.size at c.in-Some.ensures in
     c.told_by_dual-told.ensures c.in-Some.count within
 
 pub verdict_on-requires : goal.verdict_on-requires
 verdict_on-requires c =
-    let within : IsWithinLimits c.args.graph.now.size c.args.k c.in-Some.count = rw c.size-size.ensures.size at c.in-Some.ensures in
-    found_trial c.args.graph.now (at c.reduce-chips.result.divisor) c.args.k c.in-Some.count c.loss_after-loss.result within
+    let within : IsWithinLimits c.args.graph.now.size c.args.k c.in-Some.count =
+    rw c.size-size.ensures.size at c.in-Some.ensures in
+    found_trial c.args.graph.now
+    (at c.reduce-chips.result.divisor) c.args.k c.in-Some.count c.loss_after-loss.result within
     c.loss_after-loss.ensures
 
 pub returns : goal.returns
 returns c =
-    let within : IsWithinLimits c.args.graph.now.size c.args.k c.in-Some.count = rw c.size-size.ensures.size at c.in-Some.ensures in (
+    let within : IsWithinLimits c.args.graph.now.size c.args.k c.in-Some.count =
+    rw c.size-size.ensures.size at c.in-Some.ensures in (
       (c.in-Some.count, within),
-      c.verdict_on.ensures c.args.graph.now (at c.args.divisor.now) (at c.reduce-chips.result.divisor) c.in-Some.count within
+      c.verdict_on.ensures c.args.graph.now (at c.args.divisor.now)
+          (at c.reduce-chips.result.divisor) c.in-Some.count within
           (at c.reduce-chips.result.script, c.reduce-chips.ensures.led) c.loss_after-loss.ensures,
     )

@@ -17,8 +17,12 @@ returns-then-rest-from c =
     let (count, within) = c.requires.limits in
     let rest : c.degree_left-rest.result ≡ degree c.args.graph.now.size (at c.args.divisor.now) -ℤ pos c.args.k =
     rw c.requires.size at c.degree_left-rest.ensures in
-    let rich : (genus c.args.graph.now +ℤ pos c.args.k) ≤ℤ degree c.args.graph.now.size (at c.args.divisor.now) = omega (arith, ints) in
-    (refl, rich_rank c.args.graph.now (at c.args.divisor.now) c.args.k c.size-size.ensures.graph.multigraph within.some rich)
+    let rich : (genus c.args.graph.now +ℤ pos c.args.k) ≤ℤ degree c.args.graph.now.size (at c.args.divisor.now) =
+    omega (arith, ints) in (
+      refl,
+      rich_rank c.args.graph.now
+          (at c.args.divisor.now) c.args.k c.size-size.ensures.graph.multigraph within.some rich,
+    )
 
 pub with_number-requires : goal.with_number-requires
 with_number-requires c =
@@ -47,7 +51,8 @@ returns-then-rest-lt0 c =
     rw c.requires.size at c.degree_left-rest.ensures in
     let poor : degree c.args.graph.now.size (at c.args.divisor.now) <ℤ pos c.args.k = omega (arith, ints) in
     let loss : IsLossIn c.args.graph.now (at c.args.divisor.now) c.args.k 0 count c.with_number.result =
-    rw first (poor_loss c.args.graph.now (at c.args.divisor.now) c.args.k count c.size-size.ensures.graph.multigraph poor within) in
+    rw first (poor_loss c.args.graph.now
+    (at c.args.divisor.now) c.args.k count c.size-size.ensures.graph.multigraph poor within) in
     let (size, found) = found_loss c.args.graph.now (at c.args.divisor.now) c.args.k count c.with_number.result
     c.to_divisor-first.result within loss c.to_divisor-first.ensures in
     (refl, size, found)

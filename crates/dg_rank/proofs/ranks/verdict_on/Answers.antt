@@ -7,7 +7,8 @@ use Rattle.dg_rank.proofs.ranks.verdict_on.Goals as goal
 
 pub returns-in-Some : goal.returns-in-Some
 returns-in-Some c g D x count within same found =
-    let (size, loss) = found_loss g x c.args.k count c.in-Some.trial c.to_divisor.result within (rw c.in-Some.is at found)
+    let (size, loss) = found_loss g x c.args.k count c.in-Some.trial c.to_divisor.result within
+    (rw c.in-Some.is at found)
     c.to_divisor.ensures in
     (refl, size, (equivalent-loss g D x c.args.k (at c.to_divisor.result) same).1 loss)
 

@@ -18,29 +18,34 @@ told_by_dual-requires-clause-range g c =
 
 pub verdict_on-verdict-requires : goal.verdict_on-verdict-requires
 verdict_on-verdict-requires g c =
-    let limits : IsWithinLimits c.args.graph.now.size c.args.k c.in-Some.count = rw c.size-size.ensures.size at c.in-Some.ensures in
+    let limits : IsWithinLimits c.args.graph.now.size c.args.k c.in-Some.count =
+    rw c.size-size.ensures.size at c.in-Some.ensures in
     let loss : IsLossIn c.args.graph.now (at c.reduce-chips.result.divisor) c.args.k 0 c.in-Some.count c.in-Lost.trial =
     rw c.in-Lost.is at (c.told_by_dual.ensures c.in-Some.count limits) in (
       c.args.graph.now.size,
       c.in-Some.count,
       limits,
-      loss-trial c.args.graph.now (at c.reduce-chips.result.divisor) c.args.k c.in-Some.count c.in-Lost.trial limits loss,
+      loss-trial c.args.graph.now
+          (at c.reduce-chips.result.divisor) c.args.k c.in-Some.count c.in-Lost.trial limits loss,
     )
 
 pub returns-in-Lost : goal.returns-in-Lost
 returns-in-Lost g c =
-    let limits : IsWithinLimits c.args.graph.now.size c.args.k c.in-Some.count = rw c.size-size.ensures.size at c.in-Some.ensures in
+    let limits : IsWithinLimits c.args.graph.now.size c.args.k c.in-Some.count =
+    rw c.size-size.ensures.size at c.in-Some.ensures in
     let loss : IsLossIn c.args.graph.now (at c.reduce-chips.result.divisor) c.args.k 0 c.in-Some.count c.in-Lost.trial =
     rw c.in-Lost.is at (c.told_by_dual.ensures c.in-Some.count limits) in
     known_verdict c.args.graph.now (at c.args.divisor.now) c.args.k c.args.workers c.verdict_on-verdict.result
     c.after_the_gate-in-Lost.result (c.in-Some.count, limits) (omega arith, c.if-workers-gt-MAX_WORKERS.false)
-    (c.verdict_on-verdict.ensures c.args.graph.now (at c.args.divisor.now) (at c.reduce-chips.result.divisor) c.in-Some.count limits
+    (c.verdict_on-verdict.ensures c.args.graph.now (at c.args.divisor.now)
+    (at c.reduce-chips.result.divisor) c.in-Some.count limits
     (at c.reduce-chips.result.script, c.reduce-chips.ensures.led) loss)
     c.after_the_gate-in-Lost.ensures
 
 pub returns-in-Won : goal.returns-in-Won
 returns-in-Won g c =
-    let limits : IsWithinLimits c.args.graph.now.size c.args.k c.in-Some.count = rw c.size-size.ensures.size at c.in-Some.ensures in
+    let limits : IsWithinLimits c.args.graph.now.size c.args.k c.in-Some.count =
+    rw c.size-size.ensures.size at c.in-Some.ensures in
     let rank : HasRankAtLeast c.args.graph.now (at c.reduce-chips.result.divisor) c.args.k =
     found_rank c.args.graph.now (at c.reduce-chips.result.divisor) c.args.k c.in-Some.count limits
     (rw c.in-Won.is at (c.told_by_dual.ensures c.in-Some.count limits)) in
@@ -64,14 +69,18 @@ first_loss_among-requires-clause-search g c κs within = record {
 
 pub verdict_on-requires : goal.verdict_on-requires
 verdict_on-requires g c =
-    let limits : IsWithinLimits c.args.graph.now.size c.args.k c.in-Some.count = rw c.size-size.ensures.size at c.in-Some.ensures in
-    found_trial c.args.graph.now (at c.reduce-chips.result.divisor) c.args.k c.in-Some.count c.in-Ok.loss limits c.in-Ok.ensures
+    let limits : IsWithinLimits c.args.graph.now.size c.args.k c.in-Some.count =
+    rw c.size-size.ensures.size at c.in-Some.ensures in
+    found_trial c.args.graph.now
+    (at c.reduce-chips.result.divisor) c.args.k c.in-Some.count c.in-Ok.loss limits c.in-Ok.ensures
 
 pub returns-in-Ok : goal.returns-in-Ok
 returns-in-Ok g c =
-    let limits : IsWithinLimits c.args.graph.now.size c.args.k c.in-Some.count = rw c.size-size.ensures.size at c.in-Some.ensures in (
+    let limits : IsWithinLimits c.args.graph.now.size c.args.k c.in-Some.count =
+    rw c.size-size.ensures.size at c.in-Some.ensures in (
       (c.in-Some.count, limits),
       (omega arith, c.if-workers-gt-MAX_WORKERS.false),
-      c.verdict_on.ensures c.args.graph.now (at c.args.divisor.now) (at c.reduce-chips.result.divisor) c.in-Some.count limits
+      c.verdict_on.ensures c.args.graph.now (at c.args.divisor.now)
+          (at c.reduce-chips.result.divisor) c.in-Some.count limits
           (at c.reduce-chips.result.script, c.reduce-chips.ensures.led) c.in-Ok.ensures,
     )

@@ -11,15 +11,18 @@ use Rattle.dg_reduce.proofs.fallback.reduce_by_levels.Goals.{After-burn_down-wal
 
 -- the script before its entry at q is taken off
 leads : (c : After-burn_down-walk) → (v : ℕ) → v < c.args.graph.now.size →
-    at c.burn_down-walk.result.chips v ≡ fired c.args.graph.now (at c.args.chips.now) (at c.burn_down-walk.result.script) v
+    at c.burn_down-walk.result.chips v
+    ≡ fired c.args.graph.now (at c.args.chips.now) (at c.burn_down-walk.result.script) v
 leads c =
     let start : c.burn_down-walk.result.start ≡ c.args.chips.now = cc in
     λ v inside. rw (← start) (c.burn_down-walk.ensures.tied.led v inside)
 
 near : (c : After-burn_down-walk) → (v : ℕ) → v < c.args.graph.now.size →
-    unsigned_abs (at c.burn_down-walk.result.script v -ℤ at c.burn_down-walk.result.script c.args.q) ≤ 225 * (2000000 + 62)
+    unsigned_abs (at c.burn_down-walk.result.script v -ℤ at c.burn_down-walk.result.script c.args.q)
+    ≤ 225 * (2000000 + 62)
 near c =
-    script_near c.args.graph.now c.args.q (at c.args.chips.now) (at c.burn_down-walk.result.chips) (at c.burn_down-walk.result.script)
+    script_near c.args.graph.now c.args.q (at c.args.chips.now) (at c.burn_down-walk.result.chips)
+    (at c.burn_down-walk.result.script)
     2000000 c.size-size.ensures.graph c.requires.vertex c.requires.range c.burn_down-walk.ensures.reduced (leads c)
 
 relative_is : (c : After-relative) → (v : ℕ) → v < c.args.graph.now.size →
@@ -33,8 +36,10 @@ burn_down-walk-requires-clause-cleared c =
 
 pub relative-requires-clause-limit : goal.relative-requires-clause-limit
 relative-requires-clause-limit c = λ v below.
-    let close : unsigned_abs (at c.burn_down-walk.result.script v -ℤ at c.burn_down-walk.result.script c.args.q) ≤ 225 * (2000000 + 62) =
-    near (goal.at.relative-requires-clause-limit c).After-burn_down-walk v (omega (arith, c.burn_down-walk.ensures.tied.script_size)) in
+    let close : unsigned_abs (at c.burn_down-walk.result.script v -ℤ at c.burn_down-walk.result.script c.args.q)
+    ≤ 225 * (2000000 + 62) =
+    near (goal.at.relative-requires-clause-limit c).After-burn_down-walk v
+    (omega (arith, c.burn_down-walk.ensures.tied.script_size)) in
     omega arith
 
 pub returns : goal.returns
@@ -44,7 +49,8 @@ returns c =
     (relative_leads c.args.graph.now c.args.q (at c.args.chips.now) (at c.burn_down-walk.result.chips)
     (at c.burn_down-walk.result.script) (at c.relative.result) (leads (goal.at.returns c).After-burn_down-walk)
     (relative_is (goal.at.returns c).After-relative))
-    (let own : at c.relative.result c.args.q ≡ at c.burn_down-walk.result.script c.args.q -ℤ at c.burn_down-walk.result.script c.args.q =
+    (let own : at c.relative.result c.args.q
+    ≡ at c.burn_down-walk.result.script c.args.q -ℤ at c.burn_down-walk.result.script c.args.q =
     relative_is (goal.at.returns c).After-relative c.args.q c.requires.vertex in
     omega (arith, ints))
     (omega arith)

@@ -20,7 +20,8 @@ returns-then-contains-clause-gain c =
 pub returns-then-contains-clause-few : goal.returns-then-contains-clause-few
 returns-then-contains-clause-few c =
     let S = in_set c.args.rest.now.burnt.unburnt in
-    let few : valence c.args.graph.now c.args.v ≤ 63 = valence-few c.args.graph.now c.args.v c.size-size.ensures.graph in
+    let few : valence c.args.graph.now c.args.v ≤ 63 =
+    valence-few c.args.graph.now c.args.v c.size-size.ensures.graph in
     let small : unsigned_abs (gain c.args.graph.now (indicator S) c.args.v) ≤ valence c.args.graph.now c.args.v =
     gain_small c.args.graph.now S c.args.v c.size-size.ensures.graph in
     let lent : gain c.args.graph.now (indicator S) c.args.v ≡ pos 0 -ℤ pos (edges_out c.args.graph.now S c.args.v) =
@@ -38,7 +39,8 @@ returns-clause-gain c =
 pub returns-clause-few : goal.returns-clause-few
 returns-clause-few c =
     let S = in_set c.args.rest.now.burnt.unburnt in
-    let few : valence c.args.graph.now c.args.v ≤ 63 = valence-few c.args.graph.now c.args.v c.size-size.ensures.graph in
+    let few : valence c.args.graph.now c.args.v ≤ 63 =
+    valence-few c.args.graph.now c.args.v c.size-size.ensures.graph in
     let small : unsigned_abs (gain c.args.graph.now (indicator S) c.args.v) ≤ valence c.args.graph.now c.args.v =
     gain_small c.args.graph.now S c.args.v c.size-size.ensures.graph in
     let got : gain c.args.graph.now (indicator S) c.args.v

@@ -8,7 +8,8 @@ use Rattle.std.proofs.lemmas.List.{get_or-take}
 use Rattle.dg_reduce.proofs.guessing.script_of.Goals as goal
 use Rattle.dg_reduce.proofs.guessing.script_of.Goals.{then-v-q, else-v-q}
 
-few_set : (xs : List ℤ) (v : ℕ) (x : ℤ) → v < length xs → unsigned_abs x ≤ 1000000000 → ((w : ℕ) → unsigned_abs (slice_index_or xs w (pos 0)) ≤ 1000000000) →
+few_set : (xs : List ℤ) (v : ℕ) (x : ℤ) → v < length xs → unsigned_abs x ≤ 1000000000 →
+    ((w : ℕ) → unsigned_abs (slice_index_or xs w (pos 0)) ≤ 1000000000) →
     (w : ℕ) → unsigned_abs (slice_index_or (slice_set xs v x) w (pos 0)) ≤ 1000000000
 few_set xs v x inside small few w = elim (cases_eq w v) [
   | inl same ↦ rw (same, get_or-set_same xs v x (pos 0) inside) small
@@ -24,7 +25,8 @@ loop-v-preserved c =
           rw w.entries-is (record {
             places = length-set _ _ _ ∙ c.loop-v.invariant.places;
             at_q = get_or-set_other c.loop-v.entries c.loop-v.v c.args.q _ (pos 0) other ∙ c.loop-v.invariant.at_q;
-            few = few_set c.loop-v.entries c.loop-v.v _ inside (grind (arith, ints, w.clamp.ensures)) c.loop-v.invariant.few;
+            few = few_set c.loop-v.entries c.loop-v.v _ inside
+                (grind (arith, ints, w.clamp.ensures)) c.loop-v.invariant.few;
           })
       | else-v-q w ↦ rw w.entries-is c.loop-v.invariant
     ]

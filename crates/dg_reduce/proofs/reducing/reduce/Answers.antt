@@ -11,5 +11,6 @@ returns c =
     c.size-size.ensures.graph c.requires.vertex (λ v inside. c.size-amounts.ensures.divisor.within v (omega arith))
     c.reduce_wide.ensures.sizes c.reduce_wide.ensures.reduced
     (λ v inside. c.reduce_wide.ensures.led v inside
-    ∙ ap (λ (z : ℤ). z +ℤ gain c.args.graph.now (at c.reduce_wide.result.script) v) (c.of.ensures.amounts v (omega arith)))
+    ∙ ap (λ (z : ℤ). z +ℤ gain c.args.graph.now (at c.reduce_wide.result.script) v)
+    (c.of.ensures.amounts v (omega arith)))
     c.reduce_wide.ensures.at_q (omega arith)

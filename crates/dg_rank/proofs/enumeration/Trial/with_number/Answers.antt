@@ -25,9 +25,11 @@ returns c =
     let filled : set c.loop-v.trial (c.args.n - 1) c.loop-v.left
     ≡ take (c.args.n - 1) c.loop-v.trial ++ nth_trial (c.args.n - (c.args.n - 1)) c.loop-v.left c.loop-v.number =
     last_amount c.args.n c.loop-v.left c.loop-v.number c.loop-v.trial limits.some c.loop-v.invariant.places
-    (subst (λ (v : ℕ). c.loop-v.number < trial_count (c.args.n - v) c.loop-v.left) at_last c.loop-v.invariant.counted) in
+    (subst (λ (v : ℕ). c.loop-v.number < trial_count (c.args.n - v) c.loop-v.left) at_last c.loop-v.invariant.counted)
+    in
     let whole : nth_trial c.args.n c.args.k c.args.i
     ≡ take (c.args.n - 1) c.loop-v.trial ++ nth_trial (c.args.n - (c.args.n - 1)) c.loop-v.left c.loop-v.number =
-    subst (λ (v : ℕ). nth_trial c.args.n c.args.k c.args.i ≡ take v c.loop-v.trial ++ nth_trial (c.args.n - v) c.loop-v.left c.loop-v.number)
+    subst (λ (v : ℕ). nth_trial c.args.n c.args.k c.args.i
+    ≡ take v c.loop-v.trial ++ nth_trial (c.args.n - v) c.loop-v.left c.loop-v.number)
     at_last c.loop-v.invariant.trial in
     c.set-2.ensures ∙ filled ∙ sym whole

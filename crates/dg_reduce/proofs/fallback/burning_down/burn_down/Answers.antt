@@ -25,7 +25,8 @@ fired-now-requires-clause-chips c =
 
 pub fired-now-requires-clause-script : goal.fired-now-requires-clause-script
 fired-now-requires-clause-script c =
-    burning_down-script c.args.graph.now c.args.q (distance_from c.args.graph.now c.args.q) c.args.walk.now c.burning.now
+    burning_down-script c.args.graph.now c.args.q
+    (distance_from c.args.graph.now c.args.q) c.args.walk.now c.burning.now
     c.requires.graph c.requires.vertex (cleared_levels _ _ _ c.requires.graph c.requires.vertex c.requires.cleared)
     c.burning.invariant c.requires.range
 
@@ -35,7 +36,8 @@ fired-now-requires-clause-times c = rw (times_held c.in-Some.times c.in-Some.ens
 pub burning-smaller : goal.burning-smaller
 burning-smaller c =
     let (v, member) = c.in-Some.ensures.member in
-    burning_down-falls c.args.graph.now c.args.q (distance_from c.args.graph.now c.args.q) (in_set c.in-Some.set) c.in-Some.times
+    burning_down-falls c.args.graph.now c.args.q (distance_from c.args.graph.now c.args.q)
+    (in_set c.in-Some.set) c.in-Some.times
     c.args.walk.now c.burning.now c.fired-now.result v c.requires.graph
     (distance_from-is c.args.graph.now c.args.q c.requires.graph.multigraph c.requires.vertex) c.burning.invariant
     c.in-Some.ensures.free.without c.in-Some.ensures.most (c.in-Some.ensures.free.vertices v member) member

@@ -19,7 +19,8 @@ largest_debt-debt-requires c = λ v inside.
     (omega (arith, c.requires.cleared.tied.chips_size))
 
 largest : (c : After-largest_debt-debt) →
-    IsLargestDebt c.args.graph.now.size (slice_index c.args.levels.now) c.args.level (at c.args.walk.now.chips) c.largest_debt-debt.result
+    IsLargestDebt c.args.graph.now.size (slice_index c.args.levels.now) c.args.level
+    (at c.args.walk.now.chips) c.largest_debt-debt.result
 largest c = rw (c.requires.cleared.tied.chips_size) at (c.largest_debt-debt.ensures)
 
 few : (c : After-largest_debt-debt) → unsigned_abs c.largest_debt-debt.result ≤ 2 ^ 120
@@ -33,8 +34,14 @@ held c = times_held c.largest_debt-debt.result (few c)
 pub returns-then-debt-eq0-clause-cleared : goal.returns-then-debt-eq0-clause-cleared
 returns-then-debt-eq0-clause-cleared c =
     let none : c.largest_debt-debt.result ≡ pos 0 =
-    omega (arith, ints, held (goal.at.returns-then-debt-eq0-clause-cleared c).After-largest_debt-debt, c.if-debt-eq0.true) in
-    cleared_free c.args.graph.now (slice_index c.args.levels.now) c.args.level c.args.walk.now c.requires.some c.requires.few
+    omega (
+      arith,
+      ints,
+      held (goal.at.returns-then-debt-eq0-clause-cleared c).After-largest_debt-debt,
+      c.if-debt-eq0.true,
+    ) in
+    cleared_free c.args.graph.now
+    (slice_index c.args.levels.now) c.args.level c.args.walk.now c.requires.some c.requires.few
     c.requires.cleared (rw none at (largest (goal.at.returns-then-debt-eq0-clause-cleared c).After-largest_debt-debt))
 
 pub fired-requires-clause-chips : goal.fired-requires-clause-chips
@@ -54,7 +61,8 @@ fired-requires-clause-times c =
 
 pub returns-clause-cleared : goal.returns-clause-cleared
 returns-clause-cleared c =
-    cleared_paid c.args.graph.now c.requires.distance.0 (slice_index c.args.levels.now) c.args.level (in_set c.nearer_set-set.result)
+    cleared_paid c.args.graph.now c.requires.distance.0 (slice_index c.args.levels.now) c.args.level
+    (in_set c.nearer_set-set.result)
     c.largest_debt-debt.result c.args.walk.now c.fired.result c.size.ensures.graph c.requires.distance.1 c.requires.some
     c.requires.few c.requires.cleared (largest (goal.at.returns-clause-cleared c).After-largest_debt-debt)
     (subst (λ k. IsFired c.args.graph.now (in_set c.nearer_set-set.result) k c.args.walk.now c.fired.result)

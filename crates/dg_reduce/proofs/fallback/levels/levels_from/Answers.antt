@@ -12,9 +12,11 @@ loop-level-init c =
 pub returns : goal.returns
 returns c =
     let gradual : IsGradual c.args.graph.now c.args.q (slice_index c.loop-level.levels) =
-    reached-gradual c.args.graph.now c.args.q c.loop-level.level 0 (slice_index c.loop-level.levels) c.loop-level.invariant (omega arith) in
+    reached-gradual c.args.graph.now c.args.q c.loop-level.level 0
+    (slice_index c.loop-level.levels) c.loop-level.invariant (omega arith) in
     gradual-distance c.args.graph.now c.args.q (slice_index c.loop-level.levels) c.size-size.ensures.graph.multigraph
     gradual c.requires
     (λ v vertex other. c.loop-level.invariant.nearer v vertex other
-    (gradual-few c.args.graph.now c.args.q (slice_index c.loop-level.levels) v c.size-size.ensures.graph.multigraph gradual
+    (gradual-few c.args.graph.now c.args.q
+    (slice_index c.loop-level.levels) v c.size-size.ensures.graph.multigraph gradual
     c.requires vertex))

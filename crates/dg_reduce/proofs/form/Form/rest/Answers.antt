@@ -13,13 +13,15 @@ in_order : (c : After-burn_counted-counted) → BurnsInOrder c.args.graph.now c.
     (take c.burn_counted-counted.result.burnt.burnt c.burn_counted-counted.result.burnt.order)
 in_order c =
     let held : IsHeld c.args.graph.now.size (at c.args.self.now) c.held.result = rw c.requires.size at c.held.ensures in
-    same-order c.args.graph.now c.args.v (at c.args.self.now) c.held.result _ c.size-size.ensures.graph c.requires.no_debt
+    same-order c.args.graph.now c.args.v
+    (at c.args.self.now) c.held.result _ c.size-size.ensures.graph c.requires.no_debt
     held c.burn_counted-counted.ensures.order
 
 pub returns-then-counted-eq0 : goal.returns-then-counted-eq0
 returns-then-counted-eq0 c =
     let d = goal.at.returns-then-counted-eq0 c in
-    none_reduced _ _ _ _ _ c.requires.no_debt (in_order d.After-burn_counted-counted) c.burn_counted-counted.ensures.left
+    none_reduced _ _ _ _ _ c.requires.no_debt
+    (in_order d.After-burn_counted-counted) c.burn_counted-counted.ensures.left
     c.if-counted-eq0.true
 
 pub returns : goal.returns
@@ -29,7 +31,8 @@ returns c =
     let burnt = c.burn_counted-counted.result.burnt in
     let free : IsGreatestFree c.args.graph.now c.args.v (at c.args.self.now) (in_set burnt.unburnt) =
     rest_is_free c.args.graph.now c.args.v (at c.args.self.now) (take burnt.burnt burnt.order) burnt.unburnt
-    c.size-size.ensures.graph.multigraph c.requires.vertex c.requires.no_debt order c.burn_counted-counted.ensures.left in
+    c.size-size.ensures.graph.multigraph c.requires.vertex c.requires.no_debt order c.burn_counted-counted.ensures.left
+    in
     record {
       free = free.free;
       member =

@@ -13,9 +13,11 @@ pub returns : goal.returns
 returns c =
     let held : to_z w128 (of_z w128 c.args.times) ≡ c.args.times = times_held c.args.times c.requires.times in
     let now : (v : ℕ) → v < c.args.graph.now.size →
-    at c.fired.result v ≡ fired c.args.graph.now (at c.args.self.now.chips) (multiple c.args.times (indicator (in_set c.args.set))) v =
+    at c.fired.result v ≡ fired c.args.graph.now (at c.args.self.now.chips)
+    (multiple c.args.times (indicator (in_set c.args.set))) v =
     λ v inside. c.fired.ensures.amounts v inside
-    ∙ ap (λ (k : ℤ). fired c.args.graph.now (at c.args.self.now.chips) (multiple k (indicator (in_set c.args.set))) v) held in
+    ∙ ap (λ (k : ℤ). fired c.args.graph.now (at c.args.self.now.chips) (multiple k (indicator (in_set c.args.set))) v)
+    held in
     let more : (v : ℕ) → v < c.args.graph.now.size →
     at c.more.result v ≡ at c.args.self.now.script v +ℤ multiple c.args.times (indicator (in_set c.args.set)) v =
     λ v inside. c.more.ensures.amounts v (omega (arith, c.requires.tied.script_size))
