@@ -38,8 +38,8 @@ pub fn beside<R: Threads + Wait, F: FnMut() -> A + Send, G: FnMut() -> B, A: Sen
     }
 }
 
-// Work to be done once. The prover sees a value of a type parameter where a thread's closure has one, and not what that
-// value borrows.
+/// Work to be done once. The prover sees a value of a type parameter where a thread's closure has one, and not what that
+/// value borrows.
 trait Task {
     type Output;
 
@@ -71,7 +71,7 @@ impl<'a, F: FnMut() -> A, A> Task for Lent<'a, F> {
     }
 }
 
-// What the thread gives: what its task gives, or the task itself.
+/// What the thread gives: what its task gives, or the task itself.
 #[derive(Drop)]
 struct Given<S> {
     task: Snapshot<S>,
@@ -81,8 +81,8 @@ impl<A, S: Task<Output = A>> Promise<Result<A, S>> for Given<S> {
     ghost kept_by = { λ p r. MatchResult r (λ a. S.run_gives p.task.value a) (λ s. s ≡ p.task.value) };
 }
 
-// Runs s in a new thread and t in this one. Where no thread could be started, both come back. A closure that was not started
-// can be called all the same: once `stop` is set it gives back its task.
+/// Runs s in a new thread and t in this one. Where no thread could be started, both come back. A closure that was not started
+/// can be called all the same: once `stop` is set it gives back its task.
 fn run_both<
     R: Threads + Wait,
     S: Task<Output = A> + Send + Drop,
@@ -137,7 +137,7 @@ fn run_both<
     )
 }
 
-// Does nothing. This use of a reference that came back ties it, for the borrow checker, to the parameter that lent it.
+/// Does nothing. This use of a reference that came back ties it, for the borrow checker, to the parameter that lent it.
 fn take_back<T>(x: &mut T)
     ensures { x.new ≡ x.old }
 {}

@@ -48,7 +48,7 @@ impl<N: Name> Watch for Positions<N> {
 
     ghost goes_on = { λ old e next. next ≡ shown_by e.reply old };
 
-    // A move or a gift that was accepted shows the amounts after it. A join leaves them.
+    /// A move or a gift that was accepted shows the amounts after it. A join leaves them.
     fn step(&self, position: &Divisor, entry: &Entry) -> Result<Divisor, AllocError> {
         match entry.reply {
             Reply::Moved(divisor) | Reply::Given(_, divisor) => Ok(divisor),

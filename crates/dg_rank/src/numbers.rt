@@ -60,8 +60,8 @@ pub fn both_ranks_in_limits(graph: &Graph, q: usize, divisor: &Divisor) -> Optio
     Some((i64::from(fails) - 1, i64::from(dual_fails) - 1))
 }
 
-// The least degree at which the rank test of a divisor fails. `None` where a test is needed that is past the limits, as is
-// that of the dual.
+/// The least degree at which the rank test of a divisor fails. `None` where a test is needed that is past the limits, as is
+/// that of the dual.
 fn first_failing(graph: &Graph, q: usize, divisor: &Divisor) -> Option<u32>
     requires size { divisor.now.size ≡ graph.now.size }
     requires vertex { q < graph.now.size }
@@ -83,7 +83,7 @@ fn first_failing(graph: &Graph, q: usize, divisor: &Divisor) -> Option<u32>
     unreachable!()
 }
 
-// The least degree at which the rank test of the dual fails, where this is that of the divisor.
+/// The least degree at which the rank test of the dual fails, where this is that of the divisor.
 fn first_failing_of_dual(graph: &Graph, divisor: &Divisor, fails: u32) -> u32
     requires size { divisor.now.size ≡ graph.now.size }
     requires some { 0 < graph.now.size }

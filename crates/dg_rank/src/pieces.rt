@@ -18,8 +18,8 @@ use std::sync::atomic::{AtomicU32, Ordering};
 use std::thread;
 use std::thread::{Promise, Scope, Threads};
 
-// How many trials a piece makes at first before it looks whether an earlier piece has lost; then it makes as many as it has made.
-// So many begin with a reduction, which costs as much as some hundreds of them.
+/// How many trials a piece makes at first before it looks whether an earlier piece has lost; then it makes as many as it has made.
+/// So many begin with a reduction, which costs as much as some hundreds of them.
 const FIRST_LOOK: u32 = 1024;
 
 /// What is searched for a first loss: the trials below a number, in so many pieces. Piece j of w holds those from the
@@ -63,7 +63,7 @@ pub(crate) fn first_loss_among<R: Threads + Wait, G: Gate>(
     }
 }
 
-// What all pieces come to, in threads of their own.
+/// What all pieces come to, in threads of their own.
 fn search_pieces<R: Threads + Wait, G: Gate>(
     rt: &R,
     search: &Search,
@@ -85,7 +85,7 @@ fn search_pieces<R: Threads + Wait, G: Gate>(
     )
 }
 
-// What the pieces from one on come to. The thread of this piece is started first, and joined last.
+/// What the pieces from one on come to. The thread of this piece is started first, and joined last.
 fn search_from<'s, E, R: Threads, G: Gate>(
     rt: &R,
     scope: &Scope<'s, E>,
@@ -118,25 +118,25 @@ fn search_from<'s, E, R: Threads, G: Gate>(
     }
 }
 
-// What trials come to.
+/// What trials come to.
 #[derive(Drop)]
 enum Outcome {
-    // The first of them to lose.
+    /// The first of them to lose.
     Lost(Trial),
-    // All of them win.
+    /// All of them win.
     Won,
-    // An earlier piece has lost, so nobody asks for the rest.
+    /// An earlier piece has lost, so nobody asks for the rest.
     GaveUp,
 }
 
-// What a piece comes to.
+/// What a piece comes to.
 #[derive(Drop)]
 struct PieceEnd {
     piece: u32,
     outcome: Outcome,
 }
 
-// What is promised of it.
+/// What is promised of it.
 #[derive(Drop)]
 struct EndOf<'a> {
     search: &'a Search,
@@ -147,7 +147,7 @@ impl<'a> Promise<PieceEnd> for EndOf<'a> {
     ghost kept_by = { λ p r. (r.piece ≡ p.piece) × IsOutcomeOf p.search.now p.piece r.outcome };
 }
 
-// What trials come to, and others after them.
+/// What trials come to, and others after them.
 fn first_of(here: Outcome, rest: Outcome) -> Outcome
     ensures { (s : Search) (i m j : ℕ) → i ≤ m → m ≤ j → IsOutcome s i m here →
         IsOutcome s m j rest →
@@ -160,7 +160,7 @@ fn first_of(here: Outcome, rest: Outcome) -> Outcome
     }
 }
 
-// What a piece comes to, after the gate.
+/// What a piece comes to, after the gate.
 fn search_piece<G: Gate>(search: &Search, lost: &AtomicU32, gate: &G, piece: u32) -> PieceEnd
     requires search { CanSearch search.now }
     requires workers { MayHaveWorkers search.now.workers }
@@ -173,7 +173,7 @@ fn search_piece<G: Gate>(search: &Search, lost: &AtomicU32, gate: &G, piece: u32
     PieceEnd { piece, outcome }
 }
 
-// Lets a piece through the gate, and says which one went through.
+/// Lets a piece through the gate, and says which one went through.
 fn enter<G: Gate>(gate: &G, piece: u32) -> u32
     ensures { result ≡ piece }
 {
@@ -181,7 +181,7 @@ fn enter<G: Gate>(gate: &G, piece: u32) -> u32
     piece
 }
 
-// What a piece comes to, where `lost` is the number of the first piece that has lost so far.
+/// What a piece comes to, where `lost` is the number of the first piece that has lost so far.
 fn outcome_of(search: &Search, lost: &AtomicU32, piece: u32) -> Outcome
     requires search { CanSearch search.now }
     requires workers { MayHaveWorkers search.now.workers }
@@ -205,7 +205,7 @@ fn outcome_of(search: &Search, lost: &AtomicU32, piece: u32) -> Outcome
     Outcome::Won
 }
 
-// The number of the first trial of a piece, and of the one past all trials for the number past all pieces.
+/// The number of the first trial of a piece, and of the one past all trials for the number past all pieces.
 fn start_of(search: &Search, piece: u32) -> u32
     requires search { CanSearch search.now }
     requires workers { MayHaveWorkers search.now.workers }

@@ -91,7 +91,7 @@ pub fn rank_with<R: Threads + Wait, G: Gate>(
     }
 }
 
-// A verdict that is known, once a thread for each piece has passed the gate, with no trials to make.
+/// A verdict that is known, once a thread for each piece has passed the gate, with no trials to make.
 fn after_the_gate<R: Threads + Wait, G: Gate>(
     rt: &R,
     graph: &Graph,

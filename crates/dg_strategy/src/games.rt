@@ -39,7 +39,7 @@ pub fn greedy(rt: &impl Wait, alloc: Global, start: &Start, turns: u32) -> Resul
     }
 }
 
-// The same at a table with a name. The conditions are that N names the row, the start and the number of seats, which is one.
+/// The same at a table with a name. The conditions are that N names the row, the start and the number of seats, which is one.
 fn greedy_on<N: Name>(
     rt: &impl Wait,
     alloc: Global,

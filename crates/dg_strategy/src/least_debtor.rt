@@ -31,7 +31,7 @@ pub fn greedy_settler() -> Settler<LeastDebtor> {
     Settler::new(LeastDebtor)
 }
 
-// The least vertex in debt.
+/// The least vertex in debt.
 fn least_debtor(position: &Divisor) -> Option<u8>
     ensures { MatchOption result
         (IsEffective position.now.size (at position.now))

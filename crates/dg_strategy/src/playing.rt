@@ -88,7 +88,7 @@ pub fn settle_out<N: Name, C: Choose + Drop>(
     }
 }
 
-// So many turns as the choice says, or until it claims.
+/// So many turns as the choice says, or until it claims.
 fn turns_by<N: Name, C: Choose>(
     rt: &impl Wait,
     alloc: Global,
@@ -112,7 +112,7 @@ fn turns_by<N: Name, C: Choose>(
     Ok(Ended::Turns)
 }
 
-// One turn, as the choice says.
+/// One turn, as the choice says.
 fn turn_by<N: Name, C: Choose>(
     rt: &impl Wait,
     alloc: Global,
