@@ -4,7 +4,8 @@ ghost use Rattle.dg_rank.specs.Ranks.{MayHaveWorkers};
 ghost use Rattle.dg_game.specs.declared.step.Command.TheVariants.{Call, Commit, Rank};
 ghost use Rattle.dg_lines.specs.Texts.{HasNames, entry_text};
 ghost use Rattle.dg_session.specs.Saying.{fault_text};
-ghost use Rattle.dg_session.specs.SoFar.{setup, speaker, Tells, Hears, Obeys};
+ghost use Rattle.dg_session.specs.Setup.{setup};
+ghost use Rattle.dg_session.specs.SoFar.{speaker, Tells, Hears, Obeys};
 
 use crate::addressing::Addressing;
 use crate::ends::SessionEnd;

@@ -1,6 +1,5 @@
 //! Serving a stream of lines.
-ghost use Rattle.std.specs.Prelude.{◌≡◌, ◌<◌, ◌≤◌, [], length, take, map, Err, None, IfSome, OnOk, All, true};
-ghost use Rattle.std.specs.Io.KnownBytes.{Consumes, IsAtEnd, Keeps};
+ghost use Rattle.std.specs.Prelude.{◌≡◌, ◌≤◌, [], length, map, Err, OnOk, All, true};
 ghost use Rattle.dg_rank.specs.Ranks.{MayHaveWorkers};
 ghost use Rattle.dg_table.specs.Histories.{HasPast};
 ghost use Rattle.dg_session.specs.Ends.{IsSession, IsSessionOf};
@@ -128,7 +127,7 @@ fn serve_lines<N: Name, R: Threads + Wait, I: Read, O: Write>(
         return Err(SessionEnd::Memory);
     };
     'reads: loop {
-        let Some(size) = read_some(reader, &mut buffer) else {
+        let Some(size) = reader.read_some(&mut buffer) else {
             return Err(SessionEnd::Read);
         };
         if size == 0 {
@@ -164,21 +163,5 @@ fn write_said<O: Write>(
             }
         }
         Err(_) => Err(SessionEnd::Write),
-    }
-}
-
-/// Reads into the buffer, and says how many bytes came; `None` where the reader failed.
-fn read_some<I: Read>(reader: &mut Input<I>, buffer: &mut Vec<u8>) -> Option<usize>
-    ensures bytes { IfSome result (λ size. Consumes reader.old.remaining reader.new.remaining
-        (take size buffer.new.items)) }
-    ensures end { IfSome result (λ size. size ≡ 0 → 0 < length buffer.old.items → IsAtEnd reader.new.remaining) }
-    ensures bound { IfSome result (λ size. size ≤ length buffer.new.items) }
-    ensures size { length buffer.new.items ≡ length buffer.old.items }
-    ensures kept { result ≡ None → Keeps reader.old.remaining reader.new.remaining }
-    ensures failed { result ≡ None → reader.new.has_failed ≡ true }
-{
-    match reader.read(buffer) {
-        Ok(size) => Some(size),
-        Err(_) => None,
     }
 }

@@ -1,6 +1,7 @@
 //! Answering one line of any seat.
 ghost use Rattle.std.specs.Prelude.{◌≡◌, ◌≤◌, length};
-ghost use Rattle.dg_session.specs.SoFar.{setup, talk, Handles};
+ghost use Rattle.dg_session.specs.Setup.{setup};
+ghost use Rattle.dg_session.specs.SoFar.{talk, Handles};
 
 use crate::addressing::addressed;
 use crate::answering::{Said, Shared, answer_seat};

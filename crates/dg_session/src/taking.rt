@@ -1,7 +1,8 @@
 //! Taking what was read: bytes that are cut into lines, and the end.
 ghost use Rattle.std.specs.Prelude.{◌≡◌, ◌≢◌, ◌+◌, ◌++◌, ◌<◌, ◌≤◌, [], length, map, None, OnOk, IfErr, IfSome};
 ghost use Rattle.dg_session.specs.Speakers.{kept_number};
-ghost use Rattle.dg_session.specs.SoFar.{setup, talk, so_far, Handles, IsReady, RefusesPart, Takes, TakesEnd};
+ghost use Rattle.dg_session.specs.Setup.{setup};
+ghost use Rattle.dg_session.specs.SoFar.{talk, so_far, Handles, IsReady, RefusesPart, Takes, TakesEnd};
 
 use crate::answering::{Said, Shared};
 use crate::ends::{MAX_LINE, MAX_LINES, SessionEnd};
