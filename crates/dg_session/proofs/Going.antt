@@ -74,7 +74,8 @@ pub goes_more : {t : Setup} {old mid new : SoFar} {b c rest text more : List ℕ
 goes_more {t} {old} {mid} {new} {b} {c} {rest} {text} {more} g h = record {
   ls = g.ls ++ h.ls;
   came = subst (λ l. Begins IsLine l (g.ls ++ h.ls) (new.pending ++ rest)) (append_assoc old.pending b c)
-      (begins_then (begins_more c (subst (Begins IsLine (old.pending ++ b) g.ls) (append-nil mid.pending) g.came)) h.came);
+      (begins_then (begins_more c (subst (Begins IsLine (old.pending ++ b) g.ls) (append-nil mid.pending) g.came))
+      h.came);
   counted = let size = length-append g.ls h.ls in omega (arith, size, g.counted, h.counted);
   answered = answers_more t old.who mid.who new.who g.ls h.ls text more g.answered h.answered;
   ready = h.ready;
@@ -90,7 +91,8 @@ module _ {t : Setup} {old at : SoFar} {bytes rest text : List ℕ} (g : Goes t o
       → Goes t old bytes [] (record at { pending = p }) text
   goes_part part p cut grown plain short other = record {
     ls = g.ls;
-    came = subst (Begins IsLine (old.pending ++ bytes) g.ls) (ap (λ l. at.pending ++ l) cut ∙ sym (append-nil p ∙ grown))
+    came = subst (Begins IsLine (old.pending ++ bytes) g.ls)
+        (ap (λ l. at.pending ++ l) cut ∙ sym (append-nil p ∙ grown))
         g.came;
     counted = g.counted;
     answered = g.answered;
@@ -154,7 +156,8 @@ module _ {t : Setup} {old at : SoFar} {bytes rest text : List ℕ} (g : Goes t o
 
   pub halts_line : {E : Type 0} {text' : List ℕ} {z : Speakers} {end : SessionEnd} (part more : List ℕ)
       → rest ≡ part ++ 10 ∷ more
-      → IsLine (at.pending ++ part) → at.count < MAX_LINES → RefusesLineOf t at.who (at.pending ++ part) z end → text' ≡ text
+      → IsLine (at.pending ++ part) → at.count < MAX_LINES → RefusesLineOf t at.who (at.pending ++ part) z end
+      → text' ≡ text
       → Halts t E old bytes z text' end
   halts_line {E} {text'} {z} {end} part more cut is few refused same = subst (λ l. Halts t E old bytes z l end)
       (sym same)

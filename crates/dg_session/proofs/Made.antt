@@ -160,7 +160,8 @@ entered {t = t} {command} {r = r} {old} {new} {result = Err end} stands opens ke
         next = inr (
           kept_after old.kept r,
           entry_text t.names r.0 r.1.reply,
-          opens (r ∷ []) (kept_after old.kept r) (entry_text t.names r.0 r.1.reply) (r, stands.asked', refl, refl, refl),
+          opens (r ∷ []) (kept_after old.kept r) (entry_text t.names r.0 r.1.reply)
+              (r, stands.asked', refl, refl, refl),
         );
         gained = stands.gained;
       });

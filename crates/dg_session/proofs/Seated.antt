@@ -128,7 +128,8 @@ unspoken {result = Ok b} none told =
 unspoken {result = Err end} none told = record { done = tt; refused = inl (told.0, refl); unsaid = told.1 }
 
 -- a line that is refused ends a session for what the table, the memory or a thread refused
-pub ends_by : (t : Setup) (s z : Speakers) (line : List ℕ) (end : SessionEnd) → RefusesLineOf t s line z end → IsLineEnd end
+pub ends_by : (t : Setup) (s z : Speakers) (line : List ℕ) (end : SessionEnd) → RefusesLineOf t s line z end
+    → IsLineEnd end
 ends_by t s z line (Table fault) r = tt
 ends_by t s z line Spawn r = tt
 ends_by t s z line Memory r = tt
@@ -154,7 +155,8 @@ number_left t k text x y Spawn h = h.2.1.number
 number_left t k text x y Memory h = h.gained.number
 number_left t k text x y end h = absurd h.2
 
-pub numbers_said : (t : Setup) (s z : Speakers) (line text : List ℕ) → AnswersLineOf t s line z text → numbers z ≡ numbers s
+pub numbers_said : (t : Setup) (s z : Speakers) (line text : List ℕ) → AnswersLineOf t s line z text
+    → numbers z ≡ numbers s
 numbers_said t s z line text a = elim a [
   | inl p ↦ ap numbers p.1
   | inr q ↦ ap (map (λ (x : SeatView). x.number)) q.3.turn.seats

@@ -1,19 +1,23 @@
--- How a session ends. `stream` is what was read, and `ended` says that no more is to come; s are the
--- seats before, and z after; `old` and `new` are what the writer held, where that is known.
+-- How a session ends. `stream` is what was read, and `ended` says that no more is to come; s are
+-- the seats before, and z after; `old` and `new` are what the writer held, where that is known.
 --   Answers t s ls z text == the lines ls are answered one after another with the text
---   IsTooLong rest        == the rest begins with one byte more than a line may have, and no newline
+--   IsTooLong rest        == the rest begins with one byte more than a line may have, and no
+--                         newline
 --   Leaves stream ls P    == what stands after the lines ls is a rest of which P holds
---   StopsAt t ended stream ls s z end == after the lines ls one more came, at which the session ends so
---   EndsBy t ended stream ls s z result == what each end says, where just the lines ls are answered: they
---                            are all, and counted; reading failed after all whole lines; a line is too
---                            long, or one too many; it stops at a line for what the table or a thread
---                            refused; or for memory, or before; or the writer took no more
---   Writes result old new said text == the writer took what was said and the text, or, where it took no
---                            more, all that was said and a front of the text
---   IsOver t input rest old new xs ys result == the session of the seats xs is over, and they are ys. A
---                            stream was read, by which the reader's bytes, where known, have become the
---                            rest. The lines of `told` are answered with what was said, and then those of
---                            `last` with the text; these have no more bytes than one read and one line
+--   StopsAt t ended stream ls s z end == after the lines ls one more came, at which the session
+--                         ends so
+--   EndsBy t ended stream ls s z result == what each end says, where just the lines ls are
+--                            answered: they are all, and counted; reading failed after all whole
+--                            lines; a line is too long, or one too many; it stops at a line for
+--                            what the table or a thread refused; or for memory, or before; or the
+--                            writer took no more
+--   Writes result old new said text == the writer took what was said and the text, or, where it
+--                            took no more, all that was said and a front of the text
+--   IsOver t input rest old new xs ys result == the session of the seats xs is over, and they are
+--                            ys. A stream was read, by which the reader's bytes, where known, have
+--                            become the rest. The lines of `told` are answered with what was said,
+--                            and then those of `last` with the text; these have no more bytes than
+--                            one read and one line
 --   IsSessionOf how o seats cap names .. == the same
 --   IsSession ..          == that of one seat, whose lines name none
 use Rattle.std.specs.Prelude.{◌≡◌, ℕ, ◌+◌, ◌<◌, ◌≤◌, ◌⊎◌, List, [], ◌∷◌, ◌++◌, length, Option, flat_map, Result, Ok, Err}
@@ -47,7 +51,8 @@ pub record IsTooLong (rest : List ℕ) : Type 0 where
 abbrev pub Leaves : List ℕ → List (List ℕ) → (List ℕ → Type 0) → Type 0
 Leaves stream ls P = (rest : List ℕ) × Begins IsLine stream ls rest × P rest
 
-abbrev pub StopsAt : Setup → Type 0 → List ℕ → List (List ℕ) → Speakers → Speakers → SessionEnd → Type 0
+abbrev pub StopsAt : Setup → Type 0 → List ℕ → List (List ℕ) → Speakers → Speakers → SessionEnd
+    → Type 0
 StopsAt t ended stream ls s z end =
     (line : List ℕ) × AreLines ended stream (ls ++ line ∷ []) × RefusesLineOf t s line z end
 
@@ -65,7 +70,8 @@ EndsBy t ended stream ls s z (Err Write) =
 EndsBy t ended stream ls s z (Err Memory) = (z ≡ s) ⊎ StopsAt t ended stream ls s z Memory
 EndsBy t ended stream ls s z (Err end) = StopsAt t ended stream ls s z end
 
-abbrev pub Writes : Result ℕ SessionEnd → Option (List ℕ) → Option (List ℕ) → List ℕ → List ℕ → Type 0
+abbrev pub Writes : Result ℕ SessionEnd → Option (List ℕ) → Option (List ℕ) → List ℕ → List ℕ
+    → Type 0
 Writes (Err Write) old new said text = AppendsFront old new said text
 Writes result old new said text = Appends old new (said ++ text)
 

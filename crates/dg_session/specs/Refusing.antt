@@ -1,13 +1,13 @@
--- Where a session ends at a line of one seat; x is the seat before the line and y after it, and `kept`
--- is the number of the look that it keeps, if it keeps one.
---   CallsTable n kept command == the command makes an entry, where the table takes it: with that look
---                                kept, on n vertices
+-- Where a session ends at a line of one seat; x is the seat before the line and y after it, and
+-- `kept` is the number of the look that it keeps, if it keeps one.
+--   CallsTable n kept command == the command makes an entry, where the table takes it: with that
+--                                look kept, on n vertices
 --   TriesRank n kept command  == the command tries a rank on the look that is kept
---   MadeAtMost A x y          == the seat has made nothing, or what it makes where it is answered as A
---                                says
---   RefusesCommand t kept command x y end == the command is not answered, and the session ends so: for
---                                what the table, the memory or a thread refused; where memory was
---                                refused, the entry may stand
+--   MadeAtMost A x y          == the seat has made nothing, or what it makes where it is answered
+--                                as A says
+--   RefusesCommand t kept command x y end == the command is not answered, and the session ends so:
+--                                for what the table, the memory or a thread refused; where memory
+--                                was refused, the entry may stand
 --   RefusesLine t kept line x y end       == so is the line, as its command
 use Rattle.std.specs.Prelude.{◌≡◌, ℕ, ◌⊎◌, List, [], Option, None, Some, ⊤}
 use Rattle.dg_rank.specs.Ranks.{IsWithin}
@@ -33,7 +33,8 @@ abbrev pub TriesRank : ℕ → Option ℕ → Command → Type 0
 TriesRank n (Some i) (Rank k) = IsWithin n k
 TriesRank n kept command = ⊥
 
-pub record MadeAtMost (A : List (ℕ × Entry) → Option ℕ → List ℕ → Type 0) (x y : SeatView) : Type 0 where
+pub record MadeAtMost (A : List (ℕ × Entry) → Option ℕ → List ℕ → Type 0) (x y : SeatView)
+    : Type 0 where
   pub more : List (ℕ × Entry)
   pub next : (more ≡ []) ⊎ ((after : Option ℕ) × (said : List ℕ) × A more after said)
   pub gained : Gains x y more

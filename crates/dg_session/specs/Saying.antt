@@ -1,17 +1,21 @@
--- What a session says to the lines of one seat. An entry that is made stands, with its number, in the
--- one history that the seat has found (`HasPast`), and is answered there as the game answers it.
--- `names` are the names of the vertices, and `kept` is the number of the look that the session keeps,
--- if it keeps one.
+-- What a session says to the lines of one seat. An entry that is made stands, with its number, in
+-- the one history that the seat has found (`HasPast`), and is answered there as the game answers
+-- it. `names` are the names of the vertices, and `kept` is the number of the look that the session
+-- keeps, if it keeps one.
 --   fault_text fault            == `bad` and what is wrong with the line, and a newline
---   kept_after kept p           == the look that is kept after the entry p: it, if it is a look; none, if it enters what was
---                                  reckoned on the look; otherwise the one that was kept
+--   kept_after kept p           == the look that is kept after the entry p: it, if it is a look;
+--                                  none, if it enters what was reckoned on the look; otherwise the
+--                                  one that was kept
 --   Says kept words made after text == no entry is made, and these words are said
---   Enters names kept request made after text == one entry is made, that of the request, and its line is said
+--   Enters names kept request made after text == one entry is made, that of the request, and its
+--                         line is said
 --   AnswersCommand t kept command made after text == the command, with that look kept, makes these
 --                                  entries, leaves that look kept, and is answered with the text
---   AnswersLine t kept line made after text == so is the line: by what is wrong with it, or as its command
---   Gains x y made       == the seat is the same, has made these entries, and was told of what it was told, and perhaps more; the
---                           history that it has found begins with the one that it had
+--   AnswersLine t kept line made after text == so is the line: by what is wrong with it, or as its
+--                         command
+--   Gains x y made       == the seat is the same, has made these entries, and was told of what it
+--                           was told, and perhaps more; the history that it has found begins with
+--                           the one that it had
 use Rattle.std.specs.Prelude.{◌≡◌, ℕ, ◌⊎◌, List, [], ◌∷◌, ◌++◌, Option, Some, None, codes}
 use Rattle.dg_rank.specs.Ranks.{IsWithin}
 use Rattle.dg_game.specs.Schedule.{asked}
@@ -48,12 +52,14 @@ kept_after kept p = look_after kept p.0 p.1.request
 abbrev pub Says : Option ℕ → List ℕ → List (ℕ × Entry) → Option ℕ → List ℕ → Type 0
 Says kept words made after text = (made ≡ []) × (after ≡ kept) × (text ≡ words)
 
-abbrev pub Enters : List (List ℕ) → Option ℕ → Request → List (ℕ × Entry) → Option ℕ → List ℕ → Type 0
+abbrev pub Enters : List (List ℕ) → Option ℕ → Request → List (ℕ × Entry) → Option ℕ → List ℕ
+    → Type 0
 Enters names kept request made after text =
     (p : ℕ × Entry) × (p.1.request ≡ request) × (made ≡ p ∷ []) × (after ≡ kept_after kept p)
     × (text ≡ entry_text names p.0 p.1.reply)
 
-abbrev pub AnswersCommand : Setup → Option ℕ → Command → List (ℕ × Entry) → Option ℕ → List ℕ → Type 0
+abbrev pub AnswersCommand : Setup → Option ℕ → Command → List (ℕ × Entry) → Option ℕ → List ℕ
+    → Type 0
 AnswersCommand t kept (Call plain) made after text =
     Enters t.names kept (asked plain) made after text
 AnswersCommand t None Commit made after text = Says None (codes "bad look\n") made after text

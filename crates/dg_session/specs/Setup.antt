@@ -1,5 +1,6 @@
 -- What holds for a whole session.
---   Setup == how lines name the seats, and the table: its opening, how many seats and cells it has, and the names of its vertices
+--   Setup == how lines name the seats, and the table: its opening, how many seats and cells it has,
+--                         and the names of its vertices
 use Rattle.std.specs.Prelude.{ℕ, List}
 use Rattle.dg_chips.specs.Opening.{Opening}
 use Rattle.dg_session.specs.declared.addressing.Addressing.{Addressing}

@@ -1,30 +1,31 @@
--- How far a session is, and how it goes on: what each floor, from the bytes that are read down to one
--- command, promises of its states before and after. No public contract speaks of it.
---   Speaker    == how far a seat is: the seat, the number of the look that it keeps, if it keeps one,
---                 and what was said
+-- How far a session is, and how it goes on: what each floor, from the bytes that are read down to
+-- one command, promises of its states before and after. No public contract speaks of it.
+--   Speaker    == how far a seat is: the seat, the number of the look that it keeps, if it keeps
+--                 one, and what was said
 --   Talk       == how far all seats are: who speaks, and what was said
 --   SoFar      == how far the session is: what came after the last newline, how many lines are
 --                 answered, and who speaks
 --   Tells words old new result == the words are said; or memory is refused, and nothing is
---   Obeys t command old new result == the speaker's command is done and answered; or the session ends
---                 so at it, and nothing is said
+--   Obeys t command old new result == the speaker's command is done and answered; or the session
+--                 ends so at it, and nothing is said
 --   Hears t line old new result    == so is the speaker's line
 --   Handles t line old new result  == so is a line, of the seat that it is for
---   IsReady at == the session can go on: what is pending may be of a line, and a look may be kept for
---                 each seat
---   Goes t old bytes rest new text == of the bytes all but the rest are taken: the lines that end in
---                 them are answered with the text
---   RefusesPart pending count part end == the part of a line is not taken, for its length or as one of
---                 a line too many
+--   IsReady at == the session can go on: what is pending may be of a line, and a look may be kept
+--                 for each seat
+--   Goes t old bytes rest new text == of the bytes all but the rest are taken: the lines that end
+--                 in them are answered with the text
+--   RefusesPart pending count part end == the part of a line is not taken, for its length or as one
+--                 of a line too many
 --   StaysAt at rest end == the session ends so before the rest: a line there is too long or one too
 --                 many, or memory is refused
 --   StopsIn t ended at rest z end  == or at the line that comes next, as it is refused
 --   Halts t ended old bytes z text end == the bytes are taken but for a rest, and there the session
 --                 ends so; z speak then; `ended` says that no more is to come
 --   Takes t old bytes new text result == the bytes are taken, or the session halts in them
---   TakesEnd t old new text result == so is the end: what is pending is the last line, if it has a byte
---   IsWritten taken text old new result == all that was said is written, and it ends as the taking did;
---                 or a front of it is, and the writer took no more
+--   TakesEnd t old new text result == so is the end: what is pending is the last line, if it has a
+--                         byte
+--   IsWritten taken text old new result == all that was said is written, and it ends as the taking
+--                 did; or a front of it is, and the writer took no more
 use Rattle.std.specs.Prelude.{◌≡◌, ◌≢◌, ℕ, ◌+◌, ◌<◌, ◌≤◌, ◌⊎◌, List, [], ◌∷◌, ◌++◌, length, true, Option, Result, Ok, Err, OnOk, OnErr, IfErr, ⊤}
 use Rattle.std.specs.Io.KnownBytes.{Appends}
 use Rattle.dg_game.specs.declared.entry.Entry.{Entry}

@@ -1,18 +1,23 @@
--- Who speaks in a session: its seats, in order, and for each the number of the look that it keeps, if it keeps one. A seat that is
--- not spoken for stays as it is.
+-- Who speaks in a session: its seats, in order, and for each the number of the look that it keeps,
+-- if it keeps one. A seat that is not spoken for stays as it is.
 --   Speakers           == the seats, and the looks that they keep
 --   speakers xs looks  == those of these seats and looks
 --   newcomers xs       == the seats, and no look is kept
---   IsFor how n line i text   == of n seats, the line is for that at the place i, from 0, and the text is its command line: the line
---                                begins with the number i + 1 and a space; or it names no seat, and is for the first
+--   IsFor how n line i text   == of n seats, the line is for that at the place i, from 0, and the
+--                                text is its command line: the line begins with the number i + 1
+--                                and a space; or it names no seat, and is for the first
 --   IsForNone how n line      == the line is for none of n seats
---   Becomes i s z x y kept after == of the seats s, the one at the place i was x and keeps that look; it is y now and keeps this one;
---                                and the seats z are those, all others as in s
---   AnswersIn t i text s z said == the seat at the place i is answered its command line so, and says nothing else
---   AnswersLineOf t s line z text == the line, with the seats s, is answered with the text, and the seats are z then: by
---                                `bad seat`, or as a line of the seat that it is for
---   RefusesLineOf t s line z end == at the line the session ends so, and the seats are z then: memory is refused
---                                to it, or its command is refused to the seat that it is for
+--   Becomes i s z x y kept after == of the seats s, the one at the place i was x and keeps that
+--                                look; it is y now and keeps this one; and the seats z are those,
+--                                all others as in s
+--   AnswersIn t i text s z said == the seat at the place i is answered its command line so, and
+--                         says nothing else
+--   AnswersLineOf t s line z text == the line, with the seats s, is answered with the text, and the
+--                                seats are z then: by `bad seat`, or as a line of the seat that it
+--                                is for
+--   RefusesLineOf t s line z end == at the line the session ends so, and the seats are z then:
+--                                memory is refused to it, or its command is refused to the seat
+--                                that it is for
 use Rattle.std.specs.Prelude.{◌≡◌, ℕ, ◌+◌, ◌<◌, ◌⊎◌, List, length, map, Option, None, Some, codes, slice_get}
 use Rattle.std.specs.List.{slice_set}
 use Rattle.dg_game.specs.declared.entry.Entry.{Entry}

@@ -1,10 +1,11 @@
 -- Lines of a session.
---   IsLine line              == the line has no newline, and at most as many bytes as a line may have
---   AreLines ended stream ls == the lines ls are no more than a session answers; and the stream begins
---                               with them, or it has ended, and they are all its lines
---   OneCutting               == a stream is cut into lines in one way: where it begins with lines, and
---                               the rest has no newline, its lines are those lines, and the rest as a
---                               last line if it has a byte
+--   IsLine line              == the line has no newline, and at most as many bytes as a line may
+--                         have
+--   AreLines ended stream ls == the lines ls are no more than a session answers; and the stream
+--                               begins with them, or it has ended, and they are all its lines
+--   OneCutting               == a stream is cut into lines in one way: where it begins with lines,
+--                               and the rest has no newline, its lines are those lines, and the
+--                               rest as a last line if it has a byte
 use Rattle.std.specs.Prelude.{◌≡◌, ℕ, ◌≤◌, List, ◌++◌, length}
 use Rattle.dg_lines.specs.Cuts.{lines}
 use Rattle.dg_lines.specs.Streams.{HasNoNewline, Begins, HaveCome, last_line}

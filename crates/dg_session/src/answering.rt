@@ -162,7 +162,8 @@ fn call<N: Name, R: Threads + Wait>(
 ) -> Result<(), SessionEnd>
     requires { plain ≢ Plain.Look }
     ensures { Obeys (setup shared.now.how N.start N.seats (length N.cells) shared.now.names.now)
-        (Call plain) (speaker seat.old kept.old said.old) (speaker seat.new kept.new said.new) result }
+        (Call plain) (speaker seat.old kept.old said.old) (speaker seat.new kept.new said.new)
+        result }
 {
     match shared.table.call(shared.rt, shared.alloc, seat, plain) {
         Ok(receipt) => said.say_entry(shared.table, shared.names, &receipt),

@@ -39,8 +39,8 @@ pub fn serve<N: Name, R: Threads + Wait, I: Read, O: Write>(
 ) -> Result<u32, SessionEnd>
     requires names { length names.now ≡ N.start.graph.size }
     requires workers { MayHaveWorkers workers }
-    ensures session { IsSession N.start N.seats (length N.cells) names.now reader.old.remaining reader.new.remaining
-        writer.old.contents writer.new.contents seat.old seat.new result }
+    ensures session { IsSession N.start N.seats (length N.cells) names.now reader.old.remaining
+        reader.new.remaining writer.old.contents writer.new.contents seat.old seat.new result }
     ensures history { HasPast N.start N.seats (length N.cells) seat.new }
     ensures number { seat.new.number ≡ seat.old.number }
     ensures read { result ≡ Err SessionEnd.Read → reader.new.has_failed ≡ true }
@@ -78,8 +78,9 @@ pub fn serve_seats<N: Name, R: Threads + Wait, I: Read, O: Write>(
     requires names { length names.now ≡ N.start.graph.size }
     requires workers { MayHaveWorkers workers }
     requires some { 1 ≤ length seats.old }
-    ensures session { IsSessionOf how N.start N.seats (length N.cells) names.now reader.old.remaining
-        reader.new.remaining writer.old.contents writer.new.contents seats.old seats.new result }
+    ensures session { IsSessionOf how N.start N.seats (length N.cells) names.now
+        reader.old.remaining reader.new.remaining writer.old.contents writer.new.contents seats.old
+        seats.new result }
     ensures histories { All (HasPast N.start N.seats (length N.cells)) seats.new }
     ensures numbers { map (λ x. x.number) seats.new ≡ map (λ x. x.number) seats.old }
     ensures read { result ≡ Err SessionEnd.Read → reader.new.has_failed ≡ true }
@@ -115,8 +116,9 @@ fn serve_lines<N: Name, R: Threads + Wait, I: Read, O: Write>(
     writer: &mut Output<O>,
 ) -> Result<u32, SessionEnd>
     requires { 1 ≤ length seats.old }
-    ensures session { IsSessionOf shared.now.how N.start N.seats (length N.cells) shared.now.names.now
-        reader.old.remaining reader.new.remaining writer.old.contents writer.new.contents seats.old seats.new result }
+    ensures session { IsSessionOf shared.now.how N.start N.seats (length N.cells)
+        shared.now.names.now reader.old.remaining reader.new.remaining writer.old.contents
+        writer.new.contents seats.old seats.new result }
     ensures read { result ≡ Err SessionEnd.Read → reader.new.has_failed ≡ true }
     ensures write { result ≡ Err SessionEnd.Write → writer.new.has_failed ≡ true }
 {

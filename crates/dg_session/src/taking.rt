@@ -32,7 +32,8 @@ impl<N: Name> Progress<N> {
     pub(crate) fn new(alloc: Global, seats: &[Seat<N>]) -> Option<Progress<N>>
         ensures pending { IfSome result (λ p. p.pending.items ≡ []) }
         ensures count { IfSome result (λ p. p.count ≡ 0) }
-        ensures kept { IfSome result (λ p. map kept_number p.kept.items ≡ map (λ x. None) seats.now) }
+        ensures kept { IfSome result (λ p.
+            map kept_number p.kept.items ≡ map (λ x. None) seats.now) }
         ensures said { IfSome result (λ p. p.said.text.items ≡ []) }
     {
         let kept = match no_looks(alloc, seats) {

@@ -83,7 +83,8 @@ returns-in-Err-write_said-clause-session g c =
     c.in-Some-read_some.ensures.bound in
     let room = c.read_some.ensures.size ∙ c.reads.invariant.2 in
     session_halts c.reads.writer c.write_said-in-reads.new.writer c.reads.invariant.0
-    (read_chunk _ _ _ _ _ c.deref.ensures.value c.in-Some-read_some.ensures.bytes) (omega (arith, size, c.in-Some-read_some.ensures.bound, room))
+    (read_chunk _ _ _ _ _ c.deref.ensures.value c.in-Some-read_some.ensures.bytes)
+    (omega (arith, size, c.in-Some-read_some.ensures.bound, room))
     c.take_bytes-taken.ensures c.in-Err-write_said.ensures.written
 
 pub returns-in-Err-write_said-clause-read : goal.returns-in-Err-write_said-clause-read
