@@ -94,6 +94,7 @@ fn fault_words(fault: LineFault) -> &'static [u8]
 }
 
 /// Answers a line of a seat: by what is wrong with it, or as its command.
+#[inline(always)]
 pub(crate) fn answer_seat<N: Name, R: Threads + Wait>(
     shared: &Shared<N, R>,
     kept: &mut Option<Look<N>>,
@@ -111,6 +112,7 @@ pub(crate) fn answer_seat<N: Name, R: Threads + Wait>(
 }
 
 /// Does what a command says, and says the line of its entry, or why there is none.
+#[inline(never)]
 fn obey<N: Name, R: Threads + Wait>(
     shared: &Shared<N, R>,
     kept: &mut Option<Look<N>>,

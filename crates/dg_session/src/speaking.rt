@@ -13,6 +13,7 @@ use std::sync::Wait;
 use std::thread::Threads;
 
 /// Answers a line: as that of the seat that it is for, or by saying that there is none.
+#[inline(always)]
 pub(crate) fn answer_line<N: Name, R: Threads + Wait>(
     shared: &Shared<N, R>,
     kept: &mut [Option<Look<N>>],

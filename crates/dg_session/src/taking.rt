@@ -83,6 +83,7 @@ fn may_take(pending: &[u8], count: u32, part: &[u8]) -> Result<(), SessionEnd>
 }
 
 /// Answers the line that is pending, with the part that ends it. Where nothing is pending, it is answered where it lies.
+#[inline(always)]
 fn answer_pending<N: Name, R: Threads + Wait>(
     shared: &Shared<N, R>,
     progress: &mut Progress<N>,
@@ -119,6 +120,7 @@ fn answer_pending<N: Name, R: Threads + Wait>(
 }
 
 /// The same, and the line is no longer pending but counted.
+#[inline(always)]
 fn end_line<N: Name, R: Threads + Wait>(
     shared: &Shared<N, R>,
     progress: &mut Progress<N>,
