@@ -20,7 +20,8 @@ impl<I: Read> Model for Input<I> {
 
     ghost Value = { Reading };
 
-    ghost view = { λ input. record { remaining = I.remaining input.inner; has_failed = input.has_failed } };
+    ghost view = { λ input.
+        record { remaining = I.remaining input.inner; has_failed = input.has_failed } };
 }
 
 impl<I: Read> Input<I> {
