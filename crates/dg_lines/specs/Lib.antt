@@ -1,5 +1,6 @@
 -- The grammar of lines, and the texts of replies and of entries, all of them on lists of bytes.
 pub mod Cuts
+pub mod Streams
 pub mod CommandWords
 pub mod Commands
 pub mod LineFaults

@@ -9,7 +9,8 @@ use Rattle.dg_table.specs.Seats.{SeatView}
 use Rattle.dg_session.specs.declared.ends.SessionEnd.{SessionEnd}
 use Rattle.dg_party.specs.Sessions.{IsSessionOver, AreSessions, HaveBegun, contents}
 
-pub none_begun : (o : Opening) (seats cap : ℕ) (names scripts : List (List ℕ)) (xs rest ys : List SeatView) (x y : SeatView)
+pub none_begun : (o : Opening) (seats cap : ℕ) (names scripts : List (List ℕ)) (xs rest ys : List SeatView)
+    (x y : SeatView)
     → xs ≡ x ∷ rest → y ≡ x → ys ≡ rest → (k : ℕ) × HaveBegun o seats cap names k scripts xs (y ∷ ys)
 unfolding HaveBegun
 none_begun o seats cap names scripts xs rest ys x y e f h = (0, ap (λ z. z ∷ ys) f ∙ ap (λ zs. x ∷ zs) h ∙ sym e)
@@ -23,7 +24,8 @@ unfolding HaveBegun
 more_begun o seats cap names scripts left script xs rest ys x y end e f session begun =
     (suc begun.0, rw (e, f) ((end, session), begun.1))
 
-begun_of : (o : Opening) (seats cap : ℕ) (names scripts : List (List ℕ)) (xs ys : List SeatView) (ends : List (Result ℕ SessionEnd))
+begun_of : (o : Opening) (seats cap : ℕ) (names scripts : List (List ℕ)) (xs ys : List SeatView)
+    (ends : List (Result ℕ SessionEnd))
     → AreSessions o seats cap names scripts xs ys ends → (k : ℕ) × HaveBegun o seats cap names k scripts xs ys
 unfolding AreSessions HaveBegun
 begun_of o seats cap names (script ∷ scripts) (x ∷ xs) (y ∷ ys) (end ∷ ends) are =
@@ -42,4 +44,5 @@ pub all_begun : (o : Opening) (seats cap : ℕ) (names : List (List ℕ)) (scrip
     → AreSessions o seats cap names (contents left) rest ys ends
     → (k : ℕ) × HaveBegun o seats cap names k (contents scripts) xs (y ∷ ys)
 all_begun o seats cap names scripts left script xs rest ys x y end ends e f session are =
-    more_begun o seats cap names scripts left script xs rest ys x y end e f session (begun_of o seats cap names (contents left) rest ys ends are)
+    more_begun o seats cap names scripts left script xs rest ys x y end e f session
+    (begun_of o seats cap names (contents left) rest ys ends are)

@@ -30,7 +30,8 @@ use Rattle.dg_party.specs.Sessions.{IsSessionOver, AreSessions, contents}
 use Rattle.dg_totals.specs.Printed.{entries_text, seat_text, seats_text, calls_text, totals_text}
 use Rattle.dg_party.specs.Parties.{IsParty}
 
-record IsSessionAt (o : Opening) (seats cap : ℕ) (names : List (List ℕ)) (xs ys : List SeatView) (i : ℕ) (script : List ℕ)
+record IsSessionAt (o : Opening) (seats cap : ℕ) (names : List (List ℕ)) (xs ys : List SeatView) (i : ℕ)
+    (script : List ℕ)
     (end : Result ℕ SessionEnd) : Type 0 where
   before : SeatView
   after : SeatView
@@ -38,7 +39,8 @@ record IsSessionAt (o : Opening) (seats cap : ℕ) (names : List (List ℕ)) (xs
   last : slice_get ys i ≡ Some after
   session : IsSessionOver o seats cap names script before after end
 
-session_at : (o : Opening) (seats cap : ℕ) (names scripts : List (List ℕ)) (xs ys : List SeatView) (ends : List (Result ℕ SessionEnd))
+session_at : (o : Opening) (seats cap : ℕ) (names scripts : List (List ℕ)) (xs ys : List SeatView)
+    (ends : List (Result ℕ SessionEnd))
     → AreSessions o seats cap names scripts xs ys ends → (i : ℕ) (script : List ℕ) (end : Result ℕ SessionEnd)
     → slice_get scripts i ≡ Some script → slice_get ends i ≡ Some end → IsSessionAt o seats cap names xs ys i script end
 unfolding AreSessions
@@ -57,10 +59,12 @@ session_at o seats cap names (c ∷ cs) [] ys ends are i script end there told =
 session_at o seats cap names (c ∷ cs) (x ∷ xs) [] ends are i script end there told = elim are [ ]
 session_at o seats cap names (c ∷ cs) (x ∷ xs) (y ∷ ys) [] are i script end there told = elim are [ ]
 
-ends_count : (o : Opening) (seats cap : ℕ) (names scripts : List (List ℕ)) (xs ys : List SeatView) (ends : List (Result ℕ SessionEnd))
+ends_count : (o : Opening) (seats cap : ℕ) (names scripts : List (List ℕ)) (xs ys : List SeatView)
+    (ends : List (Result ℕ SessionEnd))
     → AreSessions o seats cap names scripts xs ys ends → length ends ≡ length scripts
 unfolding AreSessions
-ends_count o seats cap names (c ∷ cs) (x ∷ xs) (y ∷ ys) (e ∷ es) are = ap suc (ends_count o seats cap names cs xs ys es are.1)
+ends_count o seats cap names (c ∷ cs) (x ∷ xs) (y ∷ ys) (e ∷ es) are =
+    ap suc (ends_count o seats cap names cs xs ys es are.1)
 ends_count o seats cap names [] [] [] [] are = refl
 ends_count o seats cap names [] [] [] (e ∷ es) are = elim are [ ]
 ends_count o seats cap names [] [] (y ∷ ys) ends are = elim are [ ]
@@ -70,7 +74,8 @@ ends_count o seats cap names (c ∷ cs) (x ∷ xs) [] ends are = elim are [ ]
 ends_count o seats cap names (c ∷ cs) (x ∷ xs) (y ∷ ys) [] are = elim are [ ]
 
 calls_are : (H : List Entry) (s n : ℕ) (calls : List ℕ) → n ≤ length calls
-    → ((k : ℕ) → k < n → slice_index calls k ≡ length (entries_of (s + k) H)) → calls_text s (take n calls) ≡ seats_text s n H
+    → ((k : ℕ) → k < n → slice_index calls k ≡ length (entries_of (s + k) H))
+    → calls_text s (take n calls) ≡ seats_text s n H
 unfolding calls_text seats_text
 calls_are H s zero calls enough each = refl
 calls_are H s (suc n) [] enough each = absurd (omega arith)
@@ -84,7 +89,8 @@ calls_are H s (suc n) (count ∷ calls) enough each =
     ap (λ c. seat_text s c ++ calls_text (s + 1) (take n calls)) first
     ∙ ap (λ t. seat_text s (length (entries_of s H)) ++ t) (calls_are H (s + 1) n calls (omega (arith, enough)) rest)
 
-call_counts : (o : Opening) (n cap : ℕ) (ys : List SeatView) (H : List Entry) (entries gifts : ℕ) (graph : Multigraph) (position : Vector) (calls : List ℕ)
+call_counts : (o : Opening) (n cap : ℕ) (ys : List SeatView) (H : List Entry) (entries gifts : ℕ) (graph : Multigraph)
+    (position : Vector) (calls : List ℕ)
     → IsClosed o n cap ys H → AreTotals o n ys H entries gifts graph position calls
     → (k : ℕ) → k < n → slice_index calls k ≡ length (entries_of (1 + k) H)
 call_counts o n cap ys H entries gifts graph position calls closed totals k less =
@@ -98,11 +104,13 @@ pub contents_count : (scripts : List (Vec ℕ)) → length (contents scripts) �
 contents_count [] = refl
 contents_count (script ∷ scripts) = ap suc (contents_count scripts)
 
-pub read_named : (names : List (List ℕ)) (o : Opening) (H history : List Entry) → history ≡ H → length names ≡ o.graph.size
+pub read_named : (names : List (List ℕ)) (o : Opening) (H history : List Entry) → history ≡ H
+    → length names ≡ o.graph.size
     → IsLegal o H → AllHaveNames names history
 read_named names o H history read fit legal = legal_named names o history fit (rw read legal)
 
-pub shown_size : (o : Opening) (H : List Entry) (position : Vector) → Shows (position_after o H) position → o.graph.size ≡ position.size
+pub shown_size : (o : Opening) (H : List Entry) (position : Vector) → Shows (position_after o H) position
+    → o.graph.size ≡ position.size
 shown_size o H position shown = sym (shown.size ∙ vertices_stay o H)
 
 -- the totals of a history, with other lines of seats
@@ -112,12 +120,14 @@ audit_with names H position seats =
     ++ pairs names (at position) ++ codes "\n" ++ seats
 
 whole : (o : Opening) (cap : ℕ) (names scripts : List (List ℕ)) (n : ℕ) (xs ys : List SeatView)
-    (ends : List (Result ℕ SessionEnd)) (H : List Entry) (entries gifts : ℕ) (graph : Multigraph) (position : Vector) (calls text : List ℕ)
+    (ends : List (Result ℕ SessionEnd)) (H : List Entry) (entries gifts : ℕ) (graph : Multigraph) (position : Vector)
+    (calls text : List ℕ)
     → length scripts ≡ n → AreFresh n xs → AreSessions o n cap names scripts xs ys ends → IsClosed o n cap ys H
     → AreTotals o n ys H entries gifts graph position calls → n ≤ length calls
     → text ≡ entries_text names 0 H ++ totals_text names entries gifts position (take n calls)
     → IsParty o cap names scripts ends text
-whole o cap names scripts n xs ys ends H entries gifts graph position calls text many fresh are closed totals enough printed =
+whole o cap names scripts n xs ys ends H entries gifts graph position calls text many fresh are closed totals enough
+    printed =
     record {
       history = H;
       is = rw many closed.history;
@@ -145,10 +155,12 @@ whole o cap names scripts n xs ys ends H entries gifts graph position calls text
           ∙ ap (λ k. seats_text 1 k H) (sym many));
     }
 
-seats_kept : (o : Opening) (seats cap : ℕ) (names scripts : List (List ℕ)) (xs ys : List SeatView) (ends : List (Result ℕ SessionEnd))
+seats_kept : (o : Opening) (seats cap : ℕ) (names scripts : List (List ℕ)) (xs ys : List SeatView)
+    (ends : List (Result ℕ SessionEnd))
     → AreSessions o seats cap names scripts xs ys ends → length ys ≡ length xs
 unfolding AreSessions
-seats_kept o seats cap names (c ∷ cs) (x ∷ xs) (y ∷ ys) (e ∷ es) are = ap suc (seats_kept o seats cap names cs xs ys es are.1)
+seats_kept o seats cap names (c ∷ cs) (x ∷ xs) (y ∷ ys) (e ∷ es) are =
+    ap suc (seats_kept o seats cap names cs xs ys es are.1)
 seats_kept o seats cap names [] [] [] [] are = refl
 seats_kept o seats cap names [] [] [] (e ∷ es) are = elim are [ ]
 seats_kept o seats cap names [] [] (y ∷ ys) ends are = elim are [ ]
@@ -157,14 +169,19 @@ seats_kept o seats cap names (c ∷ cs) [] ys ends are = elim are [ ]
 seats_kept o seats cap names (c ∷ cs) (x ∷ xs) [] ends are = elim are [ ]
 seats_kept o seats cap names (c ∷ cs) (x ∷ xs) (y ∷ ys) [] are = elim are [ ]
 
-pub whole_lent : (o : Opening) (cap : ℕ) (names scripts : List (List ℕ)) (n m len : ℕ) (opened xs ys rest : List SeatView)
-    (ends : List (Result ℕ SessionEnd)) (H history : List Entry) (entries gifts : ℕ) (graph : Multigraph) (position : Vector) (calls text : List ℕ)
-    → length scripts ≡ n → n ≡ m → AreFresh n opened → xs ≡ opened → len ≡ length opened → AreSessions o m cap names scripts xs ys ends
-    → IsClosed o m cap (take len (ys ++ rest)) H × AreTotals o m (take len (ys ++ rest)) H entries gifts graph position calls
+pub whole_lent : (o : Opening) (cap : ℕ) (names scripts : List (List ℕ)) (n m len : ℕ)
+    (opened xs ys rest : List SeatView)
+    (ends : List (Result ℕ SessionEnd)) (H history : List Entry) (entries gifts : ℕ) (graph : Multigraph)
+    (position : Vector) (calls text : List ℕ)
+    → length scripts ≡ n → n ≡ m → AreFresh n opened → xs ≡ opened → len ≡ length opened
+    → AreSessions o m cap names scripts xs ys ends
+    → IsClosed o m cap (take len (ys ++ rest)) H
+    × AreTotals o m (take len (ys ++ rest)) H entries gifts graph position calls
     → n ≤ length calls → history ≡ H
     → text ≡ entries_text names 0 history ++ totals_text names entries gifts position (take n calls)
     → IsParty o cap names scripts ends text
-whole_lent o cap names scripts n m len opened xs ys rest ends H history entries gifts graph position calls text many same fresh lent counted are closed enough read printed =
+whole_lent o cap names scripts n m len opened xs ys rest ends H history entries gifts graph position calls text many
+    same fresh lent counted are closed enough read printed =
     let all : length ys ≡ len = seats_kept o m cap names scripts xs ys ends are ∙ ap length lent ∙ sym counted in
     let front : take len (ys ++ rest) ≡ ys = ap (λ k. take k (ys ++ rest)) (sym all) ∙ take-append_seam ys rest in
     whole o cap names scripts n xs ys ends H entries gifts graph position calls text many (rw lent fresh) (rw same are)

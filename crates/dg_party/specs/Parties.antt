@@ -1,9 +1,11 @@
 -- A party: one table, a seat and a thread for each script, and one history of all.
---   IsSessionIn o seats cap names H s script end == the entries of the seat s in the history H are those that a session over the
---                        script made for it, which came to this end, and H begins with the history that it found
---   IsParty o cap names scripts ends text == there is one history of the table, of at most cap entries;
---                        for each script, in order, a session over it, which came to the end at its place, made just
---                        the entries of its seat in that history; and the text is that of the history and of its totals
+--   IsSessionIn o seats cap names H s script end == the entries of the seat s in the history H are
+--                        those that a session over the script made for it, which came to this end,
+--                        and H begins with the history that it found
+--   IsParty o cap names scripts ends text == there is one history of the table, of at most cap
+--                        entries; for each script, in order, a session over it, which came to the
+--                        end at its place, made just the entries of its seat in that history; and
+--                        the text is that of the history and of its totals
 use Rattle.std.specs.Prelude.{◌≡◌, ℕ, ◌+◌, List, [], ◌++◌, length, slice_get, Some, Result}
 use Rattle.dg_chips.specs.Opening.{Opening}
 use Rattle.dg_chips.specs.Vector.{Vector}
@@ -17,7 +19,8 @@ use Rattle.dg_session.specs.declared.ends.SessionEnd.{SessionEnd}
 use Rattle.dg_party.specs.Sessions.{IsSessionOver}
 use Rattle.dg_totals.specs.Printed.{entries_text, audit_text}
 
-pub record IsSessionIn (o : Opening) (seats cap : ℕ) (names : List (List ℕ)) (H : List Entry) (s : ℕ) (script : List ℕ)
+pub record IsSessionIn (o : Opening) (seats cap : ℕ) (names : List (List ℕ)) (H : List Entry)
+    (s : ℕ) (script : List ℕ)
     (end : Result ℕ SessionEnd) : Type 0 where
   pub before : SeatView
   pub after : SeatView
@@ -27,13 +30,17 @@ pub record IsSessionIn (o : Opening) (seats cap : ℕ) (names : List (List ℕ))
   pub begins : IsBeginning after.past H
   pub session : IsSessionOver o seats cap names script before after end
 
-pub record IsParty (o : Opening) (cap : ℕ) (names : List (List ℕ)) (scripts : List (List ℕ)) (ends : List (Result ℕ SessionEnd))
+pub record IsParty (o : Opening) (cap : ℕ) (names : List (List ℕ)) (scripts : List (List ℕ))
+    (ends : List (Result ℕ SessionEnd))
     (text : List ℕ) : Type 0 where
   pub history : List Entry
   pub is : IsHistoryOf o (length scripts) cap history
   pub count : length ends ≡ length scripts
-  pub sessions : (i : ℕ) (script : List ℕ) (end : Result ℕ SessionEnd) → slice_get scripts i ≡ Some script →
-      slice_get ends i ≡ Some end → IsSessionIn o (length scripts) cap names history (i + 1) script end
+  pub sessions : (i : ℕ) (script : List ℕ) (end : Result ℕ SessionEnd)
+      → slice_get scripts i ≡ Some script →
+      slice_get ends i ≡ Some end
+      → IsSessionIn o (length scripts) cap names history (i + 1) script end
   pub position : Vector
   pub shown : Shows (position_after o history) position
-  pub printed : text ≡ entries_text names 0 history ++ audit_text names (length scripts) history position
+  pub printed : text ≡ entries_text names 0 history
+      ++ audit_text names (length scripts) history position

@@ -1,9 +1,13 @@
--- Sessions side by side. A script is the bytes of a session's lines; x and y are seats before and after.
+-- Sessions side by side. A script is the bytes of a session's lines; x and y are seats before and
+-- after.
 --   contents scripts       == the bytes of each of the scripts
---   IsSessionOver o seats cap names script x y end == a session of the seat over the bytes of the script came to this end, on a table of
---                             so many seats and cap cells, of which it found one history; what it wrote nobody kept
---   AreSessions .. scripts xs ys ends == so did, one beside another, a session of each seat over the script at its place
---   HaveBegun .. k scripts xs ys == the first k seats had such sessions, and the others are as they were
+--   IsSessionOver o seats cap names script x y end == a session of the seat over the bytes of the
+--                             script came to this end, on a table of so many seats and cap cells,
+--                             of which it found one history; what it wrote nobody kept
+--   AreSessions .. scripts xs ys ends == so did, one beside another, a session of each seat over
+--                         the script at its place
+--   HaveBegun .. k scripts xs ys == the first k seats had such sessions, and the others are as they
+--                         were
 use Rattle.std.specs.Prelude.{◌≡◌, ℕ, zero, suc, List, [], ◌∷◌, Option, Some, ⊤, Result, map}
 use Rattle.std.specs.Global.{Vec}
 use Rattle.dg_chips.specs.Opening.{Opening}
@@ -15,7 +19,8 @@ use Rattle.dg_session.specs.declared.ends.SessionEnd.{SessionEnd}
 abbrev pub contents : List (Vec ℕ) → List (List ℕ)
 contents scripts = map (λ (script : Vec ℕ). script.items) scripts
 
-pub record IsSessionOver (o : Opening) (seats cap : ℕ) (names : List (List ℕ)) (script : List ℕ) (x y : SeatView)
+pub record IsSessionOver (o : Opening) (seats cap : ℕ) (names : List (List ℕ)) (script : List ℕ)
+    (x y : SeatView)
     (end : Result ℕ SessionEnd) : Type 0 where
   pub rest : Option (List ℕ)
   pub old : Option (List ℕ)
@@ -24,14 +29,18 @@ pub record IsSessionOver (o : Opening) (seats cap : ℕ) (names : List (List ℕ
   pub found : HasPast o seats cap y
   pub session : IsSession o seats cap names (Some script) rest old new x y end
 
-unfoldable pub AreSessions : Opening → ℕ → ℕ → List (List ℕ) → List (List ℕ) → List SeatView → List SeatView → List (Result ℕ SessionEnd) → Type 0
+unfoldable pub AreSessions : Opening → ℕ → ℕ → List (List ℕ) → List (List ℕ) → List SeatView
+    → List SeatView → List (Result ℕ SessionEnd) → Type 0
 AreSessions o seats cap names (script ∷ scripts) (x ∷ xs) (y ∷ ys) (end ∷ ends) =
-    IsSessionOver o seats cap names script x y end × AreSessions o seats cap names scripts xs ys ends
+    IsSessionOver o seats cap names script x y end
+    × AreSessions o seats cap names scripts xs ys ends
 AreSessions o seats cap names [] [] [] [] = ⊤
 AreSessions o seats cap names scripts xs ys ends = ⊥
 
-unfoldable pub HaveBegun : Opening → ℕ → ℕ → List (List ℕ) → ℕ → List (List ℕ) → List SeatView → List SeatView → Type 0
+unfoldable pub HaveBegun : Opening → ℕ → ℕ → List (List ℕ) → ℕ → List (List ℕ) → List SeatView
+    → List SeatView → Type 0
 HaveBegun o seats cap names zero scripts xs ys = ys ≡ xs
 HaveBegun o seats cap names (suc k) (script ∷ scripts) (x ∷ xs) (y ∷ ys) =
-    ((end : Result ℕ SessionEnd) × IsSessionOver o seats cap names script x y end) × HaveBegun o seats cap names k scripts xs ys
+    ((end : Result ℕ SessionEnd) × IsSessionOver o seats cap names script x y end)
+    × HaveBegun o seats cap names k scripts xs ys
 HaveBegun o seats cap names k scripts xs ys = ⊥

@@ -36,7 +36,8 @@ pub fn party<R: Threads + Wait + Sync, G: Gate>(
     requires cap { IsCapacity cap }
     requires scripts { MayHaveSeats (length scripts.now) }
     requires names { length names.now ≡ start.now.graph.size }
-    ensures { IfOk result (λ p. IsParty start.now cap names.now (contents scripts.now) p.ends.items p.text.items) }
+    ensures { IfOk result
+        (λ p. IsParty start.now cap names.now (contents scripts.now) p.ends.items p.text.items) }
 {
     let Ok(row) = Row::new(alloc, cap) else {
         return Err(PartyRefusal::OutOfMemory);
@@ -62,7 +63,9 @@ fn party_of<N: Name + Send + Sync, R: Threads + Wait + Sync, G: Gate>(
     requires seats { length scripts.now ≡ N.seats }
     requires scripts { MayHaveSeats (length scripts.now) }
     requires names { length names.now ≡ start.now.graph.size }
-    ensures { IfOk result (λ p. IsParty N.start (length N.cells) names.now (contents scripts.now) p.ends.items p.text.items) }
+    ensures { IfOk result
+        (λ p. IsParty N.start (length N.cells) names.now (contents scripts.now) p.ends.items
+        p.text.items) }
 {
     let count = scripts.len();
     let (table, mut seats) = match Table::<N>::open(alloc, row, start, count as u8) {

@@ -53,9 +53,12 @@ pub fn sessions<N: Name + Send + Sync, R: Threads + Wait + Sync, G: Gate>(
 ) -> Result<Vec<Result<u32, SessionEnd>>, PartyFault>
     requires scripts { length scripts.now ≡ length seats.old }
     requires names { length names.now ≡ N.start.graph.size }
-    ensures ok { IfOk result (λ v. AreSessions N.start N.seats (length N.cells) names.now (contents scripts.now) seats.old seats.new v.items) }
+    ensures ok { IfOk result
+        (λ v. AreSessions N.start N.seats (length N.cells) names.now (contents scripts.now)
+        seats.old seats.new v.items) }
     ensures fault { IfErr result (λ _. (k : ℕ) ×
-        HaveBegun N.start N.seats (length N.cells) names.now k (contents scripts.now) seats.old seats.new) }
+        HaveBegun N.start N.seats (length N.cells) names.now k (contents scripts.now) seats.old
+        seats.new) }
 {
     let room = Room {
         rt,
@@ -79,9 +82,12 @@ fn play<'a, N: Name + Send + Sync, R: Threads + Wait + Sync, G: Gate>(
 ) -> Result<Vec<Result<u32, SessionEnd>>, PartyFault>
     requires scripts { length scripts.now ≡ length seats.old }
     requires names { length room.now.names.now ≡ N.start.graph.size }
-    ensures ok { IfOk result (λ v. AreSessions N.start N.seats (length N.cells) room.now.names.now (contents scripts.now) seats.old seats.new v.items) }
+    ensures ok { IfOk result
+        (λ v. AreSessions N.start N.seats (length N.cells) room.now.names.now (contents scripts.now)
+        seats.old seats.new v.items) }
     ensures fault { IfErr result (λ _. (k : ℕ) ×
-        HaveBegun N.start N.seats (length N.cells) room.now.names.now k (contents scripts.now) seats.old seats.new) }
+        HaveBegun N.start N.seats (length N.cells) room.now.names.now k (contents scripts.now)
+        seats.old seats.new) }
 {
     let Some((seat, rest)) = seats.split_first_mut() else {
         return Ok(Vec::new(room.alloc));
@@ -92,13 +98,18 @@ fn play<'a, N: Name + Send + Sync, R: Threads + Wait + Sync, G: Gate>(
     let bytes = script.as_slice();
     let mut first = || -> Result<u32, SessionEnd>
         requires { length room.now.names.now ≡ N.start.graph.size }
-        ensures { IsSessionOver N.start N.seats (length N.cells) room.entry.now.names.now bytes.entry.now seat.entry.now seat.exit.now result }
+        ensures { IsSessionOver N.start N.seats (length N.cells) room.entry.now.names.now
+            bytes.entry.now seat.entry.now seat.exit.now result }
     { hold(room, bytes, seat) };
     let mut others = || -> Result<Vec<Result<u32, SessionEnd>>, PartyFault>
-        requires { (length left.now ≡ length rest.now) × (length room.now.names.now ≡ N.start.graph.size) }
-        ensures { IfOk result (λ v. AreSessions N.start N.seats (length N.cells) room.entry.now.names.now (contents left.entry.now) rest.entry.now rest.exit.now v.items)
+        requires { (length left.now ≡ length rest.now)
+            × (length room.now.names.now ≡ N.start.graph.size) }
+        ensures { IfOk result
+            (λ v. AreSessions N.start N.seats (length N.cells) room.entry.now.names.now
+            (contents left.entry.now) rest.entry.now rest.exit.now v.items)
             × IfErr result (λ _. (k : ℕ) ×
-            HaveBegun N.start N.seats (length N.cells) room.entry.now.names.now k (contents left.entry.now) rest.entry.now rest.exit.now) }
+            HaveBegun N.start N.seats (length N.cells) room.entry.now.names.now k
+            (contents left.entry.now) rest.entry.now rest.exit.now) }
     { play(room, left, rest) };
     match beside(room.rt, &mut first, &mut others) {
         Ok((end, Ok(ends))) => match with_first(end, ends) {
@@ -117,7 +128,8 @@ fn hold<'a, N: Name, R: Threads + Wait, G: Gate>(
     seat: &mut Seat<N>,
 ) -> Result<u32, SessionEnd>
     requires { length room.now.names.now ≡ N.start.graph.size }
-    ensures { IsSessionOver N.start N.seats (length N.cells) room.now.names.now script.now seat.old seat.new result }
+    ensures { IsSessionOver N.start N.seats (length N.cells) room.now.names.now script.now seat.old
+        seat.new result }
 {
     room.gate.enter(u32::from(seat.number()));
     let mut input = Input::new(script);

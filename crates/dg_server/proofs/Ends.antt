@@ -24,4 +24,5 @@ pub early_taken : (place : ℕ) (ends : List (Result ℕ SessionEnd)) (end : Res
     early 1 (take (place + 1) ends) ≡ early 1 (take place ends) ++ early (place + 1) (end ∷ [])
 early_taken place ends end within longer =
     let number : 1 + length (take place ends) ≡ place + 1 = omega (arith, length-take-le place ends) in
-    ap (early 1) longer ∙ early_more 1 (take place ends) end ∙ ap (λ (t : ℕ). early 1 (take place ends) ++ early t (end ∷ [])) number
+    ap (early 1) longer ∙ early_more 1 (take place ends) end
+    ∙ ap (λ (t : ℕ). early 1 (take place ends) ++ early t (end ∷ [])) number

@@ -27,25 +27,33 @@ seats_back len xs ys rest whole numbers =
     let all : length ys ≡ len = sym (length-map ys number) ∙ ap length numbers ∙ length-map xs number ∙ whole in
     ap (λ k. take k (ys ++ rest)) (sym all) ∙ take-append_seam ys rest
 
-pub held_count : (held : List ℕ → Held) (names all : List (List ℕ)) → MayHoldAll held names all → length all ≡ length names
+pub held_count : (held : List ℕ → Held) (names all : List (List ℕ)) → MayHoldAll held names all
+    → length all ≡ length names
 held_count held [] [] known = refl
 held_count held [] (b ∷ all) known = absurd known
 held_count held (n ∷ names) [] known = absurd known
 held_count held (n ∷ names) (b ∷ all) known = ap suc (held_count held names all known.1)
 
 pub may_play : (held : List ℕ → Held) (n : ℕ) (names : List (Bor (List ℕ))) (all : List (Vec ℕ Global)) →
-    MayHoldAll held (map (λ name. name.now) names) (map (λ script. script.items) all) → n ≡ length names → 1 ≤ n → n ≤ MAX_SEATS → MayHaveSeats (length all)
+    MayHoldAll held (map (λ name. name.now) names) (map (λ script. script.items) all) → n ≡ length names → 1 ≤ n
+    → n ≤ MAX_SEATS → MayHaveSeats (length all)
 may_play held n names all known count least most =
-    let same : length (map (λ (script : Vec ℕ Global). script.items) all) ≡ length (map (λ (name : Bor (List ℕ)). name.now) names) =
-    held_count held (map (λ (name : Bor (List ℕ)). name.now) names) (map (λ (script : Vec ℕ Global). script.items) all) known in
-    let scripts : length (map (λ (script : Vec ℕ Global). script.items) all) ≡ length all = length-map all (λ (script : Vec ℕ Global). script.items) in
-    let given : length (map (λ (name : Bor (List ℕ)). name.now) names) ≡ length names = length-map names (λ (name : Bor (List ℕ)). name.now) in
+    let same : length (map (λ (script : Vec ℕ Global). script.items) all)
+    ≡ length (map (λ (name : Bor (List ℕ)). name.now) names) =
+    held_count held (map (λ (name : Bor (List ℕ)). name.now) names) (map (λ (script : Vec ℕ Global). script.items) all)
+    known in
+    let scripts : length (map (λ (script : Vec ℕ Global). script.items) all) ≡ length all =
+    length-map all (λ (script : Vec ℕ Global). script.items) in
+    let given : length (map (λ (name : Bor (List ℕ)). name.now) names) ≡ length names =
+    length-map names (λ (name : Bor (List ℕ)). name.now) in
     let total : length all ≡ n = sym scripts ∙ same ∙ given ∙ sym count in
     rw total (least, most)
 
-pub party_on : (held : List ℕ → Held) (task : PartyTask) (o : Opening) (names : List (List ℕ)) (all : List (Vec ℕ Global))
+pub party_on : (held : List ℕ → Held) (task : PartyTask) (o : Opening) (names : List (List ℕ))
+    (all : List (Vec ℕ Global))
     (ends : List (Result ℕ SessionEnd)) (text : List ℕ) → DescribesTable (held task.file.now) o names →
-    MayHoldAll held (names_in task) (map (λ script. script.items) all) → IsParty o task.capacity names (contents all) ends text →
+    MayHoldAll held (names_in task) (map (λ script. script.items) all)
+    → IsParty o task.capacity names (contents all) ends text →
     IsPartyOn held task ends text
 party_on held task o names all ends text table known party =
     record { opening = o; names = names; table = table; holds = (contents all, known, party) }

@@ -1,4 +1,5 @@
--- Sessions, parties and sweeps of the program; faults and exit statuses; and when what is asked for is done.
+-- Sessions, parties and sweeps of the program; faults and exit statuses; and when what is asked for
+-- is done.
 pub mod OfTasks
 pub mod Sessions
 pub mod Parties

@@ -1,18 +1,24 @@
 -- Parties: a session over each of the scripts that are named, on one table.
 --   names_in task     == the names of the scripts, in their order
 --   early s ends           == the ends, from seat s on, that came early, each with its seat
---   IsPartyOn held task ends text == on the table of the file that is named, sessions over the scripts came to these ends,
---                             and the text is that of the table's history and totals
---   PlaysParty held task old new == all sessions came to the ends of their scripts, and the output has grown by that text
---   RefusesReading held file names fault == the table file is not read, or it is held, and a script is the first that is not
---   RefusesFiles held file names fault == a file is not read; or all are, and the table file is refused
---   IsPrintedWith ends text fault old new == the output has grown by the text, and the fault tells of the sessions that ended early, of
---                             which there is one, least being the end of the first; or memory was refused before
+--   IsPartyOn held task ends text == on the table of the file that is named, sessions over the
+--                             scripts came to these ends, and the text is that of the table's
+--                             history and totals
+--   PlaysParty held task old new == all sessions came to the ends of their scripts, and the output
+--                         has grown by that text
+--   RefusesReading held file names fault == the table file is not read, or it is held, and a script
+--                         is the first that is not
+--   RefusesFiles held file names fault == a file is not read; or all are, and the table file is
+--                         refused
+--   IsPrintedWith ends text fault old new == the output has grown by the text, and the fault tells
+--                             of the sessions that ended early, of which there is one, least being
+--                             the end of the first; or memory was refused before
 --   EndsSome held task fault old new == so did a party
 --   IsWanting fault        == memory is wanting, or a thread, or the table is not closed
---   RefusesParty held task fault old new == so is the party: there are too many scripts; or a file is not read; or the table
---                             file is refused, where all are; or memory, a thread or the history is refused. The output is as it
---                             was, unless sessions ended early
+--   RefusesParty held task fault old new == so is the party: there are too many scripts; or a file
+--                             is not read; or the table file is refused, where all are; or memory,
+--                             a thread or the history is refused. The output is as it was, unless
+--                             sessions ended early
 use Rattle.std.specs.Prelude.{◌≡◌, ℕ, ◌+◌, ◌<◌, ◌≤◌, List, [], ◌∷◌, length, map, Option, ⊤, ◌⊎◌}
 use Rattle.std.specs.declared.result.Result.{Result}
 use Rattle.std.specs.declared.result.Result.TheVariants.{Ok, Err}
@@ -41,9 +47,11 @@ early s (Err end ∷ ends) = (s, end) ∷ early (s + 1) ends
 
 abbrev pub IsPartyOn : (List ℕ → Held) → PartyTask → List (Result ℕ SessionEnd) → List ℕ → Type 0
 IsPartyOn held task ends text = IsOnTable (held task.file.now) (λ o names.
-    (scripts : List (List ℕ)) × MayHoldAll held (names_in task) scripts × IsParty o task.capacity names scripts ends text)
+    (scripts : List (List ℕ)) × MayHoldAll held (names_in task) scripts
+    × IsParty o task.capacity names scripts ends text)
 
-pub record PlaysParty (held : List ℕ → Held) (task : PartyTask) (old new : Option (List ℕ)) : Type 0 where
+pub record PlaysParty (held : List ℕ → Held) (task : PartyTask) (old new : Option (List ℕ))
+    : Type 0 where
   pub ends : List (Result ℕ SessionEnd)
   pub text : List ℕ
   pub party : IsPartyOn held task ends text
@@ -52,7 +60,8 @@ pub record PlaysParty (held : List ℕ → Held) (task : PartyTask) (old new : O
 
 abbrev pub RefusesReading : (List ℕ → Held) → List ℕ → List (List ℕ) → SourceFault → Type 0
 RefusesReading held file names fault =
-    RefusesHeld (held file) fault ⊎ (((table : List ℕ) × MayHold (held file) table) × IsFirstUnread held names fault)
+    RefusesHeld (held file) fault
+    ⊎ (((table : List ℕ) × MayHold (held file) table) × IsFirstUnread held names fault)
 
 abbrev pub RefusesFiles : (List ℕ → Held) → List ℕ → List (List ℕ) → TaskFault → Type 0
 RefusesFiles held file names (Source fault) = RefusesReading held file names fault
@@ -60,12 +69,15 @@ RefusesFiles held file names (File fault) =
     ((all : List (List ℕ)) × MayHoldAll held names all) × RefusesContents (held file) fault
 RefusesFiles held file names fault = ⊥
 
-abbrev pub IsPrintedWith : List (Result ℕ SessionEnd) → List ℕ → Fault → Option (List ℕ) → Option (List ℕ) → Type 0
+abbrev pub IsPrintedWith : List (Result ℕ SessionEnd) → List ℕ → Fault → Option (List ℕ)
+    → Option (List ℕ) → Type 0
 IsPrintedWith ends text (Sessions least all) old new = (early 1 ends ≡ all.items)
-    × ((seat : ℕ) × (others : List (ℕ × SessionEnd)) × (all.items ≡ (seat, least) ∷ others)) × Appends old new text
+    × ((seat : ℕ) × (others : List (ℕ × SessionEnd)) × (all.items ≡ (seat, least) ∷ others))
+    × Appends old new text
 IsPrintedWith ends text fault old new = (fault ≡ OutOfMemory) × Keeps old new
 
-pub record EndsSome (held : List ℕ → Held) (task : PartyTask) (fault : Fault) (old new : Option (List ℕ)) : Type 0 where
+pub record EndsSome (held : List ℕ → Held) (task : PartyTask) (fault : Fault)
+    (old new : Option (List ℕ)) : Type 0 where
   pub ends : List (Result ℕ SessionEnd)
   pub text : List ℕ
   pub party : IsPartyOn held task ends text
@@ -77,9 +89,11 @@ IsWanting NoThread = ⊤
 IsWanting History = ⊤
 IsWanting fault = ⊥
 
-abbrev pub RefusesParty : (List ℕ → Held) → PartyTask → Fault → Option (List ℕ) → Option (List ℕ) → Type 0
+abbrev pub RefusesParty : (List ℕ → Held) → PartyTask → Fault → Option (List ℕ) → Option (List ℕ)
+    → Type 0
 RefusesParty held task fault old new =
     ((fault ≡ Seats) × (MAX_SEATS < length task.scripts.items) × Keeps old new)
-    ⊎ ((length task.scripts.items ≤ MAX_SEATS) × IsOfTask (RefusesFiles held task.file.now (names_in task)) fault × Keeps old new)
+    ⊎ ((length task.scripts.items ≤ MAX_SEATS)
+    × IsOfTask (RefusesFiles held task.file.now (names_in task)) fault × Keeps old new)
     ⊎ ((length task.scripts.items ≤ MAX_SEATS) × IsWanting fault × Keeps old new)
     ⊎ EndsSome held task fault old new

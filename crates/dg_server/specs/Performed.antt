@@ -1,9 +1,12 @@
--- What is asked for, done or refused. `held` tells what is known of the file of each name; input stands for the bytes that the reader
--- gives, and old and new for what the output held and holds, where those are known.
---   Performs held input asked old new == what is asked for is done: the output has grown by the answer to the task, by the text of a
---                                    call for help, by what a session said, by the history and the totals of a party, or by the
---                                    answers to the lines of a file
---   Refuses held input asked fault old new == what is asked for is refused so, or ended so; a call for help never is
+-- What is asked for, done or refused. `held` tells what is known of the file of each name; input
+-- stands for the bytes that the reader gives, and old and new for what the output held and holds,
+-- where those are known.
+--   Performs held input asked old new == what is asked for is done: the output has grown by the
+--                                    answer to the task, by the text of a call for help, by what a
+--                                    session said, by the history and the totals of a party, or by
+--                                    the answers to the lines of a file
+--   Refuses held input asked fault old new == what is asked for is refused so, or ended so; a call
+--                         for help never is
 use Rattle.std.specs.Prelude.{ℕ, List, Option, string_bytes}
 use Rattle.std.specs.Io.KnownBytes.{Appends, Keeps}
 use Rattle.dg_sources.specs.Held.{Held}
@@ -16,15 +19,19 @@ use Rattle.dg_asked.specs.declared.asked.Asked.{Asked}
 use Rattle.dg_asked.specs.declared.asked.Asked.TheVariants.{Task, Serve, Party, Sweep, Text}
 use Rattle.dg_server.specs.declared.fault.Fault.{Fault}
 
-abbrev pub Performs : (List ℕ → Held) → Option (List ℕ) → Asked → Option (List ℕ) → Option (List ℕ) → Type 0
-Performs held input (Task task) old new = (text : List ℕ) × IsAnswer held task text × Appends old new text
+abbrev pub Performs : (List ℕ → Held) → Option (List ℕ) → Asked → Option (List ℕ) → Option (List ℕ)
+    → Type 0
+Performs held input (Task task) old new = (text : List ℕ) × IsAnswer held task text
+    × Appends old new text
 Performs held input (Serve task) old new = Serves held input task old new
 Performs held input (Party task) old new = PlaysParty held task old new
 Performs held input (Sweep task) old new = Sweeps held task old new
 Performs held input (Text help) old new = Appends old new (string_bytes help)
 
-abbrev pub Refuses : (List ℕ → Held) → Option (List ℕ) → Asked → Fault → Option (List ℕ) → Option (List ℕ) → Type 0
-Refuses held input (Task task) fault old new = IsOfTask (RefusesTask held task) fault × Keeps old new
+abbrev pub Refuses : (List ℕ → Held) → Option (List ℕ) → Asked → Fault → Option (List ℕ)
+    → Option (List ℕ) → Type 0
+Refuses held input (Task task) fault old new = IsOfTask (RefusesTask held task) fault
+    × Keeps old new
 Refuses held input (Serve task) fault old new = RefusesServing held input task fault old new
 Refuses held input (Party task) fault old new = RefusesParty held task fault old new
 Refuses held input (Sweep task) fault old new = RefusesSweeping held task fault old new

@@ -1,9 +1,11 @@
--- Runs of the program: how a run ends. `asks` and `refuses` say what the words of the command line may ask for, and why they may ask for
--- nothing, as their reader has it; `held` tells what is known of the file of each name; input stands for the bytes that the reader gives,
--- and old and new for what the output held and holds, and whether it has failed.
+-- Runs of the program: how a run ends. `asks` and `refuses` say what the words of the command line
+-- may ask for, and why they may ask for nothing, as their reader has it; `held` tells what is known
+-- of the file of each name; input stands for the bytes that the reader gives, and old and new for
+-- what the output held and holds, and whether it has failed.
 --   Succeeds asks held words input old new == what the words ask for is done
---   IsCause asks refuses held words input fault old new == the words are refused so, and the output is as it was; or what the words ask
---                                        for is refused so, or ended so; a fault in writing tells that the output has failed
+--   IsCause asks refuses held words input fault old new == the words are refused so, and the output
+--                         is as it was; or what the words ask for is refused so, or ended so; a
+--                         fault in writing tells that the output has failed
 --   Fails asks refuses held words input n old new == n is the status of a fault that has its cause
 use Rattle.std.specs.Prelude.{◌≡◌, ◌≢◌, ◌⊎◌, ℕ, List, Option, true}
 use Rattle.std.specs.Io.KnownBytes.{Keeps}
@@ -16,31 +18,36 @@ use Rattle.dg_server.specs.Status.{status}
 use Rattle.dg_server.specs.declared.fault.Fault.{Fault}
 use Rattle.dg_server.specs.declared.fault.Fault.TheVariants.{Words, Write}
 
-pub record Succeeds (asks : List (List ℕ) → Asked → Type 0) (held : List ℕ → Held) (words : List (List ℕ)) (input : Option (List ℕ))
+pub record Succeeds (asks : List (List ℕ) → Asked → Type 0) (held : List ℕ → Held)
+    (words : List (List ℕ)) (input : Option (List ℕ))
     (old new : Writing) : Type 0 where
   pub asked : Asked
   pub wanted : asks words asked
   pub done : Performs held input asked old.contents new.contents
 
-pub record IsOfWords (refuses : List (List ℕ) → WordsFault → Type 0) (words : List (List ℕ)) (fault : Fault) (old new : Writing) : Type 0 where
+pub record IsOfWords (refuses : List (List ℕ) → WordsFault → Type 0) (words : List (List ℕ))
+    (fault : Fault) (old new : Writing) : Type 0 where
   pub why : WordsFault
   pub tells : fault ≡ Words why
   pub refused : refuses words why
   pub kept : Keeps old.contents new.contents
 
-pub record IsOfAsked (asks : List (List ℕ) → Asked → Type 0) (held : List ℕ → Held) (words : List (List ℕ)) (input : Option (List ℕ))
+pub record IsOfAsked (asks : List (List ℕ) → Asked → Type 0) (held : List ℕ → Held)
+    (words : List (List ℕ)) (input : Option (List ℕ))
     (fault : Fault) (old new : Writing) : Type 0 where
   pub asked : Asked
   pub wanted : asks words asked
   pub refused : fault ≢ Write → Refuses held input asked fault old.contents new.contents
   pub unwritten : fault ≡ Write → new.has_failed ≡ true
 
-abbrev pub IsCause : (List (List ℕ) → Asked → Type 0) → (List (List ℕ) → WordsFault → Type 0) → (List ℕ → Held) → List (List ℕ) → Option (List ℕ)
+abbrev pub IsCause : (List (List ℕ) → Asked → Type 0) → (List (List ℕ) → WordsFault → Type 0)
+    → (List ℕ → Held) → List (List ℕ) → Option (List ℕ)
     → Fault → Writing → Writing → Type 0
 IsCause asks refuses held words input fault old new =
     IsOfWords refuses words fault old new ⊎ IsOfAsked asks held words input fault old new
 
-pub record Fails (asks : List (List ℕ) → Asked → Type 0) (refuses : List (List ℕ) → WordsFault → Type 0) (held : List ℕ → Held)
+pub record Fails (asks : List (List ℕ) → Asked → Type 0)
+    (refuses : List (List ℕ) → WordsFault → Type 0) (held : List ℕ → Held)
     (words : List (List ℕ)) (input : Option (List ℕ)) (n : ℕ) (old new : Writing) : Type 0 where
   pub fault : Fault
   pub tells : status fault ≡ n

@@ -1,14 +1,19 @@
 -- Sessions over the input.
---   how_of seats          == how the lines name the seats: by number where so many are asked for, and not where none are
---   IsHeard how o n cap names input old new end == a session over the input, of the seats 1 to n, which know of no entry, on a table
---                            with so many seats and cap cells, came to this end; and the output has grown by what it said
---   IsServed how o n cap names input old new end == so it did; and there is one history of the table, in which the entries of each
---                            seat are just those of its own calls, each once and in order
---   Serves held input task old new == such a session came to the end of the input, on the table of the file that is named
---   EndsEarly how o n cap names input fault old new == such a session ended early, for that fault; or the table was not closed
---                            after it; or memory was refused before it began, and the output is as it was
---   RefusesServing held input task fault old new == the table file is refused so, and the output is as it was; or the session
---                            on its table ended so
+--   how_of seats          == how the lines name the seats: by number where so many are asked for,
+--                         and not where none are
+--   IsHeard how o n cap names input old new end == a session over the input, of the seats 1 to n,
+--                            which know of no entry, on a table with so many seats and cap cells,
+--                            came to this end; and the output has grown by what it said
+--   IsServed how o n cap names input old new end == so it did; and there is one history of the
+--                            table, in which the entries of each seat are just those of its own
+--                            calls, each once and in order
+--   Serves held input task old new == such a session came to the end of the input, on the table of
+--                         the file that is named
+--   EndsEarly how o n cap names input fault old new == such a session ended early, for that fault;
+--                            or the table was not closed after it; or memory was refused before it
+--                            began, and the output is as it was
+--   RefusesServing held input task fault old new == the table file is refused so, and the output is
+--                            as it was; or the session on its table ended so
 use Rattle.std.specs.Prelude.{◌≡◌, ℕ, List, Option, None, Some, ◌⊎◌}
 use Rattle.std.specs.declared.result.Result.{Result}
 use Rattle.std.specs.declared.result.Result.TheVariants.{Ok, Err}
@@ -34,7 +39,8 @@ abbrev pub how_of : Option ℕ → Addressing
 how_of None = OneSeat
 how_of (Some n) = BySeat
 
-pub record IsHeard (how : Addressing) (o : Opening) (n cap : ℕ) (names : List (List ℕ)) (input old new : Option (List ℕ))
+pub record IsHeard (how : Addressing) (o : Opening) (n cap : ℕ) (names : List (List ℕ))
+    (input old new : Option (List ℕ))
     (end : Result ℕ SessionEnd) : Type 0 where
   pub rest : Option (List ℕ)
   pub seats : List SeatView
@@ -42,24 +48,31 @@ pub record IsHeard (how : Addressing) (o : Opening) (n cap : ℕ) (names : List 
   pub after : List SeatView
   pub session : IsSessionOf how o n cap names input rest old new seats after end
 
-pub record IsServed (how : Addressing) (o : Opening) (n cap : ℕ) (names : List (List ℕ)) (input old new : Option (List ℕ))
+pub record IsServed (how : Addressing) (o : Opening) (n cap : ℕ) (names : List (List ℕ))
+    (input old new : Option (List ℕ))
     (end : Result ℕ SessionEnd) : Type 0 where
   pub heard : IsHeard how o n cap names input old new end
   pub history : List Entry
   pub closed : IsClosed o n cap heard.after history
 
-abbrev pub Serves : (List ℕ → Held) → Option (List ℕ) → ServeTask → Option (List ℕ) → Option (List ℕ) → Type 0
+abbrev pub Serves : (List ℕ → Held) → Option (List ℕ) → ServeTask → Option (List ℕ)
+    → Option (List ℕ) → Type 0
 Serves held input task old new =
     IsOnTable (held task.file.now) (λ o names. (count : ℕ)
-    × IsServed (how_of task.seats) o (count_of task.seats) task.capacity names input old new (Ok count))
+    × IsServed (how_of task.seats) o (count_of task.seats) task.capacity names input old new
+    (Ok count))
 
-abbrev pub EndsEarly : Addressing → Opening → ℕ → ℕ → List (List ℕ) → Option (List ℕ) → Fault → Option (List ℕ) → Option (List ℕ)
+abbrev pub EndsEarly : Addressing → Opening → ℕ → ℕ → List (List ℕ) → Option (List ℕ) → Fault
+    → Option (List ℕ) → Option (List ℕ)
     → Type 0
-EndsEarly how o n cap names input (Session end) old new = IsServed how o n cap names input old new (Err end)
-EndsEarly how o n cap names input History old new = (end : Result ℕ SessionEnd) × IsHeard how o n cap names input old new end
+EndsEarly how o n cap names input (Session end) old new =
+    IsServed how o n cap names input old new (Err end)
+EndsEarly how o n cap names input History old new = (end : Result ℕ SessionEnd)
+    × IsHeard how o n cap names input old new end
 EndsEarly how o n cap names input fault old new = (fault ≡ OutOfMemory) × Keeps old new
 
-abbrev pub RefusesServing : (List ℕ → Held) → Option (List ℕ) → ServeTask → Fault → Option (List ℕ) → Option (List ℕ) → Type 0
+abbrev pub RefusesServing : (List ℕ → Held) → Option (List ℕ) → ServeTask → Fault → Option (List ℕ)
+    → Option (List ℕ) → Type 0
 RefusesServing held input task fault old new =
     (IsOfTask (RefusesItsTable (held task.file.now)) fault × Keeps old new)
     ⊎ IsOnTable (held task.file.now) (λ o names.

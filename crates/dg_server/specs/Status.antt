@@ -7,7 +7,8 @@
 --   status_of_task fault   == the status where a task is not done so
 --   status_of_end end      == the status where a session ends so
 --   status_of_sweep end    == the status where a sweep ends so
---   status fault           == 2 for a refused command line, 3 for refused input, 4 for want of memory, 5 for reading and writing
+--   status fault           == 2 for a refused command line, 3 for refused input, 4 for want of
+--                         memory, 5 for reading and writing
 use Rattle.std.specs.Prelude.{◌≡◌, ℕ, ◌≤◌, ◌⊎◌}
 use Rattle.dg_asked.specs.declared.words.WordsFault.{WordsFault}
 use Rattle.dg_asked.specs.declared.words.WordsFault.TheVariants.{OutOfMemory as NoMemoryForWords}

@@ -73,9 +73,12 @@ fn read_files<R, S>(
 where
     R: Files + AllocGlobal,
     S: Sources,
-    ensures read { IfOk result (λ r. DescribesTable (S.held sources.now task.now.file.now) r.0.start r.0.names ×
-        MayHoldAll (S.held sources.now) (names_in task.now) (map (λ script. script.items) r.1.items)) }
-    ensures refused { IfErr result (IsOfTask (RefusesFiles (S.held sources.now) task.now.file.now (names_in task.now))) }
+    ensures read { IfOk result
+        (λ r. DescribesTable (S.held sources.now task.now.file.now) r.0.start r.0.names ×
+        MayHoldAll (S.held sources.now) (names_in task.now)
+        (map (λ script. script.items) r.1.items)) }
+    ensures refused { IfErr result
+        (IsOfTask (RefusesFiles (S.held sources.now) task.now.file.now (names_in task.now))) }
 {
     let file = match sources.bytes(rt, task.file) {
         Ok(file) => file,
@@ -99,7 +102,9 @@ fn print_played<O: Write>(
 ) -> Result<(), Fault>
     ensures whole { OnOk result ((early 1 played.now.ends.items ≡ []) ×
         Appends output.old.contents output.new.contents played.now.text.items) }
-    ensures refused { IfErr result (λ fault. fault ≢ Fault.Write → IsPrintedWith played.now.ends.items played.now.text.items fault
+    ensures refused { IfErr result
+        (λ fault. fault ≢ Fault.Write
+        → IsPrintedWith played.now.ends.items played.now.text.items fault
         output.old.contents output.new.contents) }
     ensures failed { result ≡ Err Fault.Write → output.new.has_failed ≡ true }
 {

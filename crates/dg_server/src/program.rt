@@ -33,9 +33,11 @@ where
     I: BufRead + Drop,
     O: Write,
     ensures done { OnOk result
-        (Performs (S.held sources.now) (I.remaining input) asked.entry output.old.contents output.new.contents) }
+        (Performs (S.held sources.now) (I.remaining input) asked.entry output.old.contents
+        output.new.contents) }
     ensures refused { IfErr result (λ fault. fault ≢ Fault.Write →
-        Refuses (S.held sources.now) (I.remaining input) asked.entry fault output.old.contents output.new.contents) }
+        Refuses (S.held sources.now) (I.remaining input) asked.entry fault output.old.contents
+        output.new.contents) }
     ensures failed { result ≡ Err Fault.Write → output.new.has_failed ≡ true }
     ensures unswept { result ≡ Err (Fault.Sweep SweepEnd.Write) → output.new.has_failed ≡ true }
     ensures unheard { result ≡ Err (Fault.Session SessionEnd.Write) → output.new.has_failed ≡ true }

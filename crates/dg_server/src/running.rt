@@ -34,9 +34,11 @@ where
     F: Write,
     ensures status { IsStatus result }
     ensures done { result ≡ 0 →
-        Succeeds (W.asks reader.now) (S.held sources.now) (map string_bytes words.now) (I.remaining input) output.old output.new }
+        Succeeds (W.asks reader.now) (S.held sources.now) (map string_bytes words.now)
+        (I.remaining input) output.old output.new }
     ensures failed { result ≢ 0 →
-        Fails (W.asks reader.now) (W.refuses reader.now) (S.held sources.now) (map string_bytes words.now) (I.remaining input) result
+        Fails (W.asks reader.now) (W.refuses reader.now) (S.held sources.now)
+        (map string_bytes words.now) (I.remaining input) result
         output.old output.new }
 {
     match reader.asked(rt.alloc(), words) {

@@ -34,10 +34,12 @@ where
     I: Read + Drop,
     O: Write,
     ensures done { OnOk result
-        (Serves (S.held sources.now) (I.remaining input) task.now output.old.contents output.new.contents) }
+        (Serves (S.held sources.now) (I.remaining input) task.now output.old.contents
+        output.new.contents) }
     ensures no_write { IfErr result (λ fault. fault ≢ Fault.Write) }
     ensures failed { result ≡ Err (Fault.Session SessionEnd.Write) → output.new.has_failed ≡ true }
-    ensures refused { IfErr result (λ fault. RefusesServing (S.held sources.now) (I.remaining input) task.now fault
+    ensures refused { IfErr result
+        (λ fault. RefusesServing (S.held sources.now) (I.remaining input) task.now fault
         output.old.contents output.new.contents) }
 {
     let table = match table_in(rt, sources, task.file) {
@@ -87,12 +89,13 @@ where
     requires seats { seats ≡ N.seats }
     requires some { MayHaveSeats seats }
     requires workers { MayHaveWorkers workers }
-    ensures done { OnOk result ((count : ℕ) × IsServed how table.now.start seats (length row) table.now.names
-        (I.remaining input) output.old.contents output.new.contents (Ok count)) }
+    ensures done { OnOk result ((count : ℕ)
+        × IsServed how table.now.start seats (length row) table.now.names (I.remaining input)
+        output.old.contents output.new.contents (Ok count)) }
     ensures no_write { IfErr result (λ fault. fault ≢ Fault.Write) }
     ensures failed { result ≡ Err (Fault.Session SessionEnd.Write) → output.new.has_failed ≡ true }
-    ensures early { IfErr result (λ fault. EndsEarly how table.now.start seats (length row) table.now.names
-        (I.remaining input) fault output.old.contents output.new.contents) }
+    ensures early { IfErr result (λ fault. EndsEarly how table.now.start seats (length row)
+        table.now.names (I.remaining input) fault output.old.contents output.new.contents) }
 {
     let alloc = rt.alloc();
     let (opened, mut all) = match Table::<N>::open(alloc, row, table.start(), seats) {

@@ -24,7 +24,8 @@ where
     R: Files + AllocGlobal + Threads + Wait + Sync,
     S: Sources,
     O: Write,
-    ensures done { OnOk result (Sweeps (S.held sources.now) task.now output.old.contents output.new.contents) }
+    ensures done { OnOk result
+        (Sweeps (S.held sources.now) task.now output.old.contents output.new.contents) }
     ensures no_write { IfErr result (λ fault. fault ≢ Fault.Write) }
     ensures failed { result ≡ Err (Fault.Sweep SweepEnd.Write) → output.new.has_failed ≡ true }
     ensures refused { IfErr result (λ fault. RefusesSweeping (S.held sources.now) task.now fault

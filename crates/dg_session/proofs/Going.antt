@@ -11,37 +11,41 @@
 use Rattle.std.proofs.Common.{◌≡◌, ◌≢◌, ℕ, ◌+◌, ◌<◌, ◌≤◌, inl, inr, List, [], ◌∷◌, ◌++◌, length, take, drop, refl, sym, ap, subst, ◌∙◌, arith, append_assoc, append-nil, length-append, take-append-drop}
 use Rattle.std.proofs.lemmas.List.Elements.{All-append, All-nil, All-take}
 use Rattle.std.proofs.lemmas.List.{length-take-le}
-use Rattle.dg_session.specs.Streams.{HasNoNewline, IsLine, Begins, AreLines, last_line}
-use Rattle.dg_session.specs.Speakers.{Speakers}
-use Rattle.dg_session.specs.Ends.{Answering, Answers}
-use Rattle.dg_session.specs.SoFar.{Setup, SoFar, Talk, IsAnswered, IsReady, Goes, Halts, RefusesPart, StaysAt, answers, refuses}
+use Rattle.dg_lines.specs.Streams.{HasNoNewline, Begins, last_line}
+use Rattle.dg_lines.proofs.Streams.{begins_none, begins_one, begins_then, begins_more, one_line}
+use Rattle.dg_session.specs.Setup.{Setup}
+use Rattle.dg_session.specs.Streams.{IsLine, AreLines}
+use Rattle.dg_session.specs.Speakers.{Speakers, AnswersLineOf, RefusesLineOf}
+use Rattle.dg_session.specs.Ends.{Answers}
+use Rattle.dg_session.specs.SoFar.{SoFar, Talk, IsAnswered, IsReady, Goes, Halts, RefusesPart, StaysAt}
 use Rattle.dg_session.specs.declared.ends.TheConstants.{MAX_LINE, MAX_LINES}
 use Rattle.dg_session.specs.declared.ends.SessionEnd.{SessionEnd}
 use Rattle.dg_session.specs.declared.ends.SessionEnd.TheVariants.{LongLine, Turns}
-use Rattle.dg_session.proofs.Cutting.{begins_none, begins_one, begins_then, begins_more, lines_end, one_line}
+use Rattle.dg_session.proofs.Cutting.{lines_end}
 use Rattle.dg_session.proofs.Seated.{sizes_kept}
 
-pub answers_none : (A : Answering) (s : Speakers) → Answers A s [] s []
+pub answers_none : (t : Setup) (s : Speakers) → Answers t s [] s []
 unfolding Answers
-answers_none A s = (refl, refl)
+answers_none t s = (refl, refl)
 
-pub answers_one : (A : Answering) (s z : Speakers) (line t : List ℕ) → A s line z t → Answers A s (line ∷ []) z t
+pub answers_one : (t : Setup) (s z : Speakers) (line text : List ℕ) → AnswersLineOf t s line z text
+    → Answers t s (line ∷ []) z text
 unfolding Answers
-answers_one A s z line t p = (z, t, [], p, (refl, refl), sym (append-nil t))
+answers_one t s z line text p = (z, text, [], p, (refl, refl), sym (append-nil text))
 
-pub answers_more : (A : Answering) (s m z : Speakers) (ls ls' : List (List ℕ)) (t t' : List ℕ)
-    → Answers A s ls m t → Answers A m ls' z t' → Answers A s (ls ++ ls') z (t ++ t')
+pub answers_more : (t : Setup) (s m z : Speakers) (ls ls' : List (List ℕ)) (text text' : List ℕ)
+    → Answers t s ls m text → Answers t m ls' z text' → Answers t s (ls ++ ls') z (text ++ text')
 unfolding Answers
-answers_more A s m z [] ls' t t' p q =
-    subst (λ k. Answers A k ls' z (t ++ t')) p.0 (subst (Answers A m ls' z) (sym (ap (λ text. text ++ t') p.1)) q)
-answers_more A s m z (line ∷ ls) ls' t t' p q =
-    let (first, front, back, answer, more, text) = p in (
+answers_more t s m z [] ls' text text' p q =
+    subst (λ k. Answers t k ls' z (text ++ text')) p.0 (subst (Answers t m ls' z) (sym (ap (λ l. l ++ text') p.1)) q)
+answers_more t s m z (line ∷ ls) ls' text text' p q =
+    let (first, front, back, answer, more, whole) = p in (
       first,
       front,
-      back ++ t',
+      back ++ text',
       answer,
-      answers_more A first m z ls ls' back t' more q,
-      ap (λ l. l ++ t') text ∙ append_assoc front back t',
+      answers_more t first m z ls ls' back text' more q,
+      ap (λ l. l ++ text') whole ∙ append_assoc front back text',
     )
 
 pub line_with : {at : SoFar} (part : List ℕ) → IsReady at → HasNoNewline part
@@ -60,7 +64,7 @@ goes_none {t} {at} {bytes} {text} none ready = record {
   ls = [];
   came = begins_none (at.pending ++ bytes);
   counted = omega arith;
-  answered = subst (Answers (answers t) at.who [] at.who) (sym none) (answers_none (answers t) at.who);
+  answered = subst (Answers t at.who [] at.who) (sym none) (answers_none t at.who);
   ready = ready;
 }
 
@@ -69,10 +73,11 @@ pub goes_more : {t : Setup} {old mid new : SoFar} {b c rest text more : List ℕ
     → Goes t old (b ++ c) rest new (text ++ more)
 goes_more {t} {old} {mid} {new} {b} {c} {rest} {text} {more} g h = record {
   ls = g.ls ++ h.ls;
-  came = subst (λ l. Begins l (g.ls ++ h.ls) (new.pending ++ rest)) (append_assoc old.pending b c)
-      (begins_then (begins_more c (subst (Begins (old.pending ++ b) g.ls) (append-nil mid.pending) g.came)) h.came);
+  came = subst (λ l. Begins IsLine l (g.ls ++ h.ls) (new.pending ++ rest)) (append_assoc old.pending b c)
+      (begins_then (begins_more c (subst (Begins IsLine (old.pending ++ b) g.ls) (append-nil mid.pending) g.came))
+      h.came);
   counted = let size = length-append g.ls h.ls in omega (arith, size, g.counted, h.counted);
-  answered = answers_more (answers t) old.who mid.who new.who g.ls h.ls text more g.answered h.answered;
+  answered = answers_more t old.who mid.who new.who g.ls h.ls text more g.answered h.answered;
   ready = h.ready;
 }
 
@@ -86,7 +91,8 @@ module _ {t : Setup} {old at : SoFar} {bytes rest text : List ℕ} (g : Goes t o
       → Goes t old bytes [] (record at { pending = p }) text
   goes_part part p cut grown plain short other = record {
     ls = g.ls;
-    came = subst (Begins (old.pending ++ bytes) g.ls) (ap (λ l. at.pending ++ l) cut ∙ sym (append-nil p ∙ grown))
+    came = subst (Begins IsLine (old.pending ++ bytes) g.ls)
+        (ap (λ l. at.pending ++ l) cut ∙ sym (append-nil p ∙ grown))
         g.came;
     counted = g.counted;
     answered = g.answered;
@@ -109,13 +115,13 @@ module _ {t : Setup} {old at : SoFar} {bytes rest text : List ℕ} (g : Goes t o
       let line = at.pending ++ part in
       let sizes = sizes_kept t at.who new.who line said.text said.holds in record {
         ls = g.ls ++ line ∷ [];
-        came = subst (λ p. Begins (old.pending ++ bytes) (g.ls ++ line ∷ []) (p ++ more)) (sym none)
-            (begins_then g.came (subst (λ l. Begins l (line ∷ []) more)
+        came = subst (λ p. Begins IsLine (old.pending ++ bytes) (g.ls ++ line ∷ []) (p ++ more)) (sym none)
+            (begins_then g.came (subst (λ l. Begins IsLine l (line ∷ []) more)
             (append_assoc at.pending part (10 ∷ more) ∙ ap (λ l. at.pending ++ l) (sym cut)) (begins_one more is)));
         counted = let size = length-append g.ls (line ∷ []) in omega (arith, size, g.counted, next);
-        answered = subst (Answers (answers t) old.who (g.ls ++ line ∷ []) new.who) (sym said.said)
-            (answers_more (answers t) old.who at.who new.who g.ls (line ∷ []) text said.text g.answered
-            (answers_one (answers t) at.who new.who line said.text said.holds));
+        answered = subst (Answers t old.who (g.ls ++ line ∷ []) new.who) (sym said.said)
+            (answers_more t old.who at.who new.who g.ls (line ∷ []) text said.text g.answered
+            (answers_one t at.who new.who line said.text said.holds));
         ready = record {
           line = empty_line new.pending none;
           few = omega (arith, few, next);
@@ -150,7 +156,8 @@ module _ {t : Setup} {old at : SoFar} {bytes rest text : List ℕ} (g : Goes t o
 
   pub halts_line : {E : Type 0} {text' : List ℕ} {z : Speakers} {end : SessionEnd} (part more : List ℕ)
       → rest ≡ part ++ 10 ∷ more
-      → IsLine (at.pending ++ part) → at.count < MAX_LINES → refuses t at.who (at.pending ++ part) z end → text' ≡ text
+      → IsLine (at.pending ++ part) → at.count < MAX_LINES → RefusesLineOf t at.who (at.pending ++ part) z end
+      → text' ≡ text
       → Halts t E old bytes z text' end
   halts_line {E} {text'} {z} {end} part more cut is few refused same = subst (λ l. Halts t E old bytes z l end)
       (sym same)
@@ -164,7 +171,7 @@ module _ {t : Setup} {old at : SoFar} {bytes rest text : List ℕ} (g : Goes t o
             omega arith,
             inl (
               more,
-              subst (λ l. Begins l ((at.pending ++ part) ∷ []) more)
+              subst (λ l. Begins IsLine l ((at.pending ++ part) ∷ []) more)
                   (append_assoc at.pending part (10 ∷ more) ∙ ap (λ l. at.pending ++ l) (sym cut)) (begins_one more is),
             ),
           );
@@ -174,26 +181,26 @@ module _ {t : Setup} {old at : SoFar} {bytes rest text : List ℕ} (g : Goes t o
       })
 
 -- what is pending is the last line
-pub last_none : (A : Answering) (s : Speakers) (p text : List ℕ) → length p ≡ 0 → text ≡ []
-    → Answers A s (last_line p) s text
-last_none A s [] text none unsaid = subst (Answers A s [] s) (sym unsaid) (answers_none A s)
-last_none A s (b ∷ bs) text none unsaid = absurd (omega (arith, none))
+pub last_none : (t : Setup) (s : Speakers) (p text : List ℕ) → length p ≡ 0 → text ≡ []
+    → Answers t s (last_line p) s text
+last_none t s [] text none unsaid = subst (Answers t s [] s) (sym unsaid) (answers_none t s)
+last_none t s (b ∷ bs) text none unsaid = absurd (omega (arith, none))
 
 pub last_counted : (p : List ℕ) (c : ℕ) → length p ≡ 0 → c ≡ c + length (last_line p)
 last_counted [] c none = omega arith
 last_counted (b ∷ bs) c none = absurd (omega (arith, none))
 
 pub last_one : {t : Setup} {old new : Talk} (p : List ℕ) → 1 ≤ length p → old.said ≡ [] → IsAnswered t (p ++ []) old new
-    → Answers (answers t) old.who (last_line p) new.who new.said
+    → Answers t old.who (last_line p) new.who new.said
 last_one [] some none said = absurd (omega (arith, some))
 last_one {t} {old} {new} (b ∷ bs) some none said =
-    subst (Answers (answers t) old.who ((b ∷ bs) ∷ []) new.who) (sym (said.said ∙ ap (λ l. l ++ said.text) none))
-    (answers_one (answers t) old.who new.who (b ∷ bs) said.text
-    (subst (λ l. answers t old.who l new.who said.text) (append-nil (b ∷ bs)) said.holds))
+    subst (Answers t old.who ((b ∷ bs) ∷ []) new.who) (sym (said.said ∙ ap (λ l. l ++ said.text) none))
+    (answers_one t old.who new.who (b ∷ bs) said.text
+    (subst (λ l. AnswersLineOf t old.who l new.who said.text) (append-nil (b ∷ bs)) said.holds))
 
 pub last_halts : {t : Setup} {E : Type 0} {at : SoFar} {z : Speakers} {old text : List ℕ} {end : SessionEnd} → E
     → IsReady at
-    → 1 ≤ length at.pending → old ≡ [] → refuses t at.who (at.pending ++ []) z end → text ≡ old
+    → 1 ≤ length at.pending → old ≡ [] → RefusesLineOf t at.who (at.pending ++ []) z end → text ≡ old
     → Halts t E at [] z text end
 last_halts {t} {E} {at} {z} {old} {text} {end} over ready some none refused same = record {
   rest = [];
@@ -204,6 +211,6 @@ last_halts {t} {E} {at} {z} {old} {text} {end} over ready some none refused same
     came = subst (AreLines E (at.pending ++ [])) (one_line at.pending some) (lines_end at.pending over ready.line);
     few = let other : at.count ≢ MAX_LINES = λ all. omega (arith, some, ap length (ready.full all)) in
         omega (arith, other, ready.few);
-    stops = subst (λ l. refuses t at.who l z end) (append-nil at.pending) refused;
+    stops = subst (λ l. RefusesLineOf t at.who l z end) (append-nil at.pending) refused;
   });
 }

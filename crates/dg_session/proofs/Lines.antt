@@ -8,17 +8,16 @@ use Rattle.dg_lines.specs.LineFaults.{IsLineFault}
 use Rattle.dg_lines.specs.declared.line.LineFault.{LineFault}
 use Rattle.dg_session.specs.Saying.{fault_text}
 use Rattle.dg_session.specs.Refusing.{RefusesCommand, RefusesLine}
-use Rattle.dg_session.specs.SoFar.{Setup, Speaker, Tells, Hears, Obeys}
+use Rattle.dg_session.specs.Setup.{Setup}
+use Rattle.dg_session.specs.SoFar.{Speaker, Tells, Hears, Obeys}
 use Rattle.dg_session.specs.declared.ends.SessionEnd.{SessionEnd}
-use Rattle.dg_session.specs.declared.ends.SessionEnd.TheVariants.{Table, Memory, Spawn}
+use Rattle.dg_session.specs.declared.ends.SessionEnd.TheVariants.{Memory}
 use Rattle.dg_session.proofs.Made.{gains_same}
 
 line_refused : (t : Setup) (line : List ℕ) (command : Command) (old new : Speaker) (end : SessionEnd)
     → IsCommandLine t.names command line
-    → RefusesCommand t.opening t.seats t.cap t.names old.kept command old.seat new.seat end
-    → RefusesLine t.opening t.seats t.cap t.names old.kept line old.seat new.seat end
-line_refused t line command old new (Table fault) spelled h = (command, spelled, h.0, h.1, h.2)
-line_refused t line command old new Spawn spelled h = (command, spelled, h.0, h.1)
+    → RefusesCommand t old.kept command old.seat new.seat end
+    → RefusesLine t old.kept line old.seat new.seat end
 line_refused t line command old new Memory spelled h = record {
   more = h.more;
   next = elim h.next [
@@ -27,7 +26,7 @@ line_refused t line command old new Memory spelled h = record {
   ];
   gained = h.gained;
 }
-line_refused t line command old new end spelled h = h
+line_refused t line command old new end spelled h = (command, spelled, h)
 
 pub heard : {B : Type 0} {t : Setup} {line : List ℕ} {command : Command} {old new : Speaker}
     {result : Result B SessionEnd}
@@ -63,7 +62,7 @@ bad_heard {old = old} {result = Ok b} fault bad told = record {
 }
 bad_heard {t = t} {line} {old = old} {result = Err end} fault bad told = record {
   done = tt;
-  refused = subst (RefusesLine t.opening t.seats t.cap t.names old.kept line old.seat old.seat) (sym told.0)
+  refused = subst (RefusesLine t old.kept line old.seat old.seat) (sym told.0)
       (record { more = []; next = inl refl; gained = gains_same old.seat });
   unsaid = told.1;
 }

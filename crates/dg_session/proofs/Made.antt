@@ -45,7 +45,8 @@ use Rattle.dg_session.specs.declared.ends.SessionEnd.{SessionEnd}
 use Rattle.dg_session.specs.declared.ends.SessionEnd.TheVariants.{Table}
 use Rattle.dg_session.specs.Speakers.{kept_number}
 use Rattle.dg_session.specs.Refusing.{CallsTable, RefusesCommand}
-use Rattle.dg_session.specs.SoFar.{Setup, Speaker, Tells, Obeys}
+use Rattle.dg_session.specs.Setup.{Setup}
+use Rattle.dg_session.specs.SoFar.{Speaker, Tells, Obeys}
 
 pub gains_none : (x y : SeatView) → Keeps x y → Gains x y []
 gains_none x y keeps = record {
@@ -136,7 +137,7 @@ named {r = r} names size stands = subst (λ n. HasSize n r.1.reply) (sym size) s
 pub entered : {B : Type 0} {t : Setup} {command : Command} {request : Request} {r : ℕ × Entry} {old new : Speaker}
     {result : Result B SessionEnd} → Stands t.opening request r old.seat new.seat
     → ((made : List (ℕ × Entry)) (after : Option ℕ) (text : List ℕ) → Enters t.names old.kept request made after text
-    → AnswersCommand t.opening t.names old.kept command made after text)
+    → AnswersCommand t old.kept command made after text)
     → OnOk result (new.kept ≡ look_after old.kept r.0 request)
     → Tells (entry_text t.names r.0 r.1.reply) old.said new.said result → Obeys t command old new result
 entered {t = t} {r = r} {old} {new} {result = Ok b} stands opens keeps told = record {
@@ -153,13 +154,14 @@ entered {t = t} {r = r} {old} {new} {result = Ok b} stands opens keeps told = re
 }
 entered {t = t} {command} {r = r} {old} {new} {result = Err end} stands opens keeps told = record {
   done = tt;
-  refused = subst (RefusesCommand t.opening t.seats t.cap t.names old.kept command old.seat new.seat) (sym told.0)
+  refused = subst (RefusesCommand t old.kept command old.seat new.seat) (sym told.0)
       (record {
         more = r ∷ [];
         next = inr (
           kept_after old.kept r,
           entry_text t.names r.0 r.1.reply,
-          opens (r ∷ []) (kept_after old.kept r) (entry_text t.names r.0 r.1.reply) (r, stands.asked', refl, refl, refl),
+          opens (r ∷ []) (kept_after old.kept r) (entry_text t.names r.0 r.1.reply)
+              (r, stands.asked', refl, refl, refl),
         );
         gained = stands.gained;
       });
@@ -169,7 +171,7 @@ entered {t = t} {command} {r = r} {old} {new} {result = Err end} stands opens ke
 -- nothing is made, and some words are said, or are not for want of memory
 pub words_said : {B : Type 0} {t : Setup} {command : Command} {x : SeatView} {kept after : Option ℕ} {old new : List ℕ}
     {result : Result B SessionEnd} (words : List ℕ) → OnOk result
-    (AnswersCommand t.opening t.names kept command [] after words)
+    (AnswersCommand t kept command [] after words)
     → Tells words old new result
     → Obeys t command (record { seat = x; kept = kept; said = old }) (record { seat = x; kept = after; said = new })
     result
@@ -180,7 +182,7 @@ words_said {x = x} {result = Ok b} words answers told = record {
 }
 words_said {t = t} {command} {x} {kept} {result = Err end} words answers told = record {
   done = tt;
-  refused = subst (RefusesCommand t.opening t.seats t.cap t.names kept command x x) (sym told.0)
+  refused = subst (RefusesCommand t kept command x x) (sym told.0)
       (record { more = []; next = inl refl; gained = gains_same x });
   unsaid = told.1;
 }
@@ -214,7 +216,7 @@ with_look {t = t} {command} {x} {said = said} {new} {result} is obeys =
 pub with_none : {B : Type 0} {t : Setup} {command : Command} {x : SeatView} {kept after : Option LookView}
     {old new : List ℕ}
     {result : Result B SessionEnd} → kept ≡ None → after ≡ None
-    → AnswersCommand t.opening t.names None command [] None (codes "bad look\n")
+    → AnswersCommand t None command [] None (codes "bad look\n")
     → Tells (codes "bad look\n") old new result
     → Obeys t command (record { seat = x; kept = kept_number kept; said = old })
     (record { seat = x; kept = kept_number after; said = new }) result

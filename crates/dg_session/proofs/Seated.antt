@@ -14,8 +14,9 @@ use Rattle.dg_analyst.specs.Views.{LookView}
 use Rattle.dg_lines.specs.Steps.{IsSeated}
 use Rattle.dg_lines.proofs.Stepping.{seated_parts}
 use Rattle.dg_session.specs.Refusing.{RefusesLine}
-use Rattle.dg_session.specs.Speakers.{Speakers, speakers, kept_number, IsFor, IsForNone, Becomes}
-use Rattle.dg_session.specs.SoFar.{Setup, Tells, Hears, Handles, answers, refuses}
+use Rattle.dg_session.specs.Setup.{Setup}
+use Rattle.dg_session.specs.Speakers.{Speakers, speakers, kept_number, IsFor, IsForNone, Becomes, AnswersLineOf, RefusesLineOf}
+use Rattle.dg_session.specs.SoFar.{Tells, Hears, Handles}
 use Rattle.dg_session.specs.declared.addressing.Addressing.TheVariants.{BySeat}
 use Rattle.dg_session.specs.declared.ends.SessionEnd.{SessionEnd}
 use Rattle.dg_session.specs.declared.ends.SessionEnd.TheVariants.{Table, Memory, Spawn}
@@ -127,16 +128,17 @@ unspoken {result = Ok b} none told =
 unspoken {result = Err end} none told = record { done = tt; refused = inl (told.0, refl); unsaid = told.1 }
 
 -- a line that is refused ends a session for what the table, the memory or a thread refused
-pub ends_by : (t : Setup) (s z : Speakers) (line : List ℕ) (end : SessionEnd) → refuses t s line z end → IsLineEnd end
+pub ends_by : (t : Setup) (s z : Speakers) (line : List ℕ) (end : SessionEnd) → RefusesLineOf t s line z end
+    → IsLineEnd end
 ends_by t s z line (Table fault) r = tt
 ends_by t s z line Spawn r = tt
 ends_by t s z line Memory r = tt
 ends_by t s z line end r = elim r [
   | inl p ↦ (cc)
-  | inr q ↦ q.3.refused
+  | inr q ↦ q.3.refused.2
 ]
 
-pub sizes_kept : (t : Setup) (s z : Speakers) (line text : List ℕ) → answers t s line z text
+pub sizes_kept : (t : Setup) (s z : Speakers) (line text : List ℕ) → AnswersLineOf t s line z text
     → (length z.seats ≡ length s.seats) × (length z.kept ≡ length s.kept)
 sizes_kept t s z line text a = elim a [
   | inl p ↦ (ap (λ (w : Speakers). length w.seats) p.1, ap (λ (w : Speakers). length w.kept) p.1)
@@ -147,20 +149,21 @@ sizes_kept t s z line text a = elim a [
 ]
 
 number_left : (t : Setup) (k : Option ℕ) (text : List ℕ) (x y : SeatView) (end : SessionEnd)
-    → RefusesLine t.opening t.seats t.cap t.names k text x y end → y.number ≡ x.number
-number_left t k text x y (Table fault) h = let (command, spelled, calls, refuses, gained) = h in gained.number
-number_left t k text x y Spawn h = let (command, spelled, tries, gained) = h in gained.number
+    → RefusesLine t k text x y end → y.number ≡ x.number
+number_left t k text x y (Table fault) h = h.2.2.number
+number_left t k text x y Spawn h = h.2.1.number
 number_left t k text x y Memory h = h.gained.number
-number_left t k text x y end h = absurd h
+number_left t k text x y end h = absurd h.2
 
-pub numbers_said : (t : Setup) (s z : Speakers) (line text : List ℕ) → answers t s line z text → numbers z ≡ numbers s
+pub numbers_said : (t : Setup) (s z : Speakers) (line text : List ℕ) → AnswersLineOf t s line z text
+    → numbers z ≡ numbers s
 numbers_said t s z line text a = elim a [
   | inl p ↦ ap numbers p.1
   | inr q ↦ ap (map (λ (x : SeatView). x.number)) q.3.turn.seats
       ∙ numbers_set s.seats q.0 q.3.x q.3.y q.3.turn.seat q.3.gained.number
 ]
 
-pub numbers_left : (t : Setup) (s z : Speakers) (line : List ℕ) (end : SessionEnd) → refuses t s line z end
+pub numbers_left : (t : Setup) (s z : Speakers) (line : List ℕ) (end : SessionEnd) → RefusesLineOf t s line z end
     → numbers z ≡ numbers s
 numbers_left t s z line end r = elim r [
   | inl p ↦ ap numbers p.1

@@ -1,6 +1,7 @@
--- Sessions: how a stream is cut into lines, how the lines of a seat are answered or end a session, whom lines are for, and how a
--- session ends.
+-- Sessions: how a stream is cut into lines, how the lines of a seat are answered or end a session,
+-- whom lines are for, and how a session ends.
 pub mod Streams
+pub mod Setup
 pub mod Saying
 pub mod Refusing
 pub mod Speakers

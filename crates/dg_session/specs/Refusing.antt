@@ -1,13 +1,15 @@
--- Where a session ends at a line of one seat; x is the seat before the line and y after it, and `kept` is the number of the look that
--- it keeps, if it keeps one.
---   CallsTable n kept command == the command makes an entry, where the table takes it: with that look kept, on n vertices
+-- Where a session ends at a line of one seat; x is the seat before the line and y after it, and
+-- `kept` is the number of the look that it keeps, if it keeps one.
+--   CallsTable n kept command == the command makes an entry, where the table takes it: with that
+--                                look kept, on n vertices
 --   TriesRank n kept command  == the command tries a rank on the look that is kept
---   MadeAtMost A x y          == the seat has made nothing, or what it makes where it is answered as A says
---   RefusesCommand o seats cap names kept command x y end == the command is not answered, and the session ends so: for what the
---                                table, the memory or a thread refused; where memory was refused, the entry may stand
---   RefusesLine o seats cap names kept line x y end       == so is the line, as its command
+--   MadeAtMost A x y          == the seat has made nothing, or what it makes where it is answered
+--                                as A says
+--   RefusesCommand t kept command x y end == the command is not answered, and the session ends so:
+--                                for what the table, the memory or a thread refused; where memory
+--                                was refused, the entry may stand
+--   RefusesLine t kept line x y end       == so is the line, as its command
 use Rattle.std.specs.Prelude.{◌≡◌, ℕ, ◌⊎◌, List, [], Option, None, Some, ⊤}
-use Rattle.dg_chips.specs.Opening.{Opening}
 use Rattle.dg_rank.specs.Ranks.{IsWithin}
 use Rattle.dg_game.specs.declared.entry.Entry.{Entry}
 use Rattle.dg_game.specs.declared.step.Command.{Command}
@@ -15,6 +17,7 @@ use Rattle.dg_game.specs.declared.step.Command.TheVariants.{Call, Commit, Rank}
 use Rattle.dg_table.specs.Seats.{SeatView}
 use Rattle.dg_table.specs.Faults.{RefusesCall}
 use Rattle.dg_lines.specs.Commands.{IsCommandLine}
+use Rattle.dg_session.specs.Setup.{Setup}
 use Rattle.dg_session.specs.Saying.{Gains, AnswersCommand, AnswersLine}
 use Rattle.dg_session.specs.declared.ends.SessionEnd.{SessionEnd}
 use Rattle.dg_session.specs.declared.ends.SessionEnd.TheVariants.{Table, Memory, Spawn}
@@ -30,22 +33,22 @@ abbrev pub TriesRank : ℕ → Option ℕ → Command → Type 0
 TriesRank n (Some i) (Rank k) = IsWithin n k
 TriesRank n kept command = ⊥
 
-pub record MadeAtMost (A : List (ℕ × Entry) → Option ℕ → List ℕ → Type 0) (x y : SeatView) : Type 0 where
+pub record MadeAtMost (A : List (ℕ × Entry) → Option ℕ → List ℕ → Type 0) (x y : SeatView)
+    : Type 0 where
   pub more : List (ℕ × Entry)
   pub next : (more ≡ []) ⊎ ((after : Option ℕ) × (said : List ℕ) × A more after said)
   pub gained : Gains x y more
 
-abbrev pub RefusesCommand : Opening → ℕ → ℕ → List (List ℕ) → Option ℕ → Command → SeatView → SeatView → SessionEnd → Type 0
-RefusesCommand o seats cap names kept command x y (Table fault) =
-    CallsTable o.graph.size kept command × RefusesCall o seats cap y fault × Gains x y []
-RefusesCommand o seats cap names kept command x y Spawn = TriesRank o.graph.size kept command × Gains x y []
-RefusesCommand o seats cap names kept command x y Memory = MadeAtMost (AnswersCommand o names kept command) x y
-RefusesCommand o seats cap names kept command x y end = ⊥
+abbrev pub RefusesCommand : Setup → Option ℕ → Command → SeatView → SeatView → SessionEnd → Type 0
+RefusesCommand t kept command x y (Table fault) =
+    CallsTable t.opening.graph.size kept command × RefusesCall t.opening t.seats t.cap y fault
+    × Gains x y []
+RefusesCommand t kept command x y Spawn =
+    TriesRank t.opening.graph.size kept command × Gains x y []
+RefusesCommand t kept command x y Memory = MadeAtMost (AnswersCommand t kept command) x y
+RefusesCommand t kept command x y end = ⊥
 
-abbrev pub RefusesLine : Opening → ℕ → ℕ → List (List ℕ) → Option ℕ → List ℕ → SeatView → SeatView → SessionEnd → Type 0
-RefusesLine o seats cap names kept line x y (Table fault) =
-    (command : Command) × IsCommandLine names command line × CallsTable o.graph.size kept command × RefusesCall o seats cap y fault × Gains x y []
-RefusesLine o seats cap names kept line x y Spawn =
-    (command : Command) × IsCommandLine names command line × TriesRank o.graph.size kept command × Gains x y []
-RefusesLine o seats cap names kept line x y Memory = MadeAtMost (AnswersLine o names kept line) x y
-RefusesLine o seats cap names kept line x y end = ⊥
+abbrev pub RefusesLine : Setup → Option ℕ → List ℕ → SeatView → SeatView → SessionEnd → Type 0
+RefusesLine t kept line x y Memory = MadeAtMost (AnswersLine t kept line) x y
+RefusesLine t kept line x y end =
+    (command : Command) × IsCommandLine t.names command line × RefusesCommand t kept command x y end

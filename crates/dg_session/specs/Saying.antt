@@ -1,18 +1,22 @@
--- What a session says to the lines of one seat. An entry that is made stands, with its number, in the one history that the seat has found
--- (`HasPast`), and is answered there as the game answers it. `names` are the names of the vertices, and `kept` is the number of the look that the session
+-- What a session says to the lines of one seat. An entry that is made stands, with its number, in
+-- the one history that the seat has found (`HasPast`), and is answered there as the game answers
+-- it. `names` are the names of the vertices, and `kept` is the number of the look that the session
 -- keeps, if it keeps one.
 --   fault_text fault            == `bad` and what is wrong with the line, and a newline
---   kept_after kept p           == the look that is kept after the entry p: it, if it is a look; none, if it enters what was
---                                  reckoned on the look; otherwise the one that was kept
+--   kept_after kept p           == the look that is kept after the entry p: it, if it is a look;
+--                                  none, if it enters what was reckoned on the look; otherwise the
+--                                  one that was kept
 --   Says kept words made after text == no entry is made, and these words are said
---   Enters names kept request made after text == one entry is made, that of the request, and its line is said
---   AnswersCommand o names kept command made after text == the command, with that look kept, makes these entries, leaves that look
---                                  kept, and is answered with the text
---   AnswersLine o names kept line made after text == so is the line: by what is wrong with it, or as its command
---   Gains x y made       == the seat is the same, has made these entries, and was told of what it was told, and perhaps more; the
---                           history that it has found begins with the one that it had
+--   Enters names kept request made after text == one entry is made, that of the request, and its
+--                         line is said
+--   AnswersCommand t kept command made after text == the command, with that look kept, makes these
+--                                  entries, leaves that look kept, and is answered with the text
+--   AnswersLine t kept line made after text == so is the line: by what is wrong with it, or as its
+--                         command
+--   Gains x y made       == the seat is the same, has made these entries, and was told of what it
+--                           was told, and perhaps more; the history that it has found begins with
+--                           the one that it had
 use Rattle.std.specs.Prelude.{◌≡◌, ℕ, ◌⊎◌, List, [], ◌∷◌, ◌++◌, Option, Some, None, codes}
-use Rattle.dg_chips.specs.Opening.{Opening}
 use Rattle.dg_rank.specs.Ranks.{IsWithin}
 use Rattle.dg_game.specs.Schedule.{asked}
 use Rattle.dg_game.specs.declared.entry.Entry.{Entry}
@@ -25,6 +29,7 @@ use Rattle.dg_table.specs.Seats.{SeatView}
 use Rattle.dg_lines.specs.Commands.{IsCommandLine}
 use Rattle.dg_lines.specs.LineFaults.{IsLineFault}
 use Rattle.dg_lines.specs.Texts.{entry_text}
+use Rattle.dg_session.specs.Setup.{Setup}
 use Rattle.dg_lines.specs.declared.line.LineFault.{LineFault}
 use Rattle.dg_lines.specs.declared.line.LineFault.TheVariants.{Seat, Word, Form, Name, Number}
 
@@ -47,23 +52,30 @@ kept_after kept p = look_after kept p.0 p.1.request
 abbrev pub Says : Option ℕ → List ℕ → List (ℕ × Entry) → Option ℕ → List ℕ → Type 0
 Says kept words made after text = (made ≡ []) × (after ≡ kept) × (text ≡ words)
 
-abbrev pub Enters : List (List ℕ) → Option ℕ → Request → List (ℕ × Entry) → Option ℕ → List ℕ → Type 0
+abbrev pub Enters : List (List ℕ) → Option ℕ → Request → List (ℕ × Entry) → Option ℕ → List ℕ
+    → Type 0
 Enters names kept request made after text =
-    (p : ℕ × Entry) × (p.1.request ≡ request) × (made ≡ p ∷ []) × (after ≡ kept_after kept p) × (text ≡ entry_text names p.0 p.1.reply)
+    (p : ℕ × Entry) × (p.1.request ≡ request) × (made ≡ p ∷ []) × (after ≡ kept_after kept p)
+    × (text ≡ entry_text names p.0 p.1.reply)
 
-abbrev pub AnswersCommand : Opening → List (List ℕ) → Option ℕ → Command → List (ℕ × Entry) → Option ℕ → List ℕ → Type 0
-AnswersCommand o names kept (Call plain) made after text = Enters names kept (asked plain) made after text
-AnswersCommand o names None Commit made after text = Says None (codes "bad look\n") made after text
-AnswersCommand o names (Some i) Commit made after text = Enters names (Some i) (Judge i) made after text
-AnswersCommand o names None (Rank k) made after text = Says None (codes "bad look\n") made after text
-AnswersCommand o names (Some i) (Rank k) made after text =
-    ((¬ IsWithin o.graph.size k) × Says (Some i) (codes "bad trials\n") made after text)
-    ⊎ (IsWithin o.graph.size k × Enters names (Some i) (RankRequest i k) made after text)
+abbrev pub AnswersCommand : Setup → Option ℕ → Command → List (ℕ × Entry) → Option ℕ → List ℕ
+    → Type 0
+AnswersCommand t kept (Call plain) made after text =
+    Enters t.names kept (asked plain) made after text
+AnswersCommand t None Commit made after text = Says None (codes "bad look\n") made after text
+AnswersCommand t (Some i) Commit made after text = Enters t.names (Some i) (Judge i) made after text
+AnswersCommand t None (Rank k) made after text = Says None (codes "bad look\n") made after text
+AnswersCommand t (Some i) (Rank k) made after text =
+    ((¬ IsWithin t.opening.graph.size k) × Says (Some i) (codes "bad trials\n") made after text)
+    ⊎ (IsWithin t.opening.graph.size k
+    × Enters t.names (Some i) (RankRequest i k) made after text)
 
-abbrev pub AnswersLine : Opening → List (List ℕ) → Option ℕ → List ℕ → List (ℕ × Entry) → Option ℕ → List ℕ → Type 0
-AnswersLine o names kept line made after text =
-    ((fault : LineFault) × IsLineFault names fault line × Says kept (fault_text fault) made after text)
-    ⊎ ((command : Command) × IsCommandLine names command line × AnswersCommand o names kept command made after text)
+abbrev pub AnswersLine : Setup → Option ℕ → List ℕ → List (ℕ × Entry) → Option ℕ → List ℕ → Type 0
+AnswersLine t kept line made after text =
+    ((fault : LineFault) × IsLineFault t.names fault line
+    × Says kept (fault_text fault) made after text)
+    ⊎ ((command : Command) × IsCommandLine t.names command line
+    × AnswersCommand t kept command made after text)
 
 pub record Gains (x y : SeatView) (made : List (ℕ × Entry)) : Type 0 where
   pub number : y.number ≡ x.number

@@ -1,69 +1,50 @@
--- How far a session is, and how it goes on: what each floor, from the bytes that are read down to one
--- command, promises of its states before and after. No public contract speaks of it.
---   Setup      == how lines name the seats, and the table: its opening, how many seats and cells it
---                 has, and the names of its vertices
---   Speaker    == how far a seat is: the seat, the number of the look that it keeps, if it keeps one,
---                 and what was said
+-- How far a session is, and how it goes on: what each floor, from the bytes that are read down to
+-- one command, promises of its states before and after. No public contract speaks of it.
+--   Speaker    == how far a seat is: the seat, the number of the look that it keeps, if it keeps
+--                 one, and what was said
 --   Talk       == how far all seats are: who speaks, and what was said
 --   SoFar      == how far the session is: what came after the last newline, how many lines are
 --                 answered, and who speaks
---   answers t, refuses t == what answers a line there, and at what the session ends there
 --   Tells words old new result == the words are said; or memory is refused, and nothing is
---   Obeys t command old new result == the speaker's command is done and answered; or the session ends
---                 so at it, and nothing is said
+--   Obeys t command old new result == the speaker's command is done and answered; or the session
+--                 ends so at it, and nothing is said
 --   Hears t line old new result    == so is the speaker's line
 --   Handles t line old new result  == so is a line, of the seat that it is for
---   IsReady at == the session can go on: what is pending may be of a line, and a look may be kept for
---                 each seat
---   Goes t old bytes rest new text == of the bytes all but the rest are taken: the lines that end in
---                 them are answered with the text
---   RefusesPart pending count part end == the part of a line is not taken, for its length or as one of
---                 a line too many
+--   IsReady at == the session can go on: what is pending may be of a line, and a look may be kept
+--                 for each seat
+--   Goes t old bytes rest new text == of the bytes all but the rest are taken: the lines that end
+--                 in them are answered with the text
+--   RefusesPart pending count part end == the part of a line is not taken, for its length or as one
+--                 of a line too many
 --   StaysAt at rest end == the session ends so before the rest: a line there is too long or one too
 --                 many, or memory is refused
 --   StopsIn t ended at rest z end  == or at the line that comes next, as it is refused
 --   Halts t ended old bytes z text end == the bytes are taken but for a rest, and there the session
 --                 ends so; z speak then; `ended` says that no more is to come
 --   Takes t old bytes new text result == the bytes are taken, or the session halts in them
---   TakesEnd t old new text result == so is the end: what is pending is the last line, if it has a byte
---   IsWritten taken text old new result == all that was said is written, and it ends as the taking did;
---                 or a front of it is, and the writer took no more
+--   TakesEnd t old new text result == so is the end: what is pending is the last line, if it has a
+--                         byte
+--   IsWritten taken text old new result == all that was said is written, and it ends as the taking
+--                 did; or a front of it is, and the writer took no more
 use Rattle.std.specs.Prelude.{◌≡◌, ◌≢◌, ℕ, ◌+◌, ◌<◌, ◌≤◌, ◌⊎◌, List, [], ◌∷◌, ◌++◌, length, true, Option, Result, Ok, Err, OnOk, OnErr, IfErr, ⊤}
 use Rattle.std.specs.Io.KnownBytes.{Appends}
-use Rattle.dg_chips.specs.Opening.{Opening}
 use Rattle.dg_game.specs.declared.entry.Entry.{Entry}
 use Rattle.dg_game.specs.declared.step.Command.{Command}
 use Rattle.dg_table.specs.Seats.{SeatView}
 use Rattle.dg_analyst.specs.Views.{LookView}
 use Rattle.dg_streams.specs.Streams.{Writing, AppendsFront}
-use Rattle.dg_session.specs.Streams.{IsLine, Begins, AreLines, last_line}
+use Rattle.dg_lines.specs.Streams.{Begins, last_line}
+use Rattle.dg_session.specs.Setup.{Setup}
+use Rattle.dg_session.specs.Streams.{IsLine, AreLines}
 use Rattle.dg_session.specs.Saying.{Gains, AnswersCommand, AnswersLine}
 use Rattle.dg_session.specs.Refusing.{RefusesCommand, RefusesLine}
 use Rattle.dg_session.specs.Speakers.{Speakers, speakers, newcomers, kept_number, AnswersLineOf, RefusesLineOf}
-use Rattle.dg_session.specs.Ends.{Answering, Ending, Answers, IsTooLong}
-use Rattle.dg_session.specs.declared.addressing.Addressing.{Addressing}
+use Rattle.dg_session.specs.Ends.{Answers, IsTooLong}
 use Rattle.dg_session.specs.declared.answering.Said.{Said}
 use Rattle.dg_session.specs.declared.taking.Progress.{Progress}
 use Rattle.dg_session.specs.declared.ends.TheConstants.{MAX_LINE, MAX_LINES}
 use Rattle.dg_session.specs.declared.ends.SessionEnd.{SessionEnd}
 use Rattle.dg_session.specs.declared.ends.SessionEnd.TheVariants.{Write, LongLine, Turns, Memory}
-
-pub record Setup : Type 0 where
-  pub how : Addressing
-  pub opening : Opening
-  pub seats : ℕ
-  pub cap : ℕ
-  pub names : List (List ℕ)
-
-abbrev pub setup : Addressing → Opening → ℕ → ℕ → List (List ℕ) → Setup
-setup how o seats cap names =
-    record { how = how; opening = o; seats = seats; cap = cap; names = names }
-
-abbrev pub answers : Setup → Answering
-answers t = AnswersLineOf t.how t.opening t.names
-
-abbrev pub refuses : Setup → Ending
-refuses t = RefusesLineOf t.how t.opening t.seats t.cap t.names
 
 pub record Speaker : Type 0 where
   pub seat : SeatView
@@ -105,27 +86,27 @@ Tells words old new (Err end) = (end ≡ Memory) × (new ≡ old)
 
 pub record Obeys {B : Type 0} (t : Setup) (command : Command) (old new : Speaker)
     (result : Result B SessionEnd) : Type 0 where
-  pub done : OnOk result (IsDone (AnswersCommand t.opening t.names old.kept command) old new)
+  pub done : OnOk result (IsDone (AnswersCommand t old.kept command) old new)
   pub refused : IfErr result
-      (RefusesCommand t.opening t.seats t.cap t.names old.kept command old.seat new.seat)
+      (RefusesCommand t old.kept command old.seat new.seat)
   pub unsaid : OnErr result (new.said ≡ old.said)
 
 pub record Hears {B : Type 0} (t : Setup) (line : List ℕ) (old new : Speaker)
     (result : Result B SessionEnd) : Type 0 where
-  pub done : OnOk result (IsDone (AnswersLine t.opening t.names old.kept line) old new)
+  pub done : OnOk result (IsDone (AnswersLine t old.kept line) old new)
   pub refused : IfErr result
-      (RefusesLine t.opening t.seats t.cap t.names old.kept line old.seat new.seat)
+      (RefusesLine t old.kept line old.seat new.seat)
   pub unsaid : OnErr result (new.said ≡ old.said)
 
 pub record IsAnswered (t : Setup) (line : List ℕ) (old new : Talk) : Type 0 where
   pub text : List ℕ
-  pub holds : answers t old.who line new.who text
+  pub holds : AnswersLineOf t old.who line new.who text
   pub said : new.said ≡ old.said ++ text
 
 pub record Handles {B : Type 0} (t : Setup) (line : List ℕ) (old new : Talk)
     (result : Result B SessionEnd) : Type 0 where
   pub done : OnOk result (IsAnswered t line old new)
-  pub refused : IfErr result (refuses t old.who line new.who)
+  pub refused : IfErr result (RefusesLineOf t old.who line new.who)
   pub unsaid : OnErr result (new.said ≡ old.said)
 
 pub record IsReady (at : SoFar) : Type 0 where
@@ -138,9 +119,9 @@ pub record IsReady (at : SoFar) : Type 0 where
 pub record Goes (t : Setup) (old : SoFar) (bytes rest : List ℕ) (new : SoFar)
     (text : List ℕ) : Type 0 where
   pub ls : List (List ℕ)
-  pub came : Begins (old.pending ++ bytes) ls (new.pending ++ rest)
+  pub came : Begins IsLine (old.pending ++ bytes) ls (new.pending ++ rest)
   pub counted : new.count ≡ old.count + length ls
-  pub answered : Answers (answers t) old.who ls new.who text
+  pub answered : Answers t old.who ls new.who text
   pub ready : IsReady new
 
 abbrev pub RefusesPart : List ℕ → ℕ → List ℕ → SessionEnd → Type 0
@@ -160,7 +141,7 @@ pub record StopsIn (t : Setup) (ended : Type 0) (at : SoFar) (rest : List ℕ) (
   pub line : List ℕ
   pub came : AreLines ended (at.pending ++ rest) (line ∷ [])
   pub few : at.count < MAX_LINES
-  pub stops : refuses t at.who line z end
+  pub stops : RefusesLineOf t at.who line z end
 
 pub record Halts (t : Setup) (ended : Type 0) (old : SoFar) (bytes : List ℕ) (z : Speakers)
     (text : List ℕ) (end : SessionEnd) : Type 0 where
@@ -176,7 +157,7 @@ pub record Takes {B : Type 0} (t : Setup) (old : SoFar) (bytes : List ℕ) (new 
 
 pub record TakesEnd {B : Type 0} (t : Setup) (old new : SoFar) (text : List ℕ)
     (result : Result B SessionEnd) : Type 0 where
-  pub answered : OnOk result (Answers (answers t) old.who (last_line old.pending) new.who text)
+  pub answered : OnOk result (Answers t old.who (last_line old.pending) new.who text)
   pub counted : OnOk result (new.count ≡ old.count + length (last_line old.pending))
   pub halted : IfErr result (Halts t ⊤ old [] new.who text)
 

@@ -1,25 +1,30 @@
--- Who speaks in a session: its seats, in order, and for each the number of the look that it keeps, if it keeps one. A seat that is
--- not spoken for stays as it is.
+-- Who speaks in a session: its seats, in order, and for each the number of the look that it keeps,
+-- if it keeps one. A seat that is not spoken for stays as it is.
 --   Speakers           == the seats, and the looks that they keep
 --   speakers xs looks  == those of these seats and looks
 --   newcomers xs       == the seats, and no look is kept
---   IsFor how n line i text   == of n seats, the line is for that at the place i, from 0, and the text is its command line: the line
---                                begins with the number i + 1 and a space; or it names no seat, and is for the first
+--   IsFor how n line i text   == of n seats, the line is for that at the place i, from 0, and the
+--                                text is its command line: the line begins with the number i + 1
+--                                and a space; or it names no seat, and is for the first
 --   IsForNone how n line      == the line is for none of n seats
---   Becomes i s z x y kept after == of the seats s, the one at the place i was x and keeps that look; it is y now and keeps this one;
---                                and the seats z are those, all others as in s
---   AnswersIn o names i text s z said == the seat at the place i is answered its command line so, and says nothing else
---   AnswersLineOf how o names s line z text == the line, with the seats s, is answered with the text, and the seats are z then: by
---                                `bad seat`, or as a line of the seat that it is for
---   RefusesLineOf how o seats cap names s line z end == at the line the session ends so, and the seats are z then: memory is refused
---                                to it, or its command is refused to the seat that it is for
+--   Becomes i s z x y kept after == of the seats s, the one at the place i was x and keeps that
+--                                look; it is y now and keeps this one; and the seats z are those,
+--                                all others as in s
+--   AnswersIn t i text s z said == the seat at the place i is answered its command line so, and
+--                         says nothing else
+--   AnswersLineOf t s line z text == the line, with the seats s, is answered with the text, and the
+--                                seats are z then: by `bad seat`, or as a line of the seat that it
+--                                is for
+--   RefusesLineOf t s line z end == at the line the session ends so, and the seats are z then:
+--                                memory is refused to it, or its command is refused to the seat
+--                                that it is for
 use Rattle.std.specs.Prelude.{◌≡◌, ℕ, ◌+◌, ◌<◌, ◌⊎◌, List, length, map, Option, None, Some, codes, slice_get}
 use Rattle.std.specs.List.{slice_set}
-use Rattle.dg_chips.specs.Opening.{Opening}
 use Rattle.dg_game.specs.declared.entry.Entry.{Entry}
 use Rattle.dg_table.specs.Seats.{SeatView}
 use Rattle.dg_analyst.specs.Views.{LookView}
 use Rattle.dg_lines.specs.Steps.{IsSeated}
+use Rattle.dg_session.specs.Setup.{Setup}
 use Rattle.dg_session.specs.Saying.{Gains, AnswersLine}
 use Rattle.dg_session.specs.Refusing.{RefusesLine}
 use Rattle.dg_session.specs.declared.addressing.Addressing.{Addressing}
@@ -54,31 +59,34 @@ pub record Becomes (i : ℕ) (s z : Speakers) (x y : SeatView) (kept after : Opt
   pub seats : z.seats ≡ slice_set s.seats i y
   pub looks : z.kept ≡ slice_set s.kept i after
 
-pub record AnswersIn (o : Opening) (names : List (List ℕ)) (i : ℕ) (text : List ℕ) (s z : Speakers) (said : List ℕ) : Type 0 where
+pub record AnswersIn (t : Setup) (i : ℕ) (text : List ℕ) (s z : Speakers) (said : List ℕ)
+    : Type 0 where
   pub x : SeatView
   pub y : SeatView
   pub kept : Option ℕ
   pub after : Option ℕ
   pub turn : Becomes i s z x y kept after
   pub made : List (ℕ × Entry)
-  pub answers : AnswersLine o names kept text made after said
+  pub answers : AnswersLine t kept text made after said
   pub gained : Gains x y made
 
-abbrev pub AnswersLineOf : Addressing → Opening → List (List ℕ) → Speakers → List ℕ → Speakers → List ℕ → Type 0
-AnswersLineOf how o names s line z said =
-    (IsForNone how (length s.seats) line × (z ≡ s) × (said ≡ codes "bad seat\n"))
-    ⊎ ((i : ℕ) × (text : List ℕ) × IsFor how (length s.seats) line i text × AnswersIn o names i text s z said)
+abbrev pub AnswersLineOf : Setup → Speakers → List ℕ → Speakers → List ℕ → Type 0
+AnswersLineOf t s line z said =
+    (IsForNone t.how (length s.seats) line × (z ≡ s) × (said ≡ codes "bad seat\n"))
+    ⊎ ((i : ℕ) × (text : List ℕ) × IsFor t.how (length s.seats) line i text
+    × AnswersIn t i text s z said)
 
-pub record RefusesIn (o : Opening) (seats cap : ℕ) (names : List (List ℕ)) (i : ℕ) (text : List ℕ) (s z : Speakers)
-    (end : SessionEnd) : Type 0 where
+pub record RefusesIn (t : Setup) (i : ℕ) (text : List ℕ) (s z : Speakers) (end : SessionEnd)
+    : Type 0 where
   pub x : SeatView
   pub y : SeatView
   pub kept : Option ℕ
   pub after : Option ℕ
   pub turn : Becomes i s z x y kept after
-  pub refused : RefusesLine o seats cap names kept text x y end
+  pub refused : RefusesLine t kept text x y end
 
-abbrev pub RefusesLineOf : Addressing → Opening → ℕ → ℕ → List (List ℕ) → Speakers → List ℕ → Speakers → SessionEnd → Type 0
-RefusesLineOf how o seats cap names s line z end =
+abbrev pub RefusesLineOf : Setup → Speakers → List ℕ → Speakers → SessionEnd → Type 0
+RefusesLineOf t s line z end =
     ((end ≡ Memory) × (z ≡ s))
-    ⊎ ((i : ℕ) × (text : List ℕ) × IsFor how (length s.seats) line i text × RefusesIn o seats cap names i text s z end)
+    ⊎ ((i : ℕ) × (text : List ℕ) × IsFor t.how (length s.seats) line i text
+    × RefusesIn t i text s z end)

@@ -4,7 +4,8 @@ ghost use Rattle.dg_rank.specs.Ranks.{MayHaveWorkers};
 ghost use Rattle.dg_game.specs.declared.step.Command.TheVariants.{Call, Commit, Rank};
 ghost use Rattle.dg_lines.specs.Texts.{HasNames, entry_text};
 ghost use Rattle.dg_session.specs.Saying.{fault_text};
-ghost use Rattle.dg_session.specs.SoFar.{setup, speaker, Tells, Hears, Obeys};
+ghost use Rattle.dg_session.specs.Setup.{setup};
+ghost use Rattle.dg_session.specs.SoFar.{speaker, Tells, Hears, Obeys};
 
 use crate::addressing::Addressing;
 use crate::ends::SessionEnd;
@@ -93,6 +94,7 @@ fn fault_words(fault: LineFault) -> &'static [u8]
 }
 
 /// Answers a line of a seat: by what is wrong with it, or as its command.
+#[inline(always)]
 pub(crate) fn answer_seat<N: Name, R: Threads + Wait>(
     shared: &Shared<N, R>,
     kept: &mut Option<Look<N>>,
@@ -110,6 +112,7 @@ pub(crate) fn answer_seat<N: Name, R: Threads + Wait>(
 }
 
 /// Does what a command says, and says the line of its entry, or why there is none.
+#[inline(never)]
 fn obey<N: Name, R: Threads + Wait>(
     shared: &Shared<N, R>,
     kept: &mut Option<Look<N>>,
@@ -161,7 +164,8 @@ fn call<N: Name, R: Threads + Wait>(
 ) -> Result<(), SessionEnd>
     requires { plain ≢ Plain.Look }
     ensures { Obeys (setup shared.now.how N.start N.seats (length N.cells) shared.now.names.now)
-        (Call plain) (speaker seat.old kept.old said.old) (speaker seat.new kept.new said.new) result }
+        (Call plain) (speaker seat.old kept.old said.old) (speaker seat.new kept.new said.new)
+        result }
 {
     match shared.table.call(shared.rt, shared.alloc, seat, plain) {
         Ok(receipt) => said.say_entry(shared.table, shared.names, &receipt),

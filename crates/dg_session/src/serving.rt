@@ -1,6 +1,5 @@
 //! Serving a stream of lines.
-ghost use Rattle.std.specs.Prelude.{◌≡◌, ◌<◌, ◌≤◌, [], length, take, map, Err, None, IfSome, OnOk, All, true};
-ghost use Rattle.std.specs.Io.KnownBytes.{Consumes, IsAtEnd, Keeps};
+ghost use Rattle.std.specs.Prelude.{◌≡◌, ◌≤◌, [], length, map, Err, OnOk, All, true};
 ghost use Rattle.dg_rank.specs.Ranks.{MayHaveWorkers};
 ghost use Rattle.dg_table.specs.Histories.{HasPast};
 ghost use Rattle.dg_session.specs.Ends.{IsSession, IsSessionOf};
@@ -40,8 +39,8 @@ pub fn serve<N: Name, R: Threads + Wait, I: Read, O: Write>(
 ) -> Result<u32, SessionEnd>
     requires names { length names.now ≡ N.start.graph.size }
     requires workers { MayHaveWorkers workers }
-    ensures session { IsSession N.start N.seats (length N.cells) names.now reader.old.remaining reader.new.remaining
-        writer.old.contents writer.new.contents seat.old seat.new result }
+    ensures session { IsSession N.start N.seats (length N.cells) names.now reader.old.remaining
+        reader.new.remaining writer.old.contents writer.new.contents seat.old seat.new result }
     ensures history { HasPast N.start N.seats (length N.cells) seat.new }
     ensures number { seat.new.number ≡ seat.old.number }
     ensures read { result ≡ Err SessionEnd.Read → reader.new.has_failed ≡ true }
@@ -79,8 +78,9 @@ pub fn serve_seats<N: Name, R: Threads + Wait, I: Read, O: Write>(
     requires names { length names.now ≡ N.start.graph.size }
     requires workers { MayHaveWorkers workers }
     requires some { 1 ≤ length seats.old }
-    ensures session { IsSessionOf how N.start N.seats (length N.cells) names.now reader.old.remaining
-        reader.new.remaining writer.old.contents writer.new.contents seats.old seats.new result }
+    ensures session { IsSessionOf how N.start N.seats (length N.cells) names.now
+        reader.old.remaining reader.new.remaining writer.old.contents writer.new.contents seats.old
+        seats.new result }
     ensures histories { All (HasPast N.start N.seats (length N.cells)) seats.new }
     ensures numbers { map (λ x. x.number) seats.new ≡ map (λ x. x.number) seats.old }
     ensures read { result ≡ Err SessionEnd.Read → reader.new.has_failed ≡ true }
@@ -116,8 +116,9 @@ fn serve_lines<N: Name, R: Threads + Wait, I: Read, O: Write>(
     writer: &mut Output<O>,
 ) -> Result<u32, SessionEnd>
     requires { 1 ≤ length seats.old }
-    ensures session { IsSessionOf shared.now.how N.start N.seats (length N.cells) shared.now.names.now
-        reader.old.remaining reader.new.remaining writer.old.contents writer.new.contents seats.old seats.new result }
+    ensures session { IsSessionOf shared.now.how N.start N.seats (length N.cells)
+        shared.now.names.now reader.old.remaining reader.new.remaining writer.old.contents
+        writer.new.contents seats.old seats.new result }
     ensures read { result ≡ Err SessionEnd.Read → reader.new.has_failed ≡ true }
     ensures write { result ≡ Err SessionEnd.Write → writer.new.has_failed ≡ true }
 {
@@ -128,7 +129,7 @@ fn serve_lines<N: Name, R: Threads + Wait, I: Read, O: Write>(
         return Err(SessionEnd::Memory);
     };
     'reads: loop {
-        let Some(size) = read_some(reader, &mut buffer) else {
+        let Some(size) = reader.read_some(&mut buffer) else {
             return Err(SessionEnd::Read);
         };
         if size == 0 {
@@ -164,21 +165,5 @@ fn write_said<O: Write>(
             }
         }
         Err(_) => Err(SessionEnd::Write),
-    }
-}
-
-/// Reads into the buffer, and says how many bytes came; `None` where the reader failed.
-fn read_some<I: Read>(reader: &mut Input<I>, buffer: &mut Vec<u8>) -> Option<usize>
-    ensures bytes { IfSome result (λ size. Consumes reader.old.remaining reader.new.remaining
-        (take size buffer.new.items)) }
-    ensures end { IfSome result (λ size. size ≡ 0 → 0 < length buffer.old.items → IsAtEnd reader.new.remaining) }
-    ensures bound { IfSome result (λ size. size ≤ length buffer.new.items) }
-    ensures size { length buffer.new.items ≡ length buffer.old.items }
-    ensures kept { result ≡ None → Keeps reader.old.remaining reader.new.remaining }
-    ensures failed { result ≡ None → reader.new.has_failed ≡ true }
-{
-    match reader.read(buffer) {
-        Ok(size) => Some(size),
-        Err(_) => None,
     }
 }

@@ -1,6 +1,7 @@
 //! Answering one line of any seat.
 ghost use Rattle.std.specs.Prelude.{◌≡◌, ◌≤◌, length};
-ghost use Rattle.dg_session.specs.SoFar.{setup, talk, Handles};
+ghost use Rattle.dg_session.specs.Setup.{setup};
+ghost use Rattle.dg_session.specs.SoFar.{talk, Handles};
 
 use crate::addressing::addressed;
 use crate::answering::{Said, Shared, answer_seat};
@@ -12,6 +13,7 @@ use std::sync::Wait;
 use std::thread::Threads;
 
 /// Answers a line: as that of the seat that it is for, or by saying that there is none.
+#[inline(always)]
 pub(crate) fn answer_line<N: Name, R: Threads + Wait>(
     shared: &Shared<N, R>,
     kept: &mut [Option<Look<N>>],

@@ -1,7 +1,8 @@
 //! Taking what was read: bytes that are cut into lines, and the end.
 ghost use Rattle.std.specs.Prelude.{◌≡◌, ◌≢◌, ◌+◌, ◌++◌, ◌<◌, ◌≤◌, [], length, map, None, OnOk, IfErr, IfSome};
 ghost use Rattle.dg_session.specs.Speakers.{kept_number};
-ghost use Rattle.dg_session.specs.SoFar.{setup, talk, so_far, Handles, IsReady, RefusesPart, Takes, TakesEnd};
+ghost use Rattle.dg_session.specs.Setup.{setup};
+ghost use Rattle.dg_session.specs.SoFar.{talk, so_far, Handles, IsReady, RefusesPart, Takes, TakesEnd};
 
 use crate::answering::{Said, Shared};
 use crate::ends::{MAX_LINE, MAX_LINES, SessionEnd};
@@ -31,7 +32,8 @@ impl<N: Name> Progress<N> {
     pub(crate) fn new(alloc: Global, seats: &[Seat<N>]) -> Option<Progress<N>>
         ensures pending { IfSome result (λ p. p.pending.items ≡ []) }
         ensures count { IfSome result (λ p. p.count ≡ 0) }
-        ensures kept { IfSome result (λ p. map kept_number p.kept.items ≡ map (λ x. None) seats.now) }
+        ensures kept { IfSome result (λ p.
+            map kept_number p.kept.items ≡ map (λ x. None) seats.now) }
         ensures said { IfSome result (λ p. p.said.text.items ≡ []) }
     {
         let kept = match no_looks(alloc, seats) {
@@ -81,6 +83,7 @@ fn may_take(pending: &[u8], count: u32, part: &[u8]) -> Result<(), SessionEnd>
 }
 
 /// Answers the line that is pending, with the part that ends it. Where nothing is pending, it is answered where it lies.
+#[inline(always)]
 fn answer_pending<N: Name, R: Threads + Wait>(
     shared: &Shared<N, R>,
     progress: &mut Progress<N>,
@@ -117,6 +120,7 @@ fn answer_pending<N: Name, R: Threads + Wait>(
 }
 
 /// The same, and the line is no longer pending but counted.
+#[inline(always)]
 fn end_line<N: Name, R: Threads + Wait>(
     shared: &Shared<N, R>,
     progress: &mut Progress<N>,

@@ -1,5 +1,6 @@
 -- What is known of some files of a source, one after another.
---   MayHoldAll held names all == these may be the bytes of the files of these names, one after another
+--   MayHoldAll held names all == these may be the bytes of the files of these names, one after
+--                         another
 --   IsFirstUnread held names fault == the files of the names before one that is refused so are held
 use Rattle.std.specs.Prelude.{◌≡◌, ℕ, List, [], ◌∷◌, ◌++◌, ⊤}
 use Rattle.dg_sources.specs.Held.{Held, MayHold, RefusesHeld}
@@ -10,7 +11,8 @@ MayHoldAll held [] [] = ⊤
 MayHoldAll held (name ∷ names) (bytes ∷ all) = MayHold (held name) bytes × MayHoldAll held names all
 MayHoldAll held names all = ⊥
 
-pub record IsFirstUnread (held : List ℕ → Held) (names : List (List ℕ)) (fault : SourceFault) : Type 0 where
+pub record IsFirstUnread (held : List ℕ → Held) (names : List (List ℕ)) (fault : SourceFault)
+    : Type 0 where
   pub front : List (List ℕ)
   pub name : List ℕ
   pub back : List (List ℕ)

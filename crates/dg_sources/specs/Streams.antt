@@ -1,10 +1,10 @@
 -- What is known of a file that is read as it comes.
---   stream_remaining known s == the bytes that it has yet to give, where they are known: those in memory, or what is known of the
---                               file that was opened
---   MayGive h left        == these may be all bytes of the file, of any number: where it is known to have other bytes, or to be
---                            missing, they are not
---   RefusesStream h fault == the file may be refused so: as unreadable where it is not known to be in memory; of want of memory nothing
---                            is said
+--   stream_remaining known s == the bytes that it has yet to give, where they are known: those in
+--                               memory, or what is known of the file that was opened
+--   MayGive h left        == these may be all bytes of the file, of any number: where it is known
+--                            to have other bytes, or to be missing, they are not
+--   RefusesStream h fault == the file may be refused so: as unreadable where it is not known to be
+--                            in memory; of want of memory nothing is said
 use Rattle.std.specs.Prelude.{◌≡◌, ℕ, List, Option, Some, ⊤}
 use Rattle.dg_sources.specs.Held.{Held, unknown, missing, bytes}
 use Rattle.dg_sources.specs.declared.sources.SourceFault.{SourceFault}

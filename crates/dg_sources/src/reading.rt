@@ -12,8 +12,11 @@ pub fn read_all<R, S>(rt: &R, names: &[&str], sources: &S) -> Result<Vec<Vec<u8>
 where
     R: Files + AllocGlobal,
     S: Sources,
-    ensures read { IfOk result (λ all. MayHoldAll (S.held sources.now) (map (λ name. name.now) names.now) (map (λ file. file.items) all.items)) }
-    ensures refused { IfErr result (IsFirstUnread (S.held sources.now) (map (λ name. name.now) names.now)) }
+    ensures read { IfOk result
+        (λ all. MayHoldAll (S.held sources.now) (map (λ name. name.now) names.now)
+        (map (λ file. file.items) all.items)) }
+    ensures refused { IfErr result
+        (IsFirstUnread (S.held sources.now) (map (λ name. name.now) names.now)) }
 {
     let mut all = Vec::new(rt.alloc());
     'names: for name in names {

@@ -58,7 +58,8 @@ pub trait Sources {
     ///
     /// Refused with `Unreadable` where there is no such file, and with `OutOfMemory`.
     fn open<'s, R: Files>(&'s self, rt: &R, name: &str) -> Result<Stream<'s, R::File>, SourceFault>
-        ensures opened { IfOk result (λ s. MayGive (held self.now name.now) (stream_remaining R.File.remaining s)) }
+        ensures opened { IfOk result
+            (λ s. MayGive (held self.now name.now) (stream_remaining R.File.remaining s)) }
         ensures refused { IfErr result (RefusesStream (held self.now name.now)) };
 }
 
@@ -119,7 +120,8 @@ impl Sources for Shelf<'_> {
 /// The bytes of the first of the files with that name.
 #[tactic(auto, unfolding(crate::specs::Held::held_among))]
 fn found<'a>(files: &[(&'a str, &'a [u8])], name: &str) -> Option<&'a [u8]>
-    ensures { held_among (map (λ file. (file.0.now, file.1.now)) files.now) name.now ≡ held_by (option_copied result) }
+    ensures { held_among (map (λ file. (file.0.now, file.1.now)) files.now) name.now
+        ≡ held_by (option_copied result) }
 {
     let (file, after) = files.split_first()?;
     if file.0 == name {
@@ -151,7 +153,8 @@ fn copied(alloc: Global, bytes: &[u8]) -> Result<Vec<u8>, SourceFault>
 pub fn read_within<I: Read + Drop>(alloc: Global, reader: I) -> Result<Vec<u8>, SourceFault>
     ensures few { IfOk result (λ bytes. vec_len bytes ≤ MAX_FILE) }
     ensures all { IfOk result (λ bytes. IfSome (I.remaining reader) (λ left. bytes.items ≡ left)) }
-    ensures long { result ≡ Err SourceFault.TooLong → IfSome (I.remaining reader) (λ left. MAX_FILE < length left) }
+    ensures long { result ≡ Err SourceFault.TooLong
+        → IfSome (I.remaining reader) (λ left. MAX_FILE < length left) }
 {
     let mut bytes = Vec::new(alloc);
     reader.take(MAX_FILE as u64 + 1).read_to_end(&mut bytes)?;

@@ -20,7 +20,8 @@ appends_more (Some x) (Some y) (Some z) bs cs p q = q ∙ ap (λ l. l ++ cs) p �
 rest_of : (s : List ℕ) (at : ℕ) → take (length s - at) (drop at s) ≡ drop at s
 rest_of s at = take_all (length s - at) (drop at s) (let e = length-drop at s in omega (arith, e))
 
-pub more_written : (a b c : Option (List ℕ)) (s : List ℕ) (at n : ℕ) → at ≤ length s → n ≤ length (take (length s - at) (drop at s)) → Appends a b (take at s)
+pub more_written : (a b c : Option (List ℕ)) (s : List ℕ) (at n : ℕ) → at ≤ length s
+    → n ≤ length (take (length s - at) (drop at s)) → Appends a b (take at s)
     → Appends b c (take n (take (length s - at) (drop at s))) → (at + n ≤ length s) × Appends a c (take (at + n) s)
 more_written a b c s at n low bound first next =
     let rest = rest_of s at in
@@ -28,5 +29,6 @@ more_written a b c s at n low bound first next =
     let few : n ≤ length (drop at s) = subst (λ (l : List ℕ). n ≤ length l) rest bound in (
       omega (arith, size, few),
       subst (Appends a c) (sym (take-add at n s))
-          (appends_more a b c (take at s) (take n (drop at s)) first (subst (λ (l : List ℕ). Appends b c (take n l)) rest next)),
+          (appends_more a b c (take at s) (take n (drop at s)) first
+          (subst (λ (l : List ℕ). Appends b c (take n l)) rest next)),
     )

@@ -12,7 +12,8 @@ use std::io::{Error, ErrorKind, Read, Write};
 /// Refused as the reader refuses it otherwise.
 pub(crate) fn read_again<I: Read>(reader: &mut I, buffer: &mut [u8]) -> io::Result<usize>
     ensures bound { ReadsAtMost result buffer.new }
-    ensures bytes { ReadConsumes (I.remaining reader.old) (I.remaining reader.new) result buffer.new }
+    ensures bytes { ReadConsumes (I.remaining reader.old) (I.remaining reader.new) result
+        buffer.new }
     ensures again { IfErr result (λ error. error_kind error ≢ ErrorKind.Interrupted) }
 {
     for _ in 0..u64::MAX {

@@ -1,7 +1,7 @@
 //! Readers that remember whether they failed.
-ghost use Rattle.std.specs.Prelude.{◌≡◌, OnOk, OnErr, true, false};
+ghost use Rattle.std.specs.Prelude.{◌≡◌, ◌<◌, ◌≤◌, length, take, None, IfSome, OnOk, OnErr, true, false};
 ghost use Rattle.std.specs.Io.{ReadsAtMost};
-ghost use Rattle.std.specs.Io.KnownBytes.{ReadConsumes};
+ghost use Rattle.std.specs.Io.KnownBytes.{Consumes, IsAtEnd, Keeps, ReadConsumes};
 
 use crate::again::read_again;
 use std::io;
@@ -20,7 +20,8 @@ impl<I: Read> Model for Input<I> {
 
     ghost Value = { Reading };
 
-    ghost view = { λ input. record { remaining = I.remaining input.inner; has_failed = input.has_failed } };
+    ghost view = { λ input.
+        record { remaining = I.remaining input.inner; has_failed = input.has_failed } };
 }
 
 impl<I: Read> Input<I> {
@@ -57,6 +58,23 @@ impl<I: Read> Input<I> {
                 self.has_failed = true;
                 Err(error)
             }
+        }
+    }
+
+    /// Reads into the buffer, and says how many bytes came; `None` where the reader failed.
+    pub fn read_some(&mut self, buffer: &mut Vec<u8>) -> Option<usize>
+        ensures bytes { IfSome result (λ size. Consumes self.old.remaining self.new.remaining
+            (take size buffer.new.items)) }
+        ensures end { IfSome result (λ size. size ≡ 0 → 0 < length buffer.old.items →
+            IsAtEnd self.new.remaining) }
+        ensures bound { IfSome result (λ size. size ≤ length buffer.new.items) }
+        ensures size { length buffer.new.items ≡ length buffer.old.items }
+        ensures kept { result ≡ None → Keeps self.old.remaining self.new.remaining }
+        ensures failed { result ≡ None → self.new.has_failed ≡ true }
+    {
+        match self.read(buffer) {
+            Ok(size) => Some(size),
+            Err(_) => None,
         }
     }
 }

@@ -19,7 +19,8 @@ impl<O: Write> Model for Output<O> {
 
     ghost Value = { Writing };
 
-    ghost view = { λ output. record { contents = O.contents output.inner; has_failed = output.has_failed } };
+    ghost view = { λ output.
+        record { contents = O.contents output.inner; has_failed = output.has_failed } };
 }
 
 /// That a writer failed, or took no byte.
@@ -57,7 +58,8 @@ impl<O: Write> Output<O> {
     /// Refused with `WriteFailed` where the writer fails otherwise, or takes no byte; it has then taken a front of the text.
     pub fn write_whole(&mut self, text: &[u8]) -> Result<(), WriteFailed>
         ensures written { OnOk result (Appends self.old.contents self.new.contents text.now) }
-        ensures front { OnErr result (AppendsFront self.old.contents self.new.contents [] text.now) }
+        ensures front { OnErr result
+            (AppendsFront self.old.contents self.new.contents [] text.now) }
         ensures failed { OnErr result (self.new.has_failed ≡ true) }
         ensures kept { OnOk result (self.new.has_failed ≡ self.old.has_failed) }
     {

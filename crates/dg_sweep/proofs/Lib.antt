@@ -1,4 +1,3 @@
 -- The lemmas that the proofs cite, each file over plain variables.
-pub mod Cutting
 pub mod Taken
 pub mod Swept

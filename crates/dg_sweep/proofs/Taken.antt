@@ -1,6 +1,5 @@
 -- Taking what was read.
 --   answers_none, answers_one, answers_more   no line is answered; one; some lines and then others
---   begins_none, begins_both   a stream that begins with no line, and one that is read on
 --   so_far_none, so_far_line, so_far_rest   lines of bytes are answered one after another
 --   nothing_left               what follows the last newline of bytes that end with one is nothing
 --   front_ends                 what stands before the bytes that follow a newline ends with it
@@ -9,23 +8,25 @@
 --   nothing                    a list of length 0
 --   takes_no_end, takes_end    the end
 use Rattle.std.proofs.Common.{◌≡◌, ◌≢◌, ℕ, ◌+◌, ◌-◌, ◌≤◌, take, drop, inl, inr, List, [], ◌∷◌, ◌++◌, length, refl, sym, ap, subst, ◌∙◌, arith, append_assoc, append-nil, length-append, flat_map}
-use Rattle.std.proofs.lemmas.List.Elements.{All-append, All-nil, All-cons, All-head, All-tail}
-use Rattle.std.proofs.lemmas.Grind.{flat_map-append}
+use Rattle.std.proofs.lemmas.List.Elements.{All-append, All-head, All-tail}
 use Rattle.std.proofs.Math.Seq.{take-append_seam}
 use Rattle.std.proofs.lemmas.List.{take-append-drop}
-use Rattle.dg_sweep.specs.Answers.{AnswersLine, Answers}
-use Rattle.dg_sweep.specs.Streams.{HasNoNewline, Begins, with_newline}
-use Rattle.dg_sweep.specs.Steps.{StandsFor, KeepsPart, AnswersFront, EndsLine, TakesBytes, TakesEnd, last_line}
+use Rattle.dg_sweep.specs.Answers.{AnswersTableLine, AnswersTableLines}
+use Rattle.dg_lines.specs.Streams.{HasNoNewline, Begins, with_newline, last_line}
+use Rattle.dg_lines.proofs.Streams.{begins_none, begins_one, begins_more, begins_then}
+use Rattle.dg_sweep.specs.Steps.{StandsFor, KeepsPart, AnswersFront, EndsLine, TakesBytes, AnswersLast}
 use Rattle.dg_asked.specs.declared.question.Question.{Question}
 
-pub answers_none : (question : Question) → Answers question [] []
-unfolding Answers
+pub answers_none : (question : Question) → AnswersTableLines question [] []
+unfolding AnswersTableLines
 answers_none question = refl
 
 pub answers_more : (question : Question) (ls ls' : List (List ℕ)) (t t' : List ℕ)
-    → Answers question ls t → Answers question ls' t' → Answers question (ls ++ ls') (t ++ t')
-unfolding Answers
-answers_more question [] ls' t t' p q = subst (λ text. Answers question ls' text) (sym (ap (λ text. text ++ t') p)) q
+    → AnswersTableLines question ls t → AnswersTableLines question ls' t'
+    → AnswersTableLines question (ls ++ ls') (t ++ t')
+unfolding AnswersTableLines
+answers_more question [] ls' t t' p q =
+    subst (λ text. AnswersTableLines question ls' text) (sym (ap (λ text. text ++ t') p)) q
 answers_more question (line ∷ ls) ls' t t' p q =
     let (front, back, answer, more, text) = p in (
       front,
@@ -35,46 +36,22 @@ answers_more question (line ∷ ls) ls' t t' p q =
       ap (λ l. l ++ t') text ∙ append_assoc front back t',
     )
 
-pub answers_one : (question : Question) (line t : List ℕ) → AnswersLine question line t → Answers question (line ∷ []) t
-unfolding Answers
+pub answers_one : (question : Question) (line t : List ℕ) → AnswersTableLine question line t
+    → AnswersTableLines question (line ∷ []) t
+unfolding AnswersTableLines
 answers_one question line t p = (t, [], p, refl, sym (append-nil t))
 
-pub begins_none : (bytes : List ℕ) → Begins bytes [] bytes
-begins_none bytes = record { whole = refl; each = All-nil HasNoNewline }
-
-pub begins_both : (stream bytes part rest : List ℕ) (ls ls1 : List (List ℕ)) → Begins stream ls part → Begins (part ++ bytes) ls1 rest
-    → Begins (stream ++ bytes) (ls ++ ls1) rest
-begins_both stream bytes part rest ls ls1 p q = record {
-  whole = ap (λ l. l ++ bytes) p.whole ∙ append_assoc (flat_map with_newline ls) part bytes
-      ∙ ap (λ l. flat_map with_newline ls ++ l) q.whole
-      ∙ sym (append_assoc (flat_map with_newline ls) (flat_map with_newline ls1) rest)
-      ∙ ap (λ l. l ++ rest) (sym (flat_map-append with_newline ls ls1));
-  each = All-append HasNoNewline ls ls1 p.each q.each;
-}
-
--- one line, and what follows it
-begins_line : (bytes line rest : List ℕ) → HasNoNewline line → bytes ≡ line ++ 10 ∷ rest → Begins bytes (line ∷ []) rest
-begins_line bytes line rest none e = record {
-  whole = e ∙ sym (ap (λ l. l ++ rest) (append-nil (line ++ 10 ∷ [])) ∙ append_assoc line (10 ∷ []) rest);
-  each = All-cons HasNoNewline line [] none (All-nil HasNoNewline);
-}
-
--- some lines are read from the front of what is left
-begins_more : (bytes rest rest' : List ℕ) (ls ls1 : List (List ℕ)) → Begins bytes ls rest → Begins rest ls1 rest' → Begins bytes (ls ++ ls1) rest'
-begins_more bytes rest rest' ls ls1 p q = record {
-  whole = p.whole ∙ ap (λ l. flat_map with_newline ls ++ l) q.whole
-      ∙ sym (append_assoc (flat_map with_newline ls) (flat_map with_newline ls1) rest')
-      ∙ ap (λ l. l ++ rest') (sym (flat_map-append with_newline ls ls1));
-  each = All-append HasNoNewline ls ls1 p.each q.each;
-}
+begins_line : (bytes line rest : List ℕ) → HasNoNewline line → bytes ≡ line ++ 10 ∷ rest
+    → Begins HasNoNewline bytes (line ∷ []) rest
+begins_line bytes line rest none e = subst (λ l. Begins HasNoNewline l (line ∷ []) rest) (sym e) (begins_one rest none)
 
 -- the lines of bytes, up to what is left of them
 pub record IsSoFar (question : Question) (bytes rest old new : List ℕ) : Type 0 where
   pub ls : List (List ℕ)
-  pub cut : Begins bytes ls rest
+  pub cut : Begins HasNoNewline bytes ls rest
   pub few : length ls + length rest ≤ length bytes
   pub said : List ℕ
-  pub answers : Answers question ls said
+  pub answers : AnswersTableLines question ls said
   pub text : new ≡ old ++ said
 
 pub so_far_none : (question : Question) (bytes text : List ℕ) → IsSoFar question bytes bytes text text
@@ -87,26 +64,29 @@ so_far_none question bytes text = record {
   text = sym (append-nil text);
 }
 
-pub so_far_line : (question : Question) (bytes rest old new line rest' answer new' : List ℕ) → IsSoFar question bytes rest old new
-    → HasNoNewline line → rest ≡ line ++ 10 ∷ rest' → AnswersLine question line answer → new' ≡ new ++ answer
+pub so_far_line : (question : Question) (bytes rest old new line rest' answer new' : List ℕ)
+    → IsSoFar question bytes rest old new
+    → HasNoNewline line → rest ≡ line ++ 10 ∷ rest' → AnswersTableLine question line answer → new' ≡ new ++ answer
     → IsSoFar question bytes rest' old new'
 so_far_line question bytes rest old new line rest' answer new' far none e answered grown = record {
   ls = far.ls ++ line ∷ [];
-  cut = begins_more bytes rest rest' far.ls (line ∷ []) far.cut (begins_line rest line rest' none e);
+  cut = begins_then far.cut (begins_line rest line rest' none e);
   few = let size = length-append far.ls (line ∷ []) in let left = length-append line (10 ∷ rest') in
       omega (arith, size, left, ap length e, far.few);
   said = far.said ++ answer;
-  answers = answers_more question far.ls (line ∷ []) far.said answer far.answers (answers_one question line answer answered);
+  answers = answers_more question far.ls (line ∷ []) far.said answer far.answers
+      (answers_one question line answer answered);
   text = grown ∙ ap (λ l. l ++ answer) far.text ∙ append_assoc old far.said answer;
 }
 
 pub so_far_rest : (question : Question) (bytes rest old new line : List ℕ) → IsSoFar question bytes rest old new
-    → HasNoNewline line → rest ≡ line ++ [] → (said : List ℕ) × AnswersFront question bytes line said × (new ≡ old ++ said)
+    → HasNoNewline line → rest ≡ line ++ [] → (said : List ℕ) × AnswersFront question bytes line said
+    × (new ≡ old ++ said)
 so_far_rest question bytes rest old new line far none e = (
   far.said,
   record {
     ls = far.ls;
-    cut = subst (λ l. Begins bytes far.ls l) (e ∙ append-nil line) far.cut;
+    cut = subst (λ l. Begins HasNoNewline bytes far.ls l) (e ∙ append-nil line) far.cut;
     no_newline = none;
     few = omega (arith, far.few);
     answers = far.answers;
@@ -115,7 +95,8 @@ so_far_rest question bytes rest old new line far none e = (
 )
 
 -- what ends with a byte has it at the end of what stands last
-ends_with : (xs ys front : List ℕ) (y byte : ℕ) → xs ++ y ∷ ys ≡ front ++ byte ∷ [] → (more : List ℕ) × (y ∷ ys ≡ more ++ byte ∷ [])
+ends_with : (xs ys front : List ℕ) (y byte : ℕ) → xs ++ y ∷ ys ≡ front ++ byte ∷ [] → (more : List ℕ)
+    × (y ∷ ys ≡ more ++ byte ∷ [])
 ends_with [] ys front y byte e = (front, e)
 ends_with (x ∷ xs) ys [] y byte e = let size = length-append xs (y ∷ ys) in absurd (omega (arith, ap length e, size))
 ends_with (x ∷ xs) ys (z ∷ front) y byte e = ends_with xs ys front y byte (ap tail e)
@@ -124,7 +105,8 @@ ends_with (x ∷ xs) ys (z ∷ front) y byte e = ends_with xs ys front y byte (a
     tail [] = []
     tail (h ∷ t) = t
 
-pub nothing_left : (bytes rest : List ℕ) (ls : List (List ℕ)) → Begins bytes ls rest → HasNoNewline rest → EndsLine bytes → rest ≡ []
+pub nothing_left : (bytes rest : List ℕ) (ls : List (List ℕ)) → Begins HasNoNewline bytes ls rest → HasNoNewline rest
+    → EndsLine bytes → rest ≡ []
 nothing_left bytes [] ls cut none ends = refl
 nothing_left bytes (y ∷ ys) ls cut none ends =
     let (more, e) = ends_with (flat_map with_newline ls) ys ends.0 y 10 (sym cut.whole ∙ ends.1) in
@@ -134,11 +116,13 @@ nothing_left bytes (y ∷ ys) ls cut none ends =
     not_newline [] all = All-head (λ byte. byte ≢ 10) 10 [] all refl
     not_newline (x ∷ xs) all = not_newline xs (All-tail (λ byte. byte ≢ 10) x (xs ++ 10 ∷ []) all)
 
-pub front_ends : (bytes early later part after : List ℕ) (n : ℕ) → early ≡ take n bytes → later ≡ drop n bytes → later ≡ part ++ 10 ∷ after
+pub front_ends : (bytes early later part after : List ℕ) (n : ℕ) → early ≡ take n bytes → later ≡ drop n bytes
+    → later ≡ part ++ 10 ∷ after
     → (length after ≤ length bytes) × EndsLine (take (length bytes - length after) bytes)
     × (bytes ≡ take (length bytes - length after) bytes ++ after)
 front_ends bytes early later part after n e1 e2 e =
-    let split : early ++ later ≡ bytes = ap (λ l. l ++ later) e1 ∙ ap (λ l. take n bytes ++ l) e2 ∙ take-append-drop n bytes in
+    let split : early ++ later ≡ bytes = ap (λ l. l ++ later) e1 ∙ ap (λ l. take n bytes ++ l) e2
+    ∙ take-append-drop n bytes in
     let front = (early ++ part) ++ 10 ∷ [] in
     let whole : bytes ≡ front ++ after =
     sym split ∙ ap (λ l. early ++ l) e ∙ sym (append_assoc early part (10 ∷ after))
@@ -149,25 +133,30 @@ front_ends bytes early later part after n e1 e2 e =
     ap (λ n. take n bytes) size ∙ ap (take (length front)) whole ∙ take-append_seam front after in
     (omega (arith, ap length whole, sum), (early ++ part, same), whole ∙ ap (λ l. l ++ after) (sym same))
 
-pub pieces_both : (question : Question) (bytes front back rest rest' last said said' text : List ℕ) → EndsLine front → bytes ≡ front ++ back
-    → AnswersFront question front rest said → AnswersFront question back rest' said' → last ≡ rest' → text ≡ said ++ said'
+pub pieces_both : (question : Question) (bytes front back rest rest' last said said' text : List ℕ) → EndsLine front
+    → bytes ≡ front ++ back
+    → AnswersFront question front rest said → AnswersFront question back rest' said' → last ≡ rest'
+    → text ≡ said ++ said'
     → AnswersFront question bytes last text
 pieces_both question bytes front back rest rest' last said said' text ends e here there left both =
     let none : rest ≡ [] = nothing_left front rest here.ls here.cut here.no_newline ends in
-    let cut : Begins front here.ls [] = subst (λ l. Begins front here.ls l) none here.cut in
-    let cut' : Begins (front ++ back) (here.ls ++ there.ls) rest' = begins_both front back [] rest' here.ls there.ls cut there.cut in
+    let cut : Begins HasNoNewline front here.ls [] = subst (λ l. Begins HasNoNewline front here.ls l) none here.cut in
+    let cut' : Begins HasNoNewline (front ++ back) (here.ls ++ there.ls) rest' =
+    begins_then (begins_more back cut) there.cut in
     record {
       ls = here.ls ++ there.ls;
-      cut = subst (λ l. Begins l (here.ls ++ there.ls) last) (sym e) (subst (λ l. Begins (front ++ back) (here.ls ++ there.ls) l) (sym left) cut');
+      cut = subst (λ l. Begins HasNoNewline l (here.ls ++ there.ls) last) (sym e)
+          (subst (λ l. Begins HasNoNewline (front ++ back) (here.ls ++ there.ls) l) (sym left) cut');
       no_newline = subst HasNoNewline (sym left) there.no_newline;
       few = let size = length-append front back in let lines = length-append here.ls there.ls in
           omega (arith, ap length e, size, lines, here.few, there.few);
-      answers = subst (Answers question (here.ls ++ there.ls)) (sym both)
+      answers = subst (AnswersTableLines question (here.ls ++ there.ls)) (sym both)
           (answers_more question here.ls there.ls said said' here.answers there.answers);
     }
 
 -- what is pending still stands for the part of the line, with more of it
-stands_more : (old more new part : List ℕ) → StandsFor old part → HasNoNewline more → KeepsPart old more new → StandsFor new (part ++ more)
+stands_more : (old more new part : List ℕ) → StandsFor old part → HasNoNewline more → KeepsPart old more new
+    → StandsFor new (part ++ more)
 stands_more old more new part stands none kept = record {
   no_newline = All-append (λ byte. byte ≢ 10) part more stands.no_newline none;
   same =
@@ -186,17 +175,19 @@ stands_more old more new part stands none kept = record {
 }
 
 -- what stands for a line is answered as it
-same_answer : (question : Question) (pending part text : List ℕ) → StandsFor pending part → AnswersLine question pending text
-    → AnswersLine question part text
+same_answer : (question : Question) (pending part text : List ℕ) → StandsFor pending part
+    → AnswersTableLine question pending text
+    → AnswersTableLine question part text
 same_answer question pending part text stands answered = elim stands.same [
-  | inl e ↦ subst (λ l. AnswersLine question l text) e answered
+  | inl e ↦ subst (λ l. AnswersTableLine question l text) e answered
   | inr long ↦ elim answered [
     | inl refused ↦ inl (long.1, refused.1)
     | inr short ↦ absurd (omega (arith, long.0, short.0))
   ]
 ]
 
-pub takes_part : (question : Question) (old bytes part new text : List ℕ) → text ≡ [] → HasNoNewline part → bytes ≡ part ++ [] → KeepsPart old part new
+pub takes_part : (question : Question) (old bytes part new text : List ℕ) → text ≡ [] → HasNoNewline part
+    → bytes ≡ part ++ [] → KeepsPart old part new
     → TakesBytes question old bytes new text
 takes_part question old bytes part new text unsaid none e kept p stands =
     let whole : part ≡ bytes = sym (e ∙ append-nil part) in
@@ -206,14 +197,17 @@ takes_part question old bytes part new text unsaid none e kept p stands =
       cut = begins_none (p ++ bytes);
       stands = subst (λ l. StandsFor new (p ++ l)) whole (stands_more old part new p stands none kept);
       few = omega arith;
-      answers = subst (Answers question []) (sym unsaid) (answers_none question);
+      answers = subst (AnswersTableLines question []) (sym unsaid) (answers_none question);
     }
 
-pub takes_lines : (question : Question) (old bytes part after mid first text rest new : List ℕ) → HasNoNewline part → bytes ≡ part ++ 10 ∷ after
-    → KeepsPart old part mid → (line : List ℕ) → line ≡ mid → AnswersLine question line first
-    → (said : List ℕ) × AnswersFront question after rest said × (text ≡ first ++ said) → (empty : List ℕ) → empty ≡ [] → KeepsPart empty rest new
+pub takes_lines : (question : Question) (old bytes part after mid first text rest new : List ℕ) → HasNoNewline part
+    → bytes ≡ part ++ 10 ∷ after
+    → KeepsPart old part mid → (line : List ℕ) → line ≡ mid → AnswersTableLine question line first
+    → (said : List ℕ) × AnswersFront question after rest said × (text ≡ first ++ said) → (empty : List ℕ) → empty ≡ []
+    → KeepsPart empty rest new
     → TakesBytes question old bytes new text
-takes_lines question old bytes part after mid first text rest new none e kept shown is_mid answered lines empty is_empty kept' p stands =
+takes_lines question old bytes part after mid first text rest new none e kept shown is_mid answered lines empty is_empty
+    kept' p stands =
     let (said, front, grown) = lines in
     let line = p ++ part in
     let is_line : StandsFor mid line = stands_more old part mid p stands none kept in
@@ -221,12 +215,14 @@ takes_lines question old bytes part after mid first text rest new none e kept sh
     record {
       ls = line ∷ front.ls;
       part = rest;
-      cut = begins_more (p ++ bytes) after rest (line ∷ []) front.ls (begins_line (p ++ bytes) line after is_line.no_newline cut) front.cut;
+      cut = begins_then (begins_line (p ++ bytes) line after is_line.no_newline cut) front.cut;
       stands = stands_alone rest new front.no_newline (subst (λ l. KeepsPart l rest new) is_empty kept');
       few = let size = length-append part (10 ∷ after) in omega (arith, ap length e, size, front.few);
-      answers = subst (Answers question (line ∷ front.ls)) (sym grown)
+      answers = subst (AnswersTableLines question (line ∷ front.ls)) (sym grown)
           (answers_more question (line ∷ []) front.ls first said
-          (answers_one question line first (same_answer question mid line first is_line (subst (λ l. AnswersLine question l first) is_mid answered))) front.answers);
+          (answers_one question line first
+          (same_answer question mid line first is_line
+          (subst (λ l. AnswersTableLine question l first) is_mid answered))) front.answers);
     }
   where
     stands_alone : (rest new : List ℕ) → HasNoNewline rest → KeepsPart [] rest new → StandsFor new rest
@@ -239,18 +235,23 @@ pub nothing : (xs : List ℕ) → length xs ≡ 0 → xs ≡ []
 nothing [] e = refl
 nothing (x ∷ xs) e = absurd (omega (arith, e))
 
-pub takes_no_end : (question : Question) (pending text : List ℕ) → text ≡ [] → pending ≡ [] → TakesEnd question pending text
+pub takes_no_end : (question : Question) (pending text : List ℕ) → text ≡ [] → pending ≡ []
+    → AnswersLast question pending text
 takes_no_end question pending text unsaid e part stands = elim stands.same [
-  | inl same ↦ subst (λ l. Answers question (last_line l) text) (sym e ∙ same) (subst (Answers question []) (sym unsaid) (answers_none question))
+  | inl same ↦
+      subst (λ l. AnswersTableLines question (last_line l) text) (sym e ∙ same)
+      (subst (AnswersTableLines question []) (sym unsaid) (answers_none question))
   | inr long ↦ absurd (omega (arith, ap length e, long.0))
 ]
 
-pub takes_end : (question : Question) (pending text shown : List ℕ) → pending ≢ [] → shown ≡ pending → AnswersLine question shown text
-    → TakesEnd question pending text
+pub takes_end : (question : Question) (pending text shown : List ℕ) → pending ≢ [] → shown ≡ pending
+    → AnswersTableLine question shown text
+    → AnswersLast question pending text
 takes_end question pending text shown some is_pending answered [] stands = elim stands.same [
   | inl same ↦ absurd (some same)
   | inr long ↦ absurd (omega (arith, long.1))
 ]
 takes_end question pending text shown some is_pending answered (byte ∷ part) stands =
     answers_one question (byte ∷ part) text
-    (same_answer question pending (byte ∷ part) text stands (subst (λ l. AnswersLine question l text) is_pending answered))
+    (same_answer question pending (byte ∷ part) text stands
+    (subst (λ l. AnswersTableLine question l text) is_pending answered))

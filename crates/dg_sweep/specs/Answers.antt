@@ -1,22 +1,29 @@
 -- What the line of a table is answered.
---   IsVerdict o names text == the text is that of a verdict which is right for the amounts of the opening o, reckoned from its
---                             vertex q, and a newline
---   IsTested o k names text == the text is that of a rank verdict of degree k which is right for the amounts of o, and a newline
---   IsBelow o k text       == the rank of the amounts is below k, and that the text says; there are too many trials to name the
---                             first loss
---   IsUntested o k text    == the rank test is past the limits, as is that of the dual, and that the text says
+--   IsVerdict o names text == the text is that of a verdict which is right for the amounts of the
+--                             opening o, reckoned from its vertex q, and a newline
+--   IsTested o k names text == the text is that of a rank verdict of degree k which is right for
+--                         the amounts of o, and a newline
+--   IsBelow o k text       == the rank of the amounts is below k, and that the text says; there are
+--                             too many trials to name the first loss
+--   IsUntested o k text    == the rank test is past the limits, as is that of the dual, and that
+--                         the text says
 --   AnswersRank o k names text == one of these
 --   number_after label z   == the label and the number
 --   numbers_text o         == the degree of the amounts and the genus of the graph
 --   AreRanks o text        == the text is that of the rank of the amounts and that of their dual
---   AreUntested o text     == all rank tests are passed up to one that is past the limits, as is that of the dual; the text has
---                             marks in the place of the ranks
---   AnswersTable question o names text == the text answers the question for the opening o with these names
+--   AreUntested o text     == all rank tests are passed up to one that is past the limits, as is
+--                             that of the dual; the text has marks in the place of the ranks
+--   AnswersTable question o names text == the text answers the question for the opening o with
+--                         these names
 --   refusal words          == `refused`, the words and a newline
---   IsRefused line text    == the line is refused as a table for a fault, and the text says for which
---   IsOfTable question line text == the line describes a table, and the text answers the question for it
---   AnswersLine question line text == the text is the answer to the line: a longer one than a line may be is refused unread
---   Answers question ls text == the text is the answers to the lines ls, one after another
+--   IsRefused line text    == the line is refused as a table for a fault, and the text says for
+--                         which
+--   IsOfTable question line text == the line describes a table, and the text answers the question
+--                         for it
+--   AnswersTableLine question line text == the text is the answer to the line: a longer one than a
+--                         line may be is refused unread
+--   AnswersTableLines question ls text == the text is the answers to the lines ls, one after
+--                         another
 use Rattle.std.specs.Prelude.{◌≡◌, ◌≢◌, ℕ, ◌<◌, ◌≤◌, ◌⊎◌, ℤ, List, [], ◌∷◌, ◌++◌, length, codes, decimal}
 use Rattle.std.specs.Fmt.{signed_decimal}
 use Rattle.dg_theory.specs.Multigraph.{genus}
@@ -35,7 +42,7 @@ use Rattle.dg_file.specs.TableFiles.{IsTableFile}
 use Rattle.dg_file.specs.FileFaults.{RefusesFile}
 use Rattle.dg_file.specs.declared.fault.FileFault.{FileFault}
 use Rattle.dg_file.specs.declared.fault.FileFault.TheVariants.{OutOfMemory}
-use Rattle.dg_sweep.specs.FaultTexts.{fault_text}
+use Rattle.dg_sweep.specs.FaultTexts.{file_fault_text}
 use Rattle.dg_asked.specs.declared.question.Question.{Question}
 use Rattle.dg_asked.specs.declared.question.Question.TheVariants.{Judge, Rank, RiemannRoch}
 use Rattle.dg_sweep.specs.declared.ends.TheConstants.{MAX_LINE}
@@ -66,14 +73,17 @@ abbrev pub number_after : List ℕ → ℤ → List ℕ
 number_after label z = label ++ signed_decimal z
 
 abbrev pub numbers_text : Opening → List ℕ
-numbers_text o = number_after (codes "degree ") (degree o.graph.size (at o.divisor)) ++ number_after (codes " genus ") (genus o.graph)
+numbers_text o =
+    number_after (codes "degree ") (degree o.graph.size (at o.divisor))
+    ++ number_after (codes " genus ") (genus o.graph)
 
 pub record AreRanks (o : Opening) (text : List ℕ) : Type 0 where
   pub rank : ℤ
   pub of_divisor : IsRank o.graph (at o.divisor) rank
   pub dual_rank : ℤ
   pub of_dual : IsRank o.graph (less (canonical o.graph) (at o.divisor)) dual_rank
-  pub printed : text ≡ numbers_text o ++ number_after (codes " rank ") rank ++ number_after (codes " dual ") dual_rank ++ codes "\n"
+  pub printed : text ≡ numbers_text o ++ number_after (codes " rank ") rank
+      ++ number_after (codes " dual ") dual_rank ++ codes "\n"
 
 pub record AreUntested (o : Opening) (text : List ℕ) : Type 0 where
   pub past : NeedsPastTests o.graph (at o.divisor)
@@ -91,7 +101,7 @@ pub record IsRefused (line text : List ℕ) : Type 0 where
   pub fault : FileFault
   pub found : fault ≢ OutOfMemory
   pub refuses : RefusesFile line fault
-  pub printed : text ≡ refusal (fault_text fault)
+  pub printed : text ≡ refusal (file_fault_text fault)
 
 pub record IsOfTable (question : Question) (line text : List ℕ) : Type 0 where
   pub opening : Opening
@@ -99,11 +109,13 @@ pub record IsOfTable (question : Question) (line text : List ℕ) : Type 0 where
   pub table : IsTableFile line opening names
   pub answer : AnswersTable question opening names text
 
-abbrev pub AnswersLine : Question → List ℕ → List ℕ → Type 0
-AnswersLine question line text = ((MAX_LINE < length line) × (text ≡ refusal (codes "file too long")))
+abbrev pub AnswersTableLine : Question → List ℕ → List ℕ → Type 0
+AnswersTableLine question line text =
+    ((MAX_LINE < length line) × (text ≡ refusal (codes "file too long")))
     ⊎ ((length line ≤ MAX_LINE) × (IsRefused line text ⊎ IsOfTable question line text))
 
-unfoldable pub Answers : Question → List (List ℕ) → List ℕ → Type 0
-Answers question [] text = text ≡ []
-Answers question (line ∷ ls) text =
-    (front back : List ℕ) × AnswersLine question line front × Answers question ls back × (text ≡ front ++ back)
+unfoldable pub AnswersTableLines : Question → List (List ℕ) → List ℕ → Type 0
+AnswersTableLines question [] text = text ≡ []
+AnswersTableLines question (line ∷ ls) text =
+    (front back : List ℕ) × AnswersTableLine question line front
+    × AnswersTableLines question ls back × (text ≡ front ++ back)

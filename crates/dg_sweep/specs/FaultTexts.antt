@@ -2,7 +2,7 @@
 --   shape_text shape == of a part that has another shape than it should
 --   graph_text fault == of vertices and edges that are no graph
 --   chip_text fault  == of amounts that are no divisor
---   fault_text fault == of any fault of a table
+--   file_fault_text fault == of any fault of a table
 use Rattle.std.specs.Prelude.{ℕ, List, ◌++◌, codes, decimal}
 use Rattle.dg_graph.specs.declared.fault.GraphFault.{GraphFault}
 use Rattle.dg_graph.specs.declared.fault.GraphFault.TheVariants.{Size, NoVertex, Loop, Multiplicity, Valence, NotConnected}
@@ -33,12 +33,12 @@ abbrev pub chip_text : ChipFault → List ℕ
 chip_text Length = codes "number of amounts"
 chip_text (Range v) = codes "amount of vertex " ++ decimal v
 
-abbrev pub fault_text : FileFault → List ℕ
-fault_text Json = codes "not JSON"
-fault_text (OfShape shape) = shape_text shape
-fault_text (Graph fault) = graph_text fault
-fault_text (Name v) = codes "name of vertex " ++ decimal v
-fault_text (Twice v) = (codes "vertex " ++ decimal v) ++ codes " named twice"
-fault_text (Chip fault) = chip_text fault
-fault_text NoQ = codes "no vertex q"
-fault_text OutOfMemory = codes "out of memory"
+abbrev pub file_fault_text : FileFault → List ℕ
+file_fault_text Json = codes "not JSON"
+file_fault_text (OfShape shape) = shape_text shape
+file_fault_text (Graph fault) = graph_text fault
+file_fault_text (Name v) = codes "name of vertex " ++ decimal v
+file_fault_text (Twice v) = (codes "vertex " ++ decimal v) ++ codes " named twice"
+file_fault_text (Chip fault) = chip_text fault
+file_fault_text NoQ = codes "no vertex q"
+file_fault_text OutOfMemory = codes "out of memory"

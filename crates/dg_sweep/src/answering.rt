@@ -2,8 +2,8 @@
 ghost use Rattle.std.specs.Prelude.{◌≡◌, ◌≢◌, ◌++◌, [], codes, OnOk};
 ghost use Rattle.dg_file.specs.FileFaults.{RefusesFile};
 ghost use Rattle.dg_lines.specs.Texts.{HasNames, text_of};
-ghost use Rattle.dg_sweep.specs.FaultTexts.{fault_text};
-ghost use Rattle.dg_sweep.specs.Answers.{AnswersLine, AnswersTable, IsRefused, IsVerdict, refusal};
+ghost use Rattle.dg_sweep.specs.FaultTexts.{file_fault_text};
+ghost use Rattle.dg_sweep.specs.Answers.{AnswersTableLine, AnswersTable, IsRefused, IsVerdict, refusal};
 
 use crate::ends::MAX_LINE;
 use crate::fault_words::push_fault;
@@ -26,7 +26,7 @@ pub fn answer_line(
     line: &[u8],
     answer: &mut Vec<u8>,
 ) -> Result<(), AllocError>
-    ensures { OnOk result (AnswersLine question line.now answer.new.items) }
+    ensures { OnOk result (AnswersTableLine question line.now answer.new.items) }
 {
     answer.clear();
     if line.len() > MAX_LINE {
@@ -42,7 +42,7 @@ pub fn answer_line(
 /// `refused`, the text of the fault and a newline, into an empty buffer.
 fn push_refusal(fault: &FileFault, answer: &mut Vec<u8>) -> Result<(), AllocError>
     requires { answer.old.items ≡ [] }
-    ensures { OnOk result (answer.new.items ≡ refusal (fault_text fault.now)) }
+    ensures { OnOk result (answer.new.items ≡ refusal (file_fault_text fault.now)) }
 {
     answer.extend_from_slice(b"refused ")?;
     push_fault(answer, fault)?;

@@ -1,6 +1,6 @@
 //! What is said of bytes that are refused as a table.
 ghost use Rattle.std.specs.Prelude.{◌≡◌, ◌++◌, decimal, OnOk};
-ghost use Rattle.dg_sweep.specs.FaultTexts.{fault_text, shape_text, graph_text, chip_text};
+ghost use Rattle.dg_sweep.specs.FaultTexts.{file_fault_text, shape_text, graph_text, chip_text};
 
 use dg_chips::ChipFault;
 use dg_file::{FileFault, Shape};
@@ -10,7 +10,7 @@ use std::alloc::AllocError;
 
 /// What is said of a fault, after the text.
 pub(crate) fn push_fault(text: &mut Vec<u8>, fault: &FileFault) -> Result<(), AllocError>
-    ensures { OnOk result (text.new.items ≡ text.old.items ++ fault_text fault.now) }
+    ensures { OnOk result (text.new.items ≡ text.old.items ++ file_fault_text fault.now) }
 {
     match fault {
         FileFault::Json => text.extend_from_slice(b"not JSON")?,

@@ -51,7 +51,8 @@ fn push_below(k: u32, answer: &mut Vec<u8>) -> Result<(), AllocError>
 /// within the limits tells.
 pub(crate) fn push_ranks(start: &Start, answer: &mut Vec<u8>) -> Result<(), AllocError>
     requires { answer.old.items ≡ [] }
-    ensures { OnOk result (AreRanks start.now answer.new.items ⊎ AreUntested start.now answer.new.items) }
+    ensures { OnOk result
+        (AreRanks start.now answer.new.items ⊎ AreUntested start.now answer.new.items) }
 {
     let graph = start.graph();
     let q = usize::from(start.q());
@@ -72,7 +73,8 @@ fn push_told(
 ) -> Result<(), AllocError>
     requires { answer.old.items ≡ [] }
     ensures { OnOk result (answer.new.items ≡ numbers_text start.now
-        ++ number_after (codes " rank ") rank ++ number_after (codes " dual ") dual_rank ++ codes "\n") }
+        ++ number_after (codes " rank ") rank ++ number_after (codes " dual ") dual_rank
+        ++ codes "\n") }
 {
     push_numbers(start, answer)?;
     push_number(answer, " rank ", rank)?;

@@ -1,6 +1,5 @@
 //! Sweeping a stream of tables.
-ghost use Rattle.std.specs.Prelude.{◌≡◌, ◌<◌, ◌≤◌, length, take, Err, None, IfSome, true};
-ghost use Rattle.std.specs.Io.KnownBytes.{Consumes, IsAtEnd, Keeps};
+ghost use Rattle.std.specs.Prelude.{◌≡◌, Err, true};
 ghost use Rattle.dg_sweep.specs.Sweeps.{IsSweep};
 
 use crate::ends::{READ_SIZE, SweepEnd};
@@ -28,7 +27,8 @@ pub fn sweep<R: Threads + Wait + Sync, I: Read, O: Write>(
     reader: &mut Input<I>,
     writer: &mut Output<O>,
 ) -> Result<(), SweepEnd>
-    ensures swept { IsSweep question reader.old.remaining reader.new.remaining writer.old.contents writer.new.contents result }
+    ensures swept { IsSweep question reader.old.remaining reader.new.remaining writer.old.contents
+        writer.new.contents result }
     ensures read { result ≡ Err SweepEnd.Read → reader.new.has_failed ≡ true }
     ensures write { result ≡ Err SweepEnd.Write → writer.new.has_failed ≡ true }
 {
@@ -43,7 +43,7 @@ pub fn sweep<R: Threads + Wait + Sync, I: Read, O: Write>(
     };
     let mut progress = Progress::new(alloc);
     'reads: for _ in rt.forever() {
-        let Some(size) = read_some(reader, &mut buffer) else {
+        let Some(size) = reader.read_some(&mut buffer) else {
             return Err(SweepEnd::Read);
         };
         if size == 0 {
@@ -58,20 +58,4 @@ pub fn sweep<R: Threads + Wait + Sync, I: Read, O: Write>(
         }
     }
     unreachable!()
-}
-
-/// Reads into the buffer, and says how many bytes came; `None` where the reader failed.
-fn read_some<I: Read>(reader: &mut Input<I>, buffer: &mut Vec<u8>) -> Option<usize>
-    ensures bytes { IfSome result (λ size. Consumes reader.old.remaining reader.new.remaining
-        (take size buffer.new.items)) }
-    ensures end { IfSome result (λ size. size ≡ 0 → 0 < length buffer.old.items → IsAtEnd reader.new.remaining) }
-    ensures bound { IfSome result (λ size. size ≤ length buffer.new.items) }
-    ensures size { length buffer.new.items ≡ length buffer.old.items }
-    ensures kept { result ≡ None → Keeps reader.old.remaining reader.new.remaining }
-    ensures failed { result ≡ None → reader.new.has_failed ≡ true }
-{
-    match reader.read(buffer) {
-        Ok(size) => Some(size),
-        Err(_) => None,
-    }
 }

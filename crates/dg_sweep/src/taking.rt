@@ -1,6 +1,6 @@
 //! Taking what was read: bytes that are cut into lines, and the end.
 ghost use Rattle.std.specs.Prelude.{◌≡◌, ◌++◌, ℕ, List, [], true, IfOk, OnOk, Err};
-ghost use Rattle.dg_sweep.specs.Steps.{AnswersFront, KeepsPart, Passes, TakesBytes, TakesEnd};
+ghost use Rattle.dg_sweep.specs.Steps.{AnswersFront, KeepsPart, Passes, TakesBytes, AnswersLast};
 ghost use Rattle.dg_sweep.specs.declared.ends.SweepEnd.TheVariants.{Write as WriteEnd};
 
 use crate::answering::answer_line;
@@ -66,7 +66,7 @@ impl Progress {
         question: Question,
         writer: &mut Output<O>,
     ) -> Result<(), SweepEnd>
-        ensures passed { Passes (TakesEnd question self.old.pending.items)
+        ensures passed { Passes (AnswersLast question self.old.pending.items)
             writer.old.contents writer.new.contents result }
         ensures write { result ≡ Err WriteEnd → writer.new.has_failed ≡ true }
     {
@@ -103,7 +103,7 @@ impl Progress {
 
     /// Takes the end: answers what is pending as the last line, if it has a byte.
     fn take_end(&mut self, alloc: Global, question: Question) -> Result<(), AllocError>
-        ensures { OnOk result (TakesEnd question self.old.pending.items self.new.text.items) }
+        ensures { OnOk result (AnswersLast question self.old.pending.items self.new.text.items) }
     {
         self.text.clear();
         if self.pending.is_empty() {

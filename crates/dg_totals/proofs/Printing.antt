@@ -17,10 +17,12 @@ entries_more names n [] e =
 entries_more names n (x ∷ H) e =
     let number : (n + 1) + length H ≡ n + length (x ∷ H) = omega arith in
     ap (λ (rest : List ℕ). seat_entry_text names n x ++ rest) (entries_more names (n + 1) H e)
-    ∙ sym (append_assoc (seat_entry_text names n x) (entries_text names (n + 1) H) (seat_entry_text names ((n + 1) + length H) e))
+    ∙ sym (append_assoc (seat_entry_text names n x) (entries_text names (n + 1) H)
+    (seat_entry_text names ((n + 1) + length H) e))
     ∙ ap (λ (k : ℕ). (seat_entry_text names n x ++ entries_text names (n + 1) H) ++ seat_entry_text names k e) number
 
-pub entries_step : (names : List (List ℕ)) (H : List Entry) (n : ℕ) (e : Entry) (start text next : List ℕ) → n < length H
+pub entries_step : (names : List (List ℕ)) (H : List Entry) (n : ℕ) (e : Entry) (start text next : List ℕ)
+    → n < length H
     → take (n + 1) H ≡ take n H ++ e ∷ [] → text ≡ start ++ entries_text names 0 (take n H)
     → next ≡ text ++ seat_entry_text names n e → next ≡ start ++ entries_text names 0 (take (n + 1) H)
 entries_step names H n e start text next within longer before written =

@@ -1,12 +1,15 @@
 -- What is printed of a table that was closed.
---   seat_entry_text names number e == the line of an entry: its number, its seat and the text of its reply
+--   seat_entry_text names number e == the line of an entry: its number, its seat and the text of
+--                         its reply
 --   entries_text names n H   == such lines of the entries H, numbered from n on
 --   seat_text s count        == the line of a seat: its number and how many entries are its
 --   seats_text s n H         == for each of n seats, from s on, how many entries of H are its
---   calls_text s calls       == for each of the numbers of calls, those of the seats from s on, its line
---   totals_text names e g position calls == such totals: e entries, g gifts, the amounts, and the calls of each seat
---   audit_text names n H position == how many entries there are, how many gifts were accepted, the amounts, and the calls of each
---                               of n seats
+--   calls_text s calls       == for each of the numbers of calls, those of the seats from s on, its
+--                         line
+--   totals_text names e g position calls == such totals: e entries, g gifts, the amounts, and the
+--                         calls of each seat
+--   audit_text names n H position == how many entries there are, how many gifts were accepted, the
+--                               amounts, and the calls of each of n seats
 use Rattle.std.specs.Prelude.{ℕ, zero, suc, ◌+◌, List, [], ◌∷◌, ◌++◌, length, codes, decimal}
 use Rattle.dg_chips.specs.Vector.{Vector, at}
 use Rattle.dg_game.specs.History.{gifts_in}
@@ -16,7 +19,8 @@ use Rattle.dg_lines.specs.Texts.{text_of, pairs}
 
 abbrev pub seat_entry_text : List (List ℕ) → ℕ → Entry → List ℕ
 seat_entry_text names number e =
-    decimal number ++ codes " " ++ decimal e.seat ++ codes " " ++ text_of names e.reply ++ codes "\n"
+    decimal number ++ codes " " ++ decimal e.seat ++ codes " " ++ text_of names e.reply
+    ++ codes "\n"
 
 unfoldable pub entries_text : List (List ℕ) → ℕ → List Entry → List ℕ
 entries_text names n [] = []
@@ -40,5 +44,6 @@ totals_text names entries gifts position calls =
 
 abbrev pub audit_text : List (List ℕ) → ℕ → List Entry → Vector → List ℕ
 audit_text names n H position =
-    codes "entries " ++ decimal (length H) ++ codes "\ngifts " ++ decimal (gifts_in H) ++ codes "\nposition "
+    codes "entries " ++ decimal (length H) ++ codes "\ngifts " ++ decimal (gifts_in H)
+    ++ codes "\nposition "
     ++ pairs names (at position) ++ codes "\n" ++ seats_text 1 n H

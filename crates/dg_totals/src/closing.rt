@@ -26,7 +26,8 @@ pub fn closing_text<N: Name>(
     requires position { length names.now ≡ audit.now.position.size }
     requires seats { seats ≤ 64 }
     ensures { IfOk result (λ text. text.items ≡ entries_text names.now 0 history.now
-        ++ totals_text names.now audit.now.entries audit.now.gifts audit.now.position (take seats audit.now.calls)) }
+        ++ totals_text names.now audit.now.entries audit.now.gifts audit.now.position
+        (take seats audit.now.calls)) }
 {
     let mut text = Vec::new(alloc);
     push_entries(&mut text, names, history)?;
@@ -44,7 +45,8 @@ pub fn closing_text<N: Name>(
 // The lines of the entries of a history, numbered from 0 on, after the text.
 fn push_entries(text: &mut Vec<u8>, names: &Names, history: &[Entry]) -> Result<(), AllocError>
     requires { AllHaveNames names.now history.now }
-    ensures { OnOk result (text.new.items ≡ text.old.items ++ entries_text names.now 0 history.now) }
+    ensures { OnOk result
+        (text.new.items ≡ text.old.items ++ entries_text names.now 0 history.now) }
 {
     'entries: for (number, entry) in history.iter().enumerate() {
         push_seat_entry(text, names, number, entry)?;
@@ -60,7 +62,8 @@ fn push_seat_entry(
     entry: &Entry,
 ) -> Result<(), AllocError>
     requires { HasNames names.now entry.now.reply }
-    ensures { OnOk result (text.new.items ≡ text.old.items ++ seat_entry_text names.now number entry.now) }
+    ensures { OnOk result
+        (text.new.items ≡ text.old.items ++ seat_entry_text names.now number entry.now) }
 {
     text.extend_from_slice(Buffer::new().format(number).as_bytes())?;
     text.extend_from_slice(b" ")?;
@@ -81,7 +84,9 @@ fn push_totals(
     calls: &[u64],
 ) -> Result<(), AllocError>
     requires { length names.now ≡ position.now.size }
-    ensures { OnOk result (text.new.items ≡ text.old.items ++ totals_text names.now entries gifts position.now calls.now) }
+    ensures { OnOk result
+        (text.new.items ≡ text.old.items
+        ++ totals_text names.now entries gifts position.now calls.now) }
 {
     text.extend_from_slice(b"entries ")?;
     text.extend_from_slice(Buffer::new().format(entries).as_bytes())?;

@@ -11,14 +11,18 @@ closing_text-requires-clause-history g c =
 pub closing_text-requires-clause-position : goal.closing_text-requires-clause-position
 closing_text-requires-clause-position g c =
     c.requires.names ∙ ap (λ o. o.graph.size) c.requires.start
-    ∙ shown_size g.N.Name.start c.in-Ok-close.audit.pen.entries c.in-Ok-close.audit.position c.in-Ok-close.ensures.1.position'
+    ∙ shown_size g.N.Name.start c.in-Ok-close.audit.pen.entries c.in-Ok-close.audit.position
+    c.in-Ok-close.ensures.1.position'
 
 pub returns-in-Ok-closing_text : goal.returns-in-Ok-closing_text
 returns-in-Ok-closing_text g c =
-    whole_lent g.N.Name.start (length g.N.Name.cells) c.args.names.now (contents c.args.scripts.now) (length c.args.scripts.now)
-    g.N.Name.seats c.in-Ok.opened.1.len c.in-Ok.opened.1.items c.deref_mut.result.now c.sessions.new.seats _ c.in-Ok-sessions.ends.items
+    whole_lent g.N.Name.start (length g.N.Name.cells) c.args.names.now (contents c.args.scripts.now)
+    (length c.args.scripts.now)
+    g.N.Name.seats c.in-Ok.opened.1.len c.in-Ok.opened.1.items c.deref_mut.result.now c.sessions.new.seats _
+    c.in-Ok-sessions.ends.items
     c.in-Ok-close.audit.pen.entries c.deref.result.now c.in-Ok-close.audit.entries c.in-Ok-close.audit.gifts
     c.in-Ok-close.audit.graph c.in-Ok-close.audit.position c.in-Ok-close.audit.calls c.in-Ok-closing_text.text.items
     (contents_count c.args.scripts.now) c.requires.seats
-    c.in-Ok.ensures (search rules) (search rules) c.in-Ok-sessions.ensures.ok c.in-Ok-close.ensures (search rules) (search rules)
+    c.in-Ok.ensures (search rules) (search rules) c.in-Ok-sessions.ensures.ok c.in-Ok-close.ensures (search rules)
+    (search rules)
     c.in-Ok-closing_text.ensures

@@ -17,9 +17,13 @@ longer ends place default end within more same =
 pub ends-preserved : goal.ends-preserved
 ends-preserved c = elim c.match-end.branch [
   | in-Err+in_ok-push w ↦
-      let taken = longer c.args.ends.now c.ends.place _ (Err w.in-Err.end) c.ends-test.true (take_more c.args.ends.now c.ends.place (Ok 0) c.ends-test.true) w.in-Err.is in
-      rw w.all-is (w.in_ok-push.ensures.items ∙ ap (λ (all : List (ℕ × SessionEnd)). all ++ (c.ends.place + 1, w.in-Err.end) ∷ []) c.ends.invariant ∙ sym taken)
+      let taken = longer c.args.ends.now c.ends.place _ (Err w.in-Err.end) c.ends-test.true
+      (take_more c.args.ends.now c.ends.place (Ok 0) c.ends-test.true) w.in-Err.is in
+      rw w.all-is (w.in_ok-push.ensures.items
+      ∙ ap (λ (all : List (ℕ × SessionEnd)). all ++ (c.ends.place + 1, w.in-Err.end) ∷ []) c.ends.invariant
+      ∙ sym taken)
   | in_default w ↦
-      let taken = longer c.args.ends.now c.ends.place _ (Ok w.in_default.field-0) c.ends-test.true (take_more c.args.ends.now c.ends.place (Ok 0) c.ends-test.true) w.in_default.is in
+      let taken = longer c.args.ends.now c.ends.place _ (Ok w.in_default.field-0) c.ends-test.true
+      (take_more c.args.ends.now c.ends.place (Ok 0) c.ends-test.true) w.in_default.is in
       rw w.all-is (c.ends.invariant ∙ sym (taken ∙ search rules))
 ]

@@ -5,14 +5,16 @@ use Rattle.dg_server.proofs.parties.play_party.Goals as goal
 pub party-requires-clause-scripts : goal.party-requires-clause-scripts
 party-requires-clause-scripts g c κs outlives =
     rw c.as_slice.ensures.value
-    (may_play (g.S.Sources.held c.args.sources.now) c.len.result c.args.task.now.scripts.items c.in-Ok.read.1.items c.in-Ok.ensures.read.1 (search rules) (search rules) (search rules))
+    (may_play (g.S.Sources.held c.args.sources.now) c.len.result c.args.task.now.scripts.items c.in-Ok.read.1.items
+    c.in-Ok.ensures.read.1 (search rules) (search rules) (search rules))
 
 pub returns-in-Ok-print_played-clause-done : goal.returns-in-Ok-print_played-clause-done
 returns-in-Ok-print_played-clause-done g c =
     record {
       ends = c.in-Ok-party.played.ends.items;
       text = c.in-Ok-party.played.text.items;
-      party = party_on (g.S.Sources.held c.args.sources.now) c.args.task.now _ _ c.in-Ok.read.1.items _ _ c.in-Ok.ensures.read.0 c.in-Ok.ensures.read.1
+      party = party_on (g.S.Sources.held c.args.sources.now) c.args.task.now _ _ c.in-Ok.read.1.items _ _
+          c.in-Ok.ensures.read.0 c.in-Ok.ensures.read.1
           (rw (← c.start.ensures, ← c.names.ensures.value, ← c.as_slice.ensures.value) c.in-Ok-party.ensures);
       whole = c.in-Ok-print_played.ensures.whole.0;
       printed = c.in-Ok-print_played.ensures.whole.1;
@@ -23,7 +25,8 @@ returns-clause-refused g c differ =
     inr (inr (inr (record {
       ends = c.in-Ok-party.played.ends.items;
       text = c.in-Ok-party.played.text.items;
-      party = party_on (g.S.Sources.held c.args.sources.now) c.args.task.now _ _ c.in-Ok.read.1.items _ _ c.in-Ok.ensures.read.0 c.in-Ok.ensures.read.1
+      party = party_on (g.S.Sources.held c.args.sources.now) c.args.task.now _ _ c.in-Ok.read.1.items _ _
+          c.in-Ok.ensures.read.0 c.in-Ok.ensures.read.1
           (rw (← c.start.ensures, ← c.names.ensures.value, ← c.as_slice.ensures.value) c.in-Ok-party.ensures);
       printed = c.in-Err-print_played.ensures.refused differ;
     })))

@@ -12,5 +12,10 @@ pub returns-in-Err-clause-failed : goal.returns-in-Err-clause-failed
 returns-in-Err-clause-failed g c differ = record {
   fault = Words c.in-Err.fault;
   tells = sym c.report-in-Err.ensures;
-  cause = inl (record { why = c.in-Err.fault; tells = refl; refused = c.in-Err.ensures.refused; kept = as_it_was c.args.output.now.contents });
+  cause = inl (record {
+    why = c.in-Err.fault;
+    tells = refl;
+    refused = c.in-Err.ensures.refused;
+    kept = as_it_was c.args.output.now.contents;
+  });
 }

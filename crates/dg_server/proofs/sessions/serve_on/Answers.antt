@@ -13,12 +13,13 @@ returns-in-Ok-ended-clause-done g c = (
       seats = c.deref_mut.result.now;
       fresh = subst (AreFresh c.args.seats) (sym c.deref_mut.ensures.value) c.in-Ok.ensures;
       after = c.serve_seats-ended.new.seats;
-      session = rw (c.requires.start, c.requires.row, c.requires.seats, ← c.names.ensures.value, ← c.new-reader.ensures.remaining)
-          c.in-Ok-ended.ensures.session;
+      session = rw (c.requires.start, c.requires.row, c.requires.seats, ← c.names.ensures.value)
+          (rw (← c.new-reader.ensures.remaining) c.in-Ok-ended.ensures.session);
     };
     history = c.in-Ok-close.field-0.pen.entries;
     closed = rw (c.requires.start, c.requires.row, c.requires.seats)
-        (subst (λ ys. IsClosed g.N.Name.start g.N.Name.seats (length g.N.Name.cells) ys c.in-Ok-close.field-0.pen.entries)
+        (subst (λ ys. IsClosed g.N.Name.start g.N.Name.seats (length g.N.Name.cells) ys
+        c.in-Ok-close.field-0.pen.entries)
         (seats_back c.in-Ok.opened.1.len c.deref_mut.result.now c.serve_seats-ended.new.seats _ (search rules)
         c.serve_seats-ended.ensures.numbers) c.in-Ok-close.ensures.0);
   },
@@ -32,12 +33,13 @@ returns-in-Ok-close-clause-early g c =
         seats = c.deref_mut.result.now;
         fresh = subst (AreFresh c.args.seats) (sym c.deref_mut.ensures.value) c.in-Ok.ensures;
         after = c.serve_seats-ended.new.seats;
-        session = rw (c.requires.start, c.requires.row, c.requires.seats, ← c.names.ensures.value, ← c.new-reader.ensures.remaining)
-            c.in-Err-ended.ensures.session;
+        session = rw (c.requires.start, c.requires.row, c.requires.seats, ← c.names.ensures.value)
+            (rw (← c.new-reader.ensures.remaining) c.in-Err-ended.ensures.session);
       };
       history = c.in-Ok-close.field-0.pen.entries;
       closed = rw (c.requires.start, c.requires.row, c.requires.seats)
-          (subst (λ ys. IsClosed g.N.Name.start g.N.Name.seats (length g.N.Name.cells) ys c.in-Ok-close.field-0.pen.entries)
+          (subst (λ ys. IsClosed g.N.Name.start g.N.Name.seats (length g.N.Name.cells) ys
+          c.in-Ok-close.field-0.pen.entries)
           (seats_back c.in-Ok.opened.1.len c.deref_mut.result.now c.serve_seats-ended.new.seats _ (search rules)
           c.serve_seats-ended.ensures.numbers) c.in-Ok-close.ensures.0);
     }

@@ -1,5 +1,6 @@
-use Rattle.dg_session.proofs.Cutting.{one_cutting}
+use Rattle.dg_lines.proofs.Streams.{one_cutting}
+use Rattle.dg_session.proofs.Cutting.{plain}
 use Rattle.dg_session.proofs.laws.streams_are_cut_in_one_way.Goals as goal
 
 pub returns : goal.returns
-returns c = one_cutting
+returns c = one_cutting plain

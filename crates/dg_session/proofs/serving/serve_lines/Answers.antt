@@ -1,16 +1,20 @@
-use Rattle.std.proofs.Common.{◌<◌, ◌∙◌, length, refl, arith}
-use Rattle.dg_session.proofs.Sessions.{so_far_new, so_far_more, session_unsaid, session_reads, session_ends, session_closes, session_halts, written_ok, not_read, write_failed, halts_by, fewer_left, chunk_size, read_chunk, read_nothing}
+use Rattle.std.proofs.Common.{◌<◌, ◌∙◌, [], length, refl, arith, map, None}
+use Rattle.dg_streams.proofs.Reading.{chunk_size, read_chunk, read_nothing}
+use Rattle.dg_session.specs.Speakers.{kept_number}
+use Rattle.dg_session.proofs.Sessions.{so_far_new, so_far_more, session_unsaid, session_reads, session_ends, session_closes, session_halts, written_ok, not_read, write_failed, halts_by, fewer_left}
 use Rattle.dg_session.proofs.serving.serve_lines.Goals as goal
 
 pub returns-in_default-clause-session : goal.returns-in_default-clause-session
-returns-in_default-clause-session g c = session_unsaid
+returns-in_default-clause-session g c =
+    session_unsaid (so_far_new (map (λ x. None) c.args.seats.now) [] 0 refl refl refl c.requires)
 
 pub returns-in_default-new-clause-session : goal.returns-in_default-new-clause-session
-returns-in_default-new-clause-session g c = session_unsaid
+returns-in_default-new-clause-session g c =
+    session_unsaid (so_far_new (map (λ x. None) c.args.seats.now) [] 0 refl refl refl c.requires)
 
 pub reads-init : goal.reads-init
 reads-init g c = (
-  so_far_new c.in-Some.progress.kept.items c.in-Some.progress.pending.items c.in-Some.progress.count
+  so_far_new (map kept_number c.in-Some.progress.kept.items) c.in-Some.progress.pending.items c.in-Some.progress.count
       c.in-Some.ensures.pending c.in-Some.ensures.count c.in-Some.ensures.kept c.requires,
   c.in-Some.ensures.said,
   omega (arith, c.in-Ok.ensures.len, c.in-Ok.buffer.ok.0),
@@ -67,18 +71,20 @@ reads-preserved g c =
 pub reads-smaller : goal.reads-smaller
 reads-smaller g c =
     let size = chunk_size c.in-Some-read_some.size c.deref.result.now c.read_some.new.buffer.items c.deref.ensures.value
-    c.in-Some-read_some.ensures.bound (c.read_some.ensures.size ∙ c.reads.invariant.2) in
+    c.in-Some-read_some.ensures.bound in
     let (goes, written) = written_ok c.take_bytes-taken.result _ c.reads.writer c.write_said-in-reads.new.writer
     c.in-Ok-write_said-2.ensures.written c.take_bytes-taken.ensures.taken in
     let zero = c.if-size-eq0.false in
-    fewer_left c.reads.invariant.0.goes.ready goes (omega (arith, size.0, zero))
+    fewer_left c.reads.invariant.0.goes.ready goes (omega (arith, size, zero))
 
 pub returns-in-Err-write_said-clause-session : goal.returns-in-Err-write_said-clause-session
 returns-in-Err-write_said-clause-session g c =
     let size = chunk_size c.in-Some-read_some.size c.deref.result.now c.read_some.new.buffer.items c.deref.ensures.value
-    c.in-Some-read_some.ensures.bound (c.read_some.ensures.size ∙ c.reads.invariant.2) in
+    c.in-Some-read_some.ensures.bound in
+    let room = c.read_some.ensures.size ∙ c.reads.invariant.2 in
     session_halts c.reads.writer c.write_said-in-reads.new.writer c.reads.invariant.0
-    (read_chunk _ _ _ _ _ c.deref.ensures.value c.in-Some-read_some.ensures.bytes) (omega (arith, size.0, size.1))
+    (read_chunk _ _ _ _ _ c.deref.ensures.value c.in-Some-read_some.ensures.bytes)
+    (omega (arith, size, c.in-Some-read_some.ensures.bound, room))
     c.take_bytes-taken.ensures c.in-Err-write_said.ensures.written
 
 pub returns-in-Err-write_said-clause-read : goal.returns-in-Err-write_said-clause-read

@@ -1,6 +1,7 @@
 -- All that was read is handled but what is pending, and all that there was to say is written.
 use Rattle.std.proofs.Common.{◌≡◌, length, []}
-use Rattle.dg_session.specs.SoFar.{setup, so_far}
+use Rattle.dg_session.specs.Setup.{setup}
+use Rattle.dg_session.specs.SoFar.{so_far}
 use Rattle.dg_session.specs.declared.ends.TheConstants.{READ_SIZE}
 use Rattle.dg_session.proofs.Sessions.{IsSoFar, bytes_left}
 use Rattle.dg_session.proofs.serving.serve_lines.Given as goal

@@ -2,7 +2,7 @@
 use Rattle.std.proofs.Common.{◌<◌, ◌≤◌, ◌+◌, ◌∙◌, List, ℕ, length, subst, append-nil, rules, tests}
 use Rattle.dg_session.specs.SoFar.{RefusesPart}
 use Rattle.dg_session.specs.declared.ends.TheConstants.{MAX_LINE, MAX_LINES}
-use Rattle.dg_session.proofs.Cutting.{part_plain, part_front, part_whole, part_line, line_shorter}
+use Rattle.dg_lines.proofs.Streams.{part_plain, part_front, part_whole, part_line, line_shorter}
 use Rattle.dg_session.proofs.Going.{goes_none, goes_part, goes_line, halts_part, halts_line, line_with}
 use Rattle.dg_session.proofs.taking.take_bytes.Goals as goal
 

@@ -1,6 +1,7 @@
 -- All but the rest is taken.
 use Rattle.std.proofs.Common.{length}
-use Rattle.dg_session.specs.SoFar.{setup, so_far, Goes}
+use Rattle.dg_session.specs.Setup.{setup}
+use Rattle.dg_session.specs.SoFar.{so_far, Goes}
 use Rattle.dg_session.proofs.taking.take_bytes.Given as goal
 
 abbrev pub invariant-parts : goal.invariant-parts

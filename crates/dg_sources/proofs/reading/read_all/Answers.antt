@@ -14,5 +14,7 @@ returns-in-Err-push-clause-refused g c =
 
 pub names-preserved : goal.names-preserved
 names-preserved g c =
-    held_pushed (g.S.Sources.held c.args.sources.now) c.args.names.now c.names.name-index _ c.names.all.items _ c.in-Ok.file
-    c.in-Ok-push.ensures.items (take_more c.args.names.now c.names.name-index _ c.names-test.true) c.names.invariant c.in-Ok.ensures.read
+    held_pushed (g.S.Sources.held c.args.sources.now) c.args.names.now c.names.name-index _ c.names.all.items _
+    c.in-Ok.file
+    c.in-Ok-push.ensures.items (take_more c.args.names.now c.names.name-index _ c.names-test.true) c.names.invariant
+    c.in-Ok.ensures.read

@@ -1,59 +1,53 @@
-use Rattle.std.proofs.Common.{◌≡◌, ◌<◌, ◌∙◌, length, take, refl, arith}
+use Rattle.std.proofs.Common.{◌≡◌, ◌<◌, ◌∙◌, [], length, take, refl, arith}
+use Rattle.dg_streams.proofs.Reading.{chunk_size, read_chunk, read_nothing}
 use Rattle.dg_sweep.specs.declared.ends.TheConstants.{READ_SIZE}
-use Rattle.dg_sweep.proofs.Swept.{swept_none, swept_more, sweep_reads, sweep_ends, sweep_unsaid, sweep_halts, sweep_halts_last, chunk_size, read_chunk, read_nothing}
+use Rattle.dg_sweep.proofs.Swept.{swept_none, swept_more, sweep_reads, sweep_ends, sweep_unsaid, sweep_halts, sweep_halts_last}
 use Rattle.dg_sweep.proofs.sweeping.sweep.Goals as goal
 
 pub returns-in_default-clause-swept : goal.returns-in_default-clause-swept
-returns-in_default-clause-swept g c = sweep_unsaid c.args.question c.args.reader.now.remaining c.args.writer.now.contents
+returns-in_default-clause-swept g c =
+    sweep_unsaid (swept_none c.args.question c.args.reader.now.remaining c.args.writer.now.contents [] refl)
 
 pub reads-init : goal.reads-init
 reads-init g c = (
-  swept_none c.args.question c.args.reader.now.remaining c.args.writer.now.contents c.new-progress.result.pending.items
-      c.new-progress.ensures.pending,
+  swept_none c.args.question c.args.reader.now.remaining c.args.writer.now.contents
+      c.new-progress.result.pending.items c.new-progress.ensures.pending,
   omega (arith, c.in-Ok.ensures.len, c.in-Ok.buffer.ok.0),
 )
 
 pub returns-in_default-read_some-clause-swept : goal.returns-in_default-read_some-clause-swept
 returns-in_default-read_some-clause-swept g c =
-    sweep_reads c.args.question c.args.reader.now.remaining c.reads.reader.remaining c.args.writer.now.contents c.reads.writer.contents
-    c.reads.progress.pending.items c.reads.invariant.0 c.read_some.new.reader.remaining (c.in_default-read_some.ensures.kept refl)
+    sweep_reads c.reads.invariant.0 (c.in_default-read_some.ensures.kept refl)
 
 pub returns-in-Ok-pass_end-clause-swept : goal.returns-in-Ok-pass_end-clause-swept
 returns-in-Ok-pass_end-clause-swept g c =
     let zero = c.if-size-eq0.true in
     let room : 0 < length c.reads.buffer.items = omega (arith, c.reads.invariant.1) in
-    sweep_ends c.args.question c.args.reader.now.remaining c.reads.reader.remaining c.args.writer.now.contents c.reads.writer.contents
-    c.reads.progress.pending.items c.reads.invariant.0 c.read_some.new.reader.remaining c.pass_end.new.writer.contents
-    (read_nothing c.reads.reader.remaining c.read_some.new.reader.remaining c.in-Some-read_some.size c.read_some.new.buffer.items zero c.in-Some-read_some.ensures.bytes)
+    sweep_ends c.reads.invariant.0 (read_nothing _ _ _ _ zero c.in-Some-read_some.ensures.bytes)
     (c.in-Some-read_some.ensures.end zero room) c.in-Ok-pass_end.ensures.passed
 
 pub returns-in-Err-clause-swept : goal.returns-in-Err-clause-swept
 returns-in-Err-clause-swept g c =
     let zero = c.if-size-eq0.true in
     let room : 0 < length c.reads.buffer.items = omega (arith, c.reads.invariant.1) in
-    sweep_halts_last c.args.question c.args.reader.now.remaining c.reads.reader.remaining c.args.writer.now.contents c.reads.writer.contents
-    c.reads.progress.pending.items c.reads.invariant.0 c.read_some.new.reader.remaining c.pass_end.new.writer.contents c.in-Err.end
-    (read_nothing c.reads.reader.remaining c.read_some.new.reader.remaining c.in-Some-read_some.size c.read_some.new.buffer.items zero c.in-Some-read_some.ensures.bytes)
+    sweep_halts_last c.reads.invariant.0 c.in-Err.end (read_nothing _ _ _ _ zero c.in-Some-read_some.ensures.bytes)
     (c.in-Some-read_some.ensures.end zero room) c.in-Err.ensures.passed
 
 pub reads-preserved : goal.reads-preserved
 reads-preserved g c = (
-  swept_more c.args.question c.args.reader.now.remaining c.reads.reader.remaining c.args.writer.now.contents c.reads.writer.contents
-      c.reads.progress.pending.items c.reads.invariant.0 c.read_some.new.reader.remaining c.pass_bytes.new.writer.contents
-      (take c.in-Some-read_some.size c.deref.result.now) c.pass_bytes.new.self.pending.items
-      (read_chunk c.reads.reader.remaining c.read_some.new.reader.remaining c.in-Some-read_some.size c.deref.result.now
-      c.read_some.new.buffer.items c.deref.ensures.value c.in-Some-read_some.ensures.bytes)
-      c.in-Ok-pass_bytes.ensures.passed,
+  swept_more c.reads.invariant.0 (take c.in-Some-read_some.size c.deref.result.now)
+      c.pass_bytes.new.self.pending.items
+      (read_chunk _ _ _ _ _ c.deref.ensures.value c.in-Some-read_some.ensures.bytes) c.in-Ok-pass_bytes.ensures.passed,
   c.in-Some-read_some.ensures.size ∙ c.reads.invariant.1,
 )
 
 pub returns-in-Err-pass_bytes-clause-swept : goal.returns-in-Err-pass_bytes-clause-swept
 returns-in-Err-pass_bytes-clause-swept g c =
-    let room : length c.read_some.new.buffer.items ≡ READ_SIZE = c.in-Some-read_some.ensures.size ∙ c.reads.invariant.1 in
-    sweep_halts c.args.question c.args.reader.now.remaining c.reads.reader.remaining c.args.writer.now.contents c.reads.writer.contents
-    c.reads.progress.pending.items c.reads.invariant.0 c.read_some.new.reader.remaining c.pass_bytes.new.writer.contents
-    (take c.in-Some-read_some.size c.deref.result.now) c.pass_bytes.new.self.pending.items c.in-Err-pass_bytes.end
-    (read_chunk c.reads.reader.remaining c.read_some.new.reader.remaining c.in-Some-read_some.size c.deref.result.now
-    c.read_some.new.buffer.items c.deref.ensures.value c.in-Some-read_some.ensures.bytes)
-    (chunk_size c.in-Some-read_some.size c.deref.result.now c.read_some.new.buffer.items c.deref.ensures.value c.in-Some-read_some.ensures.bound room)
-    c.in-Err-pass_bytes.ensures.passed
+    let room : length c.read_some.new.buffer.items ≡ READ_SIZE =
+    c.in-Some-read_some.ensures.size ∙ c.reads.invariant.1 in
+    let size = chunk_size c.in-Some-read_some.size c.deref.result.now c.read_some.new.buffer.items c.deref.ensures.value
+    c.in-Some-read_some.ensures.bound in
+    sweep_halts c.reads.invariant.0 (take c.in-Some-read_some.size c.deref.result.now)
+    c.pass_bytes.new.self.pending.items c.in-Err-pass_bytes.end
+    (read_chunk _ _ _ _ _ c.deref.ensures.value c.in-Some-read_some.ensures.bytes)
+    (omega (arith, size, c.in-Some-read_some.ensures.bound, room)) c.in-Err-pass_bytes.ensures.passed

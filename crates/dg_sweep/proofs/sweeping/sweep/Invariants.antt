@@ -6,5 +6,6 @@ use Rattle.dg_sweep.proofs.sweeping.sweep.Given as goal
 
 abbrev pub invariant-reads : goal.invariant-reads
 invariant-reads g l =
-    HasSwept l.question l.fn.reader.remaining l.reader.remaining l.fn.writer.contents l.writer.contents l.progress.pending.items
+    HasSwept l.question l.fn.reader.remaining l.reader.remaining l.fn.writer.contents l.writer.contents
+    l.progress.pending.items
     × (length l.buffer.items ≡ READ_SIZE)

@@ -12,5 +12,6 @@ pub seats-preserved : goal.seats-preserved
 seats-preserved c =
     let calls : List ℕ = c.args.calls.now in
     let within : c.seats.place < length calls = omega arith in
-    calls_step calls c.seats.place _ c.args.text.now.items c.seats.text.items _ within (take_more calls c.seats.place 0 within)
+    calls_step calls c.seats.place _ c.args.text.now.items c.seats.text.items _
+    within (take_more calls c.seats.place 0 within)
     c.seats.invariant c.in_ok-push_seat.ensures

@@ -4,7 +4,8 @@ use Rattle.std.specs.Io.KnownBytes.{Appends}
 use Rattle.dg_streams.proofs.output.Output.write_whole.Given as goal
 
 abbrev pub invariant-writes : goal.invariant-writes
-invariant-writes g l = (l.at ≤ length l.text) × Appends l.fn.self.contents (g.O.Write.contents l.self-inside.inner) (take l.at l.text)
+invariant-writes g l = (l.at ≤ length l.text)
+    × Appends l.fn.self.contents (g.O.Write.contents l.self-inside.inner) (take l.at l.text)
     × (l.self-inside.has_failed ≡ l.fn.self.has_failed)
 
 abbrev pub decreases-writes : goal.decreases-writes

@@ -5,11 +5,13 @@ use Rattle.dg_sweep.proofs.taking.Progress.take_end.Goals as goal
 
 pub returns-then-is_empty : goal.returns-then-is_empty
 returns-then-is_empty c =
-    let none : c.args.self.now.pending.items ≡ [] = nothing c.args.self.now.pending.items (grind (arith, common_steps)) in
+    let none : c.args.self.now.pending.items ≡ [] =
+    nothing c.args.self.now.pending.items (grind (arith, common_steps)) in
     takes_no_end c.args.question c.args.self.now.pending.items c.clear.new.self.items c.clear.ensures.items none
 
 pub returns : goal.returns
 returns c =
     let some : c.args.self.now.pending.items ≢ [] = search (rules, tests) in
-    takes_end c.args.question c.args.self.now.pending.items c.answer_line.new.answer.items c.deref.result.now some c.deref.ensures.value
+    takes_end c.args.question c.args.self.now.pending.items c.answer_line.new.answer.items c.deref.result.now some
+    c.deref.ensures.value
     c.in_ok-answer_line.ensures
