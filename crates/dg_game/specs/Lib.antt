@@ -11,6 +11,7 @@ pub mod Legal
 pub mod Look
 pub mod LegalLaws
 pub mod State
+pub mod Outcomes
 pub mod Schedule
 pub mod ScheduleFaults
 -- Words of private functions: a schedule as it is played.

@@ -9,7 +9,8 @@ ghost use Rattle.dg_verdict.specs.Right.{IsRight};
 ghost use Rattle.dg_game.specs.MoveReplies.{RepliesToMove};
 ghost use Rattle.dg_game.specs.GiftReplies.{RepliesToGift};
 ghost use Rattle.dg_game.specs.JoinReplies.{RepliesToJoin};
-ghost use Rattle.dg_game.specs.Replies.{Replies, RepliesToLook, RepliesToClaim};
+ghost use Rattle.dg_game.specs.Outcomes.{reply_of};
+ghost use Rattle.dg_game.specs.Replies.{Replies, RepliesAt, RepliesToLook, RepliesToClaim};
 ghost use Rattle.dg_game.specs.History.{with_entry};
 ghost use Rattle.dg_game.specs.Legal.{IsSeat, IsLegal};
 ghost use Rattle.dg_game.specs.Look.{IsLookAt, IsFoundFor, asked_for, KeepsFinding};
@@ -21,6 +22,7 @@ ghost use Rattle.dg_game.specs.declared.entry.Request.TheVariants.{Move as MoveR
 use crate::entry::{MAX_GIFT, Plain, Refusal, Reply};
 use crate::finding::Finding;
 use crate::look::LookData;
+use crate::outcome::Outcome;
 use dg_chips::{Divisor, Drift, MAX_ENTRY, Move, Start, apply};
 use dg_graph::Graph;
 use dg_verdict::{Verdict, judge, rebase};
@@ -155,12 +157,39 @@ impl Game {
         ensures legal { (o : Opening) (H : List Entry) (seat : ℕ) → LeadsTo o H self.old →
             IsLegal o H → IsSeat seat → IsLegal o (with_entry H seat (asked plain) result) }
     {
+        let outcome = self.take(&plain);
+        self.reply(outcome)
+    }
+
+    /// Answers a call and takes it into the history, as `act` does, and tells in few words what it came to. The condition
+    /// is that there are fewer than 65,536 entries.
+    pub fn take(&mut self, plain: &Plain) -> Outcome
+        requires { self.old.entries < MAX_ENTRIES }
+        ensures replies { RepliesAt (position_of self.old) self.old.gifts plain.now
+            (reply_of result self.new) }
+        ensures next { IsNext self.old (asked plain.now) (reply_of result self.new) self.new }
+    {
         match plain {
-            Plain::Move(play) => self.play(&play),
-            Plain::Gift(v, dollars) => self.give(v, dollars),
-            Plain::Join(u, v) => self.join(u, v),
+            Plain::Move(play) => self.play(play),
+            Plain::Gift(v, dollars) => self.give(*v, *dollars),
+            Plain::Join(u, v) => self.join(*u, *v),
             Plain::Look => self.look(),
             Plain::Claim => self.claim(),
+        }
+    }
+
+    /// The reply to a call that has come to this, and left the game as it is.
+    pub fn reply(&self, outcome: Outcome) -> Reply
+        ensures { result ≡ reply_of outcome self.now }
+    {
+        match outcome {
+            Outcome::Moved => Reply::Moved(self.amounts),
+            Outcome::Given => Reply::Given(self.gifts, self.amounts),
+            Outcome::Joined => Reply::Joined(self.gifts, self.amounts),
+            Outcome::Looked => Reply::Looked(self.gifts, self.amounts, self.graph),
+            Outcome::Won => Reply::Won,
+            Outcome::NotWon => Reply::NotWon,
+            Outcome::Refused(refusal) => Reply::Refused(refusal),
         }
     }
 
@@ -254,11 +283,11 @@ impl Game {
         self.drift.since(drift)
     }
 
-    /// Plays a move: the amounts after it, or its refusal.
-    fn play(&mut self, play: &Move) -> Reply
+    /// Plays a move, where it is not refused.
+    fn play(&mut self, play: &Move) -> Outcome
         requires { self.old.entries < MAX_ENTRIES }
-        ensures replies { RepliesToMove (position_of self.old) play.now result }
-        ensures next { IsNext self.old (MoveRequest play.now) result self.new }
+        ensures replies { RepliesToMove (position_of self.old) play.now (reply_of result self.new) }
+        ensures next { IsNext self.old (MoveRequest play.now) (reply_of result self.new) self.new }
     {
         self.entries += 1;
         lends_few(play);
@@ -266,73 +295,76 @@ impl Game {
             Ok(amounts) => {
                 self.drift = self.drift.plus(&self.graph, play);
                 self.amounts = amounts;
-                Reply::Moved(amounts)
+                Outcome::Moved
             }
-            Err(fault) => Reply::Refused(Refusal::from(fault)),
+            Err(fault) => Outcome::Refused(Refusal::from(fault)),
         }
     }
 
-    /// Gives dollars to a vertex, or takes them by a levy: the count and the amounts after it, or its refusal.
-    fn give(&mut self, v: u8, dollars: i64) -> Reply
+    /// Gives dollars to a vertex, or takes them by a levy, where that is not refused.
+    fn give(&mut self, v: u8, dollars: i64) -> Outcome
         requires { self.old.entries < MAX_ENTRIES }
-        ensures replies { RepliesToGift (position_of self.old) self.old.gifts v dollars result }
-        ensures next { IsNext self.old (GiftRequest v dollars) result self.new }
+        ensures replies { RepliesToGift (position_of self.old) self.old.gifts v dollars
+            (reply_of result self.new) }
+        ensures next { IsNext self.old (GiftRequest v dollars) (reply_of result self.new) self.new }
     {
         self.entries += 1;
         let v = usize::from(v);
         if v >= self.graph.size() {
-            return Reply::Refused(Refusal::NoVertex);
+            return Outcome::Refused(Refusal::NoVertex);
         }
         if dollars == 0 || !(-MAX_GIFT..=MAX_GIFT).contains(&dollars) {
-            return Reply::Refused(Refusal::Gift);
+            return Outcome::Refused(Refusal::Gift);
         }
         match self.amounts.with_more(v, dollars) {
             Some(amounts) => {
                 self.gifts += 1;
                 self.amounts = amounts;
-                Reply::Given(self.gifts, amounts)
+                Outcome::Given
             }
-            None => Reply::Refused(Refusal::Range),
+            None => Outcome::Refused(Refusal::Range),
         }
     }
 
-    /// Adds an edge between two vertices: the count and the amounts after it, or its refusal.
-    fn join(&mut self, u: u8, v: u8) -> Reply
+    /// Adds an edge between two vertices, where that is not refused.
+    fn join(&mut self, u: u8, v: u8) -> Outcome
         requires { self.old.entries < MAX_ENTRIES }
-        ensures replies { RepliesToJoin (position_of self.old) self.old.gifts u v result }
-        ensures next { IsNext self.old (JoinRequest u v) result self.new }
+        ensures replies { RepliesToJoin (position_of self.old) self.old.gifts u v
+            (reply_of result self.new) }
+        ensures next { IsNext self.old (JoinRequest u v) (reply_of result self.new) self.new }
     {
         self.entries += 1;
         let graph = match self.graph.join(u, v) {
             Ok(graph) => graph,
-            Err(fault) => return Reply::Refused(Refusal::from(fault)),
+            Err(fault) => return Outcome::Refused(Refusal::from(fault)),
         };
         self.graph = graph;
         self.gifts += 1;
-        Reply::Joined(self.gifts, self.amounts)
+        Outcome::Joined
     }
 
-    /// Shows the count of accepted gifts, levies and joins, the amounts, and the graph.
-    fn look(&mut self) -> Reply
+    /// Shows the position.
+    fn look(&mut self) -> Outcome
         requires { self.old.entries < MAX_ENTRIES }
-        ensures replies { RepliesToLook (position_of self.old) self.old.gifts result }
-        ensures next { IsNext self.old LookRequest result self.new }
+        ensures replies { RepliesToLook (position_of self.old) self.old.gifts
+            (reply_of result self.new) }
+        ensures next { IsNext self.old LookRequest (reply_of result self.new) self.new }
     {
         self.entries += 1;
-        Reply::Looked(self.gifts, self.amounts, self.graph)
+        Outcome::Looked
     }
 
     /// Tells whether nobody is in debt.
-    fn claim(&mut self) -> Reply
+    fn claim(&mut self) -> Outcome
         requires { self.old.entries < MAX_ENTRIES }
-        ensures replies { RepliesToClaim (position_of self.old) result }
-        ensures next { IsNext self.old ClaimRequest result self.new }
+        ensures replies { RepliesToClaim (position_of self.old) (reply_of result self.new) }
+        ensures next { IsNext self.old ClaimRequest (reply_of result self.new) self.new }
     {
         self.entries += 1;
         if self.amounts.is_effective() {
-            Reply::Won
+            Outcome::Won
         } else {
-            Reply::NotWon
+            Outcome::NotWon
         }
     }
 }

@@ -7,6 +7,7 @@ mod finding;
 mod game;
 mod laws;
 mod look;
+mod outcome;
 mod schedule;
 mod step;
 
@@ -15,5 +16,6 @@ pub use finding::{Finding, judge_look, judge_look_aimed, rank_look};
 pub use game::{Game, MAX_ENTRIES};
 pub use laws::{law_of_histories, law_of_legal_histories};
 pub use look::LookData;
+pub use outcome::Outcome;
 pub use schedule::{Rehearsal, RehearseFault, rehearse};
 pub use step::{Command, Step};

@@ -3,6 +3,7 @@ ghost use Rattle.std.specs.Prelude.{◌≡◌, ℕ, ◌<◌, ◌≤◌, List, []
 ghost use Rattle.dg_chips.specs.Opening.{Opening};
 ghost use Rattle.dg_game.specs.Legal.{IsSeat};
 ghost use Rattle.dg_game.specs.Look.{IsFoundFor, asked_for};
+ghost use Rattle.dg_game.specs.Outcomes.{entry_of};
 ghost use Rattle.dg_game.specs.Schedule.{UsesUp, IsKept, IsAsked, IsRehearsal};
 ghost use Rattle.dg_game.specs.ScheduleFaults.{HasTrials, AreGoodBefore, IsFirstFault};
 ghost use Rattle.dg_game.specs.Rehearsal.{KeepsLook, IsPlaying, IsInPlay, PlaysOn, StopsPlay};
@@ -15,6 +16,7 @@ use crate::entry::{Entry, MAX_SEATS, Plain};
 use crate::finding::{Finding, judge_look_aimed, rank_look};
 use crate::game::{Game, MAX_ENTRIES};
 use crate::look::LookData;
+use crate::outcome::Outcome;
 use crate::step::{Command, Step};
 use dg_chips::Start;
 use dg_reduce::Aim;
@@ -97,34 +99,73 @@ impl Rehearsal {
         ensures same { OnErr result (self.new ≡ self.old) }
     {
         let i = self.game.entries() as usize;
-        if step.seat < 1 || step.seat > MAX_SEATS {
-            return Err(RehearseFault::Seat(i));
-        }
-        if i == MAX_ENTRIES {
-            return Err(RehearseFault::Full(i));
+        let seat = step.seat;
+        if let Some(fault) = self.barred(seat) {
+            return Err(fault);
         }
         match &step.command {
-            Command::Call(plain) => Ok(self.call(step.seat, plain)),
-            Command::Commit => self.commit(step.seat).ok_or(RehearseFault::NoLook(i)),
-            Command::Rank(k) => self.rank(step.seat, *k),
+            Command::Call(plain) => {
+                let outcome = self.take(seat, plain);
+                Ok(Entry {
+                    seat,
+                    request: plain.request(),
+                    reply: self.game.reply(outcome),
+                })
+            }
+            Command::Commit => self.commit(seat).ok_or(RehearseFault::NoLook(i)),
+            Command::Rank(k) => self.rank(seat, *k),
         }
     }
 
+    /// Plays a call as the next step, as `play` does, and tells in few words what it came to. The condition is that of
+    /// `play`.
+    ///
+    /// Refused with `Seat` or `Full` as `rehearse` refuses the step; then nothing has changed.
+    pub fn call(&mut self, seat: u8, plain: &Plain) -> Result<Outcome, RehearseFault>
+        requires { IsInPlay self.old }
+        ensures plays { MatchResult result
+            (λ outcome. (self.old.game.entries < MAX_ENTRIES) ×
+            PlaysOn self.old (record { seat = seat; command = Call plain.now })
+            (entry_of seat plain.now outcome self.new.game) self.new)
+            (StopsAt self.old (record { seat = seat; command = Call plain.now })) }
+        ensures same { OnErr result (self.new ≡ self.old) }
+    {
+        match self.barred(seat) {
+            Some(fault) => Err(fault),
+            None => Ok(self.take(seat, plain)),
+        }
+    }
+
+    /// Why the seat can have no step next, whatever its command.
+    fn barred(&self, seat: u8) -> Option<RehearseFault>
+        requires { IsInPlay self.now }
+        ensures { MatchOption result
+            (IsSeat seat × (self.now.game.entries < MAX_ENTRIES))
+            (λ fault. (c : Command) →
+            StopsAt self.now (record { seat = seat; command = c }) fault) }
+    {
+        let i = self.game.entries() as usize;
+        if seat < 1 || seat > MAX_SEATS {
+            return Some(RehearseFault::Seat(i));
+        }
+        if i == MAX_ENTRIES {
+            return Some(RehearseFault::Full(i));
+        }
+        None
+    }
+
     /// Answers a seat's call; a look is kept for the seat.
-    fn call(&mut self, seat: u8, plain: &Plain) -> Entry
+    fn take(&mut self, seat: u8, plain: &Plain) -> Outcome
         requires playing { IsInPlay self.old }
         requires room { self.old.game.entries < MAX_ENTRIES }
         requires seat { IsSeat seat }
-        ensures { PlaysOn self.old (record { seat = seat; command = Call plain.now }) result self.new }
+        ensures { PlaysOn self.old (record { seat = seat; command = Call plain.now })
+            (entry_of seat plain.now result self.new.game) self.new }
     {
         if let Plain::Look = plain {
             self.looks[usize::from(seat)] = Some(self.game.look_data());
         }
-        Entry {
-            seat,
-            request: plain.request(),
-            reply: self.game.act(*plain),
-        }
+        self.game.take(plain)
     }
 
     /// Enters the verdict on the look that a seat keeps, which is used up; `None` where it keeps none.

@@ -10,6 +10,7 @@ pub mod Stepping
 pub mod Meaning
 pub mod StepMeaning
 pub mod Decimals
+pub mod SeatDigits
 pub mod Schedule
 pub mod Pairs
 pub mod Signs

@@ -1,5 +1,5 @@
 //! Numbers in texts.
-ghost use Rattle.std.specs.Prelude.{◌≡◌, ◌≢◌, ℕ, ◌≤◌, ◌<◌, ◌^◌, ◌-◌, ℤ, pos, neg_ℤ, FitsSigned, MatchOption, decimal};
+ghost use Rattle.std.specs.Prelude.{◌≡◌, ◌≢◌, ℕ, ◌≤◌, ◌<◌, ◌+◌, ◌/◌, ◌%◌, ◌^◌, ◌-◌, ℤ, pos, neg_ℤ, FitsSigned, MatchOption, decimal};
 ghost use Rattle.std.specs.Fmt.{signed_decimal};
 ghost use Rattle.std.specs.Int.{w64};
 ghost use Rattle.std.specs.Int.RustNames.{unsigned_abs};
@@ -8,7 +8,7 @@ ghost use Rattle.dg_game.specs.declared.entry.TheConstants.{MAX_SEATS};
 ghost use Rattle.dg_lines.specs.CommandWords.{IsNumberWithin};
 
 use dg_chips::MAX_ENTRY;
-use dg_numbers::natural;
+use dg_game::MAX_SEATS;
 use itoa::Buffer;
 use std::str;
 
@@ -67,11 +67,30 @@ pub fn seat(text: &[u8]) -> Option<u8>
         ((n : ℕ) → 1 ≤ n → n ≤ MAX_SEATS → text.now ≢ decimal n)
         (λ n. (1 ≤ n) × (n ≤ MAX_SEATS) × (text.now ≡ decimal n)) }
 {
-    let Some(number) = natural(text) else {
-        return None;
-    };
-    match number {
-        1..=64 => Some(number as u8),
+    match text.len() {
+        1 => seat_of(b'0', text[0]),
+        2 => {
+            if text[0] == b'0' {
+                return None;
+            }
+            seat_of(text[0], text[1])
+        }
         _ => None,
     }
+}
+
+/// The seat, 1 to 64, that has these two digits.
+fn seat_of(tens: u8, ones: u8) -> Option<u8>
+    ensures { MatchOption result
+        ((n : ℕ) → 1 ≤ n → n ≤ MAX_SEATS → tens ≡ 48 + n / 10 → ones ≢ 48 + n % 10)
+        (λ n. (1 ≤ n) × (n ≤ MAX_SEATS) × (tens ≡ 48 + n / 10) × (ones ≡ 48 + n % 10)) }
+{
+    if tens < b'0' || tens > b'6' || ones < b'0' || ones > b'9' {
+        return None;
+    }
+    let number = 10 * (tens - b'0') + (ones - b'0');
+    if number < 1 || number > MAX_SEATS {
+        return None;
+    }
+    Some(number)
 }

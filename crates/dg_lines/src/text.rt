@@ -2,6 +2,7 @@
 ghost use Rattle.std.specs.Prelude.{◌≡◌, ◌<◌, ◌++◌, length, codes, decimal, IfOk, OnOk};
 ghost use Rattle.std.specs.Fmt.{signed_decimal};
 ghost use Rattle.dg_chips.specs.Vector.{at};
+ghost use Rattle.dg_game.specs.Outcomes.{reply_of};
 ghost use Rattle.dg_lines.specs.Texts.{HasNames, pair, pairs, refusal_text, verdict_word, verdict_text, rank_text, text_of, entry_text};
 ghost use Rattle.dg_game.specs.declared.entry.Reply.TheVariants.{Rank};
 
@@ -9,7 +10,7 @@ use crate::amounts::Amounts;
 use crate::digits::MAX_DIGITS;
 use dg_chips::Divisor;
 use dg_file::{MAX_LABEL, Names};
-use dg_game::{Refusal, Reply};
+use dg_game::{Game, Outcome, Refusal, Reply};
 use dg_graph::MAX_VERTICES;
 use dg_rank::RankVerdict;
 use dg_verdict::Verdict;
@@ -47,6 +48,50 @@ pub fn push_entry<A: Allocator>(
     Ok(())
 }
 
+/// The same line for a call that has come to this, and left the game as it is.
+pub fn push_outcome<A: Allocator>(
+    text: &mut Vec<u8, A>,
+    number: usize,
+    outcome: Outcome,
+    game: &Game,
+    names: &Names,
+) -> Result<(), AllocError>
+    requires { HasNames names.now (reply_of outcome game.now) }
+    ensures { OnOk result (text.new.items ≡
+        text.old.items ++ entry_text names.now number (reply_of outcome game.now)) }
+{
+    text.extend_from_slice(Buffer::new().format(number).as_bytes())?;
+    text.push(b' ')?;
+    push_short(text, outcome, game, names)?;
+    text.push(b'\n')?;
+    Ok(())
+}
+
+/// The text of the reply to such a call.
+fn push_short<A: Allocator>(
+    text: &mut Vec<u8, A>,
+    outcome: Outcome,
+    game: &Game,
+    names: &Names,
+) -> Result<(), AllocError>
+    requires { HasNames names.now (reply_of outcome game.now) }
+    ensures { OnOk result (text.new.items ≡
+        text.old.items ++ text_of names.now (reply_of outcome game.now)) }
+{
+    let position = game.position();
+    let gifts = game.gifts();
+    match outcome {
+        Outcome::Moved => push_moved(text, names, position)?,
+        Outcome::Given => push_counted(text, b"given ", gifts, names, position)?,
+        Outcome::Joined => push_counted(text, b"joined ", gifts, names, position)?,
+        Outcome::Looked => push_counted(text, b"looked ", gifts, names, position)?,
+        Outcome::Won => text.extend_from_slice(b"won")?,
+        Outcome::NotWon => text.extend_from_slice(b"not won")?,
+        Outcome::Refused(refusal) => push_refusal(text, refusal)?,
+    }
+    Ok(())
+}
+
 /// The text of a reply, with no number and no newline, after the text.
 pub fn push_reply<A: Allocator>(
     text: &mut Vec<u8, A>,
@@ -57,22 +102,10 @@ pub fn push_reply<A: Allocator>(
     ensures { OnOk result (text.new.items ≡ text.old.items ++ text_of names.now reply.now) }
 {
     match reply {
-        Reply::Moved(divisor) => {
-            text.extend_from_slice(b"moved ")?;
-            push_pairs(text, names, divisor)?;
-        }
-        Reply::Given(gifts, divisor) => {
-            text.extend_from_slice(b"given ")?;
-            push_counted(text, *gifts, names, divisor)?;
-        }
-        Reply::Joined(gifts, divisor) => {
-            text.extend_from_slice(b"joined ")?;
-            push_counted(text, *gifts, names, divisor)?;
-        }
-        Reply::Looked(gifts, divisor, _) => {
-            text.extend_from_slice(b"looked ")?;
-            push_counted(text, *gifts, names, divisor)?;
-        }
+        Reply::Moved(divisor) => push_moved(text, names, divisor)?,
+        Reply::Given(gifts, divisor) => push_counted(text, b"given ", *gifts, names, divisor)?,
+        Reply::Joined(gifts, divisor) => push_counted(text, b"joined ", *gifts, names, divisor)?,
+        Reply::Looked(gifts, divisor, _) => push_counted(text, b"looked ", *gifts, names, divisor)?,
         Reply::Verdict(verdict) => push_verdict(text, names, verdict)?,
         Reply::Rank(verdict) => push_rank(text, names, verdict)?,
         Reply::Stale(gifts) => {
@@ -101,16 +134,34 @@ pub fn push_amounts<A: Allocator>(
     }
 }
 
-/// The number of gifts, a space and the pairs.
+/// That a move was played, and the pairs.
+fn push_moved<A: Allocator>(
+    text: &mut Vec<u8, A>,
+    names: &Names,
+    divisor: &Divisor,
+) -> Result<(), AllocError>
+    requires { length names.now ≡ divisor.now.size }
+    ensures { OnOk result (text.new.items ≡
+        text.old.items ++ (codes "moved " ++ pairs names.now (at divisor.now))) }
+{
+    text.extend_from_slice(b"moved ")?;
+    push_pairs(text, names, divisor)?;
+    Ok(())
+}
+
+/// A word, the number of gifts, a space and the pairs.
 fn push_counted<A: Allocator>(
     text: &mut Vec<u8, A>,
+    word: &[u8],
     gifts: u32,
     names: &Names,
     divisor: &Divisor,
 ) -> Result<(), AllocError>
     requires { length names.now ≡ divisor.now.size }
-    ensures { OnOk result (text.new.items ≡ text.old.items ++ (decimal gifts ++ codes " " ++ pairs names.now (at divisor.now))) }
+    ensures { OnOk result (text.new.items ≡ text.old.items ++
+        (word.now ++ decimal gifts ++ codes " " ++ pairs names.now (at divisor.now))) }
 {
+    text.extend_from_slice(word)?;
     text.extend_from_slice(Buffer::new().format(gifts).as_bytes())?;
     text.push(b' ')?;
     push_pairs(text, names, divisor)?;

@@ -2,6 +2,7 @@
 ghost use Rattle.std.specs.Prelude.{◌≡◌, ◌∷◌, ◌++◌, List, [], length, IfOk, IfErr, MatchResult};
 ghost use Rattle.dg_chips.specs.Opening.{Opening};
 ghost use Rattle.dg_game.specs.Legal.{IsSeat};
+ghost use Rattle.dg_game.specs.declared.step.Command.TheVariants.{Call};
 ghost use Rattle.dg_game.specs.declared.step.Step.{Step};
 ghost use Rattle.dg_lines.specs.Cuts.{lines};
 ghost use Rattle.dg_tasks.specs.Rehearsals.{IsPrinted, IsPlayed, IsStopped};
@@ -9,8 +10,8 @@ ghost use Rattle.dg_tasks.specs.Refusals.{RefusesSchedule};
 
 use crate::fault::TaskFault;
 use dg_file::{Names, TableFile};
-use dg_game::{Rehearsal, RehearseFault, Step};
-use dg_lines::{Lines, parse_step, push_entry};
+use dg_game::{Command, Plain, Rehearsal, RehearseFault, Step};
+use dg_lines::{Lines, parse_step, push_entry, push_outcome};
 use std::alloc::Global;
 
 /// The history of a schedule as text: a line for each entry, with its number, from 0 on, and the text of its reply. The
@@ -68,12 +69,43 @@ fn play_on(
         (λ fault. (o : Opening) (steps : List Step) → IsPlayed o names.now steps rehearsal.old text.old.items →
         IsStopped o (steps ++ step.now ∷ []) fault) }
 {
+    if let Command::Call(plain) = &step.command {
+        return call_on(rehearsal, text, names, step.seat, plain);
+    }
     let number = rehearsal.game.entries() as usize;
     let entry = match rehearsal.play(step) {
         Ok(entry) => entry,
         Err(fault) => return Err(fault),
     };
     match push_entry(text, number, &entry.reply, names) {
+        Ok(()) => Ok(()),
+        Err(_) => Err(RehearseFault::OutOfMemory),
+    }
+}
+
+/// Plays a call as the next step, and writes the line of its entry; or why it can't be played.
+fn call_on(
+    rehearsal: &mut Rehearsal,
+    text: &mut Vec<u8>,
+    names: &Names,
+    seat: u8,
+    plain: &Plain,
+) -> Result<(), RehearseFault>
+    requires { (o : Opening) × (steps : List Step) × (length names.now ≡ o.graph.size)
+        × IsPlayed o names.now steps rehearsal.old text.old.items }
+    ensures { MatchResult result
+        (λ _. (o : Opening) (steps : List Step) → IsPlayed o names.now steps rehearsal.old text.old.items →
+        IsPlayed o names.now (steps ++ (record { seat = seat; command = Call plain.now }) ∷ [])
+        rehearsal.new text.new.items)
+        (λ fault. (o : Opening) (steps : List Step) → IsPlayed o names.now steps rehearsal.old text.old.items →
+        IsStopped o (steps ++ (record { seat = seat; command = Call plain.now }) ∷ []) fault) }
+{
+    let number = rehearsal.game.entries() as usize;
+    let outcome = match rehearsal.call(seat, plain) {
+        Ok(outcome) => outcome,
+        Err(fault) => return Err(fault),
+    };
+    match push_outcome(text, number, outcome, &rehearsal.game, names) {
         Ok(()) => Ok(()),
         Err(_) => Err(RehearseFault::OutOfMemory),
     }

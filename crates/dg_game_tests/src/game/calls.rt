@@ -1,7 +1,7 @@
 //! Calls one after another, and what they are answered.
 use crate::game::triangle;
 use dg_chips::{Divisor, Move, Start};
-use dg_game::{Game, Plain, Refusal, Reply};
+use dg_game::{Game, Outcome, Plain, Refusal, Reply};
 use std::test::Fail;
 
 #[test]
@@ -45,5 +45,40 @@ fn calls_are_answered_in_turn(rt: HostRuntime) -> Result<(), Fail> {
     assert_eq!(rt; game.gifts(), 4);
     assert_eq!(rt; game.position().degree(), -1);
     assert_eq!(rt; game.graph().genus(), 1);
+    Ok(())
+}
+
+#[test]
+fn calls_come_to_outcomes(rt: HostRuntime) -> Result<(), Fail> {
+    let graph = triangle()?;
+    let start = Start::new(graph, Divisor::new(&graph, &[2, -1, -1])?, 0)?;
+    let lent = Divisor::new(&graph, &[0, 0, 0])?;
+    let given = Divisor::new(&graph, &[0, 5, 0])?;
+    let looked = Reply::Looked(0, *start.divisor(), graph);
+    let loops = Refusal::Loop;
+    let calls = [
+        (Plain::Look, Outcome::Looked, looked),
+        (Plain::Claim, Outcome::NotWon, Reply::NotWon),
+        (
+            Plain::Move(Move::Lend(0)),
+            Outcome::Moved,
+            Reply::Moved(lent),
+        ),
+        (Plain::Claim, Outcome::Won, Reply::Won),
+        (Plain::Gift(1, 5), Outcome::Given, Reply::Given(1, given)),
+        (
+            Plain::Join(0, 0),
+            Outcome::Refused(loops),
+            Reply::Refused(loops),
+        ),
+        (Plain::Join(0, 1), Outcome::Joined, Reply::Joined(2, given)),
+    ];
+    let mut game = Game::new(&start);
+    for (i, (plain, outcome, reply)) in calls.iter().enumerate() {
+        assert_eq!(rt; game.entries() as usize, i);
+        let told = game.take(plain);
+        assert!(rt; told == *outcome, "call {i}");
+        assert!(rt; game.reply(told) == *reply, "call {i}");
+    }
     Ok(())
 }

@@ -1,7 +1,9 @@
 //! Schedules of calls, and those that are refused for a seat or for their length.
 use crate::game::{call, triangle};
 use dg_chips::{Divisor, Move, Start};
-use dg_game::{Entry, MAX_ENTRIES, Plain, RehearseFault, Reply, Request, rehearse};
+use dg_game::{
+    Entry, MAX_ENTRIES, Outcome, Plain, Rehearsal, RehearseFault, Reply, Request, rehearse,
+};
 use std::test::Fail;
 
 fn start() -> Result<Start, Fail> {
@@ -43,6 +45,24 @@ fn seats_are_1_to_64(rt: HostRuntime) -> Result<(), Fail> {
         let steps = [call(first, Plain::Claim), call(second, Plain::Claim)];
         let result = rehearse(rt.alloc(), &start, &steps);
         assert_eq!(rt; result.err(), Some(RehearseFault::Seat(place)));
+    }
+    Ok(())
+}
+
+#[test]
+fn first_calls_come_to_outcomes(rt: HostRuntime) -> Result<(), Fail> {
+    let start = start()?;
+    let table = [
+        (0, Plain::Look, Err(RehearseFault::Seat(0))),
+        (65, Plain::Look, Err(RehearseFault::Seat(0))),
+        (1, Plain::Look, Ok(Outcome::Looked)),
+        (64, Plain::Move(Move::Lend(0)), Ok(Outcome::Moved)),
+        (2, Plain::Claim, Ok(Outcome::NotWon)),
+    ];
+    for (i, (seat, plain, want)) in table.iter().enumerate() {
+        let mut rehearsal = Rehearsal::new(&start);
+        let came = rehearsal.call(*seat, plain);
+        assert!(rt; came == *want, "call {i}");
     }
     Ok(())
 }

@@ -1,10 +1,10 @@
 //! How replies and entries are written.
 
 use crate::lines::triangle;
-use dg_chips::{Divisor, Script, Wide};
-use dg_game::{Refusal, Reply};
+use dg_chips::{Divisor, Script, Start, Wide};
+use dg_game::{Game, Outcome, Refusal, Reply};
 use dg_graph::Graph;
-use dg_lines::{push_entry, reply_text};
+use dg_lines::{push_entry, push_outcome, reply_text};
 use dg_rank::RankVerdict;
 use dg_verdict::Verdict;
 use std::test::Fail;
@@ -46,6 +46,23 @@ fn replies_are_written(rt: HostRuntime) -> Result<(), Fail> {
     let mut line = Vec::new(rt.alloc());
     push_entry(&mut line, 7, &Reply::Won, &names)?;
     assert!(rt; line.as_slice() == b"7 won\n".as_slice());
+    Ok(())
+}
+
+#[test]
+fn outcomes_are_written(rt: HostRuntime) -> Result<(), Fail> {
+    let names = triangle(rt.alloc())?;
+    let graph = Graph::new(3, &[(0, 1, 1), (1, 2, 1), (0, 2, 1)])?;
+    let start = Start::new(graph, Divisor::new(&graph, &[2, -1, -10])?, 0)?;
+    let game = Game::new(&start);
+    assert_eq!(rt; names.len(), game.position().size());
+    assert_eq!(rt; names.len(), game.graph().size());
+    let mut text = Vec::new(rt.alloc());
+    push_outcome(&mut text, 0, Outcome::Moved, &game, &names)?;
+    push_outcome(&mut text, 1, Outcome::Looked, &game, &names)?;
+    push_outcome(&mut text, 2, Outcome::Won, &game, &names)?;
+    let want = b"0 moved a=2 b=-1 c=-10\n1 looked 0 a=2 b=-1 c=-10\n2 won\n".as_slice();
+    assert!(rt; text.as_slice() == want);
     Ok(())
 }
 

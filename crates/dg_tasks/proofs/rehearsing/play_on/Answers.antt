@@ -1,8 +1,12 @@
-use Rattle.std.proofs.Common.{List, [], ◌∷◌, ◌++◌, length}
+use Rattle.std.proofs.Common.{◌≡◌, List, [], ◌∷◌, ◌++◌, length, ap, sym, subst}
+use Rattle.std.proofs.lemmas.Result.{MatchResult-weaker}
 use Rattle.dg_game.specs.declared.entry.Entry.{Entry}
+use Rattle.dg_game.specs.declared.step.Command.{Command}
+use Rattle.dg_game.specs.declared.step.Command.TheVariants.{Call}
 use Rattle.dg_game.specs.declared.step.Step.{Step}
 use Rattle.dg_game.proofs.ListLaws.{slice_get-seam}
 use Rattle.dg_lines.proofs.Printing.{legal_named}
+use Rattle.dg_tasks.specs.Rehearsals.{IsPlayed, IsStopped}
 use Rattle.dg_tasks.proofs.UnderWay.{played_more, stopped_at, next_is}
 use Rattle.dg_tasks.proofs.rehearsing.play_on.Goals as goal
 
@@ -30,3 +34,12 @@ returns-in-Ok-push_entry c = λ o steps known.
     let (room, plays) = c.in-Ok.ensures.plays in
     played_more o c.args.names.now steps c.args.step.now c.in-Ok.entry c.args.rehearsal.now c.play.new.self c.args.text.now.items
     c.push_entry.new.text.items _ plays c.entries-number.ensures.entries c.in-Ok-push_entry.ensures known
+
+pub returns-in-Call : goal.returns-in-Call
+returns-in-Call c =
+    let step : Step = record { seat = c.args.step.now.seat; command = Call c.in-Call.plain } in
+    let same : step ≡ c.args.step.now = ap (λ (k : Command). record { seat = c.args.step.now.seat; command = k }) (sym c.in-Call.is) in
+    MatchResult-weaker c.call_on.result c.call_on.ensures
+    (λ x goes o steps known.
+    subst (λ (s : Step). IsPlayed o c.args.names.now (steps ++ s ∷ []) c.call_on.new.rehearsal c.call_on.new.text.items) same (goes o steps known))
+    (λ fault told o steps known. subst (λ (s : Step). IsStopped o (steps ++ s ∷ []) fault) same (told o steps known))
