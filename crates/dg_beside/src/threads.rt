@@ -103,7 +103,8 @@ fn run_both<
         rt,
         |scope| -> Result<(A, B), (S, T)>
             requires { S.can_run s × T.can_run t × (given.task.value ≡ s) }
-            ensures { MatchResult result (λ r. S.run_gives s r.0 × T.run_gives t r.1) (λ b. b ≡ (s, t)) }
+            ensures { MatchResult result (λ r. S.run_gives s r.0 × T.run_gives t r.1)
+                (λ b. b ≡ (s, t)) }
         {
             let work = move || -> Result<A, S>
                 requires { S.can_run s }

@@ -36,13 +36,16 @@ graph_next o K request reply right graph = graph
 
 graphs_since : (o : Opening) (K L : List Entry) → IsLegal o (K ++ L) → IsGraph (position_after o K).graph →
     IsGraph (position_after o (K ++ L)).graph
-graphs_since o K [] legal graph = subst (λ (H : List Entry). IsGraph (position_after o H).graph) (sym (append-nil K)) graph
+graphs_since o K [] legal graph =
+    subst (λ (H : List Entry). IsGraph (position_after o H).graph) (sym (append-nil K)) graph
 graphs_since o K (e ∷ L) legal graph =
     let whole : (K ++ e ∷ []) ++ L ≡ K ++ e ∷ L = append_assoc K (e ∷ []) L in
     let right : Replies o K e.request e.reply =
-    subst (λ (H : List Entry). Replies o H e.request e.reply) (take-append_seam K (e ∷ L)) (legal (length K) e (slice_get-seam K e L)).2 in
+    subst (λ (H : List Entry). Replies o H e.request e.reply) (take-append_seam K (e ∷ L))
+    (legal (length K) e (slice_get-seam K e L)).2 in
     let next : IsGraph (position_after o (K ++ e ∷ [])).graph =
-    subst (λ (p : Position). IsGraph p.graph) (sym (one_more_entry o K e)) (graph_next o K e.request e.reply right graph) in
+    subst (λ (p : Position). IsGraph p.graph) (sym (one_more_entry o K e))
+    (graph_next o K e.request e.reply right graph) in
     subst (λ (H : List Entry). IsGraph (position_after o H).graph) whole
     (graphs_since o (K ++ e ∷ []) L (subst (IsLegal o) (sym whole) legal) next)
 

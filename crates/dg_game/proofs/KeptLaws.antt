@@ -27,7 +27,8 @@ LeavesLook seat step = step.seat ≡ seat → ¬ UsesLook step.command
 one_step : (steps : List Step) (n : ℕ) (s t : Step) → slice_get steps n ≡ Some s → slice_get steps n ≡ Some t → s ≡ t
 one_step steps n s t first second = let same : Some s ≡ Some t = sym first ∙ second in (cc)
 
-pub kept_more : (steps : List Step) (seat n i : ℕ) (step : Step) → slice_get steps n ≡ Some step → LeavesLook seat step →
+pub kept_more : (steps : List Step) (seat n i : ℕ) (step : Step) → slice_get steps n ≡ Some step →
+    LeavesLook seat step →
     IsKept steps seat n i → IsKept steps seat (n + 1) i
 kept_more steps seat n i step there leaves kept = record {
   before = omega (arith, kept.before);
@@ -41,7 +42,8 @@ kept_more steps seat n i step there leaves kept = record {
   ];
 }
 
-pub kept_less : (steps : List Step) (seat n i : ℕ) (step : Step) → slice_get steps n ≡ Some step → LeavesLook seat step →
+pub kept_less : (steps : List Step) (seat n i : ℕ) (step : Step) → slice_get steps n ≡ Some step →
+    LeavesLook seat step →
     IsKept steps seat (n + 1) i → IsKept steps seat n i
 kept_less steps seat n i step there leaves kept = elim (cases_lt i n) [
   | inl earlier ↦ record {
@@ -56,7 +58,8 @@ kept_less steps seat n i step there leaves kept = elim (cases_lt i n) [
       absurd (leaves (ap (λ (t : Step). t.seat) same) (rw (ap (λ (t : Step). t.command) same) tt))
 ]
 
-pub kept_new : (steps : List Step) (seat n : ℕ) → slice_get steps n ≡ Some (record { seat = seat; command = Call plain.Look }) →
+pub kept_new : (steps : List Step) (seat n : ℕ) →
+    slice_get steps n ≡ Some (record { seat = seat; command = Call plain.Look }) →
     IsKept steps seat (n + 1) n
 kept_new steps seat n there = record {
   before = omega arith;
@@ -79,7 +82,8 @@ uses_look (Call p) up = absurd up
 uses_look Commit up = tt
 uses_look (Rank k) up = tt
 
-pub kept_none : (steps : List Step) (seat n i : ℕ) (c : Command) → slice_get steps n ≡ Some (record { seat = seat; command = c }) →
+pub kept_none : (steps : List Step) (seat n i : ℕ) (c : Command) →
+    slice_get steps n ≡ Some (record { seat = seat; command = c }) →
     UsesUp c → ¬ IsKept steps seat (n + 1) i
 kept_none steps seat n i c there up kept = elim (cases_lt i n) [
   | inl earlier ↦ kept.last n _ earlier (omega arith) there refl (uses_look c up)
@@ -95,12 +99,15 @@ kept_none steps seat n i c there up kept = elim (cases_lt i n) [
 longer : (H : List Entry) (e : Entry) → length (H ++ e ∷ []) ≡ length H + 1
 longer H e = omega (arith, length-append H (e ∷ []))
 
-pub keeps_more : (o : Opening) (H : List Entry) (e : Entry) (steps : List Step) (seat : ℕ) (step : Step) (x : Option LookData) →
-    slice_get steps (length H) ≡ Some step → LeavesLook seat step → KeepsLook o H steps seat x → KeepsLook o (H ++ e ∷ []) steps seat x
+pub keeps_more : (o : Opening) (H : List Entry) (e : Entry) (steps : List Step) (seat : ℕ) (step : Step)
+    (x : Option LookData) →
+    slice_get steps (length H) ≡ Some step → LeavesLook seat step → KeepsLook o H steps seat x →
+    KeepsLook o (H ++ e ∷ []) steps seat x
 keeps_more o H e steps seat step (Some x) there leaves (kept, look) =
     (rw (longer H e) (kept_more steps seat (length H) x.number step there leaves kept), look_kept o H e x look)
 keeps_more o H e steps seat step None there leaves none =
-    λ i kept. none i (kept_less steps seat (length H) i step there leaves (subst (λ n. IsKept steps seat n i) (longer H e) kept))
+    λ i kept. none i (kept_less steps seat (length H) i step there leaves
+    (subst (λ n. IsKept steps seat n i) (longer H e) kept))
 
 pub keeps_new : (o : Opening) (H : List Entry) (e : Entry) (steps : List Step) (seat : ℕ) (x : LookData) →
     slice_get steps (length H) ≡ Some (record { seat = seat; command = Call plain.Look }) → x.number ≡ length H →
@@ -108,6 +115,7 @@ pub keeps_new : (o : Opening) (H : List Entry) (e : Entry) (steps : List Step) (
 keeps_new o H e steps seat x there number look = (rw (longer H e, number) (kept_new steps seat (length H) there), look)
 
 pub keeps_none : (o : Opening) (H : List Entry) (e : Entry) (steps : List Step) (seat : ℕ) (c : Command) →
-    slice_get steps (length H) ≡ Some (record { seat = seat; command = c }) → UsesUp c → KeepsLook o (H ++ e ∷ []) steps seat None
+    slice_get steps (length H) ≡ Some (record { seat = seat; command = c }) → UsesUp c →
+    KeepsLook o (H ++ e ∷ []) steps seat None
 keeps_none o H e steps seat c there up i kept =
     kept_none steps seat (length H) i c there up (subst (λ n. IsKept steps seat n i) (longer H e) kept)

@@ -1,6 +1,7 @@
 -- Legal histories.
 --   legal_none         the empty history is legal
---   legal_more         a legal history with one more entry that is a seat's, looks back and is answered rightly is legal
+--   legal_more         a legal history with one more entry that is a seat's, looks back and is answered rightly is
+--                      legal
 --   legal_take         the first entries of a legal history are legal
 --   legal_part         the first part of a legal history is legal
 --   back_asked         a call of the game looks back to nothing
@@ -67,11 +68,13 @@ back_asked H (plain.Join u v) = tt
 back_asked H plain.Look = tt
 back_asked H plain.Claim = tt
 
-pub back_for : (o : Opening) (H : List Entry) (x : LookData) (f : Finding) → IsLookAt o H x → LooksBack H (asked_for x.number f)
+pub back_for : (o : Opening) (H : List Entry) (x : LookData) (f : Finding) → IsLookAt o H x →
+    LooksBack H (asked_for x.number f)
 back_for o H x (Judged v) look = look.look
 back_for o H x (Ranked v) look = look.look
 
-sized_reply : (o : Opening) (H : List Entry) (n : ℕ) (request : Request) (reply : Reply) → (position_after o H).graph.size ≡ n →
+sized_reply : (o : Opening) (H : List Entry) (n : ℕ) (request : Request) (reply : Reply) →
+    (position_after o H).graph.size ≡ n →
     Replies o H request reply → HasSize n reply
 sized_reply o H n (Move m) (Moved d) size right = right.size ∙ size
 sized_reply o H n (Move m) (Refused r) size right = tt
@@ -79,7 +82,8 @@ sized_reply o H n (Gift v x) (Given count d) size right = right.size ∙ size
 sized_reply o H n (Gift v x) (Refused r) size right = tt
 sized_reply o H n (Join u v) (Joined count d) size right = right.amounts.size ∙ size
 sized_reply o H n (Join u v) (Refused r) size right = tt
-sized_reply o H n Look (Looked count d graph) size right = (right.1.size ∙ size, ap (λ (g : Multigraph). g.size) right.2 ∙ size)
+sized_reply o H n Look (Looked count d graph) size right =
+    (right.1.size ∙ size, ap (λ (g : Multigraph). g.size) right.2 ∙ size)
 sized_reply o H n Claim Won size right = tt
 sized_reply o H n Claim NotWon size right = tt
 sized_reply o H n (Judge i) (Verdict x) size right = (right.1.script_size ∙ size, right.1.reduced_size ∙ size)
@@ -90,7 +94,8 @@ sized_reply o H n (RankRequest i k) (Stale count) size right = tt
 sized_reply o H n request reply size right = absurd right
 
 pub legal_sized : LegalIsSized
-legal_sized o H i e legal at = sized_reply o (take i H) o.graph.size e.request e.reply (vertices_stay o (take i H)) (legal i e at).2
+legal_sized o H i e legal at =
+    sized_reply o (take i H) o.graph.size e.request e.reply (vertices_stay o (take i H)) (legal i e at).2
 
 pub legal_looks : LooksAreShown
 legal_looks o H e x legal at asks shows =
@@ -98,10 +103,12 @@ legal_looks o H e x legal at asks shows =
     let (gifts, amounts, graph) = rw (asks, shows) at right in
     record { look = (e, at, asks); gifts = gifts; graph = graph; amounts = amounts }
 
-pub entries_more : (steps : List Step) (H : List Entry) (step : Step) (e : Entry) → slice_get steps (length H) ≡ Some step →
+pub entries_more : (steps : List Step) (H : List Entry) (step : Step) (e : Entry) →
+    slice_get steps (length H) ≡ Some step →
     IsEntryOf steps (length H) step e →
     ((j : ℕ) (s : Step) (x : Entry) → slice_get steps j ≡ Some s → slice_get H j ≡ Some x → IsEntryOf steps j s x) →
-    (j : ℕ) (s : Step) (x : Entry) → slice_get steps j ≡ Some s → slice_get (H ++ e ∷ []) j ≡ Some x → IsEntryOf steps j s x
+    (j : ℕ) (s : Step) (x : Entry) → slice_get steps j ≡ Some s → slice_get (H ++ e ∷ []) j ≡ Some x →
+    IsEntryOf steps j s x
 entries_more steps H step e there new before j s x step_at at = elim (more_holds H e j x at) [
   | inl old ↦ before j s x step_at old.1
   | inr last ↦

@@ -16,7 +16,8 @@ pub slice_get-seam : {X : Type 0} (xs : List X) (y : X) (ys : List X) → slice_
 slice_get-seam [] y ys = refl
 slice_get-seam (x ∷ xs) y ys = slice_get-seam xs y ys
 
-pub slice_get_taken : {X : Type 0} (k : ℕ) (xs : List X) (i : ℕ) (x : X) → slice_get (take k xs) i ≡ Some x → slice_get xs i ≡ Some x
+pub slice_get_taken : {X : Type 0} (k : ℕ) (xs : List X) (i : ℕ) (x : X) → slice_get (take k xs) i ≡ Some x →
+    slice_get xs i ≡ Some x
 slice_get_taken zero xs i x at = absurd (cc)
 slice_get_taken (suc k) [] i x at = at
 slice_get_taken (suc k) (y ∷ xs) zero x at = at

@@ -45,7 +45,8 @@ use Rattle.dg_game.proofs.RankTests.{rank_test-cong, rank_test_led}
 use Rattle.dg_game.proofs.StepLaw.{since_change, vertices_stay}
 
 -- a history after a look, as the part before the look and the rest
-pub moved_since : (o : Opening) (H : List Entry) (s : State) (x : LookData) → LeadsTo o H s → IsLookAt o H x → s.gifts ≡ x.gifts →
+pub moved_since : (o : Opening) (H : List Entry) (s : State) (x : LookData) → LeadsTo o H s → IsLookAt o H x →
+    s.gifts ≡ x.gifts →
     (s.graph ≡ x.graph) × (t : Amounts) × FiresTo s.graph t (at x.position) (at s.amounts)
 moved_since o H s x leads look same =
     let K : List Entry = take x.number H in
@@ -54,7 +55,8 @@ moved_since o H s x leads look same =
     let counts : gifts_in H ≡ gifts_in K + gifts_in L = ap gifts_in (sym whole) ∙ gifts_in-append K L in
     let none : gifts_in L ≡ 0 = omega (arith, counts, same, leads.gifts, look.gifts) in
     let p : Position = position_after o K in
-    let fires : position_after o H ≡ fired_by p (scripts_played L) = ap (position_after o) (sym whole) ∙ since_change o K L none in
+    let fires : position_after o H ≡ fired_by p (scripts_played L) =
+    ap (position_after o) (sym whole) ∙ since_change o K L none in
     let graph : s.graph ≡ p.graph = leads.graph ∙ ap (λ (r : Position). r.graph) fires in (
       graph ∙ sym look.graph,
       scripts_played L,
@@ -62,29 +64,41 @@ moved_since o H s x leads look same =
           let inside : v < p.graph.size = subst (λ (g : Multigraph). v < g.size) graph below in
           let there : v < (position_after o H).graph.size = subst (λ (g : Multigraph). v < g.size) leads.graph below in
           let now : at s.amounts v ≡ (position_after o H).amounts v = leads.amounts.amounts v there in
-          let moved : (position_after o H).amounts v ≡ fired p.graph p.amounts (scripts_played L) v = ap (λ (r : Position). r.amounts v) fires in
+          let moved : (position_after o H).amounts v ≡ fired p.graph p.amounts (scripts_played L) v =
+          ap (λ (r : Position). r.amounts v) fires in
           let then' : at x.position v ≡ p.amounts v = look.amounts.amounts v inside in
           rw graph (omega (arith, ints, now, then', moved)),
     )
 
-pub judged_after : (o : Opening) (H : List Entry) (s : State) (x : LookData) (verdict : AVerdict) → LeadsTo o H s → IsLookAt o H x →
+pub judged_after : (o : Opening) (H : List Entry) (s : State) (x : LookData) (verdict : AVerdict) → LeadsTo o H s →
+    IsLookAt o H x →
     s.gifts ≡ x.gifts → IsRight s.graph s.q (at s.amounts) verdict → Replies o H (Judge x.number) (Verdict verdict)
 judged_after o H s x verdict leads look same right =
     let p : Position = position_after o H in
-    let on_graph : IsRight p.graph o.q (at s.amounts) verdict = subst (λ (g : Multigraph). IsRight g o.q (at s.amounts) verdict) leads.graph
-    (subst (λ (q : ℕ). IsRight s.graph q (at s.amounts) verdict) leads.q right) in
-    (sym look.gifts ∙ sym same ∙ leads.gifts, right-cong p.graph o.q (at s.amounts) p.amounts verdict leads.amounts.amounts on_graph)
+    let on_graph : IsRight p.graph o.q (at s.amounts) verdict =
+    subst (λ (g : Multigraph). IsRight g o.q (at s.amounts) verdict) leads.graph
+    (subst (λ (q : ℕ). IsRight s.graph q (at s.amounts) verdict) leads.q right) in (
+      sym look.gifts ∙ sym same
+          ∙ leads.gifts,
+      right-cong p.graph o.q (at s.amounts) p.amounts verdict leads.amounts.amounts on_graph,
+    )
 
-pub ranked_after : (o : Opening) (H : List Entry) (s : State) (x : LookData) (k : ℕ) (verdict : RankVerdict) → LeadsTo o H s → IsLookAt o H x →
-    s.gifts ≡ x.gifts → IsRankTest x.graph (at x.position) k verdict → Replies o H (RankRequest x.number k) (RankReply verdict)
+pub ranked_after : (o : Opening) (H : List Entry) (s : State) (x : LookData) (k : ℕ) (verdict : RankVerdict) →
+    LeadsTo o H s → IsLookAt o H x →
+    s.gifts ≡ x.gifts → IsRankTest x.graph (at x.position) k verdict →
+    Replies o H (RankRequest x.number k) (RankReply verdict)
 ranked_after o H s x k verdict leads look same right =
     let p : Position = position_after o H in
     let (graph, t, led) = moved_since o H s x leads look same in
     let then' : IsRankTest s.graph (at x.position) k verdict = rw graph right in
-    let now : IsRankTest s.graph (at s.amounts) k verdict = rank_test_led s.graph (at x.position) (at s.amounts) t k verdict led then' in
+    let now : IsRankTest s.graph (at s.amounts) k verdict =
+    rank_test_led s.graph (at x.position) (at s.amounts) t k verdict led then' in
     let on_graph : IsRankTest p.graph (at s.amounts) k verdict =
-    subst (λ (g : Multigraph). IsRankTest g (at s.amounts) k verdict) leads.graph now in
-    (sym look.gifts ∙ sym same ∙ leads.gifts, rank_test-cong p.graph (at s.amounts) p.amounts k verdict leads.amounts.amounts on_graph)
+    subst (λ (g : Multigraph). IsRankTest g (at s.amounts) k verdict) leads.graph now in (
+      sym look.gifts ∙ sym same
+          ∙ leads.gifts,
+      rank_test-cong p.graph (at s.amounts) p.amounts k verdict leads.amounts.amounts on_graph,
+    )
 
 -- a look stays what it was when an entry is added
 pub look_kept : (o : Opening) (H : List Entry) (e : Entry) (x : LookData) → IsLookAt o H x → IsLookAt o (H ++ e ∷ []) x
@@ -100,7 +114,8 @@ look_kept o H e x look =
     }
 
 -- the look that is entered next
-pub look_new : (o : Opening) (H : List Entry) (s : State) (e : Entry) (x : LookData) → LeadsTo o H s → e.request ≡ Look →
+pub look_new : (o : Opening) (H : List Entry) (s : State) (e : Entry) (x : LookData) → LeadsTo o H s →
+    e.request ≡ Look →
     x.number ≡ s.entries → x.gifts ≡ s.gifts → x.graph ≡ s.graph → x.position ≡ s.amounts → IsLookAt o (H ++ e ∷ []) x
 look_new o H s e x leads is number gifts graph position =
     let at_end : x.number ≡ length H = number ∙ leads.entries in
@@ -128,7 +143,14 @@ look_size o H s x leads look =
 
 -- the state with one entry more, and nothing else changed
 abbrev counted : State → State
-counted s = record { graph = s.graph; q = s.q; amounts = s.amounts; drift = s.drift; gifts = s.gifts; entries = s.entries + 1 }
+counted s = record {
+  graph = s.graph;
+  q = s.q;
+  amounts = s.amounts;
+  drift = s.drift;
+  gifts = s.gifts;
+  entries = s.entries + 1;
+}
 
 stays : (s : State) (request : Request) (reply : Reply) → graph_after s.graph request reply ≡ s.graph →
     amounts_after s.amounts reply ≡ s.amounts → gifts_after s.gifts reply ≡ s.gifts →
@@ -147,11 +169,14 @@ pub settled_next : (o : Opening) (H : List Entry) (s : State) (i : ℕ) (finding
 settled_next o H s i (Judged v) (Verdict x) right = stays s (Judge i) (Verdict x) refl refl refl (λ v. refl)
 settled_next o H s i (Judged v) (Stale count) right = stays s (Judge i) (Stale count) refl refl refl (λ v. refl)
 settled_next o H s i (Judged v) reply right = absurd right
-settled_next o H s i (Ranked v) (RankReply x) right = stays s (RankRequest i (degree_of v)) (RankReply x) refl refl refl (λ v. refl)
-settled_next o H s i (Ranked v) (Stale count) right = stays s (RankRequest i (degree_of v)) (Stale count) refl refl refl (λ v. refl)
+settled_next o H s i (Ranked v) (RankReply x) right =
+    stays s (RankRequest i (degree_of v)) (RankReply x) refl refl refl (λ v. refl)
+settled_next o H s i (Ranked v) (Stale count) right =
+    stays s (RankRequest i (degree_of v)) (Stale count) refl refl refl (λ v. refl)
 settled_next o H s i (Ranked v) reply right = absurd right
 
-pub carried : (s : State) (D : Amounts) (x : AVerdict) (m : Vector) → IsState s → IsDivisor s.amounts → IsRight s.graph s.q D x →
+pub carried : (s : State) (D : Amounts) (x : AVerdict) (m : Vector) → IsState s → IsDivisor s.amounts →
+    IsRight s.graph s.q D x →
     m.size ≡ s.graph.size → FiresTo s.graph (at m) D (at s.amounts) → IsRebasable s.q x m
 carried s D x m state divisor right size leads = record {
   graph = s.graph;

@@ -29,7 +29,8 @@ out_of_range-cong : (n : ℕ) (D E : Amounts) → AgreeOn n D E → IsOutOfRange
 out_of_range-cong n D E same (v, below, past) = (v, below, rw (← same v below) past)
 
 moved-cong : (g : Multigraph) (D E : Amounts) (m : AMove) (reply : Reply) → AgreeOn g.size D E →
-    RepliesToMove (record { graph = g; amounts = D }) m reply → RepliesToMove (record { graph = g; amounts = E }) m reply
+    RepliesToMove (record { graph = g; amounts = D }) m reply →
+    RepliesToMove (record { graph = g; amounts = E }) m reply
 moved-cong g D E m (Moved d) same right = record {
   playable = right.playable;
   in_range = in_range-cong g.size _ _ (fired-here g D E (script_of m) same) right.in_range;
@@ -44,11 +45,13 @@ moved-cong g D E m (Refused refusal.Range) same right =
 moved-cong g D E m reply same right = absurd right
 
 given-here : (g : Multigraph) (D E : Amounts) (v : ℕ) → AgreeOn g.size D E → (x : ℤ) →
-    AgreeOn g.size (with_gift (record { graph = g; amounts = D }) v x) (with_gift (record { graph = g; amounts = E }) v x)
+    AgreeOn g.size (with_gift (record { graph = g; amounts = D }) v x)
+    (with_gift (record { graph = g; amounts = E }) v x)
 given-here g D E v same x w below = let here : D w ≡ E w = same w below in omega (arith, ints)
 
 given-cong : (g : Multigraph) (D E : Amounts) (n v : ℕ) (x : ℤ) (reply : Reply) → AgreeOn g.size D E →
-    RepliesToGift (record { graph = g; amounts = D }) n v x reply → RepliesToGift (record { graph = g; amounts = E }) n v x reply
+    RepliesToGift (record { graph = g; amounts = D }) n v x reply →
+    RepliesToGift (record { graph = g; amounts = E }) n v x reply
 given-cong g D E n v x (Given count d) same right = record {
   vertex = right.vertex;
   gift = right.gift;
@@ -68,7 +71,8 @@ shows-cong : (g : Multigraph) (D E : Amounts) (d : Vector) → AgreeOn g.size D 
 shows-cong g D E d same shows = record { size = shows.size; amounts = λ v below. shows.amounts v below ∙ same v below }
 
 joined-cong : (g : Multigraph) (D E : Amounts) (n u v : ℕ) (reply : Reply) → AgreeOn g.size D E →
-    RepliesToJoin (record { graph = g; amounts = D }) n u v reply → RepliesToJoin (record { graph = g; amounts = E }) n u v reply
+    RepliesToJoin (record { graph = g; amounts = D }) n u v reply →
+    RepliesToJoin (record { graph = g; amounts = E }) n u v reply
 joined-cong g D E n u v (Joined count d) same right = record {
   joinable = right.joinable;
   count' = right.count';
@@ -80,7 +84,8 @@ joined-cong g D E n u v (Refused refusal.Valence) same right = right
 joined-cong g D E n u v reply same right = absurd right
 
 looked-cong : (g : Multigraph) (D E : Amounts) (n : ℕ) (reply : Reply) → AgreeOn g.size D E →
-    RepliesToLook (record { graph = g; amounts = D }) n reply → RepliesToLook (record { graph = g; amounts = E }) n reply
+    RepliesToLook (record { graph = g; amounts = D }) n reply →
+    RepliesToLook (record { graph = g; amounts = E }) n reply
 looked-cong g D E n (Looked count d graph) same right = (right.0, shows-cong g D E d same right.1, right.2)
 looked-cong g D E n reply same right = absurd right
 
@@ -91,7 +96,8 @@ claimed-cong g D E NotWon same right = λ effective. right (λ v below. rw (same
 claimed-cong g D E reply same right = absurd right
 
 pub replies-cong : (g : Multigraph) (D E : Amounts) (n : ℕ) (call : Plain) (reply : Reply) → AgreeOn g.size D E →
-    RepliesAt (record { graph = g; amounts = D }) n call reply → RepliesAt (record { graph = g; amounts = E }) n call reply
+    RepliesAt (record { graph = g; amounts = D }) n call reply →
+    RepliesAt (record { graph = g; amounts = E }) n call reply
 replies-cong g D E n (plain.Move m) reply same right = moved-cong g D E m reply same right
 replies-cong g D E n (plain.Gift v x) reply same right = given-cong g D E n v x reply same right
 replies-cong g D E n (plain.Join u v) reply same right = joined-cong g D E n u v reply same right

@@ -27,7 +27,8 @@ use Rattle.dg_game.proofs.HistoryLaws.{gifts_in-more, scripts_played-more}
 use Rattle.dg_game.proofs.StepLaw.{no_entry, one_more_entry}
 use Rattle.dg_game.proofs.ReplyLaws.{replies-cong}
 
-replies_asked : (o : Opening) (H : List Entry) (call : Plain) (reply : Reply) → RepliesAt (position_after o H) (gifts_in H) call reply →
+replies_asked : (o : Opening) (H : List Entry) (call : Plain) (reply : Reply) →
+    RepliesAt (position_after o H) (gifts_in H) call reply →
     Replies o H (asked call) reply
 replies_asked o H (plain.Move m) reply right = right
 replies_asked o H (plain.Gift v x) reply right = right
@@ -40,7 +41,8 @@ pub replies_after : (o : Opening) (H : List Entry) (s : State) (call : Plain) (r
 replies_after o H s call reply leads right =
     let p : Position = position_after o H in
     let on_graph : RepliesAt (record { graph = p.graph; amounts = at s.amounts }) s.gifts call reply =
-    subst (λ (g : Multigraph). RepliesAt (record { graph = g; amounts = at s.amounts }) s.gifts call reply) leads.graph right in
+    subst (λ (g : Multigraph). RepliesAt (record { graph = g; amounts = at s.amounts }) s.gifts call reply) leads.graph
+    right in
     let on_amounts : RepliesAt p s.gifts call reply =
     replies-cong p.graph (at s.amounts) p.amounts s.gifts call reply leads.amounts.amounts on_graph in
     replies_asked o H call reply (subst (λ (g : ℕ). RepliesAt p g call reply) leads.gifts on_amounts)
@@ -51,7 +53,8 @@ shows_joined p u v d shows = record {
   amounts = λ w below. shows.amounts w (subst (λ (n : ℕ). w < n) (size_stays p.graph u v) below);
 }
 
-shows_after : (o : Opening) (H : List Entry) (d : Vector) (request : Request) (reply : Reply) → Shows (position_after o H) d →
+shows_after : (o : Opening) (H : List Entry) (d : Vector) (request : Request) (reply : Reply) →
+    Shows (position_after o H) d →
     Replies o H request reply → Shows (after_reply (position_after o H) request reply) (amounts_after d reply)
 shows_after o H d (Move m) (Moved e) shows right = record { size = right.size; amounts = right.amounts }
 shows_after o H d (Move m) (Refused refusal) shows right = shows
@@ -68,7 +71,8 @@ shows_after o H d (RankRequest i k) (RankReply x) shows right = shows
 shows_after o H d (RankRequest i k) (Stale count) shows right = shows
 shows_after o H d request reply shows right = absurd right
 
-graph_led : (p : Position) (request : Request) (reply : Reply) → (after_reply p request reply).graph ≡ graph_after p.graph request reply
+graph_led : (p : Position) (request : Request) (reply : Reply) →
+    (after_reply p request reply).graph ≡ graph_after p.graph request reply
 graph_led p (Move m) (Moved d) = refl
 graph_led p (Gift v x) (Given count d) = refl
 graph_led p (Join u v) (Joined count d) = refl
@@ -95,22 +99,27 @@ gifts_counted o H (RankRequest i k) (RankReply x) right = omega arith
 gifts_counted o H (RankRequest i k) (Stale count) right = omega arith
 gifts_counted o H request reply right = absurd right
 
-pub leads_more : (o : Opening) (H : List Entry) (s t : State) (e : Entry) → LeadsTo o H s → Replies o H e.request e.reply →
+pub leads_more : (o : Opening) (H : List Entry) (s t : State) (e : Entry) → LeadsTo o H s →
+    Replies o H e.request e.reply →
     IsNext s e.request e.reply t → LeadsTo o (H ++ e ∷ []) t
 leads_more o H s t e leads right next =
     let p : Position = position_after o H in
-    let shown : Shows (after_reply p e.request e.reply) t.amounts = rw next.amounts (shows_after o H s.amounts e.request e.reply leads.amounts right) in
+    let shown : Shows (after_reply p e.request e.reply) t.amounts =
+    rw next.amounts (shows_after o H s.amounts e.request e.reply leads.amounts right) in
     record {
-      graph = next.graph ∙ ap (λ (g : Multigraph). graph_after g e.request e.reply) leads.graph ∙ sym (graph_led p e.request e.reply)
+      graph = next.graph ∙ ap (λ (g : Multigraph). graph_after g e.request e.reply) leads.graph
+          ∙ sym (graph_led p e.request e.reply)
           ∙ ap (λ (r : Position). r.graph) (sym (one_more_entry o H e));
       q = next.q ∙ leads.q;
       amounts = rw (one_more_entry o H e) shown;
       drift = λ v below.
-          let after : v < (graph_after s.graph e.request e.reply).size = subst (λ (g : Multigraph). v < g.size) next.graph below in
+          let after : v < (graph_after s.graph e.request e.reply).size =
+          subst (λ (g : Multigraph). v < g.size) next.graph below in
           let inside : v < s.graph.size = subst (λ (n : ℕ). v < n) (size_after s.graph e.request e.reply) after in
           let before : at s.drift v ≡ scripts_played H v = leads.drift v inside in
           next.drift v inside ∙ omega (arith, ints, before, scripts_played-more H e v);
-      gifts = next.gifts ∙ ap (λ (n : ℕ). gifts_after n e.reply) leads.gifts ∙ gifts_counted o H e.request e.reply right ∙ sym (gifts_in-more H e);
+      gifts = next.gifts ∙ ap (λ (n : ℕ). gifts_after n e.reply) leads.gifts ∙ gifts_counted o H e.request e.reply right
+          ∙ sym (gifts_in-more H e);
       entries = next.entries ∙ omega (arith, leads.entries, length-append H (e ∷ []));
     }
 

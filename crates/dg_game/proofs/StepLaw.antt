@@ -66,7 +66,8 @@ ahead_more o R seat request (Given g d) =
 ahead_more o R seat request (Joined g d) =
     sym (still (changed (ahead o R) request (Joined g d))) ∙ sym (changes (ahead o R) request (Joined g d) refl)
 ahead_more o R seat request reply =
-    sym (fired_on (after_change o R) (scripts_since R) (script_by request reply)) ∙ sym (fires (ahead o R) request reply refl)
+    sym (fired_on (after_change o R) (scripts_since R) (script_by request reply))
+    ∙ sym (fires (ahead o R) request reply refl)
 
 pub one_more_entry : OneMoreEntry
 unfolding position_after
@@ -85,7 +86,8 @@ since_change o K (e ∷ L) none =
     let more : position_after o (K ++ e ∷ []) ≡ fired_by p (script_by e.request e.reply) =
     one_more_entry o K e ∙ fires p e.request e.reply (not_counted (is_change e.reply) (omega (arith, none))) in
     parts ∙ since_change o (K ++ e ∷ []) L (omega (arith, none))
-    ∙ ap (λ (q : Position). fired_by q (scripts_played L)) more ∙ fired_on p (script_by e.request e.reply) (scripts_played L)
+    ∙ ap (λ (q : Position). fired_by q (scripts_played L)) more
+    ∙ fired_on p (script_by e.request e.reply) (scripts_played L)
 
 pub since_start : SinceStart
 since_start o L none = since_change o [] L none ∙ ap (λ (p : Position). fired_by p (scripts_played L)) (no_entry o)
@@ -93,7 +95,8 @@ since_start o L none = since_change o [] L none ∙ ap (λ (p : Position). fired
 pub since_last : SinceLast
 since_last o K L c change none =
     ap (position_after o) (sym (append_assoc K (c ∷ []) L)) ∙ since_change o (K ++ c ∷ []) L none
-    ∙ ap (λ (p : Position). fired_by p (scripts_played L)) (one_more_entry o K c ∙ changes (position_after o K) c.request c.reply change)
+    ∙ ap (λ (p : Position). fired_by p (scripts_played L))
+    (one_more_entry o K c ∙ changes (position_after o K) c.request c.reply change)
 
 size_same : (p : Position) (request : Request) (reply : Reply) → (after_reply p request reply).graph.size ≡ p.graph.size
 size_same p (Move m) (Moved d) = refl
@@ -104,7 +107,8 @@ size_same p request reply = refl
 size_since : (o : Opening) (K L : List Entry) → (position_after o (K ++ L)).graph.size ≡ (position_after o K).graph.size
 size_since o K [] = ap (λ (H : List Entry). (position_after o H).graph.size) (append-nil K)
 size_since o K (e ∷ L) =
-    ap (λ (H : List Entry). (position_after o H).graph.size) (sym (append_assoc K (e ∷ []) L)) ∙ size_since o (K ++ e ∷ []) L
+    ap (λ (H : List Entry). (position_after o H).graph.size) (sym (append_assoc K (e ∷ []) L))
+    ∙ size_since o (K ++ e ∷ []) L
     ∙ ap (λ (p : Position). p.graph.size) (one_more_entry o K e) ∙ size_same (position_after o K) e.request e.reply
 
 pub vertices_stay : VerticesStay

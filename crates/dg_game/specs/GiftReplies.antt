@@ -1,6 +1,8 @@
--- What may be replied to a gift of x dollars to v at the position p, where the gift count is g. A gift of less than 0
--- dollars is a levy: it takes dollars from v, and may leave v in debt. It is answered and counted as any other gift.
---   IsGift x                      == a gift may be so large: it is not 0, and within the limit at both ends
+-- What may be replied to a gift of x dollars to v at the position p, where the gift count is g. A
+-- gift of less than 0 dollars is a levy: it takes dollars from v, and may leave v in debt. It is
+-- answered and counted as any other gift.
+--   IsGift x                      == a gift may be so large: it is not 0, and within the limit at
+--                                    both ends
 --   IsGivenTo p g v x count d     == the count and the amounts after the gift, all in range
 --   RefusesGift p v x refusal     == the gift is refused for this cause, and for no earlier one
 --   RepliesToGift p g v x reply   == the reply is the right one
@@ -27,7 +29,8 @@ pub record IsGivenTo (p : Position) (g v : ℕ) (x : ℤ) (count : ℕ) (d : Vec
 abbrev pub RefusesGift : Position → ℕ → ℤ → Refusal → Type 0
 RefusesGift p v x NoVertex = p.graph.size ≤ v
 RefusesGift p v x Gift = (v < p.graph.size) × (¬ IsGift x)
-RefusesGift p v x Range = (v < p.graph.size) × IsGift x × IsOutOfRange p.graph.size (with_gift p v x)
+RefusesGift p v x Range =
+    (v < p.graph.size) × IsGift x × IsOutOfRange p.graph.size (with_gift p v x)
 RefusesGift p v x refusal = ⊥
 
 abbrev pub RepliesToGift : Position → ℕ → ℕ → ℤ → Reply → Type 0

@@ -1,20 +1,25 @@
--- Histories. An entry is a seat, a request and a reply; a history is a list of entries, and an entry's number is its
--- place in it, from 0. What changes a position, but for moves, is a change: an accepted gift, levy or join.
+-- Histories. An entry is a seat, a request and a reply; a history is a list of entries, and an
+-- entry's number is its place in it, from 0. What changes a position, but for moves, is a change:
+-- an accepted gift, levy or join.
 --   nothing                    == 0 at each vertex
 --   script_by request reply    == the script of an accepted move, and 0 for everything else
 --   scripts_played H           == the sum of the scripts of all accepted moves
 --   is_change reply            == the reply accepts a gift, a levy or a join
---   changed p request reply    == the position after the change, where it stood at p before: with the dollars of the gift, or
---                                 on the graph with the edge
+--   changed p request reply    == the position after the change, where it stood at p before: with
+--                                 the dollars of the gift, or on the graph with the edge
 --   gift_counted reply         == 1 for a change, and 0 for any other reply
 --   gifts_in H                 == how many changes there are: gifts, levies and joins
---   with_entry H s q r         == the history H and one more entry, of the seat s with the request q and the reply r
+--   with_entry H s q r         == the history H and one more entry, of the seat s with the request
+--                                 q and the reply r
 -- Of entries that stand the latest first:
---   scripts_since R            == the sum of the scripts of all moves accepted since the last change
---   after_change o R           == the position right after the last change, and that of the opening o where there is none
+--   scripts_since R            == the sum of the scripts of all moves accepted since the last
+--                                 change
+--   after_change o R           == the position right after the last change, and that of the opening
+--                                 o where there is none
 -- So:
---   position_after o H         == the position after the history H from the opening o: that after the last change, fired on
---                                 the graph there by the sum of the scripts of all moves accepted since
+--   position_after o H         == the position after the history H from the opening o: that after
+--                                 the last change, fired on the graph there by the sum of the
+--                                 scripts of all moves accepted since
 use Rattle.std.specs.Prelude.{ℕ, ◌+◌, Bool, true, false, if◌then◌else◌, pos, ◌+ℤ◌, List, [], ◌∷◌, ◌++◌, reverse}
 use Rattle.dg_theory.specs.Firing.{Amounts}
 use Rattle.dg_chips.specs.Moves.{script_of}
@@ -55,16 +60,19 @@ gifts_in [] = 0
 gifts_in (e ∷ H) = gift_counted e.reply + gifts_in H
 
 abbrev pub with_entry : List Entry → ℕ → Request → Reply → List Entry
-with_entry H seat request reply = H ++ (record { seat = seat; request = request; reply = reply }) ∷ []
+with_entry H seat request reply =
+    H ++ (record { seat = seat; request = request; reply = reply }) ∷ []
 
 abbrev pub scripts_since : List Entry → Amounts
 scripts_since [] v = pos 0
-scripts_since (e ∷ R) v = if is_change e.reply then pos 0 else (scripts_since R v +ℤ script_by e.request e.reply v)
+scripts_since (e ∷ R) v =
+    if is_change e.reply then pos 0 else (scripts_since R v +ℤ script_by e.request e.reply v)
 
 abbrev pub after_change : Opening → List Entry → Position
 after_change o [] = opened o
 after_change o (e ∷ R) =
-    if is_change e.reply then changed (fired_by (after_change o R) (scripts_since R)) e.request e.reply else after_change o R
+    if is_change e.reply then changed
+    (fired_by (after_change o R) (scripts_since R)) e.request e.reply else after_change o R
 
 unfoldable pub position_after : Opening → List Entry → Position
 position_after o H = fired_by (after_change o (reverse H)) (scripts_since (reverse H))

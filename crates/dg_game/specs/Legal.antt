@@ -1,9 +1,11 @@
 -- Legal histories.
 --   IsSeat s              == a seat's number is 1 to 64
 --   IsLookIn H i          == entry i of H is a look
---   LooksBack H request   == a request for a verdict or for a rank test names an entry of H that is a look
---   IsLegal o H           == each entry is a seat's, looks back to an earlier look where it asks for a verdict or for a
---                            rank test, and is answered rightly after the entries before it
+--   LooksBack H request   == a request for a verdict or for a rank test names an entry of H that is
+--                            a look
+--   IsLegal o H           == each entry is a seat's, looks back to an earlier look where it asks
+--                            for a verdict or for a rank test, and is answered rightly after the
+--                            entries before it
 use Rattle.std.specs.Prelude.{◌≡◌, ℕ, ◌≤◌, List, take, slice_get, Some, ⊤}
 use Rattle.dg_chips.specs.Opening.{Opening}
 use Rattle.dg_game.specs.Replies.{Replies}

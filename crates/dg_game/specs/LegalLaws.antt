@@ -1,13 +1,18 @@
 -- The laws of legal histories.
 --   EmptyIsLegal          == a history with no entry is legal
---   OneMoreIsLegal        == a legal history stays legal by an entry that is a seat's, looks back to a look where it asks
---                            for a verdict or for a rank test, and is answered rightly
---   BeginningsAreLegal    == the first entries of a legal history are a legal history, however many they are
+--   OneMoreIsLegal        == a legal history stays legal by an entry that is a seat's, looks back
+--                            to a look where it asks for a verdict or for a rank test, and is
+--                            answered rightly
+--   BeginningsAreLegal    == the first entries of a legal history are a legal history, however many
+--                            they are
 --   PartsAreLegal         == what comes first in a legal history of two parts is a legal history
---   HasSize n reply       == each divisor, script, wide amount and graph in the reply is one of n vertices
+--   HasSize n reply       == each divisor, script, wide amount and graph in the reply is one of n
+--                            vertices
 --   LegalIsSized          == each reply of a legal history has the size of the start
---   GraphsHold            == a legal history, from an opening on a graph within the limits, leads to a position on one
---   LooksAreShown         == a look of a legal history showed what `IsLookAt` says, whatever drift is kept with it
+--   GraphsHold            == a legal history, from an opening on a graph within the limits, leads
+--                            to a position on one
+--   LooksAreShown         == a look of a legal history showed what `IsLookAt` says, whatever drift
+--                            is kept with it
 use Rattle.std.specs.Prelude.{◌≡◌, ℕ, List, [], ◌∷◌, ◌++◌, take, slice_get, Some, ⊤}
 use Rattle.dg_graph.specs.Graph.{IsGraph}
 use Rattle.dg_chips.specs.Opening.{Opening}
@@ -26,7 +31,8 @@ abbrev pub EmptyIsLegal : Type 0
 EmptyIsLegal = (o : Opening) → IsLegal o []
 
 abbrev pub OneMoreIsLegal : Type 0
-OneMoreIsLegal = (o : Opening) (H : List Entry) (e : Entry) → IsLegal o H → IsSeat e.seat → LooksBack H e.request →
+OneMoreIsLegal = (o : Opening) (H : List Entry) (e : Entry) → IsLegal o H → IsSeat e.seat →
+    LooksBack H e.request →
     Replies o H e.request e.reply → IsLegal o (H ++ e ∷ [])
 
 abbrev pub BeginningsAreLegal : Type 0
@@ -46,11 +52,14 @@ HasSize n (Rank (Below k d)) = d.size ≡ n
 HasSize n reply = ⊤
 
 abbrev pub LegalIsSized : Type 0
-LegalIsSized = (o : Opening) (H : List Entry) (i : ℕ) (e : Entry) → IsLegal o H → slice_get H i ≡ Some e → HasSize o.graph.size e.reply
+LegalIsSized = (o : Opening) (H : List Entry) (i : ℕ) (e : Entry) → IsLegal o H →
+    slice_get H i ≡ Some e → HasSize o.graph.size e.reply
 
 abbrev pub GraphsHold : Type 0
-GraphsHold = (o : Opening) (H : List Entry) → IsGraph o.graph → IsLegal o H → IsGraph (position_after o H).graph
+GraphsHold = (o : Opening) (H : List Entry) → IsGraph o.graph → IsLegal o H →
+    IsGraph (position_after o H).graph
 
 abbrev pub LooksAreShown : Type 0
-LooksAreShown = (o : Opening) (H : List Entry) (e : Entry) (x : LookData) → IsLegal o H → slice_get H x.number ≡ Some e →
+LooksAreShown = (o : Opening) (H : List Entry) (e : Entry) (x : LookData) → IsLegal o H →
+    slice_get H x.number ≡ Some e →
     e.request ≡ Look → e.reply ≡ Looked x.gifts x.position x.graph → IsLookAt o H x

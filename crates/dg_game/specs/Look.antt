@@ -1,11 +1,12 @@
 -- What a seat keeps of a look, and what was reckoned on it.
---   IsLookAt o H x       == x holds the number of a look of the history H, and the gift count, the graph and the amounts
---                           at it, and any drift
+--   IsLookAt o H x       == x holds the number of a look of the history H, and the gift count, the
+--                           graph and the amounts at it, and any drift
 --   degree_of v          == the degree of the rank test whose verdict v is
---   IsFoundFor q x f     == the finding f is right on the graph of the look x, from the vertex q, for its amounts
+--   IsFoundFor q x f     == the finding f is right on the graph of the look x, from the vertex q,
+--                           for its amounts
 --   asked_for i f        == the request by which the finding f on the look of number i is entered
---   KeepsFinding f reply == a verdict entered keeps the reduced divisor and the burning order that were found, and that
---                           of a rank test is entered as it was found
+--   KeepsFinding f reply == a verdict entered keeps the reduced divisor and the burning order that
+--                           were found, and that of a rank test is entered as it was found
 use Rattle.std.specs.Prelude.{◌≡◌, ℕ, List, take, ⊤}
 use Rattle.dg_chips.specs.Vector.{at}
 use Rattle.dg_chips.specs.Opening.{Opening}

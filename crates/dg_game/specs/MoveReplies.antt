@@ -1,6 +1,7 @@
 -- What may be replied to a move at the position p.
 --   RefusesMove p m refusal == the move is refused for this cause, and for no earlier one
---   RepliesToMove p m reply == the reply is the right one: the amounts after the move, or its refusal
+--   RepliesToMove p m reply == the reply is the right one: the amounts after the move, or its
+--                              refusal
 use Rattle.dg_theory.specs.Firing.{fired}
 use Rattle.dg_chips.specs.Vector.{IsOutOfRange}
 use Rattle.dg_chips.specs.Moves.{script_of, NamesNoVertex, IsEmptySet, HasOtherSize, IsPlayable}
@@ -16,7 +17,8 @@ abbrev pub RefusesMove : Position → Move → Refusal → Type 0
 RefusesMove p m NoVertex = NamesNoVertex p.graph.size m
 RefusesMove p m Empty = IsEmptySet m
 RefusesMove p m Script = HasOtherSize p.graph.size m
-RefusesMove p m Range = IsPlayable p.graph.size m × IsOutOfRange p.graph.size (fired p.graph p.amounts (script_of m))
+RefusesMove p m Range =
+    IsPlayable p.graph.size m × IsOutOfRange p.graph.size (fired p.graph p.amounts (script_of m))
 RefusesMove p m refusal = ⊥
 
 abbrev pub RepliesToMove : Position → Move → Reply → Type 0

@@ -4,7 +4,8 @@
 --   opened o             == the position at the start: the graph and the amounts of the opening o
 --   with_gift p v x      == the amounts of the position p, with x more at v
 --   joined_at p u v      == the position p on the graph with one more edge between u and v
---   fired_by p s         == the position p after every vertex has lent as often as the script s says
+--   fired_by p s         == the position p after every vertex has lent as often as the script s
+--                           says
 use Rattle.std.specs.Prelude.{◌≡◌, ℕ, ◌<◌, ℤ, ◌+ℤ◌}
 use Rattle.dg_theory.specs.Multigraph.{Multigraph}
 use Rattle.dg_theory.specs.Firing.{Amounts, fired, only_at}

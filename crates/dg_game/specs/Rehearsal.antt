@@ -1,9 +1,13 @@
 -- A schedule that is being played.
---   KeepsLook o H steps seat x  == x is the look that the seat keeps after the history H, if it keeps one
---   IsPlaying o steps H r       == after the first steps the history is H, and r holds the game and the looks kept
+--   KeepsLook o H steps seat x  == x is the look that the seat keeps after the history H, if it
+--                                  keeps one
+--   IsPlaying o steps H r       == after the first steps the history is H, and r holds the game and
+--                                  the looks kept
 --   IsInPlay r                  == r is what some schedule has come to
---   PlaysOn r step e t          == wherever r is come to and the step is next, it gives the entry e and comes to t
---   StopsPlay r step fault      == wherever r is come to and the step is next, the fault is the first of the schedule
+--   PlaysOn r step e t          == wherever r is come to and the step is next, it gives the entry e
+--                                  and comes to t
+--   StopsPlay r step fault      == wherever r is come to and the step is next, the fault is the
+--                                  first of the schedule
 use Rattle.std.specs.Prelude.{◌≡◌, ℕ, List, [], ◌∷◌, ◌++◌, length, slice_get, Option, Some, None}
 use Rattle.std.specs.List.{slice_index_or}
 use Rattle.dg_chips.specs.Opening.{Opening}
@@ -22,11 +26,13 @@ abbrev pub KeepsLook : Opening → List Entry → List Step → ℕ → Option L
 KeepsLook o H steps seat (Some x) = IsKept steps seat (length H) x.number × IsLookAt o H x
 KeepsLook o H steps seat None = (i : ℕ) → ¬ IsKept steps seat (length H) i
 
-pub record IsPlaying (o : Opening) (steps : List Step) (H : List Entry) (r : Rehearsal) : Type 0 where
+pub record IsPlaying (o : Opening) (steps : List Step) (H : List Entry)
+    (r : Rehearsal) : Type 0 where
   pub leads : LeadsTo o H r.game
   pub legal : IsLegal o H
   pub good : AreGoodBefore o.graph.size steps (length H)
-  pub entries : (j : ℕ) (step : Step) (e : Entry) → slice_get steps j ≡ Some step → slice_get H j ≡ Some e → IsEntryOf steps j step e
+  pub entries : (j : ℕ) (step : Step) (e : Entry) → slice_get steps j ≡ Some step →
+      slice_get H j ≡ Some e → IsEntryOf steps j step e
   pub places : length r.looks ≡ 65
   pub looks : (seat : ℕ) → IsSeat seat → KeepsLook o H steps seat (slice_index_or r.looks seat None)
 
@@ -38,5 +44,6 @@ PlaysOn r step e t = (o : Opening) (H : List Entry) (steps : List Step) → IsPl
     slice_get steps (length H) ≡ Some step → IsPlaying o steps (H ++ e ∷ []) t
 
 abbrev pub StopsPlay : Rehearsal → Step → RehearseFault → Type 0
-StopsPlay r step fault = (o : Opening) (H : List Entry) (steps : List Step) → IsPlaying o steps H r →
+StopsPlay r step fault =
+    (o : Opening) (H : List Entry) (steps : List Step) → IsPlaying o steps H r →
     slice_get steps (length H) ≡ Some step → IsFirstFault o.graph.size steps fault

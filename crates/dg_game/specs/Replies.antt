@@ -1,11 +1,14 @@
 -- What may be replied.
 --   RepliesToLook p g reply        == the gift count, the amounts and the graph, as they are
 --   RepliesToClaim p reply         == won where nobody is in debt, and not won where somebody is
---   RepliesToJudge p q h g reply   == the gift count was h before the look: where it is so now, a verdict that is right for
---                                     the position; else stale, with the gift count now
---   RepliesToRank p h g k reply    == the gift count was h before the look: where it is so now, the verdict of a rank test
---                                     of degree k that is right for the position; else stale, with the gift count now
---   RepliesAt p g call reply       == the reply to the call is right at the position p, where the gift count is g
+--   RepliesToJudge p q h g reply   == the gift count was h before the look: where it is so now, a
+--                                     verdict that is right for the position; else stale, with the
+--                                     gift count now
+--   RepliesToRank p h g k reply    == the gift count was h before the look: where it is so now, the
+--                                     verdict of a rank test of degree k that is right for the
+--                                     position; else stale, with the gift count now
+--   RepliesAt p g call reply       == the reply to the call is right at the position p, where the
+--                                     gift count is g
 --   Replies o H request reply      == the reply is right after the history H from the opening o
 use Rattle.std.specs.Prelude.{◌≡◌, ◌≢◌, ℕ, List, take}
 use Rattle.dg_theory.specs.Firing.{IsEffective}
@@ -57,5 +60,7 @@ Replies o H (Gift v x) reply = RepliesToGift (position_after o H) (gifts_in H) v
 Replies o H (Join u v) reply = RepliesToJoin (position_after o H) (gifts_in H) u v reply
 Replies o H Look reply = RepliesToLook (position_after o H) (gifts_in H) reply
 Replies o H Claim reply = RepliesToClaim (position_after o H) reply
-Replies o H (Judge i) reply = RepliesToJudge (position_after o H) o.q (gifts_in (take i H)) (gifts_in H) reply
-Replies o H (RankRequest i k) reply = RepliesToRank (position_after o H) (gifts_in (take i H)) (gifts_in H) k reply
+Replies o H (Judge i) reply =
+    RepliesToJudge (position_after o H) o.q (gifts_in (take i H)) (gifts_in H) reply
+Replies o H (RankRequest i k) reply =
+    RepliesToRank (position_after o H) (gifts_in (take i H)) (gifts_in H) k reply

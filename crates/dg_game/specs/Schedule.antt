@@ -3,10 +3,14 @@
 --   IsLook call                   == the call is a look
 --   UsesUp command                == the command uses a look up
 --   UsesLook command              == the command takes a look, or uses one up
---   IsKept steps seat j i         == before step j, step i is the last look that the seat has taken and not used up
---   IsAsked steps seat j c r      == r is the request of the command c, where the seat gives it as step j
---   IsEntryOf steps j step e      == the entry has the seat of step j, and the request of its command
---   IsRehearsal o steps H         == H is a legal history from the opening o, whose entries are those of the steps, in order
+--   IsKept steps seat j i         == before step j, step i is the last look that the seat has taken
+--                                    and not used up
+--   IsAsked steps seat j c r      == r is the request of the command c, where the seat gives it as
+--                                    step j
+--   IsEntryOf steps j step e      == the entry has the seat of step j, and the request of its
+--                                    command
+--   IsRehearsal o steps H         == H is a legal history from the opening o, whose entries are
+--                                    those of the steps, in order
 use Rattle.std.specs.Prelude.{◌≡◌, ℕ, ◌<◌, List, length, slice_get, Some, ⊤}
 use Rattle.dg_chips.specs.Opening.{Opening}
 use Rattle.dg_game.specs.Legal.{IsLegal}
@@ -43,7 +47,8 @@ UsesLook (Rank k) = ⊤
 pub record IsKept (steps : List Step) (seat j i : ℕ) : Type 0 where
   pub before : i < j
   pub look : slice_get steps i ≡ Some (record { seat = seat; command = Call plain.Look })
-  pub last : (k : ℕ) (step : Step) → i < k → k < j → slice_get steps k ≡ Some step → step.seat ≡ seat → ¬ UsesLook step.command
+  pub last : (k : ℕ) (step : Step) → i < k → k < j → slice_get steps k ≡ Some step →
+      step.seat ≡ seat → ¬ UsesLook step.command
 
 abbrev pub IsAsked : List Step → ℕ → ℕ → Command → Request → Type 0
 IsAsked steps seat j (Call p) r = r ≡ asked p
@@ -57,4 +62,5 @@ pub record IsEntryOf (steps : List Step) (j : ℕ) (step : Step) (e : Entry) : T
 pub record IsRehearsal (o : Opening) (steps : List Step) (H : List Entry) : Type 0 where
   pub legal : IsLegal o H
   pub length' : length H ≡ length steps
-  pub entries : (j : ℕ) (step : Step) (e : Entry) → slice_get steps j ≡ Some step → slice_get H j ≡ Some e → IsEntryOf steps j step e
+  pub entries : (j : ℕ) (step : Step) (e : Entry) → slice_get steps j ≡ Some step →
+      slice_get H j ≡ Some e → IsEntryOf steps j step e

@@ -1,12 +1,14 @@
 -- The state of a game.
---   State                     == the graph, the vertex q, the amounts now, how often each vertex has lent by the accepted
---                                moves, the gift count and the number of entries
+--   State                     == the graph, the vertex q, the amounts now, how often each vertex
+--                                has lent by the accepted moves, the gift count and the number of
+--                                entries
 --   position_of s             == the position that the state shows
 --   IsState s                 == the parts of the state s fit together and are within their limits
 --   LeadsTo o H s             == the history H leads from the opening o to the state s
 --   amounts_after d reply     == the amounts after the reply, where they were d before
 --   gifts_after n reply       == the gift count after the reply, where it was n before
---   graph_after g request reply == the graph after the request was so answered, where it was g before
+--   graph_after g request reply == the graph after the request was so answered, where it was g
+--                                  before
 --   IsNext s request reply t  == t is the state after s and one entry with this request and reply
 use Rattle.std.specs.Prelude.{◌≡◌, ℕ, ◌+◌, ◌*◌, ◌<◌, ◌≤◌, ◌+ℤ◌, List, length}
 use Rattle.std.specs.Int.RustNames.{unsigned_abs}

@@ -1,13 +1,19 @@
--- What a history does to the position. Only the proofs of the first two laws open the definition of the position; all
--- else that is proved of it follows from them.
---   after_reply p request reply  == the position after the request, where it stood at p and was so answered: fired by
---                                   the script of an accepted move, changed by an accepted gift or join, or as it was
+-- What a history does to the position. Only the proofs of the first two laws open the definition of
+-- the position; all else that is proved of it follows from them.
+--   after_reply p request reply  == the position after the request, where it stood at p and was so
+--                                   answered: fired by the script of an accepted move, changed by
+--                                   an accepted gift or join, or as it was
 --   NoEntry                      == the empty history leads to the position at the start
---   OneMoreEntry                 == a history with one more entry leads to the position after that entry
---   SinceChange                  == entries among which there is no change fire the position by their scripts
---   SinceStart                   == so entries among which there is no change fire the position at the start,
---   SinceLast                    == and those after the last change fire the position right after it
---   VerticesStay                 == a history leads to a position with as many vertices as the start
+--   OneMoreEntry                 == a history with one more entry leads to the position after that
+--                                   entry
+--   SinceChange                  == entries among which there is no change fire the position by
+--                                   their scripts
+--   SinceStart                   == so entries among which there is no change fire the position at
+--                                   the start,
+--   SinceLast                    == and those after the last change fire the position right after
+--                                   it
+--   VerticesStay                 == a history leads to a position with as many vertices as the
+--                                   start
 use Rattle.std.specs.Prelude.{◌≡◌, true, List, [], ◌∷◌, ◌++◌}
 use Rattle.dg_chips.specs.Moves.{script_of}
 use Rattle.dg_chips.specs.Opening.{Opening}
@@ -35,11 +41,14 @@ SinceChange = (o : Opening) (K L : List Entry) → gifts_in L ≡ 0 →
     position_after o (K ++ L) ≡ fired_by (position_after o K) (scripts_played L)
 
 abbrev pub SinceStart : Type 0
-SinceStart = (o : Opening) (L : List Entry) → gifts_in L ≡ 0 → position_after o L ≡ fired_by (opened o) (scripts_played L)
+SinceStart = (o : Opening) (L : List Entry) → gifts_in L ≡ 0 →
+    position_after o L ≡ fired_by (opened o) (scripts_played L)
 
 abbrev pub SinceLast : Type 0
-SinceLast = (o : Opening) (K L : List Entry) (c : Entry) → is_change c.reply ≡ true → gifts_in L ≡ 0 →
-    position_after o (K ++ c ∷ L) ≡ fired_by (changed (position_after o K) c.request c.reply) (scripts_played L)
+SinceLast = (o : Opening) (K L : List Entry) (c : Entry) → is_change c.reply ≡ true →
+    gifts_in L ≡ 0 →
+    position_after o (K ++ c ∷ L)
+    ≡ fired_by (changed (position_after o K) c.request c.reply) (scripts_played L)
 
 abbrev pub VerticesStay : Type 0
 VerticesStay = (o : Opening) (H : List Entry) → (position_after o H).graph.size ≡ o.graph.size

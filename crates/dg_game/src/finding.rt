@@ -63,7 +63,8 @@ pub fn rank_look(q: usize, look: &LookData, k: u32) -> Result<Finding, RankFault
     requires size { look.now.position.size ≡ look.now.graph.size }
     requires vertex { q < look.now.graph.size }
     ensures { MatchResult result
-        (λ f. IsWithin look.now.graph.size k × IsFoundFor q look.now f × ((i : ℕ) → asked_for i f ≡ RankRequest i k))
+        (λ f. IsWithin look.now.graph.size k × IsFoundFor q look.now f ×
+        ((i : ℕ) → asked_for i f ≡ RankRequest i k))
         (λ e. (e ≡ TooMany) × IsPastLimits look.now.graph.size k) }
 {
     let verdict = rank_at_least(&look.graph, q, &look.position, k)?;

@@ -200,7 +200,8 @@ impl Game {
     /// and that the finding is right for the amounts of the look, on its graph.
     pub fn settle(&mut self, look: &LookData, finding: &Finding) -> Reply
         requires room { self.old.entries < MAX_ENTRIES }
-        requires look { (o : Opening) × (H : List Entry) × LeadsTo o H self.old × IsLookAt o H look.now }
+        requires look { (o : Opening) × (H : List Entry) × LeadsTo o H self.old ×
+            IsLookAt o H look.now }
         requires found { IsFoundFor self.old.q look.now finding.now }
         ensures replies { (o : Opening) (H : List Entry) → LeadsTo o H self.old →
             IsLookAt o H look.now → Replies o H (asked_for look.now.number finding.now) result }
@@ -219,7 +220,8 @@ impl Game {
 
     /// The reply to what was reckoned on a look.
     fn reply_to(&self, look: &LookData, finding: &Finding) -> Reply
-        requires look { (o : Opening) × (H : List Entry) × LeadsTo o H self.now × IsLookAt o H look.now }
+        requires look { (o : Opening) × (H : List Entry) × LeadsTo o H self.now ×
+            IsLookAt o H look.now }
         requires found { IsFoundFor self.now.q look.now finding.now }
         ensures replies { (o : Opening) (H : List Entry) → LeadsTo o H self.now →
             IsLookAt o H look.now → Replies o H (asked_for look.now.number finding.now) result }

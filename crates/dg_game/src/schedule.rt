@@ -60,7 +60,8 @@ pub fn rehearse<A: Allocator + Drop>(
     steps: &[Step],
 ) -> Result<Vec<Entry, A>, RehearseFault>
     ensures { MatchResult result
-        (λ history. IsRehearsal start.now steps.now history.items × (length steps.now ≤ MAX_ENTRIES) ×
+        (λ history. IsRehearsal start.now steps.now history.items ×
+        (length steps.now ≤ MAX_ENTRIES) ×
         AreGoodBefore start.now.graph.size steps.now (length steps.now))
         (IsFirstFault start.now.graph.size steps.now) }
 {

@@ -14,8 +14,13 @@ use Rattle.std.proofs.lemmas.Str.Parse.{digit_from_value, digits_value_short, nu
 use Rattle.dg_lines.specs.LineLaws.{IsDigit, IsUnsigned, IsNumeral, IsShort, NumeralsAreDecimals}
 
 first_digit : (n : ℕ) → 0 < n → n < 10 ^ 64 → 48 < get_or (decimal n) 0 0
-first_digit n some small = (decimal_by_steps_wide (λ m ds. (0 < length ds) × (0 < m → 48 < get_or ds 0 0)) (λ m l. (omega arith, λ a. omega arith))
-    (λ m ds l h. (omega (arith, length-append ds ((48 + m % 10) ∷ [])), λ a. omega (arith, get_or-append ds ((48 + m % 10) ∷ []) 0 0 h.0, h.1 (omega arith)))) n small).1 some
+first_digit n some small =
+    (decimal_by_steps_wide (λ m ds. (0 < length ds) × (0 < m → 48 < get_or ds 0 0))
+    (λ m l. (omega arith, λ a. omega arith))
+    (λ m ds l h. (
+      omega (arith, length-append ds ((48 + m % 10) ∷ [])),
+      λ a. omega (arith, get_or-append ds ((48 + m % 10) ∷ []) 0 0 h.0, h.1 (omega arith)),
+    )) n small).1 some
 
 digits_each : (ds : List ℕ) → AllDigits 10 ds → All IsDigit ds
 digits_each [] each = All-nil IsDigit
@@ -70,7 +75,10 @@ short_value ds each short = digits_value_short (numerals_by_value (AllDigits 10)
 
 unsigned_value : (text : List ℕ) → IsUnsigned text → length text ≤ 64
     → (0 < digits_value 10 text) × (digits_value 10 text < 10 ^ 64) × (text ≡ decimal (digits_value 10 text))
-unsigned_value text known short = subst P (sym known.whole) (go known.first known.rest known.low known.high known.digits (subst (λ (xs : List ℕ). length xs ≤ 64) known.whole short))
+unsigned_value text known short =
+    subst P (sym known.whole)
+    (go known.first known.rest known.low known.high known.digits
+    (subst (λ (xs : List ℕ). length xs ≤ 64) known.whole short))
   where
     P : List ℕ → Type 0
     P ds = (0 < digits_value 10 ds) × (digits_value 10 ds < 10 ^ 64) × (ds ≡ decimal (digits_value 10 ds))
@@ -84,7 +92,8 @@ unsigned_value text known short = subst P (sym known.whole) (go known.first know
           omega (arith, le_value_after (0 * 10 + digit_value c) cs),
           small,
           sym (decimal_value_after (0 * 10 + digit_value c) cs some digits small
-              ∙ ap (λ x. x ++ cs) (decimal_digit (0 * 10 + digit_value c) (omega arith) ∙ ap (λ x. x ∷ []) (one_digit c value))),
+              ∙ ap (λ x. x ++ cs) (decimal_digit (0 * 10 + digit_value c) (omega arith)
+              ∙ ap (λ x. x ∷ []) (one_digit c value))),
         )
       where
         one_digit : (d : ℕ) → digit_value d + 48 ≡ d → 48 + (0 * 10 + digit_value d) ≡ d

@@ -119,7 +119,8 @@ number_or low high text fit = go (bytes_eq text (signed_decimal y)) refl
     go true e =
         let spelled = (bytes_eq-Decides text (signed_decimal y)).0 e in
         by_lt_z y low (λ less. inr (λ known. clash_ℤ less (subst (λ x. low ≤ℤ x) (same known) known.not_less)))
-        (λ above. by_lt_z high y (λ more. inr (λ known. clash_ℤ more (subst (λ x. x ≤ℤ high) (same known) known.not_more)))
+        (λ above. by_lt_z high y
+        (λ more. inr (λ known. clash_ℤ more (subst (λ x. x ≤ℤ high) (same known) known.not_more)))
         (λ below. inl (record { number = y; spelled = spelled; not_less = above; not_more = below })))
 
 pub degree_or : (text : List ℕ)

@@ -10,7 +10,8 @@ same_byte : (b : ℕ) → (b == b) ≡ true
 same_byte b = grind (arith, nat_tests)
 
 not_a_digit : (x : ℕ) → x ≡ 32 → digit_value x < 10 → ⊥
-not_a_digit x e small = let P : ℕ → Type 0 = λ n. digit_value n < 10 in let h : digit_value 32 < 10 = subst P e small in absurd (omega arith)
+not_a_digit x e small = let P : ℕ → Type 0 = λ n. digit_value n < 10 in let h : digit_value 32 < 10 =
+    subst P e small in absurd (omega arith)
 
 pub cut_joined : (b : ℕ) (xs rest : List ℕ) → after b xs ≡ Some rest → xs ≡ before b xs ++ b ∷ rest
 unfolding before after
@@ -29,7 +30,8 @@ before_joined b [] back e = ap (λ t. cond t [] (b ∷ before b back)) (same_byt
 before_joined b (x ∷ xs) back e =
     let P : Bool → Type 0 = λ t. cond t (Some xs) (after b xs) ≡ None
     → cond t [] (x ∷ before b (xs ++ b ∷ back)) ≡ x ∷ xs in
-    (elim (x == b) as P [ true ↦ λ found. cc | false ↦ λ found. ap (λ rest. x ∷ rest) (before_joined b xs back found) ]) e
+    (elim (x == b) as P [ true ↦ λ found. cc | false ↦ λ found. ap (λ rest. x ∷ rest) (before_joined b xs back found) ])
+    e
 
 pub after_joined : (b : ℕ) (front back : List ℕ) → after b front ≡ None → after b (front ++ b ∷ back) ≡ Some back
 unfolding after

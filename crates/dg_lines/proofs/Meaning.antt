@@ -178,7 +178,8 @@ module _ (names : List (List ℕ)) where
       same v true less =
           let below : v < length names = grind (arith, nat_tests) in
           first.script.entries v below
-          ∙ ap (λ xs. number_given (map name_part (items word)) xs (name_at names v)) numbers ∙ sym (second.script.entries v below)
+          ∙ ap (λ xs. number_given (map name_part (items word)) xs (name_at names v)) numbers
+          ∙ sym (second.script.entries v below)
       same v false past =
           let above : length names ≤ v = grind (arith, nat_tests) in
           first.script.inside v above ∙ sym (second.script.inside v above)

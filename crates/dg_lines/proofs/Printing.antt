@@ -9,7 +9,8 @@ use Rattle.dg_game.specs.declared.entry.Entry.{Entry}
 use Rattle.dg_game.proofs.LegalLaws.{legal_sized}
 use Rattle.dg_lines.specs.Texts.{entry_text, history_text, AllHaveNames}
 
-pub legal_named : (names : List (List ℕ)) (o : Opening) (H : List Entry) → length names ≡ o.graph.size → IsLegal o H → AllHaveNames names H
+pub legal_named : (names : List (List ℕ)) (o : Opening) (H : List Entry) → length names ≡ o.graph.size → IsLegal o H →
+    AllHaveNames names H
 legal_named names o H fit legal k e at = subst (λ (n : ℕ). HasSize n e.reply) (sym fit) (legal_sized o H k e legal at)
 
 pub history_more : (names : List (List ℕ)) (n : ℕ) (H : List Entry) (e : Entry) →
@@ -21,5 +22,6 @@ history_more names n [] e =
 history_more names n (x ∷ H) e =
     let number : (n + 1) + length H ≡ n + length (x ∷ H) = omega arith in
     ap (λ (rest : List ℕ). entry_text names n x.reply ++ rest) (history_more names (n + 1) H e)
-    ∙ sym (append_assoc (entry_text names n x.reply) (history_text names (n + 1) H) (entry_text names ((n + 1) + length H) e.reply))
+    ∙ sym (append_assoc (entry_text names n x.reply) (history_text names (n + 1) H)
+    (entry_text names ((n + 1) + length H) e.reply))
     ∙ ap (λ (k : ℕ). (entry_text names n x.reply ++ history_text names (n + 1) H) ++ entry_text names k e.reply) number

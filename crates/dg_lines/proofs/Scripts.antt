@@ -5,7 +5,8 @@
 --   told_numbers          and the other way round
 --   one_list              of one list
 --   script_there          names given rightly, with entries for them, have a script
---   AreRead names given texts entries flag   == the entries hold, at each vertex, the number given for its name; and the
+--   AreRead names given texts entries flag   == the entries hold, at each vertex, the number given for its name; and
+--                                               the
 --                            flag tells whether all texts are those of entries
 --   HasPairs names all left set entries flag == `left` are the last of the items, and so much is read of those before
 -- What a loop over the pairs does: none read, one more, all; and what it comes to.

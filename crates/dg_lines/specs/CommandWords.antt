@@ -1,19 +1,26 @@
--- The words of command lines. A line is cut into words at each single space, so that two spaces in a row make an empty
--- word; the items of a word are cut at commas. The byte 61 is `=`.
---   command_words                 == the ten command words, each with the number of words that follow it
---   number_beside rows word       == the number beside the word, in the first of the rows that has it, where one has
+-- The words of command lines. A line is cut into words at each single space, so that two spaces in
+-- a row make an empty word; the items of a word are cut at commas. The byte 61 is `=`.
+--   command_words                 == the ten command words, each with the number of words that
+--                                    follow it
+--   number_beside rows word       == the number beside the word, in the first of the rows that has
+--                                    it, where one has
 --   words_wanted keyword          == how many words follow the command word, where it is one
 --   IsWellFormed keyword rest     == so many words follow it, and none of them is empty
---   name_part item                == what stands before the first `=` of the item, or all of it where there is none
---   number_part item              == what stands after the first `=` of the item, and nothing where there is none
+--   name_part item                == what stands before the first `=` of the item, or all of it
+--                                    where there is none
+--   number_part item              == what stands after the first `=` of the item, and nothing where
+--                                    there is none
 --   others_than word rest         == those of the words that are not this one
---   given_names keyword rest      == the names that the words after the command word give, in their order. The two names of a
---                                    join may be the same, which then is given once
+--   given_names keyword rest      == the names that the words after the command word give, in their
+--                                    order. The two names of a join may be the same, which then is
+--                                    given once
 --   given_numbers keyword rest    == the numbers that they give, in their order
 --   IsNumberWithin low high text  == the text is the decimal of a number from low to high
---   IsNumberFor keyword text      == the text is the decimal of a number that may stand after the command word: a degree, an
---                                    entry of a script, or else a number that 64 bits hold
---   AreGiven names given          == each of the names given is among the names, and no two are the same
+--   IsNumberFor keyword text      == the text is the decimal of a number that may stand after the
+--                                    command word: a degree, an entry of a script, or else a number
+--                                    that 64 bits hold
+--   AreGiven names given          == each of the names given is among the names, and no two are the
+--                                    same
 use Rattle.std.specs.Prelude.{◌≡◌, ◌≢◌, ℕ, ◌-◌, ◌^◌, ℤ, pos, neg_ℤ, ◌≤ℤ◌, List, [], ◌∷◌, length, map, cond, not, Option, Some, None, All, IsTrue, bytes_eq, codes, unwrap_or}
 use Rattle.std.specs.Fmt.{signed_decimal}
 use Rattle.std.specs.List.{IsDistinct, filter}

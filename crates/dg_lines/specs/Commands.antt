@@ -1,13 +1,19 @@
 -- Command lines: what a line spells. `names` are the names of the vertices, in vertex order.
 --   IsSetOf names given set              == the set has just the vertices of the names given
---   number_given given numbers name      == the number beside the name, and 0 where the name is not given
---   IsScriptOf names given numbers s     == s has at each vertex the number given for its name, and 0 where none is
---   IsScriptWord names word s            == the items of the word spell the script: each a name, `=` and a number
+--   number_given given numbers name      == the number beside the name, and 0 where the name is not
+--                                           given
+--   IsScriptOf names given numbers s     == s has at each vertex the number given for its name, and
+--                                           0 where none is
+--   IsScriptWord names word s            == the items of the word spell the script: each a name,
+--                                           `=` and a number
 --   IsMoveWord names move keyword word   == the command word and the word after it spell the move
 --   MeansGift names v x rest             == the two words name the vertex v and spell the number x
---   MeansJoin names u v rest             == the two words name the vertices u and v, which may be the same
---   Means names command keyword rest     == the command word and the words after it spell the command
---   IsCommandLine names command line     == the line has the right form, and its words spell the command
+--   MeansJoin names u v rest             == the two words name the vertices u and v, which may be
+--                                           the same
+--   Means names command keyword rest     == the command word and the words after it spell the
+--                                           command
+--   IsCommandLine names command line     == the line has the right form, and its words spell the
+--                                           command
 use Rattle.std.specs.Prelude.{◌≡◌, ℕ, ◌<◌, ◌≤◌, ◌^◌, ℤ, pos, FitsSigned, List, [], ◌∷◌, length, map, cond, Some, All, bytes_eq, codes, decimal}
 use Rattle.std.specs.Int.{w64}
 use Rattle.std.specs.Int.RustNames.{unsigned_abs}

@@ -1,11 +1,14 @@
 -- Why a command line is refused: each case says that all that is judged before it is good.
---   AreRefused names fault keyword rest == the first word of a line and the words after it are refused with the fault
+--   AreRefused names fault keyword rest == the first word of a line and the words after it are
+--                                          refused with the fault
 --     Word     the first word is no command word
 --     Form     it is one, and the words after it have the wrong number, or one is empty
---     Name     the line is well formed, and a name that it gives is that of no vertex, or stands twice
---     Number   all names of the line are good, and a number that it gives is not spelled as numbers are, or is out of its
---              range
---   IsLineFault names fault line        == the words of the line are refused with the fault; none are for a seat
+--     Name     the line is well formed, and a name that it gives is that of no vertex, or stands
+--              twice
+--     Number   all names of the line are good, and a number that it gives is not spelled as numbers
+--              are, or is out of its range
+--   IsLineFault names fault line        == the words of the line are refused with the fault; none
+--                                          are for a seat
 use Rattle.std.specs.Prelude.{◌≡◌, ℕ, List, ◌∷◌, None, IsSome, All}
 use Rattle.dg_lines.specs.Cuts.{words}
 use Rattle.dg_lines.specs.CommandWords.{words_wanted, IsWellFormed, given_names, given_numbers, IsNumberFor, AreGiven}

@@ -1,14 +1,17 @@
 -- Laws of lines and of the numbers in them.
---   AreAlike c d                == the commands are the same; scripts are where they have the same numbers
---   LinesHaveOneMeaning         == each line spells a command or has a fault, and not both; all commands that it spells are
---                                  alike, and it has no two faults
+--   AreAlike c d                == the commands are the same; scripts are where they have the same
+--                                  numbers
+--   LinesHaveOneMeaning         == each line spells a command or has a fault, and not both; all
+--                                  commands that it spells are alike, and it has no two faults
 --   StepsHaveOneMeaning         == so does each line of a seat and a command line, as a step
 --   IsDigit byte                == an ASCII digit
 --   IsUnsigned text             == a digit from 1 to 9, and any digits after it
---   IsNumeral text              == `0`, or an optional `-`, a digit from 1 to 9 and any digits after it
+--   IsNumeral text              == `0`, or an optional `-`, a digit from 1 to 9 and any digits
+--                                  after it
 --   IsShort z                   == the whole number z has at most 64 digits
---   NumeralsAreDecimals         == of texts of at most 64 bytes, the decimals of whole numbers of at most 64 digits are just
---                                  the numerals, and none is that of two numbers
+--   NumeralsAreDecimals         == of texts of at most 64 bytes, the decimals of whole numbers of
+--                                  at most 64 digits are just the numerals, and none is that of two
+--                                  numbers
 use Rattle.std.specs.Prelude.{◌≡◌, ℕ, ◌<◌, ◌≤◌, ◌^◌, ℤ, ◌⊎◌, ◌↔◌, List, ◌∷◌, length, All, codes}
 use Rattle.std.specs.Fmt.{signed_decimal}
 use Rattle.std.specs.Int.RustNames.{unsigned_abs}

@@ -1,9 +1,10 @@
 -- A schedule: a step on each line.
 --   AreStepsOf names steps lines          == the lines spell the steps, in their order
 --   HaveSeats steps                       == each step has a seat, 1 to 64
---   IsFirstRefused names lines line fault == the line, counted from 1, is the first that is refused, with that fault
---   IsStepsFault names lines fault        == the fault is the first line that is refused; of want of memory it says
---                                            nothing
+--   IsFirstRefused names lines line fault == the line, counted from 1, is the first that is
+--                                            refused, with that fault
+--   IsStepsFault names lines fault        == the fault is the first line that is refused; of want
+--                                            of memory it says nothing
 use Rattle.std.specs.Prelude.{◌≡◌, ℕ, ◌+◌, List, ◌∷◌, ◌++◌, length, slice_get, Some}
 use Rattle.dg_game.specs.Legal.{IsSeat}
 use Rattle.dg_game.specs.declared.step.Step.{Step}
@@ -21,7 +22,8 @@ pub record AreStepsOf (names : List (List ℕ)) (steps : List Step) (lines : Lis
 abbrev pub HaveSeats : List Step → Type 0
 HaveSeats steps = (k : ℕ) (step : Step) → slice_get steps k ≡ Some step → IsSeat step.seat
 
-pub record IsFirstRefused (names lines : List (List ℕ)) (line : ℕ) (fault : LineFault) : Type 0 where
+pub record IsFirstRefused (names lines : List (List ℕ)) (line : ℕ)
+    (fault : LineFault) : Type 0 where
   pub front : List (List ℕ)
   pub refused : List ℕ
   pub back : List (List ℕ)

@@ -1,7 +1,9 @@
 -- Steps: a seat from 1 to 64, one space, and a command line.
 --   IsSeated seat text line        == the line is the decimal of a seat, a space and the text
---   IsStepLine names step line     == the line is that of the step's seat and of a text that spells its command
---   IsTextFault names fault line   == the line is that of a seat and of a text that is refused with the fault
+--   IsStepLine names step line     == the line is that of the step's seat and of a text that spells
+--                                     its command
+--   IsTextFault names fault line   == the line is that of a seat and of a text that is refused with
+--                                     the fault
 --   IsStepFault names fault line   == the line has no seat, or the text after it is refused so
 use Rattle.std.specs.Prelude.{◌≡◌, ℕ, ◌≤◌, List, ◌++◌, codes, decimal}
 use Rattle.dg_game.specs.declared.entry.TheConstants.{MAX_SEATS}

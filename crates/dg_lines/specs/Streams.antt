@@ -3,7 +3,8 @@
 --   with_newline line       == the line and its newline
 --   last_line rest          == the rest as a last line, if it has a byte
 --   Begins P stream ls rest == the stream is the lines ls, each with its newline, and then the rest
---   HaveCome P ended stream ls == the stream begins with the lines ls; or it has ended, and they are
+--   HaveCome P ended stream ls == the stream begins with the lines ls; or it has ended, and they
+--                                 are
 --                              all its lines
 use Rattle.std.specs.Prelude.{◌≡◌, ◌≢◌, ℕ, ◌⊎◌, List, [], ◌∷◌, ◌++◌, All, flat_map}
 use Rattle.dg_lines.specs.Cuts.{lines}

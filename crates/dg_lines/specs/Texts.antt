@@ -1,15 +1,18 @@
 -- The texts of replies, over the names of the vertices, in vertex order.
---   HasNames names reply          == there are as many names as the amounts of the reply, its script and its graph have
---                                    vertices
+--   HasNames names reply          == there are as many names as the amounts of the reply, its
+--                                    script and its graph have vertices
 --   pair name amount              == `name=amount`
 --   more_pairs names amounts v    == the pairs from the vertex v on, each after a space
 --   pairs names amounts           == the pairs of all vertices, with one space between two
 --   refusal_text refusal          == `refused` and the cause
 --   verdict_word won              == the words before the script of a verdict
---   verdict_text names verdict    == the word of the verdict, the pairs of its script and those of its reduced divisor
---   rank_text names x             == that the rank is at least k, or below k with the pairs of the first loss
+--   verdict_text names verdict    == the word of the verdict, the pairs of its script and those of
+--                                    its reduced divisor
+--   rank_text names x             == that the rank is at least k, or below k with the pairs of the
+--                                    first loss
 --   text_of names reply           == the text of the reply, with no number and no newline
---   entry_text names number reply == the line of an entry: its number, a space, the text and a newline
+--   entry_text names number reply == the line of an entry: its number, a space, the text and a
+--                                    newline
 --   history_text names n H        == the lines of the entries H, numbered from n on
 --   AllHaveNames names H          == there are as many names as each reply of H has amounts
 use Rattle.std.specs.Prelude.{◌≡◌, ℕ, ◌+◌, ℤ, Bool, true, false, List, [], ◌∷◌, ◌++◌, length, slice_get, Some, codes, decimal}
@@ -55,7 +58,8 @@ verdict_word false = codes "unwinnable by "
 
 abbrev pub verdict_text : List (List ℕ) → VerdictFound → List ℕ
 verdict_text names x =
-    verdict_word x.winnable ++ pairs names (at x.script) ++ codes " to " ++ pairs names (at x.reduced)
+    verdict_word x.winnable ++ pairs names (at x.script) ++ codes " to " ++ pairs names
+    (at x.reduced)
 
 abbrev pub rank_text : List (List ℕ) → RankVerdict → List ℕ
 rank_text names (AtLeast k) = codes "rank at least " ++ decimal k

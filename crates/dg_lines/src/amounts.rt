@@ -17,7 +17,8 @@ pub(crate) trait Amounts {
         requires within { end ≤ length line.old }
         ensures start { result ≤ end }
         ensures short { end ≤ result + MAX_DIGITS }
-        ensures written { drop result line.new ≡ signed_decimal (at (numbers self.now) v) ++ drop end line.old };
+        ensures written { drop result line.new
+            ≡ signed_decimal (at (numbers self.now) v) ++ drop end line.old };
 }
 
 impl Amounts for Divisor {

@@ -39,7 +39,8 @@ pub fn push_entry<A: Allocator>(
     names: &Names,
 ) -> Result<(), AllocError>
     requires { HasNames names.now reply.now }
-    ensures { OnOk result (text.new.items ≡ text.old.items ++ entry_text names.now number reply.now) }
+    ensures { OnOk result
+        (text.new.items ≡ text.old.items ++ entry_text names.now number reply.now) }
 {
     text.extend_from_slice(Buffer::new().format(number).as_bytes())?;
     text.push(b' ')?;
@@ -245,7 +246,8 @@ fn push_pairs<A: Allocator, N: Amounts>(
     amounts: &N,
 ) -> Result<(), AllocError>
     requires { length names.now ≡ (N.numbers amounts.now).size }
-    ensures { OnOk result (text.new.items ≡ text.old.items ++ pairs names.now (at (N.numbers amounts.now))) }
+    ensures { OnOk result
+        (text.new.items ≡ text.old.items ++ pairs names.now (at (N.numbers amounts.now))) }
 {
     // The pairs are written from the last to the first, so that each number ends where it must.
     let mut line = [0; MAX_PAIRS];

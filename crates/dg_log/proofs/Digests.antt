@@ -29,11 +29,13 @@ pub below_more : (n : ℕ) (ps : List (ℕ × Entry)) (p : ℕ × Entry) → Are
 below_more n [] p below last = (last, tt)
 below_more n (x ∷ ps) p below last = (below.0, below_more n ps p below.1 last)
 
-pub below_fewer : (n : ℕ) (ps : List (ℕ × Entry)) (p : ℕ × Entry) → AreBelow n (ps ++ p ∷ []) → AreBelow n ps × (p.0 < n)
+pub below_fewer : (n : ℕ) (ps : List (ℕ × Entry)) (p : ℕ × Entry) → AreBelow n (ps ++ p ∷ []) → AreBelow n ps ×
+    (p.0 < n)
 below_fewer n [] p below = (tt, below.0)
 below_fewer n (x ∷ ps) p below = let rest = below_fewer n ps p below.1 in ((below.0, rest.0), rest.1)
 
-pub said_more : (items : List (ℕ × ℕ × Entry)) (x : ℕ × ℕ × Entry) → said_by (items ++ x ∷ []) ≡ said_by items ++ (x.0, x.2) ∷ []
+pub said_more : (items : List (ℕ × ℕ × Entry)) (x : ℕ × ℕ × Entry) →
+    said_by (items ++ x ∷ []) ≡ said_by items ++ (x.0, x.2) ∷ []
 said_more [] x = refl
 said_more (y ∷ items) x = ap (λ ps. (y.0, y.2) ∷ ps) (said_more items x)
 
@@ -42,7 +44,8 @@ pub named_more : (row : List ℕ) (items : List (ℕ × ℕ × Entry)) (x : ℕ 
 named_more row [] x named last = (last, tt)
 named_more row (y ∷ items) x named last = (named.0, named_more row items x named.1 last)
 
-pub named_below : (row : List ℕ) (items : List (ℕ × ℕ × Entry)) → AreNamed row items → AreBelow (length row) (said_by items)
+pub named_below : (row : List ℕ) (items : List (ℕ × ℕ × Entry)) → AreNamed row items →
+    AreBelow (length row) (said_by items)
 named_below row [] named = tt
 named_below row (x ∷ items) named = (slice_get_within row x.0 x.1 named.0, named_below row items named.1)
 
@@ -77,15 +80,18 @@ take_more k [] x at = absurd (cc)
 take_more zero (y ∷ xs) x at = let same : y ≡ x = cc in ap (λ n. n ∷ []) same
 take_more (suc k) (y ∷ xs) x at = ap (λ ns. y ∷ ns) (take_more k xs x at)
 
-map_more : (items : List (ℕ × ℕ × Entry)) (x : ℕ × ℕ × Entry) → map (λ y. y.1) (items ++ x ∷ []) ≡ map (λ y. y.1) items ++ x.1 ∷ []
+map_more : (items : List (ℕ × ℕ × Entry)) (x : ℕ × ℕ × Entry) →
+    map (λ y. y.1) (items ++ x ∷ []) ≡ map (λ y. y.1) items ++ x.1 ∷ []
 map_more [] x = refl
 map_more (y ∷ items) x = ap (λ ns. y.1 ∷ ns) (map_more items x)
 
-pub cells_more : (row : List ℕ) (items : List (ℕ × ℕ × Entry)) (x : ℕ × ℕ × Entry) → map (λ y. y.1) items ≡ take (length items) row →
+pub cells_more : (row : List ℕ) (items : List (ℕ × ℕ × Entry)) (x : ℕ × ℕ × Entry) →
+    map (λ y. y.1) items ≡ take (length items) row →
     slice_get row (length items) ≡ Some x.1 → map (λ y. y.1) (items ++ x ∷ []) ≡ take (length (items ++ x ∷ [])) row
 cells_more row items x cells next =
     let longer : length (items ++ x ∷ []) ≡ suc (length items) = omega (arith, length-append items (x ∷ [])) in
-    map_more items x ∙ ap (λ ns. ns ++ x.1 ∷ []) cells ∙ sym (take_more (length items) row x.1 next) ∙ ap (λ k. take k row) (sym longer)
+    map_more items x ∙ ap (λ ns. ns ++ x.1 ∷ []) cells ∙ sym (take_more (length items) row x.1 next)
+    ∙ ap (λ k. take k row) (sym longer)
 
 pub stands : (row : List ℕ) (items others : List (ℕ × ℕ × Entry)) → Agree items others → AreNamed row items →
     map (λ y. y.1) others ≡ take (length others) row → AreBelow (length (map (λ y. y.2) others)) (said_by items) →
@@ -102,7 +108,8 @@ stands row (x ∷ items) others agree named cells below =
 first_agrees : (x y : ℕ × ℕ × Entry) (others : List (ℕ × ℕ × Entry)) → AgreesWith x (y ∷ others) → x.1 ≡ y.1 → x.2 ≡ y.2
 first_agrees x y others agrees same = agrees.0 same
 
-agree_past : (items : List (ℕ × ℕ × Entry)) (y : ℕ × ℕ × Entry) (others : List (ℕ × ℕ × Entry)) → Agree items (y ∷ others) → Agree items others
+agree_past : (items : List (ℕ × ℕ × Entry)) (y : ℕ × ℕ × Entry) (others : List (ℕ × ℕ × Entry)) →
+    Agree items (y ∷ others) → Agree items others
 agree_past [] y others agree = tt
 agree_past (x ∷ items) y others agree = (agree.0.1, agree_past items y others agree.1)
 
@@ -110,7 +117,8 @@ begins_more : (e f : Entry) (K H : List Entry) → e ≡ f → IsBeginning K H �
 begins_more e f K H same (rest, is) = (rest, ap (λ L. f ∷ L) is ∙ ap (λ d. d ∷ (K ++ rest)) (sym same))
 
 pub began : (row : List ℕ) (items others : List (ℕ × ℕ × Entry)) → Agree items others →
-    map (λ y. y.1) items ≡ take (length items) row → map (λ y. y.1) others ≡ take (length others) row → length items ≤ length others →
+    map (λ y. y.1) items ≡ take (length items) row → map (λ y. y.1) others ≡ take (length others) row →
+    length items ≤ length others →
     IsBeginning (map (λ y. y.2) items) (map (λ y. y.2) others)
 began row [] others agree cells more few = (map (λ y. y.2) others, refl)
 began row (x ∷ items) [] agree cells more few = absurd (omega arith)

@@ -4,4 +4,8 @@ use Rattle.std.specs.Prelude.{[]}
 use Rattle.dg_chips.specs.Opening.{Opening}
 
 abbrev pub nowhere : Opening
-nowhere = record { graph = record { size = 0; table = [] }; divisor = record { size = 0; numbers = [] }; q = 0 }
+nowhere = record {
+  graph = record { size = 0; table = [] };
+  divisor = record { size = 0; numbers = [] };
+  q = 0;
+}

@@ -59,7 +59,8 @@ impl<N: Name> Log<N> {
     /// The entry of a number, with a receipt for it; `None` past the last cell, and where the cell is found empty. It takes
     /// no memory.
     pub fn read(&self, number: u32) -> Option<(Receipt<N>, &Entry)>
-        ensures { MatchOption result ⊤ (λ r. (r.0.0 ≡ number) × (r.1.now ≡ r.0.1) × (number < length N.cells)) }
+        ensures { MatchOption result ⊤
+            (λ r. (r.0.0 ≡ number) × (r.1.now ≡ r.0.1) × (number < length N.cells)) }
     {
         let cell = self.cells.get(number as usize)?;
         let mut note = cell.note();

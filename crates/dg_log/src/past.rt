@@ -42,7 +42,8 @@ impl<N: Name> Past<N> {
 
     /// What a pen has written, each entry in the cell of its number.
     pub(crate) fn of(facts: Facts<Entry>, len: u32) -> Past<N>
-        requires { (len ≡ length facts.items) × (map (λ x. x.1) facts.items ≡ take (length facts.items) N.cells) }
+        requires { (len ≡ length facts.items) ×
+            (map (λ x. x.1) facts.items ≡ take (length facts.items) N.cells) }
         ensures { result ≡ map (λ x. x.2) facts.items }
     {
         Past {

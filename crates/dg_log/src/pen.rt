@@ -57,7 +57,8 @@ impl<N: Name> Pen<N> {
         ensures { MatchResult result
             (λ r. (r ≡ (length self.old.entries, entry.value)) ×
             (self.new ≡ record { entries = self.old.entries ++ entry.value ∷ []; stuck = false }))
-            (λ b. (b.value ≡ entry.value) × (self.new ≡ record { entries = self.old.entries; stuck = true })) }
+            (λ b. (b.value ≡ entry.value) ×
+            (self.new ≡ record { entries = self.old.entries; stuck = true })) }
     {
         let cell = &log.cells[self.len as usize];
         let mut note = cell.note();

@@ -38,7 +38,8 @@ impl Row {
     ///
     /// Refused with `Capacity` where the number is another, and with `OutOfMemory`.
     pub fn new(alloc: Global, capacity: u32) -> Result<Row, LogFault>
-        ensures { MatchResult result (λ r. (length r ≡ capacity) × IsCapacity capacity) (RefusesRow capacity) }
+        ensures { MatchResult result (λ r. (length r ≡ capacity) × IsCapacity capacity)
+            (RefusesRow capacity) }
     {
         let count = capacity as usize;
         if count == 0 || count > MAX_ENTRIES {

@@ -95,14 +95,16 @@ enumerate_from-append {X} n (x ∷ xs) ys =
     ap (λ (ps : List (ℕ × X)). (n, x) ∷ ps)
     (enumerate_from-append (n + 1) xs ys ∙ ap (λ i. enumerate_from (n + 1) xs ++ enumerate_from i ys) same)
 
-pub entries_both : (s : ℕ) (K rest : List Entry) → entries_of s (K ++ rest) ≡ entries_of s K ++ entries_from s (length K) rest
+pub entries_both : (s : ℕ) (K rest : List Entry) →
+    entries_of s (K ++ rest) ≡ entries_of s K ++ entries_from s (length K) rest
 entries_both s K rest =
     let test : ℕ × Entry → Bool = λ p. p.1.seat == s in
     let start : 0 + length K ≡ length K = omega arith in
     ap (filter test) (enumerate_from-append 0 K rest ∙ ap (λ i. enumerate_from 0 K ++ enumerate_from i rest) start)
     ∙ filter-append test (enumerate_from 0 K) (enumerate_from (length K) rest)
 
-pub own_stand : (s : ℕ) (K H : List Entry) (ps : List (ℕ × Entry)) → IsBeginning K H → entries_of s K ≡ ps → StandIn H ps
+pub own_stand : (s : ℕ) (K H : List Entry) (ps : List (ℕ × Entry)) → IsBeginning K H → entries_of s K ≡ ps →
+    StandIn H ps
 own_stand s K H ps (rest, is) own =
     subst (λ L. StandIn L ps) (sym is) (stand_longer K rest ps (subst (StandIn K) own (entries_stand s K)))
 

@@ -39,21 +39,25 @@ last_or-snoc o (y ∷ xs) x = last_or-snoc (Some y) xs x
 pub last_after : LastLook
 last_after ps p look =
     let test : is_look p ≡ true = ap asks_look look in
-    ap (last_or None) (filter-append is_look ps (p ∷ []) ∙ ap (λ (b : Bool). filter is_look ps ++ cond b (p ∷ []) []) test)
+    ap (last_or None) (filter-append is_look ps (p ∷ [])
+    ∙ ap (λ (b : Bool). filter is_look ps ++ cond b (p ∷ []) []) test)
     ∙ last_or-snoc None (filter is_look ps) p
 
 pub last_kept : (ps : List (ℕ × Entry)) (p : ℕ × Entry) → is_look p ≡ false → last_look (ps ++ p ∷ []) ≡ last_look ps
 last_kept ps p test =
-    ap (last_or None) (filter-append is_look ps (p ∷ []) ∙ ap (λ (b : Bool). filter is_look ps ++ cond b (p ∷ []) []) test ∙ append-nil (filter is_look ps))
+    ap (last_or None) (filter-append is_look ps (p ∷ [])
+    ∙ ap (λ (b : Bool). filter is_look ps ++ cond b (p ∷ []) []) test ∙ append-nil (filter is_look ps))
 
-pub look_kept : (o : Opening) (ps : List (ℕ × Entry)) (p : ℕ × Entry) (look : Option LookData) → is_look p ≡ false → IsKeptLook o ps look →
+pub look_kept : (o : Opening) (ps : List (ℕ × Entry)) (p : ℕ × Entry) (look : Option LookData) → is_look p ≡ false →
+    IsKeptLook o ps look →
     IsKeptLook o (ps ++ p ∷ []) look
 look_kept o ps p None test kept = record { last = last_kept ps p test ∙ kept.last; vertices = tt }
 look_kept o ps p (Some x) test kept =
     let (q, last, of) = kept.last in
     record { last = (q, last_kept ps p test ∙ last, of); vertices = kept.vertices }
 
-pub look_seen : (o : Opening) (ps : List (ℕ × Entry)) (p : ℕ × Entry) (x : LookData) → IsLookOf p x → HasVertices o.graph.size x →
+pub look_seen : (o : Opening) (ps : List (ℕ × Entry)) (p : ℕ × Entry) (x : LookData) → IsLookOf p x →
+    HasVertices o.graph.size x →
     IsKeptLook o (ps ++ p ∷ []) (Some x)
 look_seen o ps p x of vertices = record { last = (p, last_after ps p of.look, of); vertices = vertices }
 
@@ -62,14 +66,16 @@ pub look_of : (ps : List (ℕ × Entry)) (p : ℕ × Entry) (x : LookData) → p
 look_of ps p x look (q, last, of) =
     subst (λ (r : ℕ × Entry). IsLookOf r x) (same_Some q p (sym last ∙ last_after ps p look)) of
 
-pub looked_vertices : (o : Opening) (H : List Entry) (x : LookData) → Replies o H Look (Looked x.gifts x.position x.graph) →
+pub looked_vertices : (o : Opening) (H : List Entry) (x : LookData) →
+    Replies o H Look (Looked x.gifts x.position x.graph) →
     HasVertices o.graph.size x
 looked_vertices o H x right =
     let (count, shows, graph) = right in
     let size : x.graph.size ≡ o.graph.size = ap (λ (g : Multigraph). g.size) graph ∙ vertices_stay o H in
     (size, shows.size ∙ vertices_stay o H)
 
-pub stale_both : (o : Opening) (H : List Entry) (i : ℕ) (f : Finding) (reply : Reply) → Replies o H (asked_for i f) reply →
+pub stale_both : (o : Opening) (H : List Entry) (i : ℕ) (f : Finding) (reply : Reply) →
+    Replies o H (asked_for i f) reply →
     (gifts_in (take i H) ≢ gifts_in H) ↔ (reply ≡ Stale (gifts_in H))
 stale_both o H i (Judged v) (Verdict w) right = ((λ other. absurd (other right.0)), (λ is. absurd (cc)))
 stale_both o H i (Judged v) (Stale count) right = ((λ other. ap Stale right.1), (λ is. right.0))

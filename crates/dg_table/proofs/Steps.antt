@@ -3,8 +3,10 @@
 --   holds_more    a history that holds what a seat knows, with one more entry of the seat, holds what it then knows
 --   kept_more     what a seat keeps fits together after one more call of its own
 --   answered      how a call is answered by the receipt of an entry that the game allows
---   settled       how a finding is entered, where its call is answered, its look stands and the seat is told of the look
---   settling_refused   how a finding is refused, where its seat is admissible, its look's number is in the history, and the step
+--   settled       how a finding is entered, where its call is answered, its look stands and the seat is told of the
+--                 look
+--   settling_refused   how a finding is refused, where its seat is admissible, its look's number is in the history, and
+--                      the step
 --                 is refused
 --   held_none     what the lock holds at the start
 --   held_more     what the lock holds after one more entry
@@ -54,9 +56,11 @@ history_more o n cap H e seated least most room legal = record {
   seated = seated_more n H e seated least most;
 }
 
-pub kept_more : {o : Opening} {n cap s : ℕ} {mine told second : List (ℕ × Entry)} {past : List Entry} {look : Option LookData}
+pub kept_more : {o : Opening} {n cap s : ℕ} {mine told second : List
+    (ℕ × Entry)} {past : List Entry} {look : Option LookData}
     (H : List Entry) (e : Entry) (next : Option LookData) → IsSeatState o n cap s mine told past second look →
-    IsHistoryOf o n cap (H ++ e ∷ []) → entries_of s H ≡ mine → e.seat ≡ s → IsKeptLook o (mine ++ (length H, e) ∷ []) next →
+    IsHistoryOf o n cap (H ++ e ∷ []) → entries_of s H ≡ mine → e.seat ≡ s →
+    IsKeptLook o (mine ++ (length H, e) ∷ []) next →
     IsSeatState o n cap s (mine ++ (length H, e) ∷ []) told (H ++ e ∷ []) second next
 kept_more {o} {n} {cap} {s} {mine} {told} {second} {past} {look} H e next seated found held own last = record {
   least = seated.least;
@@ -68,7 +72,8 @@ kept_more {o} {n} {cap} {s} {mine} {told} {second} {past} {look} H e next seated
 }
 
 pub answered : {o : Opening} {n cap : ℕ} {H : List Entry} {x : SeatView} (e : Entry) (y : SeatView) →
-    Replies o H e.request e.reply → IsHistoryOf o n cap (H ++ e ∷ []) → Holds H x → e.seat ≡ x.number → y.number ≡ x.number →
+    Replies o H e.request e.reply → IsHistoryOf o n cap (H ++ e ∷ []) → Holds H x → e.seat ≡ x.number →
+    y.number ≡ x.number →
     y.mine ≡ x.mine ++ (length H, e) ∷ [] → y.told ≡ x.told → y.past ≡ H ++ e ∷ [] →
     IsAnsweredAfter o n cap H e.request (length H, e) x y
 answered {o} {n} {cap} {H} {x} e y replies history holds own number mine told past = record {
@@ -85,9 +90,12 @@ answered {o} {n} {cap} {H} {x} e y replies history holds own number mine told pa
   past = past;
 }
 
-pub settled : (o : Opening) (n cap : ℕ) (H : List Entry) (look : ℕ × Entry) (x : LookData) (f : Finding) (r : ℕ × Entry) (s m t : SeatView) →
-    IsAnsweredAfter o n cap H (asked_for x.number f) r s m → IsLookOf look x → slice_get H look.0 ≡ Some look.1 → KeepsFinding f r.1.reply →
-    t.number ≡ m.number → t.mine ≡ m.mine → t.told ≡ m.told ++ look ∷ [] → t.past ≡ m.past → IsSettledAfter o n cap H look x f r s t
+pub settled : (o : Opening) (n cap : ℕ) (H : List Entry) (look : ℕ × Entry) (x : LookData) (f : Finding) (r : ℕ × Entry)
+    (s m t : SeatView) →
+    IsAnsweredAfter o n cap H (asked_for x.number f) r s m → IsLookOf look x → slice_get H look.0 ≡ Some look.1 →
+    KeepsFinding f r.1.reply →
+    t.number ≡ m.number → t.mine ≡ m.mine → t.told ≡ m.told ++ look ∷ [] → t.past ≡ m.past →
+    IsSettledAfter o n cap H look x f r s t
 settled o n cap H look x f r s m t answered of stands kept number mine told past =
     let hears : t.told ≡ s.told ++ look ∷ [] = told ∙ ap (λ ps. ps ++ look ∷ []) answered.told in
     let there : slice_get (H ++ r.1 ∷ []) look.0 ≡ Some look.1 =
@@ -118,7 +126,8 @@ settled o n cap H look x f r s m t answered of stands kept number mine told past
       carried = carried_over o H look.0 f r.1.reply kept replies;
     }
 
-pub settling_refused : (o : Opening) (n cap : ℕ) (H : List Entry) (i : ℕ) (x : SeatView) (b c : Bool) (f : Fault) → IsAdmissible H x →
+pub settling_refused : (o : Opening) (n cap : ℕ) (H : List Entry) (i : ℕ) (x : SeatView) (b c : Bool) (f : Fault) →
+    IsAdmissible H x →
     i < length H → RefusesStep o n cap H x b c f → RefusesSettling o n cap H i x b c f
 settling_refused o n cap H i x b c OutOfMemory admissible read refused = refused
 settling_refused o n cap H i x b c Full admissible read refused = refused

@@ -24,7 +24,8 @@ counted_at {o} {seats} {H} {game} {counts} s held = elim (cases_lt s MAX_SEATS) 
 ]
 
 pub totals : {o : Opening} {seats : ℕ} {H : List Entry} {game : State} {counts : List ℕ} (xs : List SeatView) →
-    IsUnderLock o seats H game counts → AllHeld H xs → AreTotals o seats xs H game.entries game.gifts game.graph game.amounts counts
+    IsUnderLock o seats H game counts → AllHeld H xs →
+    AreTotals o seats xs H game.entries game.gifts game.graph game.amounts counts
 totals {o} {seats} {H} {game} {counts} xs held all =
     record {
       entries' = held.game'.entries;

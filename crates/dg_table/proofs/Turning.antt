@@ -13,7 +13,8 @@ use Rattle.dg_table.specs.Turns.{RefusesTurnAfter}
 use Rattle.dg_table.specs.declared.fault.Fault.{Fault}
 use Rattle.dg_table.specs.declared.fault.Fault.TheVariants.{OutOfMemory, Full, Log}
 
-pub barred_turn : {F : Type 0} (c : Mut F (Bor Multigraph × (Bor Vector × Unit {0})) (Option Move)) (f : F) (o : Opening)
+pub barred_turn : {F : Type 0} (c : Mut F (Bor Multigraph × (Bor Vector × Unit {0})) (Option Move)) (f : F)
+    (o : Opening)
     (n cap : ℕ) (H : List Entry) (x : SeatView) (b : Bool) (e : Fault) → RefusesStep o n cap H x b b e →
     (e ≡ Log → ¬ IsAdmissible H x) → RefusesTurnAfter c o n cap H x b b f f e
 barred_turn c f o n cap H x b OutOfMemory refused barred = refused

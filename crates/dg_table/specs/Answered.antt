@@ -1,8 +1,12 @@
 -- How a call is answered, at a table with the opening o, n seats and cap cells.
---   IsEnteredAfter o n cap H request known r x y   == the request of the seat x is entered with the receipt r after the history
---                                               H, which holds what the seat knew, and leaves the seat y, which was told of the
---                                               entries known; the one history is H and the entry, whose place in it is the last
---   IsAnsweredAfter o n cap H request r x y        == the call of the seat x is so entered, and the seat is told of nothing more
+--   IsEnteredAfter o n cap H request known r x y   == the request of the seat x is entered with the
+--                                                     receipt r after the history
+--                                               H, which holds what the seat knew, and leaves the
+--                                               seat y, which was told of the entries known; the
+--                                               one history is H and the entry, whose place in it
+--                                               is the last
+--   IsAnsweredAfter o n cap H request r x y        == the call of the seat x is so entered, and the
+--                                                     seat is told of nothing more
 --   IsAnswered o n cap request r x y               == it is so answered after some history
 use Rattle.std.specs.Prelude.{◌≡◌, ℕ, List, [], ◌∷◌, ◌++◌, length}
 use Rattle.dg_chips.specs.Opening.{Opening}
@@ -12,7 +16,8 @@ use Rattle.dg_game.specs.declared.entry.Request.{Request}
 use Rattle.dg_table.specs.Histories.{IsHistoryOf}
 use Rattle.dg_table.specs.Seats.{SeatView, Holds}
 
-pub record IsEnteredAfter (o : Opening) (n cap : ℕ) (H : List Entry) (request : Request) (known : List (ℕ × Entry)) (r : ℕ × Entry)
+pub record IsEnteredAfter (o : Opening) (n cap : ℕ) (H : List Entry) (request : Request)
+    (known : List (ℕ × Entry)) (r : ℕ × Entry)
     (x y : SeatView) : Type 0 where
   pub place : r.0 ≡ length H
   pub seat : r.1.seat ≡ x.number
@@ -26,7 +31,8 @@ pub record IsEnteredAfter (o : Opening) (n cap : ℕ) (H : List Entry) (request 
   pub told : y.told ≡ known
   pub past : y.past ≡ H ++ r.1 ∷ []
 
-abbrev pub IsAnsweredAfter : Opening → ℕ → ℕ → List Entry → Request → ℕ × Entry → SeatView → SeatView → Type 0
+abbrev pub IsAnsweredAfter : Opening → ℕ → ℕ → List Entry → Request → ℕ × Entry → SeatView →
+    SeatView → Type 0
 IsAnsweredAfter o n cap H request r x y = IsEnteredAfter o n cap H request x.told r x y
 
 abbrev pub IsAnswered : Opening → ℕ → ℕ → Request → ℕ × Entry → SeatView → SeatView → Type 0

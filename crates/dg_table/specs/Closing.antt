@@ -2,17 +2,18 @@
 --   HasSeat xs s                 == the seat s is among the seats xs
 --   IsComplete n xs              == each of the seats 1 to n is among the seats xs
 --   AllHeld H xs                 == the history H holds what each of the seats xs knows
---   IsClosed o n cap xs H        == H is a history of the table, with at most cap entries, and holds what each of the seats xs
---                                   knows, among which are all n
---   AreTotals o n xs H e g h d c == e, g, h and d are the number of entries of H, its gift count, and the graph and the
---                                   amounts after it;
---                                   c has at each seat's place, from 0, the number of its calls, and 0 past the n
---                                   seats; together they are the number of entries
+--   IsClosed o n cap xs H        == H is a history of the table, with at most cap entries, and
+--                                   holds what each of the seats xs knows, among which are all n
+--   AreTotals o n xs H e g h d c == e, g, h and d are the number of entries of H, its gift count,
+--                                   and the graph and the amounts after it; c has at each seat's
+--                                   place, from 0, the number of its calls, and 0 past the n seats;
+--                                   together they are the number of entries
 --   IsMissing n xs s             == s is the least of the seats 1 to n that is not among xs
 --   SomeKeepsMore H xs           == one of the seats xs is not admissible after H
---   RefusesClose H n xs s        == s is the least seat that is missing; or s is 0, none is missing, and one of the
---                                   seats is not admissible after H
---   IsCloseRefused o n cap xs s  == after some history of the table the close with the seats xs is refused with s
+--   RefusesClose H n xs s        == s is the least seat that is missing; or s is 0, none is
+--                                   missing, and one of the seats is not admissible after H
+--   IsCloseRefused o n cap xs s  == after some history of the table the close with the seats xs is
+--                                   refused with s
 use Rattle.std.specs.Prelude.{◌≡◌, ℕ, ◌+◌, ◌<◌, ◌≤◌, List, length, slice_get, Some, ◌⊎◌, sum}
 use Rattle.std.specs.List.{slice_index}
 use Rattle.dg_theory.specs.Multigraph.{Multigraph}
@@ -39,7 +40,8 @@ pub record IsClosed (o : Opening) (n cap : ℕ) (xs : List SeatView) (H : List E
   pub complete : IsComplete n xs
   pub held : AllHeld H xs
 
-pub record AreTotals (o : Opening) (n : ℕ) (xs : List SeatView) (H : List Entry) (entries gifts : ℕ) (graph : Multigraph)
+pub record AreTotals (o : Opening) (n : ℕ) (xs : List SeatView) (H : List Entry) (entries gifts : ℕ)
+    (graph : Multigraph)
     (position : Vector) (calls : List ℕ) : Type 0 where
   pub entries' : entries ≡ length H
   pub gifts' : gifts ≡ gifts_in H

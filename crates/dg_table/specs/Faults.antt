@@ -1,9 +1,12 @@
 -- Calls that are no entry.
---   StandsFull o n cap H x        == H is a history of the table with the opening o, n seats and cap cells, and fills it; it begins
---                                    with the history that the seat x found, and the entries that the seat keeps stand in it
---   RefusesStep o n cap H x b c f == the step after H of a seat x that has the space for it is refused with f; b and c
---                                    say whether the pen was stuck before it, and is after it
---   RefusesSettling o n cap H i x b c f   == so is the step by which the seat x enters a finding on the look of number i
+--   StandsFull o n cap H x        == H is a history of the table with the opening o, n seats and
+--                                    cap cells, and fills it; it begins with the history that the
+--                                    seat x found, and the entries that the seat keeps stand in it
+--   RefusesStep o n cap H x b c f == the step after H of a seat x that has the space for it is
+--                                    refused with f; b and c say whether the pen was stuck before
+--                                    it, and is after it
+--   RefusesSettling o n cap H i x b c f   == so is the step by which the seat x enters a finding on
+--                                            the look of number i
 --   RefusesCall o n cap x f       == what is known where the call of the seat x was refused with f
 use Rattle.std.specs.Prelude.{◌≡◌, ℕ, ◌<◌, ◌≤◌, List, Bool, true, length, ⊤, ◌⊎◌}
 use Rattle.dg_chips.specs.Opening.{Opening}
@@ -27,7 +30,8 @@ RefusesStep o n cap H x b c Full = StandsFull o n cap H x × (c ≡ b)
 RefusesStep o n cap H x b c Log =
     (length H < cap) × (((¬ IsAdmissible H x) × (c ≡ b)) ⊎ (IsAdmissible H x × (c ≡ true)))
 
-abbrev pub RefusesSettling : Opening → ℕ → ℕ → List Entry → ℕ → SeatView → Bool → Bool → Fault → Type 0
+abbrev pub RefusesSettling : Opening → ℕ → ℕ → List Entry → ℕ → SeatView → Bool → Bool → Fault →
+    Type 0
 RefusesSettling o n cap H i x b c OutOfMemory = ⊥
 RefusesSettling o n cap H i x b c Full = StandsFull o n cap H x × (c ≡ b)
 RefusesSettling o n cap H i x b c Log = (length H < cap) ×

@@ -1,7 +1,9 @@
 -- Histories of a table.
---   IsHistoryOf o n cap H   == the history H is legal from the opening o, and has at most cap entries, of the seats 1 to n alone
---   HasPast o n cap x       == the history that the seat x found at its last call is such a history, and the seat's entries in it
---                              are just those of its own calls, each once and in order; before its first call it is empty
+--   IsHistoryOf o n cap H   == the history H is legal from the opening o, and has at most cap
+--                              entries, of the seats 1 to n alone
+--   HasPast o n cap x       == the history that the seat x found at its last call is such a
+--                              history, and the seat's entries in it are just those of its own
+--                              calls, each once and in order; before its first call it is empty
 use Rattle.std.specs.Prelude.{◌≡◌, ℕ, ◌≤◌, List, length}
 use Rattle.dg_chips.specs.Opening.{Opening}
 use Rattle.dg_game.specs.Legal.{IsLegal}

@@ -1,13 +1,18 @@
 -- What the lock holds.
---   AreCountsOf counts H       == the place of each seat, from 0, has the number of its entries in H
---   IsUnderLock o n H game counts   == the game and the counts are those of the legal history H, whose entries are of the
+--   AreCountsOf counts H       == the place of each seat, from 0, has the number of its entries in
+--                                 H
+--   IsUnderLock o n H game counts   == the game and the counts are those of the legal history H,
+--                                      whose entries are of the
 --                                 seats 1 to n
---   IsReady cap H x            == the history H has room for an entry of the seat x, which is admissible, and holds what
---                                 it knows
---   IsKeptLook o ps look       == the look that is kept is the last of the entries ps, and has the vertices of the opening o
---   IsSeatState o n cap s ps qs H d look == what the seat s of n keeps fits together: the history H that it found is one of the
---                                      table, with the entries ps as its own; the digest d is of the entries qs that it was told
---                                      of, and look is its last look
+--   IsReady cap H x            == the history H has room for an entry of the seat x, which is
+--                                 admissible, and holds what it knows
+--   IsKeptLook o ps look       == the look that is kept is the last of the entries ps, and has the
+--                                 vertices of the opening o
+--   IsSeatState o n cap s ps qs H d look == what the seat s of n keeps fits together: the history H
+--                                           that it found is one of the
+--                                      table, with the entries ps as its own; the digest d is of
+--                                      the entries qs that it was told of, and look is its last
+--                                      look
 use Rattle.std.specs.Prelude.{◌≡◌, ℕ, ◌+◌, ◌<◌, ◌≤◌, List, length, Option, IfSome}
 use Rattle.std.specs.List.{slice_index}
 use Rattle.dg_chips.specs.Opening.{Opening}
@@ -22,9 +27,11 @@ use Rattle.dg_table.specs.Looks.{HasVertices, IsLastLook}
 use Rattle.dg_table.specs.Seats.{SeatView, Holds, IsAdmissible, AreSeated, entries_of}
 
 abbrev pub AreCountsOf : List ℕ → List Entry → Type 0
-AreCountsOf counts H = (s : ℕ) → s < MAX_SEATS → slice_index counts s ≡ length (entries_of (s + 1) H)
+AreCountsOf counts H =
+    (s : ℕ) → s < MAX_SEATS → slice_index counts s ≡ length (entries_of (s + 1) H)
 
-pub record IsUnderLock (o : Opening) (n : ℕ) (H : List Entry) (game : State) (counts : List ℕ) : Type 0 where
+pub record IsUnderLock (o : Opening) (n : ℕ) (H : List Entry) (game : State)
+    (counts : List ℕ) : Type 0 where
   pub legal : IsLegal o H
   pub game' : LeadsTo o H game
   pub seated : AreSeated n H
@@ -43,7 +50,8 @@ pub record IsKeptLook (o : Opening) (ps : List (ℕ × Entry)) (look : Option Lo
   pub last : IsLastLook ps look
   pub vertices : IfSome look (HasVertices o.graph.size)
 
-pub record IsSeatState (o : Opening) (n cap s : ℕ) (ps qs : List (ℕ × Entry)) (H : List Entry) (d : List (ℕ × Entry))
+pub record IsSeatState (o : Opening) (n cap s : ℕ) (ps qs : List (ℕ × Entry)) (H : List Entry)
+    (d : List (ℕ × Entry))
     (look : Option LookData) : Type 0 where
   pub least : 1 ≤ s
   pub most : s ≤ n

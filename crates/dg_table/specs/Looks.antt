@@ -2,10 +2,11 @@
 --   asks_look request    == whether the request is for a look
 --   is_look p            == whether the entry p, with its number, asks for a look
 --   last_look ps         == the last of the entries ps that is a look, if there is one
---   IsLookOf p x         == the entry p is a look, and x holds its number, and the gift count, the amounts and the graph that
---                           it showed; any drift
+--   IsLookOf p x         == the entry p is a look, and x holds its number, and the gift count, the
+--                           amounts and the graph that it showed; any drift
 --   HasVertices n x      == the graph of the look x has n vertices, and x holds an amount for each
---   IsLastLook ps look   == what is kept is that of the last look among the entries ps; nothing where there is none
+--   IsLastLook ps look   == what is kept is that of the last look among the entries ps; nothing
+--                           where there is none
 --   LastLook             == after a look there is a last look, and it is that look
 use Rattle.std.specs.Prelude.{◌≡◌, ℕ, List, [], ◌∷◌, ◌++◌, Option, Some, None, Bool, true, false, MatchOption}
 use Rattle.std.specs.List.{filter, last_or}
@@ -39,4 +40,5 @@ IsLastLook ps look = MatchOption look
     (λ x. (p : ℕ × Entry) × (last_look ps ≡ Some p) × IsLookOf p x)
 
 abbrev pub LastLook : Type 0
-LastLook = (ps : List (ℕ × Entry)) (p : ℕ × Entry) → p.1.request ≡ Look → last_look (ps ++ p ∷ []) ≡ Some p
+LastLook = (ps : List (ℕ × Entry)) (p : ℕ × Entry) → p.1.request ≡ Look →
+    last_look (ps ++ p ∷ []) ≡ Some p

@@ -1,6 +1,7 @@
 -- The laws of a seat's entries in a history.
 --   NoEntries      == the empty history has no entry of a seat
---   OwnEntry       == one more entry of the seat is the last of its entries, its number being the history's length
+--   OwnEntry       == one more entry of the seat is the last of its entries, its number being the
+--                     history's length
 --   OtherEntry     == one more entry of another seat leaves the seat's entries
 --   EntriesStand   == the entries of a seat stand in the history
 --   OneSeat        == in a history of the seat 1 alone its entries are all, numbered from 0 on
@@ -18,7 +19,8 @@ OwnEntry = (s : ℕ) (H : List Entry) (e : Entry) → e.seat ≡ s →
     entries_of s (H ++ e ∷ []) ≡ entries_of s H ++ (length H, e) ∷ []
 
 abbrev pub OtherEntry : Type 0
-OtherEntry = (s : ℕ) (H : List Entry) (e : Entry) → e.seat ≢ s → entries_of s (H ++ e ∷ []) ≡ entries_of s H
+OtherEntry = (s : ℕ) (H : List Entry) (e : Entry) → e.seat ≢ s →
+    entries_of s (H ++ e ∷ []) ≡ entries_of s H
 
 abbrev pub EntriesStand : Type 0
 EntriesStand = (s : ℕ) (H : List Entry) → StandIn H (entries_of s H)

@@ -1,14 +1,16 @@
 -- What a seat knows of the history.
---   entries_of s H     == the entries of the seat s in the history H, each with its number, in order
+--   entries_of s H     == the entries of the seat s in the history H, each with its number, in
+--                         order
 --   AreSeated n H      == each entry of the history H is one of the seats 1 to n
---   SeatView           == a seat's number, the entries of its own calls, the entries that it was told of, the history as it
---                         found it at its last call, whether it has space for one more call, and whether it has space to be
---                         told of one more entry
---   Holds H x          == the history H holds what the seat x knows: H begins with the history that it found; its entries in H
---                         are just those of its own calls, each once and in order; and every entry that it was told of stands
---                         in H at its number
---   IsAdmissible H x   == H has as many entries as the seat x found, or more, an entry of each number that it was told of, and
---                         as many of the seat's entries as it keeps
+--   SeatView           == a seat's number, the entries of its own calls, the entries that it was
+--                         told of, the history as it found it at its last call, whether it has
+--                         space for one more call, and whether it has space to be told of one more
+--                         entry
+--   Holds H x          == the history H holds what the seat x knows: H begins with the history that
+--                         it found; its entries in H are just those of its own calls, each once and
+--                         in order; and every entry that it was told of stands in H at its number
+--   IsAdmissible H x   == H has as many entries as the seat x found, or more, an entry of each
+--                         number that it was told of, and as many of the seat's entries as it keeps
 --   Keeps x y          == the seat y is the seat x and knows the same
 use Rattle.std.specs.Prelude.{◌≡◌, ℕ, ◌==◌, ◌≤◌, List, Bool, Some, length, slice_get}
 use Rattle.std.specs.List.{filter, enumerate_from}

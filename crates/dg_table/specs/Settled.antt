@@ -1,9 +1,12 @@
 -- How a finding on an older look is entered.
---   IsCarriedTo p q f reply      == the finding f is entered for the position p: a verdict that is right there, reckoned
---                                   from the vertex q, whose script leads from the amounts of p to the divisor that was
---                                   found; or a rank test that is right there
---   IsSettledAfter o n cap H look x f r s t   == the finding f on the look, of which x is kept, is entered by the seat s with
---                                   the receipt r after the history H, and leaves the seat t, which was told of the look
+--   IsCarriedTo p q f reply      == the finding f is entered for the position p: a verdict that is
+--                                   right there, reckoned from the vertex q, whose script leads
+--                                   from the amounts of p to the divisor that was found; or a rank
+--                                   test that is right there
+--   IsSettledAfter o n cap H look x f r s t   == the finding f on the look, of which x is kept, is
+--                                                entered by the seat s with
+--                                   the receipt r after the history H, and leaves the seat t, which
+--                                   was told of the look
 --   IsSettled o n cap look x f r s t   == it is so entered after some history
 use Rattle.std.specs.Prelude.{◌≡◌, ◌≢◌, ◌↔◌, ℕ, List, [], ◌∷◌, ◌++◌, take, slice_get, Some}
 use Rattle.dg_theory.specs.Firing.{FiresTo}
@@ -29,7 +32,8 @@ IsCarriedTo p q (Judged v) (Verdict w) =
 IsCarriedTo p q (Ranked v) (Rank w) = IsRankTest p.graph p.amounts (degree_of v) w
 IsCarriedTo p q f reply = ⊥
 
-pub record IsSettledAfter (o : Opening) (n cap : ℕ) (H : List Entry) (look : ℕ × Entry) (x : LookData) (f : Finding) (r : ℕ × Entry)
+pub record IsSettledAfter (o : Opening) (n cap : ℕ) (H : List Entry) (look : ℕ × Entry)
+    (x : LookData) (f : Finding) (r : ℕ × Entry)
     (s t : SeatView) : Type 0 where
   pub entered : IsEnteredAfter o n cap H (asked_for x.number f) (s.told ++ look ∷ []) r s t
   pub stands : slice_get H look.0 ≡ Some look.1
@@ -37,7 +41,9 @@ pub record IsSettledAfter (o : Opening) (n cap : ℕ) (H : List Entry) (look : �
   -- gifts were accepted since the look
   pub stale : (gifts_in (take look.0 H) ≢ gifts_in H) ↔ (r.1.reply ≡ Stale (gifts_in H))
   -- no gift was
-  pub carried : gifts_in (take look.0 H) ≡ gifts_in H → IsCarriedTo (position_after o H) o.q f r.1.reply
+  pub carried : gifts_in (take look.0 H) ≡ gifts_in H →
+      IsCarriedTo (position_after o H) o.q f r.1.reply
 
-abbrev pub IsSettled : Opening → ℕ → ℕ → ℕ × Entry → LookData → Finding → ℕ × Entry → SeatView → SeatView → Type 0
+abbrev pub IsSettled : Opening → ℕ → ℕ → ℕ × Entry → LookData → Finding → ℕ × Entry → SeatView →
+    SeatView → Type 0
 IsSettled o n cap look x f r s t = (H : List Entry) × IsSettledAfter o n cap H look x f r s t

@@ -1,16 +1,22 @@
--- Turns: calls that are chosen at the position which they find. A choice is a closure that is handed a graph and amounts; c
--- has the members of its kind.
+-- Turns: calls that are chosen at the position which they find. A choice is a closure that is
+-- handed a graph and amounts; c has the members of its kind.
 --   MayBeAsked c f                == f may be asked at every graph and amounts of as many vertices
---   IsAsked c f g d m f'          == asked once, at the graph g and the amounts d, f answers m, and is then f'
---   request_for m                 == what is asked of the game where the answer is m: that move, and a claim where it is none
---   IsAskedAfter c o H f m f'     == f is so asked at the position after the history H from the opening o
---   IsTurnAfter c o n cap H f f' r x y  == f is so asked, once, and what it answers is the call of the seat x that is entered with
+--   IsAsked c f g d m f'          == asked once, at the graph g and the amounts d, f answers m, and
+--                                    is then f'
+--   request_for m                 == what is asked of the game where the answer is m: that move,
+--                                    and a claim where it is none
+--   IsAskedAfter c o H f m f'     == f is so asked at the position after the history H from the
+--                                    opening o
+--   IsTurnAfter c o n cap H f f' r x y  == f is so asked, once, and what it answers is the call of
+--                                          the seat x that is entered with
 --                                    the receipt r after H, and leaves the seat y
 --   IsTurn c o n cap f f' r x y         == so it is, after some history
---   RefusesTurnAfter c o n cap H x b s f f' e == the turn after H of a seat x that has the space for it is refused with e; b and s
---                                    say whether the pen was stuck before it, and is after it. Only where the cell refuses the
---                                    entry was f asked
---   RefusesTurn c o n cap x f f' e  == what is known where the turn of the seat x was refused with e
+--   RefusesTurnAfter c o n cap H x b s f f' e == the turn after H of a seat x that has the space
+--                                                for it is refused with e; b and s
+--                                    say whether the pen was stuck before it, and is after it. Only
+--                                    where the cell refuses the entry was f asked
+--   RefusesTurn c o n cap x f f' e  == what is known where the turn of the seat x was refused with
+--                                      e
 use Rattle.std.specs.Prelude.{◌≡◌, ℕ, ◌<◌, List, length, Bool, true, Option, Some, None, ◌⊎◌}
 use Rattle.std.specs.Fn.{Mut, Called, Takes}
 use Rattle.std.specs.Borrow.{Bor}
@@ -31,7 +37,8 @@ use Rattle.dg_table.specs.declared.fault.Fault.TheVariants.{OutOfMemory, Full, L
 
 module _ {F : Type 0} (c : Mut F (Bor Multigraph × (Bor Vector × Unit {0})) (Option Move)) where
   abbrev pub MayBeAsked : F → Type 0
-  MayBeAsked f = (p : Bor Multigraph) (q : Bor Vector) → q.now.size ≡ p.now.size → Takes c f (p, (q, tt))
+  MayBeAsked f = (p : Bor Multigraph) (q : Bor Vector) → q.now.size ≡ p.now.size →
+      Takes c f (p, (q, tt))
 
   pub record IsAsked (f : F) (g : Multigraph) (d : Vector) (m : Option Move) (f' : F) : Type 0 where
     pub graph : Bor Multigraph
@@ -43,13 +50,15 @@ abbrev pub request_for : Option Move → Request
 request_for (Some m) = request.Move m
 request_for None = request.Claim
 
-module _ {F : Type 0} (c : Mut F (Bor Multigraph × (Bor Vector × Unit {0})) (Option Move)) (o : Opening) where
+module _ {F : Type 0} (c : Mut F (Bor Multigraph × (Bor Vector × Unit {0})) (Option Move))
+    (o : Opening) where
   pub record IsAskedAfter (H : List Entry) (f : F) (m : Option Move) (f' : F) : Type 0 where
     pub amounts : Vector
     pub shown : Shows (position_after o H) amounts
     pub answers : IsAsked c f (position_after o H).graph amounts m f'
 
-  pub record IsTurnAfter (n cap : ℕ) (H : List Entry) (f f' : F) (r : ℕ × Entry) (x y : SeatView) : Type 0 where
+  pub record IsTurnAfter (n cap : ℕ) (H : List Entry) (f f' : F) (r : ℕ × Entry)
+      (x y : SeatView) : Type 0 where
     pub answer : Option Move
     pub asked : IsAskedAfter H f answer f'
     pub answered : IsAnsweredAfter o n cap H (request_for answer) r x y
@@ -60,10 +69,12 @@ module _ {F : Type 0} (c : Mut F (Bor Multigraph × (Bor Vector × Unit {0})) (O
   abbrev pub RefusesTurnAfter : ℕ → ℕ → List Entry → SeatView → Bool → Bool → F → F → Fault → Type 0
   RefusesTurnAfter n cap H x b s f f' OutOfMemory = ⊥
   RefusesTurnAfter n cap H x b s f f' Full = StandsFull o n cap H x × (s ≡ b) × (f' ≡ f)
-  RefusesTurnAfter n cap H x b s f f' Log = (length H < cap) × (((¬ IsAdmissible H x) × (s ≡ b) × (f' ≡ f))
+  RefusesTurnAfter n cap H x b s f f' Log =
+      (length H < cap) × (((¬ IsAdmissible H x) × (s ≡ b) × (f' ≡ f))
       ⊎ (IsAdmissible H x × (s ≡ true) × ((m : Option Move) × IsAskedAfter H f m f')))
 
   abbrev pub RefusesTurn : ℕ → ℕ → SeatView → F → F → Fault → Type 0
   RefusesTurn n cap x f f' OutOfMemory = f' ≡ f
   RefusesTurn n cap x f f' Full = (f' ≡ f) × ((H : List Entry) × StandsFull o n cap H x)
-  RefusesTurn n cap x f f' Log = (f' ≡ f) ⊎ ((H : List Entry) × (m : Option Move) × IsAskedAfter H f m f')
+  RefusesTurn n cap x f f' Log =
+      (f' ≡ f) ⊎ ((H : List Entry) × (m : Option Move) × IsAskedAfter H f m f')

@@ -92,8 +92,10 @@ impl<N: Name> Held<N> {
     fn ready(&self, log: &Log<N>, seat: &Seat<N>) -> Result<(), Fault>
         ensures stands { MatchResult result
             (λ _. IsReady (length N.cells) self.now.entries seat.now)
-            (RefusesStep N.start N.seats (length N.cells) self.now.entries seat.now self.now.stuck self.now.stuck) }
-        ensures barred { IfErr result (λ f. f ≡ LogFault → ¬ IsAdmissible self.now.entries seat.now) }
+            (RefusesStep N.start N.seats
+            (length N.cells) self.now.entries seat.now self.now.stuck self.now.stuck) }
+        ensures barred { IfErr result
+            (λ f. f ≡ LogFault → ¬ IsAdmissible self.now.entries seat.now) }
     {
         let len = self.pen.len();
         if len == log.len() {
@@ -123,9 +125,12 @@ impl<N: Name> Held<N> {
         plain: Plain,
     ) -> Result<Receipt<N>, Fault>
         requires { seat.old.space ≡ true }
-        ensures entered { IfOk result (λ r. IsAnsweredAfter N.start N.seats (length N.cells) self.old.entries (asked plain) r seat.old seat.new ×
+        ensures entered { IfOk result
+            (λ r. IsAnsweredAfter N.start N.seats (length N.cells) self.old.entries
+            (asked plain) r seat.old seat.new ×
             (self.new ≡ record { entries = self.old.entries ++ r.1 ∷ []; stuck = false })) }
-        ensures refused { IfErr result (λ f. (self.new.entries ≡ self.old.entries) × (seat.new ≡ seat.old) ×
+        ensures refused { IfErr result
+            (λ f. (self.new.entries ≡ self.old.entries) × (seat.new ≡ seat.old) ×
             RefusesStep N.start N.seats (length N.cells) self.old.entries seat.old self.old.stuck self.new.stuck f) }
     {
         self.ready(log, seat)?;
@@ -155,7 +160,8 @@ impl<N: Name> Held<N> {
         ensures entered { IfOk result (λ r.
             IsTurnAfter F.FnMut N.start N.seats (length N.cells) self.old.entries choose.old choose.new r seat.old seat.new ×
             (self.new ≡ record { entries = self.old.entries ++ r.1 ∷ []; stuck = false })) }
-        ensures refused { IfErr result (λ f. (self.new.entries ≡ self.old.entries) × (seat.new ≡ seat.old) ×
+        ensures refused { IfErr result
+            (λ f. (self.new.entries ≡ self.old.entries) × (seat.new ≡ seat.old) ×
             RefusesTurnAfter F.FnMut N.start N.seats (length N.cells) self.old.entries seat.old
             self.old.stuck self.new.stuck choose.old choose.new f) }
     {
@@ -190,7 +196,8 @@ impl<N: Name> Held<N> {
         ensures settled { IfOk result (λ r.
             IsSettledAfter N.start N.seats (length N.cells) self.old.entries look.now shown.now finding.now r seat.old seat.new ×
             (self.new ≡ record { entries = self.old.entries ++ r.1 ∷ []; stuck = false })) }
-        ensures refused { IfErr result (λ f. (self.new.entries ≡ self.old.entries) × (seat.new ≡ seat.old) ×
+        ensures refused { IfErr result
+            (λ f. (self.new.entries ≡ self.old.entries) × (seat.new ≡ seat.old) ×
             RefusesSettling N.start N.seats (length N.cells) self.old.entries look.now.0 seat.old
             self.old.stuck self.new.stuck f) }
     {
@@ -245,7 +252,8 @@ impl<N: Name> Held<N> {
             (self.new ≡ record { entries = self.old.entries ++ r.1 ∷ []; stuck = false })) }
         ensures reply { IfOk result (λ r. r.1.reply ≡ slot.value.reply) }
         ensures hears { IfOk result (λ _. seat.new.hears ≡ true) }
-        ensures refused { IfErr result (λ f. (self.new ≡ record { entries = self.old.entries; stuck = true }) ×
+        ensures refused { IfErr result
+            (λ f. (self.new ≡ record { entries = self.old.entries; stuck = true }) ×
             (seat.new ≡ seat.old) ×
             RefusesStep N.start N.seats (length N.cells) self.old.entries seat.old self.old.stuck self.new.stuck f) }
     {
@@ -297,7 +305,8 @@ impl<N: Name> Held<N> {
     /// What was counted, with the log and the pen of the history.
     pub(crate) fn audit(self, log: Log<N>) -> Audit<N>
         ensures history { result.pen.entries ≡ self.entries }
-        ensures totals { (xs : List SeatView) → AllHeld self.entries xs → AreTotals N.start N.seats xs self.entries
+        ensures totals { (xs : List SeatView) → AllHeld self.entries xs →
+            AreTotals N.start N.seats xs self.entries
             result.entries result.gifts result.graph result.position result.calls }
     {
         let Held {

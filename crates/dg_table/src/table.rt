@@ -93,7 +93,8 @@ impl<N: Name> Table<N> {
         seat: &mut Seat<N>,
         plain: Plain,
     ) -> Result<Receipt<N>, Fault>
-        ensures answered { IfOk result (λ r. IsAnswered N.start N.seats (length N.cells) (asked plain) r seat.old seat.new) }
+        ensures answered { IfOk result
+            (λ r. IsAnswered N.start N.seats (length N.cells) (asked plain) r seat.old seat.new) }
         ensures fault { IfErr result (λ f. Keeps seat.old seat.new ×
             RefusesCall N.start N.seats (length N.cells) seat.new f) }
     {
@@ -116,7 +117,9 @@ impl<N: Name> Table<N> {
         choose: &mut F,
     ) -> Result<Receipt<N>, Fault>
         requires { MayBeAsked F.FnMut choose.old }
-        ensures turned { IfOk result (λ r. IsTurn F.FnMut N.start N.seats (length N.cells) choose.old choose.new r seat.old seat.new) }
+        ensures turned { IfOk result
+            (λ r. IsTurn F.FnMut N.start N.seats
+            (length N.cells) choose.old choose.new r seat.old seat.new) }
         ensures fault { IfErr result (λ f. Keeps seat.old seat.new ×
             RefusesTurn F.FnMut N.start N.seats (length N.cells) seat.new choose.old choose.new f) }
     {
@@ -144,7 +147,9 @@ impl<N: Name> Table<N> {
     ) -> Result<Receipt<N>, Fault>
         requires look { IsLookOf look.now shown.now }
         requires found { IsFoundFor N.start.q shown.now finding.now }
-        ensures settled { IfOk result (λ r. IsSettled N.start N.seats (length N.cells) look.now shown.now finding.now r seat.old seat.new) }
+        ensures settled { IfOk result
+            (λ r. IsSettled N.start N.seats
+            (length N.cells) look.now shown.now finding.now r seat.old seat.new) }
         ensures fault { IfErr result (λ f. Keeps seat.old seat.new ×
             RefusesCall N.start N.seats (length N.cells) seat.new f) }
     {

@@ -1,8 +1,11 @@
 -- Greedy games that are printed.
---   turns_text settled         == the line `turns` where the turns were used up, and nothing where the game is settled
---   IsGreedyAnswer o n names text == the text is that of the history of a greedy game of at most n turns from the opening o, and of
+--   turns_text settled         == the line `turns` where the turns were used up, and nothing where
+--                                 the game is settled
+--   IsGreedyAnswer o n names text == the text is that of the history of a greedy game of at most n
+--                                    turns from the opening o, and of
 --                                 how it ended
---   RefusesTurns fault         == a turn is refused so, or the table is not closed, or memory was refused
+--   RefusesTurns fault         == a turn is refused so, or the table is not closed, or memory was
+--                                 refused
 use Rattle.std.specs.Prelude.{◌≡◌, ℕ, Bool, true, false, List, [], ◌++◌, codes, ⊤}
 use Rattle.dg_chips.specs.Opening.{Opening}
 use Rattle.dg_game.specs.declared.entry.Entry.{Entry}
@@ -15,7 +18,8 @@ abbrev pub turns_text : Bool → List ℕ
 turns_text true = []
 turns_text false = codes "turns\n"
 
-pub record IsGreedyAnswer (o : Opening) (n : ℕ) (names : List (List ℕ)) (text : List ℕ) : Type 0 where
+pub record IsGreedyAnswer (o : Opening) (n : ℕ) (names : List (List ℕ))
+    (text : List ℕ) : Type 0 where
   pub history : List Entry
   pub settled : Bool
   pub game : IsGreedyGame o n history settled

@@ -1,4 +1,5 @@
--- What a rehearsal, a judgement, a rank test and a greedy game print, and when they are refused; what is said of a refused call.
+-- What a rehearsal, a judgement, a rank test and a greedy game print, and when they are refused;
+-- what is said of a refused call.
 pub mod Rehearsals
 pub mod Judgements
 pub mod RankTests

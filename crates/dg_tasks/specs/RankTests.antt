@@ -1,15 +1,17 @@
--- Rank tests of a table, printed, and both sides of Riemann-Roch (Baker and Norine 2007, theorem 1.12; Corry and Perkinson,
--- chapter 5).
---   IsRankAnswer o k names text == the text is that of a reply with a rank verdict of degree k which is right for the
---                                  amounts of the opening o, and a newline
---   RefusesRank n k fault       == a rank test of degree k on n vertices is past the limits, or memory was refused, or a
---                                  thread
+-- Rank tests of a table, printed, and both sides of Riemann-Roch (Baker and Norine 2007, theorem
+-- 1.12; Corry and Perkinson, chapter 5).
+--   IsRankAnswer o k names text == the text is that of a reply with a rank verdict of degree k
+--                                  which is right for the amounts of the opening o, and a newline
+--   RefusesRank n k fault       == a rank test of degree k on n vertices is past the limits, or
+--                                  memory was refused, or a thread
 --   number_line label z         == the label, the number and a newline
---   riemann_roch_text o r s     == the lines of the opening divisor's degree, of the genus, and of the ranks r and s
---   IsRiemannRoch o text        == the text is those lines, with the rank of the divisor and that of its dual, each told by
---                                  tests within the limits; the two differ by the degree, plus 1, less the genus
---   RefusesRiemannRoch o fault  == the dual is out of range; else one of the two ranks needs a test past the limits; of
---                                  want of memory nothing is said
+--   riemann_roch_text o r s     == the lines of the opening divisor's degree, of the genus, and of
+--                                  the ranks r and s
+--   IsRiemannRoch o text        == the text is those lines, with the rank of the divisor and that
+--                                  of its dual, each told by tests within the limits; the two
+--                                  differ by the degree, plus 1, less the genus
+--   RefusesRiemannRoch o fault  == the dual is out of range; else one of the two ranks needs a test
+--                                  past the limits; of want of memory nothing is said
 use Rattle.std.specs.Prelude.{◌≡◌, ℕ, ℤ, pos, ◌+ℤ◌, ◌-ℤ◌, List, ◌++◌, codes, ⊤}
 use Rattle.std.specs.Fmt.{signed_decimal}
 use Rattle.dg_theory.specs.Multigraph.{genus}
@@ -41,7 +43,8 @@ abbrev pub number_line : List ℕ → ℤ → List ℕ
 number_line label z = label ++ signed_decimal z ++ codes "\n"
 
 abbrev pub riemann_roch_text : Opening → ℤ → ℤ → List ℕ
-riemann_roch_text o rank dual_rank = number_line (codes "degree ") (degree o.graph.size (at o.divisor))
+riemann_roch_text o rank dual_rank =
+    number_line (codes "degree ") (degree o.graph.size (at o.divisor))
     ++ number_line (codes "genus ") (genus o.graph)
     ++ number_line (codes "rank ") rank
     ++ number_line (codes "dual ") dual_rank

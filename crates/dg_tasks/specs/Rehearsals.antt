@@ -1,8 +1,8 @@
 -- A schedule that is played and printed.
---   IsPrinted o names lines text    == the lines spell steps, and the text is that of the legal history which these
---                                      steps make from the opening o
---   IsPlayed o names steps r text   == r is what the steps have come to from the opening o, whatever steps follow, and the
---                                      text is that of their history
+--   IsPrinted o names lines text    == the lines spell steps, and the text is that of the legal
+--                                      history which these steps make from the opening o
+--   IsPlayed o names steps r text   == r is what the steps have come to from the opening o,
+--                                      whatever steps follow, and the text is that of their history
 --   IsStopped o steps fault         == the fault is the first of these steps, whatever steps follow
 use Rattle.std.specs.Prelude.{◌≡◌, ℕ, List, ◌++◌, length}
 use Rattle.dg_chips.specs.Opening.{Opening}
@@ -16,14 +16,16 @@ use Rattle.dg_game.specs.declared.step.Step.{Step}
 use Rattle.dg_lines.specs.Schedules.{AreStepsOf}
 use Rattle.dg_lines.specs.Texts.{history_text}
 
-pub record IsPrinted (o : Opening) (names : List (List ℕ)) (lines : List (List ℕ)) (text : List ℕ) : Type 0 where
+pub record IsPrinted (o : Opening) (names : List (List ℕ)) (lines : List (List ℕ))
+    (text : List ℕ) : Type 0 where
   pub steps : List Step
   pub spelled : AreStepsOf names steps lines
   pub history : List Entry
   pub rehearsal : IsRehearsal o steps history
   pub printed : text ≡ history_text names 0 history
 
-pub record IsPlayed (o : Opening) (names : List (List ℕ)) (steps : List Step) (r : Rehearsal) (text : List ℕ) : Type 0 where
+pub record IsPlayed (o : Opening) (names : List (List ℕ)) (steps : List Step) (r : Rehearsal)
+    (text : List ℕ) : Type 0 where
   pub history : List Entry
   pub playing : (more : List Step) → IsPlaying o (steps ++ more) history r
   pub count : length history ≡ length steps

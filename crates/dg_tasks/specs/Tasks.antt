@@ -1,14 +1,23 @@
--- Answers to tasks on tables, and when there is none. `held` tells what is known of the file of each name.
---   DescribesTable h o names      == bytes that the file h may hold are a table file, of the opening o with these names
---   IsOnTable h P                 == the file h describes a table, and P holds of its opening and names
+-- Answers to tasks on tables, and when there is none. `held` tells what is known of the file of
+-- each name.
+--   DescribesTable h o names      == bytes that the file h may hold are a table file, of the
+--                                    opening o with these names
+--   IsOnTable h P                 == the file h describes a table, and P holds of its opening and
+--                                    names
 --   IsOfSteps h P                 == P holds of the lines of bytes that the file h may hold
---   AnswersTask held o names task text == the text is the answer to the task on the opening o with these names
---   IsAnswer held task text       == the text is the answer to the task, for what the files hold that it names
---   RefusesContents h fault          == bytes that the file h may hold are refused as a table file, with that fault
+--   AnswersTask held o names task text == the text is the answer to the task on the opening o with
+--                                         these names
+--   IsAnswer held task text       == the text is the answer to the task, for what the files hold
+--                                    that it names
+--   RefusesContents h fault          == bytes that the file h may hold are refused as a table file,
+--                                       with that fault
 --   RefusesItsTable h fault       == the table file h is not read, or it is refused
---   RefusesOn held o names task fault == the task is refused so on the table o with these names: STEPS is not read, or it is
---                                    refused; or the test is past the limits, or the dual is no divisor; or a turn is refused
---   RefusesTask held task fault   == the table file is refused so, or it is good, and the task is refused so on its table
+--   RefusesOn held o names task fault == the task is refused so on the table o with these names:
+--                                        STEPS is not read, or it is
+--                                    refused; or the test is past the limits, or the dual is no
+--                                    divisor; or a turn is refused
+--   RefusesTask held task fault   == the table file is refused so, or it is good, and the task is
+--                                    refused so on its table
 use Rattle.std.specs.Prelude.{◌≡◌, ◌⊎◌, ℕ, List}
 use Rattle.dg_chips.specs.Opening.{Opening}
 use Rattle.dg_file.specs.TableFiles.{IsTableFile}
@@ -44,14 +53,16 @@ pub record IsOfSteps (h : Held) (P : List (List ℕ) → Type 0) : Type 0 where
   pub holds : P (lines bytes)
 
 abbrev pub AnswersTask : (List ℕ → Held) → Opening → List (List ℕ) → Task → List ℕ → Type 0
-AnswersTask held o names (Rehearse file steps) text = IsOfSteps (held steps.now) (λ all. IsPrinted o names all text)
+AnswersTask held o names (Rehearse file steps) text =
+    IsOfSteps (held steps.now) (λ all. IsPrinted o names all text)
 AnswersTask held o names (Judge file) text = IsJudgement o names text
 AnswersTask held o names (Rank test) text = IsRankAnswer o test.degree names text
 AnswersTask held o names (RiemannRoch file) text = IsRiemannRoch o text
 AnswersTask held o names (Greedy play) text = IsGreedyAnswer o play.turns names text
 
 abbrev pub IsAnswer : (List ℕ → Held) → Task → List ℕ → Type 0
-IsAnswer held task text = IsOnTable (held (file_of task)) (λ o names. AnswersTask held o names task text)
+IsAnswer held task text =
+    IsOnTable (held (file_of task)) (λ o names. AnswersTask held o names task text)
 
 pub record RefusesContents (h : Held) (fault : FileFault) : Type 0 where
   pub bytes : List ℕ

@@ -21,7 +21,8 @@ pub fn greedy_history(
     turns: u32,
 ) -> Result<Vec<u8>, TaskFault>
     requires { turns ≤ MAX_ENTRIES }
-    ensures printed { IfOk result (λ text. IsGreedyAnswer table.now.start turns table.now.names text.items) }
+    ensures printed { IfOk result
+        (λ text. IsGreedyAnswer table.now.start turns table.now.names text.items) }
     ensures refused { IfErr result RefusesTurns }
 {
     let game = match greedy(rt, alloc, table.start(), turns) {

@@ -26,7 +26,8 @@ pub fn rank_answer<R: Threads + Wait>(
     workers: u32,
 ) -> Result<Vec<u8>, TaskFault>
     requires { MayHaveWorkers workers }
-    ensures ranked { IfOk result (λ text. IsRankAnswer table.now.start k table.now.names text.items) }
+    ensures ranked { IfOk result
+        (λ text. IsRankAnswer table.now.start k table.now.names text.items) }
     ensures refused { IfErr result (RefusesRank table.now.start.graph.size k) }
 {
     let start = table.start();

@@ -21,8 +21,10 @@ use std::alloc::Global;
 /// it is the step after 65,536 others, with `NoLook` where it wants a look while its seat keeps none, or with `StepTrials`
 /// where it asks for a rank test past the limits. `OutOfMemory` comes in the place of a step whose line did not fit.
 pub fn rehearsal(alloc: Global, table: &TableFile, steps: &[u8]) -> Result<Vec<u8>, TaskFault>
-    ensures printed { IfOk result (λ text. IsPrinted table.now.start table.now.names (lines steps.now) text.items) }
-    ensures refused { IfErr result (RefusesSchedule table.now.start.graph.size table.now.names (lines steps.now)) }
+    ensures printed { IfOk result
+        (λ text. IsPrinted table.now.start table.now.names (lines steps.now) text.items) }
+    ensures refused { IfErr result
+        (RefusesSchedule table.now.start.graph.size table.now.names (lines steps.now)) }
 {
     let names = table.names();
     let mut rehearsal = Rehearsal::new(table.start());
@@ -64,9 +66,11 @@ fn play_on(
     requires { (o : Opening) × (steps : List Step) × (length names.now ≡ o.graph.size)
         × IsPlayed o names.now steps rehearsal.old text.old.items }
     ensures { MatchResult result
-        (λ _. (o : Opening) (steps : List Step) → IsPlayed o names.now steps rehearsal.old text.old.items →
+        (λ _. (o : Opening) (steps : List Step) →
+        IsPlayed o names.now steps rehearsal.old text.old.items →
         IsPlayed o names.now (steps ++ step.now ∷ []) rehearsal.new text.new.items)
-        (λ fault. (o : Opening) (steps : List Step) → IsPlayed o names.now steps rehearsal.old text.old.items →
+        (λ fault. (o : Opening) (steps : List Step) →
+        IsPlayed o names.now steps rehearsal.old text.old.items →
         IsStopped o (steps ++ step.now ∷ []) fault) }
 {
     if let Command::Call(plain) = &step.command {
@@ -94,10 +98,12 @@ fn call_on(
     requires { (o : Opening) × (steps : List Step) × (length names.now ≡ o.graph.size)
         × IsPlayed o names.now steps rehearsal.old text.old.items }
     ensures { MatchResult result
-        (λ _. (o : Opening) (steps : List Step) → IsPlayed o names.now steps rehearsal.old text.old.items →
+        (λ _. (o : Opening) (steps : List Step) →
+        IsPlayed o names.now steps rehearsal.old text.old.items →
         IsPlayed o names.now (steps ++ (record { seat = seat; command = Call plain.now }) ∷ [])
         rehearsal.new text.new.items)
-        (λ fault. (o : Opening) (steps : List Step) → IsPlayed o names.now steps rehearsal.old text.old.items →
+        (λ fault. (o : Opening) (steps : List Step) →
+        IsPlayed o names.now steps rehearsal.old text.old.items →
         IsStopped o (steps ++ (record { seat = seat; command = Call plain.now }) ∷ []) fault) }
 {
     let number = rehearsal.game.entries() as usize;

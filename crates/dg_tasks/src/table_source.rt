@@ -14,7 +14,8 @@ pub fn table_in<R, S>(rt: &R, sources: &S, file: &str) -> Result<TableFile, Task
 where
     R: Files + AllocGlobal,
     S: Sources,
-    ensures table { IfOk result (λ table. DescribesTable (S.held sources.now file.now) table.start table.names) }
+    ensures table { IfOk result
+        (λ table. DescribesTable (S.held sources.now file.now) table.start table.names) }
     ensures refused { IfErr result (RefusesItsTable (S.held sources.now file.now)) }
 {
     let bytes = match sources.bytes(rt, file) {

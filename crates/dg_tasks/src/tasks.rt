@@ -48,7 +48,8 @@ where
     S: Sources,
     ensures done { IfOk result (λ text.
         AnswersTask (S.held sources.now) table.now.start table.now.names task.now text.items) }
-    ensures refused { IfErr result (RefusesOn (S.held sources.now) table.now.start table.now.names task.now) }
+    ensures refused { IfErr result
+        (RefusesOn (S.held sources.now) table.now.start table.now.names task.now) }
 {
     match task {
         Task::Rehearse { file: _, steps } => {

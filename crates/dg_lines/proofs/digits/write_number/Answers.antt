@@ -6,19 +6,24 @@ use Rattle.dg_lines.proofs.Signs.{minus_first}
 use Rattle.dg_lines.proofs.digits.write_number.Goals as goal
 
 pub write_digits-start-requires : goal.write_digits-start-requires
-write_digits-start-requires c = (omega (arith, length-decimal-le 19 c.unsigned_abs.result (omega arith) (omega arith) (omega arith)), search rules)
+write_digits-start-requires c =
+    (omega (arith, length-decimal-le 19 c.unsigned_abs.result (omega arith) (omega arith) (omega arith)), search rules)
 
 pub returns-then-number-ge0-clause-short : goal.returns-then-number-ge0-clause-short
-returns-then-number-ge0-clause-short c = omega (arith, length-decimal-le 19 c.unsigned_abs.result (omega arith) (omega arith) (omega arith))
+returns-then-number-ge0-clause-short c =
+    omega (arith, length-decimal-le 19 c.unsigned_abs.result (omega arith) (omega arith) (omega arith))
 
 pub overflow_sub-line : goal.overflow_sub-line
-overflow_sub-line c = omega (arith, length-decimal-le 19 c.unsigned_abs.result (omega arith) (omega arith) (omega arith))
+overflow_sub-line c =
+    omega (arith, length-decimal-le 19 c.unsigned_abs.result (omega arith) (omega arith) (omega arith))
 
 pub overflow_sub-result : goal.overflow_sub-result
-overflow_sub-result c = omega (arith, length-decimal-le 19 c.unsigned_abs.result (omega arith) (omega arith) (omega arith))
+overflow_sub-result c =
+    omega (arith, length-decimal-le 19 c.unsigned_abs.result (omega arith) (omega arith) (omega arith))
 
 pub returns-clause-short : goal.returns-clause-short
-returns-clause-short c = omega (arith, length-decimal-le 19 c.unsigned_abs.result (omega arith) (omega arith) (omega arith))
+returns-clause-short c =
+    omega (arith, length-decimal-le 19 c.unsigned_abs.result (omega arith) (omega arith) (omega arith))
 
 pub returns-clause-written : goal.returns-clause-written
 returns-clause-written c =
@@ -27,4 +32,5 @@ returns-clause-written c =
     let e : w.result - 1 + 1 ≡ w.result = omega arith in
     let back = to_z-of_z c.ranges.number in
     rw (drop-set w.new.buf (w.result - 1) 45 (omega arith), e, w.ensures.written, c.unsigned_abs.ensures.value, back)
-    (ap (λ (digits : List ℕ). digits ++ drop c.args.end c.args.line.now) (minus_first c.args.number (rw back at c.if-number-ge0.false)))
+    (ap (λ (digits : List ℕ). digits ++ drop c.args.end c.args.line.now)
+    (minus_first c.args.number (rw back at c.if-number-ge0.false)))

@@ -13,7 +13,9 @@ loop-number-init g c = c.new-text.ensures.items
 pub push_entry-requires : goal.push_entry-requires
 push_entry-requires g c =
     c.requires c.loop-number.number c.index-history-number.result
-    (slice_get_read c.args.history.now (length c.args.history.now) c.loop-number.number c.index-history-number.result refl (omega arith) c.index-history-number.is)
+    (slice_get_read c.args.history.now
+    (length c.args.history.now) c.loop-number.number c.index-history-number.result refl
+    (omega arith) c.index-history-number.is)
 
 pub loop-number-preserved : goal.loop-number-preserved
 loop-number-preserved g c =

@@ -40,7 +40,8 @@ items-preserved c =
     part_after _ c.cut-in-Some.result.1 _ c.unwrap_or.result refl c.cut-in-Some.ensures.after c.unwrap_or.ensures in
     let held : FitsSigned w64 c.unwrap_or-in-Some.result = search rules in
     rw (to_z-of_z held, c.unwrap_or-in-Some.ensures, c.is_some-are_spelled.ensures)
-    (one_pair _ _ _ _ _ _ _ _ next c.items.invariant c.entry-entry.result c.with_vertex-given.result c.from-v.result c.place.ensures.few
+    (one_pair _ _ _ _ _ _ _ _ next c.items.invariant c.entry-entry.result c.with_vertex-given.result c.from-v.result
+    c.place.ensures.few
     c.len-size.ensures.names.different place (sym c.contains.ensures ∙ c.if-contains.false)
     c.with_vertex-given.ensures.here c.with_vertex-given.ensures.others
     (subst (λ t. IsSpelled t c.entry-entry.result) text c.entry-entry.ensures))
@@ -63,5 +64,6 @@ returns c =
       spelled = read.1.spelled c.if-not-are_spelled.false;
       limit = read.1.within;
       script =
-          script_of _ _ _ _ _ read.1 c.len-size.result c.sized-script.result read.0 c.size-size.ensures.script c.len-size.ensures.len c.len-size.ensures.few c.sized-script.ensures;
+          script_of _ _ _ _ _ read.1 c.len-size.result c.sized-script.result read.0 c.size-size.ensures.script
+          c.len-size.ensures.len c.len-size.ensures.few c.sized-script.ensures;
     }

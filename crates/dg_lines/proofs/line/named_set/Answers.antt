@@ -31,7 +31,8 @@ items-preserved c =
     let next = pieces_left 44 _ _ _ c.cut.result.1 c.in-Some.is c.cut.ensures.before c.cut.ensures.after in
     let place : place_of c.args.names.now c.cut.result.0.now ≡ Some c.from-v.result =
     sym c.in-Some-place.ensures.place ∙ ap Some (sym c.from-v.ensures) in
-    one_taken _ _ _ _ _ _ next c.items.invariant c.with_vertex-set.result c.from-v.result c.len-size.ensures.names.different place (sym c.contains.ensures ∙ c.if-contains.false)
+    one_taken _ _ _ _ _ _ next c.items.invariant c.with_vertex-set.result c.from-v.result
+    c.len-size.ensures.names.different place (sym c.contains.ensures ∙ c.if-contains.false)
     c.with_vertex-set.ensures.here c.with_vertex-set.ensures.others
 
 pub returns : goal.returns

@@ -12,7 +12,8 @@ returns-then-is_empty c =
 pub returns-in-Some-one_word : goal.returns-in-Some-one_word
 returns-in-Some-one_word c =
     let next = pieces_left 32 _ _ _ c.cut.result.1 c.in-Some.is c.cut.ensures.before c.cut.ensures.after in (
-      word_more 1 c.cut.result.0.now (c.in-Some-one_word.second.now ∷ []) c.if-is_empty.ensures c.in-Some-one_word.ensures.0,
+      word_more 1 c.cut.result.0.now
+          (c.in-Some-one_word.second.now ∷ []) c.if-is_empty.ensures c.in-Some-one_word.ensures.0,
       next ∙ ap (λ more. c.cut.result.0.now ∷ more) c.in-Some-one_word.ensures.1,
     )
 

@@ -9,7 +9,8 @@ use Rattle.dg_table.proofs.held.keep_look.Goals as goal
 pub returns-in-Look-Looked : goal.returns-in-Look-Looked
 returns-in-Look-Looked c = λ o H ps leads replies kept.
     let looked = c.in-Look-Looked in
-    let shown : Replies o H Look (Looked looked.gifts looked.position looked.graph) = rw (looked.is-0, looked.is-1) at replies in
+    let shown : Replies o H Look (Looked looked.gifts looked.position looked.graph) =
+    rw (looked.is-0, looked.is-1) at replies in
     let number : c.look_data.result.number ≡ length H = c.look_data.ensures.number ∙ leads.entries in
     let seen : LookData = record {
       number = c.look_data.result.number;
@@ -18,5 +19,6 @@ returns-in-Look-Looked c = λ o H ps leads replies kept.
       position = looked.position;
       drift = c.look_data.result.drift;
     } in
-    look_seen o ps (length H, c.args.entry.now) seen (record { look = looked.is-0; shown = looked.is-1; number = number })
+    look_seen o ps (length H, c.args.entry.now) seen
+    (record { look = looked.is-0; shown = looked.is-1; number = number })
     (looked_vertices o H seen shown)

@@ -29,7 +29,8 @@ returns-in-Ok-clause-told c =
     let fits : FitsSigned w64 c.in-Some.rank = search rules in
     let dual_fits : FitsSigned w64 c.in-Some.dual_rank = search rules in
     let text : c.in-Ok.text.items
-    ≡ riemann_roch_text o (to_z w64 (of_z w64 c.in-Some.rank)) (to_z w64 (of_z w64 c.in-Some.dual_rank)) = c.in-Ok.ensures in
+    ≡ riemann_roch_text o (to_z w64 (of_z w64 c.in-Some.rank)) (to_z w64 (of_z w64 c.in-Some.dual_rank)) =
+    c.in-Ok.ensures in
     let told : IsRiemannRoch o c.in-Ok.text.items = record {
       rank = c.in-Some.rank;
       of_divisor = of_divisor;

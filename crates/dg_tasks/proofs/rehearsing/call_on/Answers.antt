@@ -15,7 +15,8 @@ call-requires c =
 
 pub returns-in-Err : goal.returns-in-Err
 returns-in-Err c = λ o steps known.
-    stopped_at o c.args.names.now steps (record { seat = c.args.seat; command = Call c.args.plain.now }) c.args.rehearsal.now c.args.text.now.items
+    stopped_at o c.args.names.now steps
+    (record { seat = c.args.seat; command = Call c.args.plain.now }) c.args.rehearsal.now c.args.text.now.items
     c.in-Err.fault c.in-Err.ensures.plays known
 
 pub push_outcome-requires : goal.push_outcome-requires
@@ -33,5 +34,6 @@ pub returns-in-Ok-push_outcome : goal.returns-in-Ok-push_outcome
 returns-in-Ok-push_outcome c = λ o steps known.
     let (room, plays) = c.in-Ok.ensures.plays in
     played_more o c.args.names.now steps (record { seat = c.args.seat; command = Call c.args.plain.now })
-    (entry_of c.args.seat c.args.plain.now c.in-Ok.outcome c.call.new.self.game) c.args.rehearsal.now c.call.new.self c.args.text.now.items
+    (entry_of c.args.seat c.args.plain.now c.in-Ok.outcome c.call.new.self.game) c.args.rehearsal.now c.call.new.self
+    c.args.text.now.items
     c.push_outcome.new.text.items _ plays c.entries-number.ensures.entries c.in-Ok-push_outcome.ensures known

@@ -17,7 +17,8 @@ play-requires c =
 
 pub returns-in-Err : goal.returns-in-Err
 returns-in-Err c = λ o steps known.
-    stopped_at o c.args.names.now steps c.args.step.now c.args.rehearsal.now c.args.text.now.items c.in-Err.fault c.in-Err.ensures.plays known
+    stopped_at o c.args.names.now steps c.args.step.now c.args.rehearsal.now c.args.text.now.items c.in-Err.fault
+    c.in-Err.ensures.plays known
 
 pub push_entry-requires : goal.push_entry-requires
 push_entry-requires c =
@@ -26,20 +27,24 @@ push_entry-requires c =
     let e : Entry = c.in-Ok.entry in
     let (room, plays) = c.in-Ok.ensures.plays in
     let all : List Step = steps ++ c.args.step.now ∷ [] in
-    let more = plays o H all (known.playing (c.args.step.now ∷ [])) (next_is steps [] c.args.step.now (length H) known.count) in
+    let more = plays o H all (known.playing (c.args.step.now ∷ []))
+    (next_is steps [] c.args.step.now (length H) known.count) in
     legal_named c.args.names.now o (H ++ e ∷ []) fit more.legal (length H) e (slice_get-seam H e [])
 
 pub returns-in-Ok-push_entry : goal.returns-in-Ok-push_entry
 returns-in-Ok-push_entry c = λ o steps known.
     let (room, plays) = c.in-Ok.ensures.plays in
-    played_more o c.args.names.now steps c.args.step.now c.in-Ok.entry c.args.rehearsal.now c.play.new.self c.args.text.now.items
+    played_more o c.args.names.now steps c.args.step.now c.in-Ok.entry c.args.rehearsal.now c.play.new.self
+    c.args.text.now.items
     c.push_entry.new.text.items _ plays c.entries-number.ensures.entries c.in-Ok-push_entry.ensures known
 
 pub returns-in-Call : goal.returns-in-Call
 returns-in-Call c =
     let step : Step = record { seat = c.args.step.now.seat; command = Call c.in-Call.plain } in
-    let same : step ≡ c.args.step.now = ap (λ (k : Command). record { seat = c.args.step.now.seat; command = k }) (sym c.in-Call.is) in
+    let same : step ≡ c.args.step.now =
+    ap (λ (k : Command). record { seat = c.args.step.now.seat; command = k }) (sym c.in-Call.is) in
     MatchResult-weaker c.call_on.result c.call_on.ensures
     (λ x goes o steps known.
-    subst (λ (s : Step). IsPlayed o c.args.names.now (steps ++ s ∷ []) c.call_on.new.rehearsal c.call_on.new.text.items) same (goes o steps known))
+    subst (λ (s : Step). IsPlayed o c.args.names.now (steps ++ s ∷ []) c.call_on.new.rehearsal c.call_on.new.text.items)
+    same (goes o steps known))
     (λ fault told o steps known. subst (λ (s : Step). IsStopped o (steps ++ s ∷ []) fault) same (told o steps known))

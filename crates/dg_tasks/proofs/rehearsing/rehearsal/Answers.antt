@@ -6,7 +6,9 @@ use Rattle.dg_tasks.proofs.rehearsing.rehearsal.Goals as goal
 
 pub lines-init : goal.lines-init
 lines-init c =
-    rw c.start.ensures at (under_way_none c.start.result.now c.args.table.now.names c.args.steps.now c.into_iter-bytes-iterator.result.rest.now
+    rw c.start.ensures at
+    (under_way_none c.start.result.now c.args.table.now.names c.args.steps.now
+    c.into_iter-bytes-iterator.result.rest.now
     c.new-rehearsal.result c.new-text.result.items c.new-rehearsal.ensures c.new-text.ensures.items
     (ap (λ (l : Lines). l.rest.now) c.into_iter-bytes-iterator.ensures.into_iter_gives ∙ c.new-bytes-items.ensures))
 
@@ -14,53 +16,75 @@ pub overflow_add-line : goal.overflow_add-line
 overflow_add-line c =
     omega (
       arith,
-      lines_read c.args.table.now.start c.args.table.now.names (lines c.lines.bytes-iterator.rest.now) (lines c.next.new.self.rest.now)
-          c.args.steps.now c.in-Some.bytes.now c.lines.line c.lines.rehearsal c.lines.text.items c.lines.stopped c.in-Some.ensures.steps c.lines.invariant,
+      lines_read c.args.table.now.start c.args.table.now.names (lines c.lines.bytes-iterator.rest.now)
+          (lines c.next.new.self.rest.now)
+          c.args.steps.now c.in-Some.bytes.now c.lines.line c.lines.rehearsal c.lines.text.items c.lines.stopped
+          c.in-Some.ensures.steps c.lines.invariant,
     )
 
 pub lines-preserved-in-Ok-play_on : goal.lines-preserved-in-Ok-play_on
 lines-preserved-in-Ok-play_on c =
-    one_played c.args.table.now.start c.args.table.now.names c.names-names.result.now (lines c.args.steps.now) (lines c.lines.bytes-iterator.rest.now)
-    (lines c.next.new.self.rest.now) c.in-Some.bytes.now c.lines.line c.lines.rehearsal c.play_on.new.rehearsal c.lines.text.items c.play_on.new.text.items
-    c.lines.stopped c.in-Ok.step c.names-names.ensures.value c.in-Some.ensures.steps c.in-Ok.ensures.step (ap not c.if-is_none.ensures)
+    one_played c.args.table.now.start c.args.table.now.names c.names-names.result.now (lines c.args.steps.now)
+    (lines c.lines.bytes-iterator.rest.now)
+    (lines c.next.new.self.rest.now) c.in-Some.bytes.now c.lines.line c.lines.rehearsal c.play_on.new.rehearsal
+    c.lines.text.items c.play_on.new.text.items
+    c.lines.stopped c.in-Ok.step c.names-names.ensures.value c.in-Some.ensures.steps c.in-Ok.ensures.step
+    (ap not c.if-is_none.ensures)
     c.in-Ok-play_on.ensures c.lines.invariant
 
 pub lines-preserved-in-Err-play_on : goal.lines-preserved-in-Err-play_on
 lines-preserved-in-Err-play_on c =
-    one_refused c.args.table.now.start c.args.table.now.names c.names-names.result.now (lines c.args.steps.now) (lines c.lines.bytes-iterator.rest.now)
-    (lines c.next.new.self.rest.now) c.in-Some.bytes.now c.lines.line c.lines.rehearsal c.play_on.new.rehearsal c.lines.text.items c.play_on.new.text.items
-    c.lines.stopped c.in-Ok.step c.in-Err-play_on.fault c.names-names.ensures.value c.in-Some.ensures.steps c.in-Ok.ensures.step
+    one_refused c.args.table.now.start c.args.table.now.names c.names-names.result.now (lines c.args.steps.now)
+    (lines c.lines.bytes-iterator.rest.now)
+    (lines c.next.new.self.rest.now) c.in-Some.bytes.now c.lines.line c.lines.rehearsal c.play_on.new.rehearsal
+    c.lines.text.items c.play_on.new.text.items
+    c.lines.stopped c.in-Ok.step c.in-Err-play_on.fault c.names-names.ensures.value c.in-Some.ensures.steps
+    c.in-Ok.ensures.step
     (ap not c.if-is_none.ensures) c.in-Err-play_on.ensures c.lines.invariant
 
 pub lines-preserved : goal.lines-preserved
 lines-preserved c =
-    one_passed c.args.table.now.start c.args.table.now.names c.names-names.result.now (lines c.args.steps.now) (lines c.lines.bytes-iterator.rest.now)
-    (lines c.next.new.self.rest.now) c.in-Some.bytes.now c.lines.line c.lines.rehearsal c.lines.text.items c.lines.stopped c.in-Ok.step
-    c.names-names.ensures.value c.in-Some.ensures.steps c.in-Ok.ensures.step (ap not c.if-is_none.ensures) c.lines.invariant
+    one_passed c.args.table.now.start c.args.table.now.names c.names-names.result.now (lines c.args.steps.now)
+    (lines c.lines.bytes-iterator.rest.now)
+    (lines c.next.new.self.rest.now) c.in-Some.bytes.now c.lines.line c.lines.rehearsal c.lines.text.items
+    c.lines.stopped c.in-Ok.step
+    c.names-names.ensures.value c.in-Some.ensures.steps c.in-Ok.ensures.step
+    (ap not c.if-is_none.ensures) c.lines.invariant
 
 pub returns-in_default-clause-printed : goal.returns-in_default-clause-printed
 returns-in_default-clause-printed c =
-    all_played c.args.table.now.start c.args.table.now.names (lines c.args.steps.now) (lines c.lines.bytes-iterator.rest.now) c.lines.line c.lines.rehearsal
+    all_played c.args.table.now.start c.args.table.now.names (lines c.args.steps.now)
+    (lines c.lines.bytes-iterator.rest.now) c.lines.line c.lines.rehearsal
     c.lines.text.items c.lines.stopped c.in-None.ensures.steps.0 c.in_default.is c.lines.invariant
 
 pub unreachable-requires : goal.unreachable-requires
 unreachable-requires c =
     never_unseated c.args.table.now.start.graph.size c.args.table.now.names (lines c.args.steps.now) c.in-Seat.field-0
-    (rw c.in-Seat.is at (first_fault c.args.table.now.start c.args.table.now.names (lines c.args.steps.now) (lines c.lines.bytes-iterator.rest.now)
-    c.lines.line c.lines.rehearsal c.lines.text.items c.lines.stopped c.in-Some-stopped.fault c.in-None.ensures.steps.0 c.in-Some-stopped.is
+    (rw c.in-Seat.is at (first_fault c.args.table.now.start c.args.table.now.names (lines c.args.steps.now)
+    (lines c.lines.bytes-iterator.rest.now)
+    c.lines.line c.lines.rehearsal c.lines.text.items c.lines.stopped c.in-Some-stopped.fault c.in-None.ensures.steps.0
+    c.in-Some-stopped.is
     c.lines.invariant))
 
 pub returns-in-Full-clause-refused : goal.returns-in-Full-clause-refused
 returns-in-Full-clause-refused c =
-    rw c.in-Full.is at (first_fault c.args.table.now.start c.args.table.now.names (lines c.args.steps.now) (lines c.lines.bytes-iterator.rest.now)
-    c.lines.line c.lines.rehearsal c.lines.text.items c.lines.stopped c.in-Some-stopped.fault c.in-None.ensures.steps.0 c.in-Some-stopped.is c.lines.invariant)
+    rw c.in-Full.is at (first_fault c.args.table.now.start c.args.table.now.names (lines c.args.steps.now)
+    (lines c.lines.bytes-iterator.rest.now)
+    c.lines.line c.lines.rehearsal c.lines.text.items c.lines.stopped c.in-Some-stopped.fault c.in-None.ensures.steps.0
+    c.in-Some-stopped.is c.lines.invariant)
 
 pub returns-in-NoLook-clause-refused : goal.returns-in-NoLook-clause-refused
 returns-in-NoLook-clause-refused c =
-    rw c.in-NoLook.is at (first_fault c.args.table.now.start c.args.table.now.names (lines c.args.steps.now) (lines c.lines.bytes-iterator.rest.now)
-    c.lines.line c.lines.rehearsal c.lines.text.items c.lines.stopped c.in-Some-stopped.fault c.in-None.ensures.steps.0 c.in-Some-stopped.is c.lines.invariant)
+    rw c.in-NoLook.is at
+    (first_fault c.args.table.now.start c.args.table.now.names (lines c.args.steps.now)
+    (lines c.lines.bytes-iterator.rest.now)
+    c.lines.line c.lines.rehearsal c.lines.text.items c.lines.stopped c.in-Some-stopped.fault c.in-None.ensures.steps.0
+    c.in-Some-stopped.is c.lines.invariant)
 
 pub returns-in-TooMany-clause-refused : goal.returns-in-TooMany-clause-refused
 returns-in-TooMany-clause-refused c =
-    rw c.in-TooMany.is at (first_fault c.args.table.now.start c.args.table.now.names (lines c.args.steps.now) (lines c.lines.bytes-iterator.rest.now)
-    c.lines.line c.lines.rehearsal c.lines.text.items c.lines.stopped c.in-Some-stopped.fault c.in-None.ensures.steps.0 c.in-Some-stopped.is c.lines.invariant)
+    rw c.in-TooMany.is at
+    (first_fault c.args.table.now.start c.args.table.now.names (lines c.args.steps.now)
+    (lines c.lines.bytes-iterator.rest.now)
+    c.lines.line c.lines.rehearsal c.lines.text.items c.lines.stopped c.in-Some-stopped.fault c.in-None.ensures.steps.0
+    c.in-Some-stopped.is c.lines.invariant)

@@ -9,21 +9,26 @@ verdict_now-carried-requires-clause-size c = let (o, H, leads, look) = c.require
 pub verdict_now-carried-requires-clause-led : goal.verdict_now-carried-requires-clause-led
 verdict_now-carried-requires-clause-led c =
     let (o, H, leads, look) = c.requires.look in
-    let (graph, t, led) = moved_since o H _ _ leads look (omega (arith, c.if-self-look.false, ap (λ (s : State). s.gifts) c.self.view_is)) in
+    let (graph, t, led) =
+    moved_since o H _ _ leads look (omega (arith, c.if-self-look.false, ap (λ (s : State). s.gifts) c.self.view_is)) in
     (t, led)
 
 pub verdict_now-carried-requires-clause-right : goal.verdict_now-carried-requires-clause-right
 verdict_now-carried-requires-clause-right c =
     let (o, H, leads, look) = c.requires.look in
-    let (graph, t, led) = moved_since o H _ _ leads look (omega (arith, c.if-self-look.false, ap (λ (s : State). s.gifts) c.self.view_is)) in
+    let (graph, t, led) =
+    moved_since o H _ _ leads look (omega (arith, c.if-self-look.false, ap (λ (s : State). s.gifts) c.self.view_is)) in
     rw graph (rw c.in-Judged.is at c.requires.found)
 
 pub returns-in-Judged-clause-replies : goal.returns-in-Judged-clause-replies
 returns-in-Judged-clause-replies c = λ o H leads look.
     rw c.in-Judged.is (judged_after o H _ _ c.verdict_now-carried.result leads look
-    (omega (arith, c.if-self-look.false, ap (λ (s : State). s.gifts) c.self.view_is)) c.verdict_now-carried.ensures.right)
+    (omega (arith, c.if-self-look.false, ap (λ (s : State). s.gifts) c.self.view_is))
+    c.verdict_now-carried.ensures.right)
 
 pub returns-in-Ranked-clause-replies : goal.returns-in-Ranked-clause-replies
 returns-in-Ranked-clause-replies c = λ o H leads look.
-    let same : c.args.self.now.gifts ≡ c.args.look.now.gifts = omega (arith, c.if-self-look.false, ap (λ (s : State). s.gifts) c.self.view_is) in
-    rw c.in-Ranked.is (ranked_after o H _ _ _ c.in-Ranked.verdict leads look same (rw c.in-Ranked.is at c.requires.found))
+    let same : c.args.self.now.gifts ≡ c.args.look.now.gifts =
+    omega (arith, c.if-self-look.false, ap (λ (s : State). s.gifts) c.self.view_is) in
+    rw c.in-Ranked.is (ranked_after o H _ _ _ c.in-Ranked.verdict leads look same
+    (rw c.in-Ranked.is at c.requires.found))

@@ -8,8 +8,10 @@ pub returns-clause-leads : goal.returns-clause-leads
 returns-clause-leads c = λ o H seat leads look.
     let right = c.reply_to-reply.ensures.replies o H leads look in
     leads_more o H c.args.self.now _ _ leads right
-    (rw (sym c.self.view_is) (settled_next o H _ c.args.look.now.number c.args.finding.now c.reply_to-reply.result right))
+    (rw (sym c.self.view_is)
+    (settled_next o H _ c.args.look.now.number c.args.finding.now c.reply_to-reply.result right))
 
 pub returns-clause-legal : goal.returns-clause-legal
 returns-clause-legal c = λ o H seat leads look legal is.
-    legal_more o H _ legal is (back_for o H c.args.look.now c.args.finding.now look) (c.reply_to-reply.ensures.replies o H leads look)
+    legal_more o H _ legal is (back_for o H c.args.look.now c.args.finding.now look)
+    (c.reply_to-reply.ensures.replies o H leads look)

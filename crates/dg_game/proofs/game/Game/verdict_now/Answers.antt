@@ -15,8 +15,10 @@ use Rattle.dg_game.proofs.game.Game.verdict_now.Goals as goal
 pub rebase-requires : goal.rebase-requires
 rebase-requires c =
     let state : IsState c.args.self.now = subst (λ (s : State). IsState s) c.self.view_is c.self.invariant in
-    let divisor : IsDivisor c.args.self.now.amounts = subst (λ (s : State). IsDivisor s.amounts) c.self.view_is c.size-size.ensures.divisor in
-    rw c.q.ensures.q (carried c.args.self.now (at c.args.then.now) c.args.verdict.now c.drift_from-since.result state divisor c.requires.right
+    let divisor : IsDivisor c.args.self.now.amounts =
+    subst (λ (s : State). IsDivisor s.amounts) c.self.view_is c.size-size.ensures.divisor in
+    rw c.q.ensures.q (carried c.args.self.now
+    (at c.args.then.now) c.args.verdict.now c.drift_from-since.result state divisor c.requires.right
     c.drift_from-since.ensures.size c.drift_from-since.ensures.led)
 
 pub returns-clause-right : goal.returns-clause-right
@@ -24,9 +26,11 @@ returns-clause-right c =
     let state : IsState c.args.self.now = subst (λ (s : State). IsState s) c.self.view_is c.self.invariant in
     let g = c.args.self.now.graph in
     let moved : IsRight g c.q.result (fired g (at c.args.then.now) (at c.drift_from-since.result)) c.rebase.result =
-    c.rebase.ensures.right g (at c.args.then.now) state.graph.multigraph c.q.ensures.vertex (rw c.q.ensures.q c.requires.right)
+    c.rebase.ensures.right g (at c.args.then.now) state.graph.multigraph c.q.ensures.vertex
+    (rw c.q.ensures.q c.requires.right)
     c.drift_from-since.ensures.size in
-    right-cong g c.args.self.now.q _ (at c.args.self.now.amounts) c.rebase.result (λ v below. sym (c.drift_from-since.ensures.led v below))
+    right-cong g c.args.self.now.q _ (at c.args.self.now.amounts) c.rebase.result
+    (λ v below. sym (c.drift_from-since.ensures.led v below))
     (rw c.q.ensures.q at moved)
 
 pub returns-then-eq-clause-right : goal.returns-then-eq-clause-right
@@ -36,5 +40,6 @@ returns-then-eq-clause-right c =
     ((and_parts _ _ (sym c.eq.ensures ∙ c.if-eq.true)).1) in
     let numbers : c.args.then.now.numbers ≡ c.args.self.now.amounts.numbers =
     same ∙ ap (λ (s : State). s.amounts.numbers) c.self.view_is in
-    subst (λ (l : List ℤ). IsRight c.args.self.now.graph c.args.self.now.q (λ v. slice_index_or l v (pos 0)) c.args.verdict.now)
+    subst (λ (l : List ℤ). IsRight c.args.self.now.graph c.args.self.now.q
+    (λ v. slice_index_or l v (pos 0)) c.args.verdict.now)
     numbers c.requires.right

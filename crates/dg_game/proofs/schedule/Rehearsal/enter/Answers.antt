@@ -9,7 +9,8 @@ settle-reply-requires-clause-look c =
 
 pub returns : goal.returns
 returns c = λ o H steps command playing keeps there up trials asks.
-    rw c.request.ensures (entered o H steps c.args.self.now _ c.args.seat command c.args.look.now c.args.finding.now c.settle-reply.result
+    rw c.request.ensures
+    (entered o H steps c.args.self.now _ c.args.seat command c.args.look.now c.args.finding.now c.settle-reply.result
     playing there c.requires.seat keeps up trials asks
     (c.settle-reply.ensures.legal o H c.args.seat playing.leads keeps.1 playing.legal c.requires.seat)
     (c.settle-reply.ensures.leads o H c.args.seat playing.leads keeps.1)

@@ -10,7 +10,8 @@ returns-in-Call-clause-plays c =
     let (seat, room) = c.in_default.ensures in (
       room,
       λ o H steps playing there.
-          let step : slice_get steps (length H) ≡ Some (record { seat = c.args.step.now.seat; command = Call c.in-Call.plain }) =
+          let step : slice_get steps (length H)
+          ≡ Some (record { seat = c.args.step.now.seat; command = Call c.in-Call.plain }) =
           there ∙ ap (λ (k : Command). Some (record { seat = c.args.step.now.seat; command = k })) c.in-Call.is in
           rw (c.request.ensures, c.reply.ensures) (c.take-outcome.ensures o H steps playing step),
     )
@@ -39,4 +40,5 @@ returns-in-Rank-clause-plays c =
           (there ∙ ap (λ (k : Command). Some (record { seat = c.args.step.now.seat; command = k })) c.in-Rank.is),
     ))
     (λ fault told o H steps playing there.
-    told o H steps playing (there ∙ ap (λ (k : Command). Some (record { seat = c.args.step.now.seat; command = k })) c.in-Rank.is))
+    told o H steps playing
+    (there ∙ ap (λ (k : Command). Some (record { seat = c.args.step.now.seat; command = k })) c.in-Rank.is))

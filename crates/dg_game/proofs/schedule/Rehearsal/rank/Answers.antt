@@ -31,9 +31,11 @@ returns-in_default-rank_look-clause-plays c = λ o H steps playing there.
     let (kept, look) = c.in-Some.ensures o H steps playing in
     let (fault, past) = c.in_default-rank_look.ensures in
     let size : c.in-Some.look.graph.size ≡ o.graph.size =
-    look_vertices o H _ _ playing.leads look ∙ ap (λ (g : Multigraph). g.size) playing.leads.graph ∙ vertices_stay o H in
+    look_vertices o H _ _ playing.leads look ∙ ap (λ (g : Multigraph). g.size) playing.leads.graph
+    ∙ vertices_stay o H in
     past_limits o H steps c.args.self.now c.args.seat c.args.k c.in-Some.look.number _ playing there
-    (omega (arith, playing.leads.entries, c.entries-i.ensures.entries)) (omega (arith, c.requires.room, c.entries-i.ensures.entries))
+    (omega (arith, playing.leads.entries, c.entries-i.ensures.entries))
+    (omega (arith, c.requires.room, c.entries-i.ensures.entries))
     c.requires.seat kept (rw size at past)
 
 pub returns-clause-plays : goal.returns-clause-plays
@@ -41,6 +43,7 @@ returns-clause-plays c = λ o H steps playing there.
     let keeps = c.in-Some.ensures o H steps playing in
     let (within, found, asks) = c.in-Ok.ensures in
     let size : c.in-Some.look.graph.size ≡ o.graph.size =
-    look_vertices o H _ _ playing.leads keeps.1 ∙ ap (λ (g : Multigraph). g.size) playing.leads.graph ∙ vertices_stay o H in
+    look_vertices o H _ _ playing.leads keeps.1 ∙ ap (λ (g : Multigraph). g.size) playing.leads.graph
+    ∙ vertices_stay o H in
     c.enter-entry.ensures o H steps (Rank c.args.k) playing keeps there tt (rw size at within)
     (c.in-Some.look.number, keeps.0, asks c.in-Some.look.number)

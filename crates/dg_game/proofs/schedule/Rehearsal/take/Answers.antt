@@ -18,8 +18,10 @@ returns c = λ o H steps playing there. elim c.match-plain.branch [
       (legal_more o H _ playing.legal c.requires.seat (back_asked H c.args.plain.now) right)
       (leads_more o H _ _ _ leads right c.take.ensures.next)
       (ap length looks ∙ length-set _ _ _ ∙ playing.places)
-      (rw (looks, w.from.ensures) (looks_looked o H steps c.args.self.now c.args.seat c.args.plain.now w.look_data.result _ playing there
-      c.requires.seat w.in-Look.is w.look_data.ensures.number w.look_data.ensures.gifts w.look_data.ensures.graph w.look_data.ensures.position))
+      (rw (looks, w.from.ensures)
+      (looks_looked o H steps c.args.self.now c.args.seat c.args.plain.now w.look_data.result _ playing there
+      c.requires.seat w.in-Look.is w.look_data.ensures.number w.look_data.ensures.gifts w.look_data.ensures.graph
+      w.look_data.ensures.position))
   | in_default w ↦
       let game : c.args.self.now.game ≡ c.match-plain.self.game = ap (λ (r : Rehearsal). r.game) (sym w.self-is) in
       let looks = ap (λ (r : Rehearsal). r.looks) w.self-is in
@@ -29,5 +31,6 @@ returns c = λ o H steps playing there. elim c.match-plain.branch [
       (legal_more o H _ playing.legal c.requires.seat (back_asked H c.args.plain.now) right)
       (leads_more o H _ _ _ leads right c.take.ensures.next)
       (ap length looks ∙ playing.places)
-      (rw looks (looks_left o H steps c.args.self.now c.args.seat c.args.plain.now _ playing there w.in_default.not-Look))
+      (rw looks (looks_left o H steps c.args.self.now c.args.seat c.args.plain.now _ playing there
+      w.in_default.not-Look))
 ]

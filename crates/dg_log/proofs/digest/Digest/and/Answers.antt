@@ -13,15 +13,18 @@ invariant_of-result g c =
     let x : ℕ × ℕ × Entry = (c.number-2.result, r.known.cell, r.known.value) in
     let longer : c.and.result.items ≡ items ++ x ∷ [] = c.and.ensures in
     let named : slice_get g.N.Name.cells x.0 ≡ Some x.1 =
-    ap (slice_get g.N.Name.cells) (c.number-2.ensures.number ∙ ap (λ p. p.0) (sym c.receipt.view_is)) ∙ c.receipt.invariant in
+    ap (slice_get g.N.Name.cells) (c.number-2.ensures.number ∙ ap (λ p. p.0) (sym c.receipt.view_is))
+    ∙ c.receipt.invariant in
     let said : said_by (items ++ x ∷ []) ≡ said_by items ++ (x.0, x.2) ∷ [] = said_more items x in
     let past : c.from-past.result + 1 ≡ c.number-2.result + 1 = search rules in
     rw longer (
       named_more g.N.Name.cells items x c.self.invariant.0 named,
       elim c.if-past-self.branch [
         | then-past-self w ↦ rw (said, w.result-is)
-            (end_more c.self.inside.end (c.from-past.result + 1) (said_by items) (x.0, x.2) c.self.invariant.1 past w.if-past-self.true)
+            (end_more c.self.inside.end (c.from-past.result + 1) (said_by items)
+            (x.0, x.2) c.self.invariant.1 past w.if-past-self.true)
         | else-past-self w ↦ rw (said, w.result-is)
-            (end_same c.self.inside.end (c.from-past.result + 1) (said_by items) (x.0, x.2) c.self.invariant.1 past w.if-past-self.false)
+            (end_same c.self.inside.end (c.from-past.result + 1) (said_by items)
+            (x.0, x.2) c.self.invariant.1 past w.if-past-self.false)
       ],
     )

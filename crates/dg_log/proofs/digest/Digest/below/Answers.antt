@@ -10,7 +10,8 @@ returns-clause-below g c =
     let items = c.self.inside.facts.items in
     let view : said_by items ≡ c.args.self.now = c.self.view_is in
     let is_end = c.self.invariant.1 in rw (sym view) (
-      (λ yes. below_up c.self.inside.end c.args.count (said_by items) (grind (arith, nat_tests, yes, c.from.ensures)) is_end.0),
+      (λ yes. below_up c.self.inside.end c.args.count (said_by items)
+          (grind (arith, nat_tests, yes, c.from.ensures)) is_end.0),
       (λ below. grind (arith, nat_tests, is_end.1 c.args.count below, c.from.ensures)),
     )
 

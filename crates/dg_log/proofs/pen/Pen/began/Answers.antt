@@ -9,11 +9,19 @@ pub returns : goal.returns
 returns g c =
     let mine = c.self.inside.facts.items in
     let items = c.past.inside.facts.items in
-    let mine_view : record { entries = map (λ x. x.2) mine; stuck = c.self.inside.stuck } ≡ c.args.self.now = c.self.view_is in
+    let mine_view : record { entries = map (λ x. x.2) mine; stuck = c.self.inside.stuck } ≡ c.args.self.now =
+    c.self.view_is in
     let past_view : map (λ x. x.2) items ≡ c.args.past.now = c.past.view_is in
     let entries : map (λ x. x.2) mine ≡ c.args.self.now.entries = ap (λ (w : Written). w.entries) mine_view in
     let few : length items ≤ length mine =
-    omega (arith, c.requires, ap length entries, ap length past_view, length-map items (λ x. x.2), length-map mine (λ x. x.2)) in
+    omega (
+      arith,
+      c.requires,
+      ap length entries,
+      ap length past_view,
+      length-map items (λ x. x.2),
+      length-map mine (λ x. x.2),
+    ) in
     subst (λ H. IsBeginning c.args.past.now H) entries
     (subst (λ K. IsBeginning K (map (λ x. x.2) mine)) past_view
     (began g.N.Name.cells items mine c.agree.ensures c.past.invariant.1 c.self.invariant.3 few))

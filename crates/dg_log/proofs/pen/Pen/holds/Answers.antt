@@ -10,7 +10,8 @@ pub returns : goal.returns
 returns g c =
     let mine = c.self.inside.facts.items in
     let said = c.digest.inside.facts.items in
-    let mine_view : record { entries = map (λ x. x.2) mine; stuck = c.self.inside.stuck } ≡ c.args.self.now = c.self.view_is in
+    let mine_view : record { entries = map (λ x. x.2) mine; stuck = c.self.inside.stuck } ≡ c.args.self.now =
+    c.self.view_is in
     let said_view : said_by said ≡ c.args.digest.now = c.digest.view_is in
     let below : AreBelow (length (map (λ x. x.2) mine)) (said_by said) =
     subst (λ n. AreBelow n (said_by said)) (ap (λ (w : Written). length w.entries) (sym mine_view))

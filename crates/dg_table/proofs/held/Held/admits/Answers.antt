@@ -10,7 +10,8 @@ returns-clause-holds g c = λ is.
     let seated = c.seat.invariant in
     rw (← c.seat.view_is, ← c.self.view_is) (record {
       past = c.began.ensures;
-      mine = all_own c.seat.inside.number c.seat.inside.past c.self.inside.pen.entries c.seat.inside.mine.items c.began.ensures
+      mine = all_own c.seat.inside.number c.seat.inside.past c.self.inside.pen.entries c.seat.inside.mine.items
+          c.began.ensures
           seated.own count;
       told = rw seated.told_said at c.holds.ensures;
     })

@@ -35,7 +35,8 @@ invariant_of-seat g c =
     let entry : c.entry.result.now ≡ e = c.entry.ensures ∙ ap (λ (r : ℕ × Entry). r.1) receipt in
     let shown = subst (λ (x : Entry). Replies g.N.Name.start H x.request x.reply) (sym entry) replies in
     let seen =
-    subst (λ (x : Entry). IsKeptLook g.N.Name.start (c.seat.inside.mine.items ++ (length H, x) ∷ []) c.keep_look.new.look) entry
+    subst (λ (x : Entry). IsKeptLook g.N.Name.start
+    (c.seat.inside.mine.items ++ (length H, x) ∷ []) c.keep_look.new.look) entry
     (c.keep_look.ensures g.N.Name.start H c.seat.inside.mine.items c.self.invariant.0.game' shown
     c.seat.invariant.look_kept) in
     let seated = c.seat.invariant in
@@ -61,5 +62,7 @@ returns-clause-entered g c =
     let history : c.put.new.self.entries ≡ H ++ e ∷ [] = ap (λ (w : Written). w.entries) c.in-Ok.ensures.1 in
     let found = history_more g.N.Name.start g.N.Name.seats (length g.N.Name.cells) H e c.self.invariant.0.seated
     (omega (arith, seated.least, own)) (omega (arith, seated.most, own)) room legal in
-    rw (← c.self.view_is, ← c.seat.view_is, receipt)
-    (answered e _ replies found holds own refl (rw receipt at items) refl (c.past-seat-inside.ensures ∙ history), c.in-Ok.ensures.1)
+    rw (← c.self.view_is, ← c.seat.view_is, receipt) (
+      answered e _ replies found holds own refl (rw receipt at items) refl (c.past-seat-inside.ensures ∙ history),
+      c.in-Ok.ensures.1,
+    )

@@ -9,13 +9,15 @@ began-requires g c = omega (arith, c.seat.invariant.found.few, c.len-len.ensures
 pub returns-then-below-clause-stands : goal.returns-then-below-clause-stands
 returns-then-below-clause-stands g c =
     let seated = c.seat.invariant in
-    let size : length c.self.inside.pen.entries ≡ length g.N.Name.cells = omega (arith, c.len-len.ensures.length, c.len.ensures.length) in
+    let size : length c.self.inside.pen.entries ≡ length g.N.Name.cells =
+    omega (arith, c.len-len.ensures.length, c.len.ensures.length) in
     rw (← c.seat.view_is, ← c.self.view_is) (
       record {
         full = size;
         history = history_of (length g.N.Name.cells) c.self.invariant.0 (omega arith);
         past = c.began.ensures;
-        mine = own_stand c.seat.inside.number c.seat.inside.past c.self.inside.pen.entries c.seat.inside.mine.items c.began.ensures seated.own;
+        mine = own_stand c.seat.inside.number c.seat.inside.past c.self.inside.pen.entries c.seat.inside.mine.items
+            c.began.ensures seated.own;
         told = rw seated.told_said at c.holds.ensures;
       },
       refl,
