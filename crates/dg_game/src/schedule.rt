@@ -128,7 +128,7 @@ impl Rehearsal {
             (λ outcome. (self.old.game.entries < MAX_ENTRIES) ×
             PlaysOn self.old (record { seat = seat; command = Call plain.now })
             (entry_of seat plain.now outcome self.new.game) self.new)
-            (StopsAt self.old (record { seat = seat; command = Call plain.now })) }
+            (StopsPlay self.old (record { seat = seat; command = Call plain.now })) }
         ensures same { OnErr result (self.new ≡ self.old) }
     {
         match self.barred(seat) {
@@ -143,7 +143,7 @@ impl Rehearsal {
         ensures { MatchOption result
             (IsSeat seat × (self.now.game.entries < MAX_ENTRIES))
             (λ fault. (c : Command) →
-            StopsAt self.now (record { seat = seat; command = c }) fault) }
+            StopsPlay self.now (record { seat = seat; command = c }) fault) }
     {
         let i = self.game.entries() as usize;
         if seat < 1 || seat > MAX_SEATS {

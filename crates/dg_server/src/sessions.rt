@@ -16,6 +16,7 @@ use dg_table::Table;
 use dg_tasks::table_in;
 use std::io::{Read, Write};
 use std::marker::Brand;
+use std::mem::forget;
 use std::rt::Files;
 use std::sync::Wait;
 use std::thread::Threads;
@@ -115,10 +116,14 @@ where
         how,
     );
     match opened.close(all) {
-        Ok(_) => match ended {
-            Ok(_) => Ok(()),
-            Err(end) => Err(Fault::Session(end)),
-        },
+        Ok(history) => {
+            // The program ends here, and its memory with it: to free each entry first would only take time.
+            forget(history);
+            match ended {
+                Ok(_) => Ok(()),
+                Err(end) => Err(Fault::Session(end)),
+            }
+        }
         Err(_) => Err(Fault::History),
     }
 }

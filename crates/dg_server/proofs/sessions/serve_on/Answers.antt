@@ -16,10 +16,10 @@ returns-in-Ok-ended-clause-done g c = (
       session = rw (c.requires.start, c.requires.row, c.requires.seats, ← c.names.ensures.value)
           (rw (← c.new-reader.ensures.remaining) c.in-Ok-ended.ensures.session);
     };
-    history = c.in-Ok-close.field-0.pen.entries;
+    history = c.in-Ok-close.history.pen.entries;
     closed = rw (c.requires.start, c.requires.row, c.requires.seats)
         (subst (λ ys. IsClosed g.N.Name.start g.N.Name.seats (length g.N.Name.cells) ys
-        c.in-Ok-close.field-0.pen.entries)
+        c.in-Ok-close.history.pen.entries)
         (seats_back c.in-Ok.opened.1.len c.deref_mut.result.now c.serve_seats-ended.new.seats _ (search rules)
         c.serve_seats-ended.ensures.numbers) c.in-Ok-close.ensures.0);
   },
@@ -36,10 +36,10 @@ returns-in-Ok-close-clause-early g c =
         session = rw (c.requires.start, c.requires.row, c.requires.seats, ← c.names.ensures.value)
             (rw (← c.new-reader.ensures.remaining) c.in-Err-ended.ensures.session);
       };
-      history = c.in-Ok-close.field-0.pen.entries;
+      history = c.in-Ok-close.history.pen.entries;
       closed = rw (c.requires.start, c.requires.row, c.requires.seats)
           (subst (λ ys. IsClosed g.N.Name.start g.N.Name.seats (length g.N.Name.cells) ys
-          c.in-Ok-close.field-0.pen.entries)
+          c.in-Ok-close.history.pen.entries)
           (seats_back c.in-Ok.opened.1.len c.deref_mut.result.now c.serve_seats-ended.new.seats _ (search rules)
           c.serve_seats-ended.ensures.numbers) c.in-Ok-close.ensures.0);
     }
