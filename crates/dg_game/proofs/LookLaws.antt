@@ -9,6 +9,8 @@
 --   look_new                an entry that is a look is a look of the history
 --   look_size               a look shows as many vertices as the state
 --   settled_next            the state after a reply about what was reckoned on a look: one entry more
+--   still_next              the state after a reply by which no move, gift or join is accepted: one entry more
+--   given_next              the state after an accepted gift: the amounts and the gift count of the reply
 --   carried                 a verdict can be carried along a drift that leads to the amounts of a state
 use Rattle.std.proofs.Common.{◌≡◌, ℕ, ◌+◌, ◌<◌, ◌≤◌, List, [], ◌∷◌, ◌++◌, length, take, drop, slice_get, arith, refl, sym, ap, subst, ◌∙◌}
 use Rattle.std.proofs.Math.Seq.{take-append_seam}
@@ -33,9 +35,9 @@ use Rattle.dg_game.specs.Replies.{Replies}
 use Rattle.dg_game.specs.State.{State, IsState, LeadsTo, IsNext, amounts_after, gifts_after, graph_after}
 use Rattle.dg_game.specs.declared.entry.Entry.{Entry}
 use Rattle.dg_game.specs.declared.entry.Request.{Request}
-use Rattle.dg_game.specs.declared.entry.Request.TheVariants.{Look, Judge, Rank as RankRequest}
+use Rattle.dg_game.specs.declared.entry.Request.TheVariants.{Move, Gift, Join, Look, Claim, Judge, Rank as RankRequest}
 use Rattle.dg_game.specs.declared.entry.Reply.{Reply}
-use Rattle.dg_game.specs.declared.entry.Reply.TheVariants.{Verdict, Rank as RankReply, Stale}
+use Rattle.dg_game.specs.declared.entry.Reply.TheVariants.{Moved, Given, Joined, Looked, Verdict, Rank as RankReply, Stale, Won, NotWon, Refused}
 use Rattle.dg_game.specs.declared.finding.Finding.{Finding}
 use Rattle.dg_game.specs.declared.finding.Finding.TheVariants.{Judged, Ranked}
 use Rattle.dg_game.specs.declared.look.LookData.{LookData}
@@ -174,6 +176,40 @@ settled_next o H s i (Ranked v) (RankReply x) right =
 settled_next o H s i (Ranked v) (Stale count) right =
     stays s (RankRequest i (degree_of v)) (Stale count) refl refl refl (λ v. refl)
 settled_next o H s i (Ranked v) reply right = absurd right
+
+pub still_next : (o : Opening) (H : List Entry) (s : State) (request : Request) (reply : Reply) →
+    Replies o H request reply → ((d : Vector) → ¬ (reply ≡ Moved d)) → ((n : ℕ) (d : Vector) → ¬ (reply ≡ Given n d)) →
+    ((n : ℕ) (d : Vector) → ¬ (reply ≡ Joined n d)) → IsNext s request reply (counted s)
+still_next o H s (Move m) (Moved d) right moved given joined = absurd (moved d refl)
+still_next o H s (Gift v x) (Given n d) right moved given joined = absurd (given n d refl)
+still_next o H s (Join u v) (Joined n d) right moved given joined = absurd (joined n d refl)
+still_next o H s (Move m) (Refused r) right moved given joined = stays s (Move m) (Refused r) refl refl refl (λ v. refl)
+still_next o H s (Gift v x) (Refused r) right moved given joined = stays s (Gift v x) (Refused r) refl refl refl (λ v. refl)
+still_next o H s (Join u v) (Refused r) right moved given joined = stays s (Join u v) (Refused r) refl refl refl (λ v. refl)
+still_next o H s Look (Looked n d g) right moved given joined = stays s Look (Looked n d g) refl refl refl (λ v. refl)
+still_next o H s Claim Won right moved given joined = stays s Claim Won refl refl refl (λ v. refl)
+still_next o H s Claim NotWon right moved given joined = stays s Claim NotWon refl refl refl (λ v. refl)
+still_next o H s (Judge i) (Verdict x) right moved given joined = stays s (Judge i) (Verdict x) refl refl refl (λ v. refl)
+still_next o H s (Judge i) (Stale n) right moved given joined = stays s (Judge i) (Stale n) refl refl refl (λ v. refl)
+still_next o H s (RankRequest i k) (RankReply x) right moved given joined =
+    stays s (RankRequest i k) (RankReply x) refl refl refl (λ v. refl)
+still_next o H s (RankRequest i k) (Stale n) right moved given joined =
+    stays s (RankRequest i k) (Stale n) refl refl refl (λ v. refl)
+still_next o H s request reply right moved given joined = absurd right
+
+pub given_next : (o : Opening) (H : List Entry) (s : State) (request : Request) (n : ℕ) (d : Vector) →
+    Replies o H request (Given n d) →
+    IsNext s request (Given n d)
+    (record { graph = s.graph; q = s.q; amounts = d; drift = s.drift; gifts = n; entries = s.entries + 1 })
+given_next o H s (Gift v x) n d right = record {
+  graph = refl;
+  q = refl;
+  amounts = refl;
+  drift = λ v below. omega (arith, ints);
+  gifts = refl;
+  entries = refl;
+}
+given_next o H s request n d right = absurd right
 
 pub carried : (s : State) (D : Amounts) (x : AVerdict) (m : Vector) → IsState s → IsDivisor s.amounts →
     IsRight s.graph s.q D x →

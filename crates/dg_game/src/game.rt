@@ -1,5 +1,5 @@
 //! The game as it stands, and what calls and findings do to it.
-ghost use Rattle.std.specs.Prelude.{◌≡◌, ℕ, ◌<◌, ◌≤◌, List, [], MatchOption, ⊤};
+ghost use Rattle.std.specs.Prelude.{◌≡◌, ℕ, ◌+◌, ◌<◌, ◌≤◌, List, [], ◌∷◌, ◌++◌, MatchOption, MatchResult, ⊤};
 ghost use Rattle.std.specs.Int.RustNames.{unsigned_abs};
 ghost use Rattle.dg_chips.specs.Opening.{Opening};
 ghost use Rattle.dg_chips.specs.Vector.{at};
@@ -16,10 +16,11 @@ ghost use Rattle.dg_game.specs.Legal.{IsSeat, IsLegal};
 ghost use Rattle.dg_game.specs.Look.{IsLookAt, IsFoundFor, asked_for, KeepsFinding};
 ghost use Rattle.dg_game.specs.State.{State, IsState, LeadsTo, IsNext, position_of};
 ghost use Rattle.dg_game.specs.Schedule.{asked};
-ghost use Rattle.dg_game.specs.declared.entry.Entry.{Entry};
+ghost use Rattle.dg_game.specs.declared.entry.Entry.{Entry as EntryData};
+ghost use Rattle.dg_game.specs.declared.entry.Reply.TheVariants.{Given, Refused};
 ghost use Rattle.dg_game.specs.declared.entry.Request.TheVariants.{Move as MoveRequest, Gift as GiftRequest, Join as JoinRequest, Look as LookRequest, Claim as ClaimRequest};
 
-use crate::entry::{MAX_GIFT, Plain, Refusal, Reply};
+use crate::entry::{Entry, MAX_GIFT, Plain, Refusal, Reply, Request};
 use crate::finding::Finding;
 use crate::look::LookData;
 use crate::outcome::Outcome;
@@ -150,11 +151,11 @@ impl Game {
     /// a seat of 1 to 64 calls. It takes no memory. The condition is that there are fewer than 65,536 entries.
     pub fn act(&mut self, plain: Plain) -> Reply
         requires { self.old.entries < MAX_ENTRIES }
-        ensures replies { (o : Opening) (H : List Entry) → LeadsTo o H self.old →
+        ensures replies { (o : Opening) (H : List EntryData) → LeadsTo o H self.old →
             Replies o H (asked plain) result }
-        ensures leads { (o : Opening) (H : List Entry) (seat : ℕ) → LeadsTo o H self.old →
+        ensures leads { (o : Opening) (H : List EntryData) (seat : ℕ) → LeadsTo o H self.old →
             LeadsTo o (with_entry H seat (asked plain) result) self.new }
-        ensures legal { (o : Opening) (H : List Entry) (seat : ℕ) → LeadsTo o H self.old →
+        ensures legal { (o : Opening) (H : List EntryData) (seat : ℕ) → LeadsTo o H self.old →
             IsLegal o H → IsSeat seat → IsLegal o (with_entry H seat (asked plain) result) }
     {
         let outcome = self.take(&plain);
@@ -193,6 +194,85 @@ impl Game {
         }
     }
 
+    /// The reply to a call, as the game answers it after its history. Nothing changes: `follow` takes the entry into the
+    /// history.
+    pub fn answer(&self, plain: &Plain) -> Reply
+        ensures replies { (o : Opening) (H : List EntryData) → LeadsTo o H self.now →
+            Replies o H (asked plain.now) result }
+        ensures legal { (o : Opening) (H : List EntryData) (seat : ℕ) → LeadsTo o H self.now →
+            IsLegal o H → IsSeat seat → IsLegal o (with_entry H seat (asked plain.now) result) }
+    {
+        self.reply_now(plain)
+    }
+
+    /// The reply to a call that is right as the game stands.
+    fn reply_now(&self, plain: &Plain) -> Reply
+        ensures { RepliesAt (position_of self.now) self.now.gifts plain.now result }
+    {
+        match plain {
+            Plain::Move(play) => match apply(&self.graph, &self.amounts, play) {
+                Ok(amounts) => Reply::Moved(amounts),
+                Err(fault) => Reply::Refused(Refusal::from(fault)),
+            },
+            Plain::Gift(v, dollars) => match self.after_gift(*v, *dollars) {
+                Ok(amounts) => Reply::Given(self.gifts + 1, amounts),
+                Err(refusal) => Reply::Refused(refusal),
+            },
+            Plain::Join(u, v) => match self.graph.join(*u, *v) {
+                Ok(_) => Reply::Joined(self.gifts + 1, self.amounts),
+                Err(fault) => Reply::Refused(Refusal::from(fault)),
+            },
+            Plain::Look => Reply::Looked(self.gifts, self.amounts, self.graph),
+            Plain::Claim => self.claimed(),
+        }
+    }
+
+    /// The reply to a claim.
+    fn claimed(&self) -> Reply
+        ensures { RepliesToClaim (position_of self.now) result }
+    {
+        if self.amounts.is_effective() {
+            Reply::Won
+        } else {
+            Reply::NotWon
+        }
+    }
+
+    /// Takes an entry that was answered rightly into the history. It takes no memory. The conditions are that there are fewer
+    /// than 65,536 entries, and that the reply is the right one after the history.
+    pub fn follow(&mut self, entry: &Entry)
+        requires room { self.old.entries < MAX_ENTRIES }
+        requires right { (o : Opening) × (H : List EntryData) × LeadsTo o H self.old ×
+            Replies o H entry.now.request entry.now.reply }
+        ensures leads { (o : Opening) (H : List EntryData) → LeadsTo o H self.old →
+            Replies o H entry.now.request entry.now.reply →
+            LeadsTo o (H ++ entry.now ∷ []) self.new }
+    {
+        self.entries += 1;
+        match &entry.reply {
+            Reply::Moved(amounts) => {
+                if let Request::Move(made) = &entry.request {
+                    lends_few(made);
+                    self.drift = self.drift.plus(&self.graph, made);
+                    self.amounts = *amounts;
+                }
+            }
+            Reply::Given(gifts, amounts) => {
+                self.gifts = *gifts;
+                self.amounts = *amounts;
+            }
+            Reply::Joined(gifts, _) => {
+                if let Request::Join(u, v) = &entry.request
+                    && let Ok(joined) = self.graph.join(*u, *v)
+                {
+                    self.gifts = *gifts;
+                    self.graph = joined;
+                }
+            }
+            _ => {}
+        }
+    }
+
     /// Enters what was reckoned on a look: `Stale` where gifts, levies or joins were accepted since; otherwise a verdict
     /// that is right for the position now, with the reduced divisor and the burning order that were found, or the answer
     /// of the rank test as it was found. A legal history stays legal where a seat of 1 to 64 enters it. It takes no memory.
@@ -200,30 +280,46 @@ impl Game {
     /// and that the finding is right for the amounts of the look, on its graph.
     pub fn settle(&mut self, look: &LookData, finding: &Finding) -> Reply
         requires room { self.old.entries < MAX_ENTRIES }
-        requires look { (o : Opening) × (H : List Entry) × LeadsTo o H self.old ×
+        requires look { (o : Opening) × (H : List EntryData) × LeadsTo o H self.old ×
             IsLookAt o H look.now }
         requires found { IsFoundFor self.old.q look.now finding.now }
-        ensures replies { (o : Opening) (H : List Entry) → LeadsTo o H self.old →
+        ensures replies { (o : Opening) (H : List EntryData) → LeadsTo o H self.old →
             IsLookAt o H look.now → Replies o H (asked_for look.now.number finding.now) result }
-        ensures leads { (o : Opening) (H : List Entry) (seat : ℕ) → LeadsTo o H self.old →
+        ensures leads { (o : Opening) (H : List EntryData) (seat : ℕ) → LeadsTo o H self.old →
             IsLookAt o H look.now →
             LeadsTo o (with_entry H seat (asked_for look.now.number finding.now) result) self.new }
-        ensures legal { (o : Opening) (H : List Entry) (seat : ℕ) → LeadsTo o H self.old →
+        ensures legal { (o : Opening) (H : List EntryData) (seat : ℕ) → LeadsTo o H self.old →
             IsLookAt o H look.now → IsLegal o H → IsSeat seat →
             IsLegal o (with_entry H seat (asked_for look.now.number finding.now) result) }
         ensures kept { KeepsFinding finding.now result }
     {
-        let reply = self.reply_to(look, finding);
+        let reply = self.answer_finding(look, finding);
         self.entries += 1;
         reply
     }
 
-    /// The reply to what was reckoned on a look.
-    fn reply_to(&self, look: &LookData, finding: &Finding) -> Reply
-        requires look { (o : Opening) × (H : List Entry) × LeadsTo o H self.now ×
+    /// The reply to what was reckoned on a look, as `settle` gives it. Nothing changes: `follow` takes the entry into the
+    /// history. The conditions are those of `settle` but for the number of entries.
+    pub fn answer_finding(&self, look: &LookData, finding: &Finding) -> Reply
+        requires look { (o : Opening) × (H : List EntryData) × LeadsTo o H self.now ×
             IsLookAt o H look.now }
         requires found { IsFoundFor self.now.q look.now finding.now }
-        ensures replies { (o : Opening) (H : List Entry) → LeadsTo o H self.now →
+        ensures replies { (o : Opening) (H : List EntryData) → LeadsTo o H self.now →
+            IsLookAt o H look.now → Replies o H (asked_for look.now.number finding.now) result }
+        ensures legal { (o : Opening) (H : List EntryData) (seat : ℕ) → LeadsTo o H self.now →
+            IsLookAt o H look.now → IsLegal o H → IsSeat seat →
+            IsLegal o (with_entry H seat (asked_for look.now.number finding.now) result) }
+        ensures kept { KeepsFinding finding.now result }
+    {
+        self.reply_to(look, finding)
+    }
+
+    /// The reply to a finding that is right as the game stands.
+    fn reply_to(&self, look: &LookData, finding: &Finding) -> Reply
+        requires look { (o : Opening) × (H : List EntryData) × LeadsTo o H self.now ×
+            IsLookAt o H look.now }
+        requires found { IsFoundFor self.now.q look.now finding.now }
+        ensures replies { (o : Opening) (H : List EntryData) → LeadsTo o H self.now →
             IsLookAt o H look.now → Replies o H (asked_for look.now.number finding.now) result }
         ensures kept { KeepsFinding finding.now result }
     {
@@ -311,21 +407,32 @@ impl Game {
         ensures next { IsNext self.old (GiftRequest v dollars) (reply_of result self.new) self.new }
     {
         self.entries += 1;
-        let v = usize::from(v);
-        if v >= self.graph.size() {
-            return Outcome::Refused(Refusal::NoVertex);
-        }
-        if dollars == 0 || !(-MAX_GIFT..=MAX_GIFT).contains(&dollars) {
-            return Outcome::Refused(Refusal::Gift);
-        }
-        match self.amounts.with_more(v, dollars) {
-            Some(amounts) => {
+        match self.after_gift(v, dollars) {
+            Ok(amounts) => {
                 self.gifts += 1;
                 self.amounts = amounts;
                 Outcome::Given
             }
-            None => Outcome::Refused(Refusal::Range),
+            Err(refusal) => Outcome::Refused(refusal),
         }
+    }
+
+    /// The amounts after a gift, or why it is refused.
+    fn after_gift(&self, v: u8, dollars: i64) -> Result<Divisor, Refusal>
+        ensures { MatchResult result
+            (λ d. RepliesToGift (position_of self.now) self.now.gifts v dollars
+            (Given (self.now.gifts + 1) d))
+            (λ refusal. RepliesToGift (position_of self.now) self.now.gifts v dollars
+            (Refused refusal)) }
+    {
+        let v = usize::from(v);
+        if v >= self.graph.size() {
+            return Err(Refusal::NoVertex);
+        }
+        if dollars == 0 || !(-MAX_GIFT..=MAX_GIFT).contains(&dollars) {
+            return Err(Refusal::Gift);
+        }
+        self.amounts.with_more(v, dollars).ok_or(Refusal::Range)
     }
 
     /// Adds an edge between two vertices, where that is not refused.

@@ -134,13 +134,12 @@ impl<N: Name> Held<N> {
             RefusesStep N.start N.seats (length N.cells) self.old.entries seat.old self.old.stuck self.new.stuck f) }
     {
         self.ready(log, seat)?;
-        let mut game = self.game;
         let mut slot = slot;
         let entry = &mut *slot;
         entry.seat = seat.number();
         entry.request = plain.request();
-        entry.reply = game.act(plain);
-        self.enter(log, seat, slot, &game)
+        entry.reply = self.game.answer(&plain);
+        self.enter(log, seat, slot)
     }
 
     /// Asks for a call at the position found, once: a move, or none, which claims. Answers it, enters it as the last of the
@@ -166,14 +165,13 @@ impl<N: Name> Held<N> {
             self.old.stuck self.new.stuck choose.old choose.new f) }
     {
         self.ready(log, seat)?;
-        let mut game = self.game;
-        let chosen = call_for(choose(game.graph(), game.position()));
+        let chosen = call_for(choose(self.game.graph(), self.game.position()));
         let mut slot = slot;
         let entry = &mut *slot;
         entry.seat = seat.number();
         entry.request = chosen.request();
-        entry.reply = game.act(chosen);
-        self.enter(log, seat, slot, &game)
+        entry.reply = self.game.answer(&chosen);
+        self.enter(log, seat, slot)
     }
 
     /// Enters a finding on a look as the last of the history, gives the seat its receipt, and tells the seat of the
@@ -202,13 +200,12 @@ impl<N: Name> Held<N> {
             self.old.stuck self.new.stuck f) }
     {
         self.ready_on(log, seat, look)?;
-        let mut game = self.game;
         let mut slot = slot;
         let entry = &mut *slot;
         entry.seat = seat.number();
         entry.request = finding.request(shown.number);
-        entry.reply = game.settle(shown, finding);
-        let receipt = self.enter(log, seat, slot, &game)?;
+        entry.reply = self.game.answer_finding(shown, finding);
+        let receipt = self.enter(log, seat, slot)?;
         seat.hear(look);
         Ok(receipt)
     }
@@ -232,21 +229,18 @@ impl<N: Name> Held<N> {
         Ok(())
     }
 
-    /// Enters what is in the box as the last entry of the history, with the game that it leads to, and gives the seat its
-    /// receipt.
+    /// Enters what is in the box as the last entry of the history, which the game follows, and gives the seat its receipt.
     fn enter(
         &mut self,
         log: &Log<N>,
         seat: &mut Seat<N>,
         slot: Box<Entry>,
-        game: &Game,
     ) -> Result<Receipt<N>, Fault>
         requires space { seat.old.space ≡ true }
         requires ready { IsReady (length N.cells) self.old.entries seat.old }
         requires seat { slot.value.seat ≡ seat.old.number }
         requires replies { Replies N.start self.old.entries slot.value.request slot.value.reply }
         requires legal { IsLegal N.start (self.old.entries ++ slot.value ∷ []) }
-        requires leads { LeadsTo N.start (self.old.entries ++ slot.value ∷ []) game.now }
         ensures entered { IfOk result (λ r.
             IsAnsweredAfter N.start N.seats (length N.cells) self.old.entries slot.value.request r seat.old seat.new ×
             (self.new ≡ record { entries = self.old.entries ++ r.1 ∷ []; stuck = false })) }
@@ -261,8 +255,9 @@ impl<N: Name> Held<N> {
             return Err(Fault::Log);
         };
         let place = usize::from(seat.number - 1);
-        keep_look(&mut seat.look, &self.game, log.entry(&receipt));
-        self.game = *game;
+        let entry = log.entry(&receipt);
+        keep_look(&mut seat.look, &self.game, entry);
+        self.game.follow(entry);
         self.counts[place] += 1;
         seat.past = self.pen.past();
         seat.mine.push(receipt.again()).unwrap();

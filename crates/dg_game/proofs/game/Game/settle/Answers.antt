@@ -1,17 +1,11 @@
 use Rattle.std.proofs.Common.{sym}
-use Rattle.dg_game.proofs.LegalLaws.{legal_more, back_for}
 use Rattle.dg_game.proofs.StateLaws.{leads_more}
 use Rattle.dg_game.proofs.LookLaws.{settled_next}
 use Rattle.dg_game.proofs.game.Game.settle.Goals as goal
 
 pub returns-clause-leads : goal.returns-clause-leads
 returns-clause-leads c = λ o H seat leads look.
-    let right = c.reply_to-reply.ensures.replies o H leads look in
+    let right = c.answer_finding-reply.ensures.replies o H leads look in
     leads_more o H c.args.self.now _ _ leads right
     (rw (sym c.self.view_is)
-    (settled_next o H _ c.args.look.now.number c.args.finding.now c.reply_to-reply.result right))
-
-pub returns-clause-legal : goal.returns-clause-legal
-returns-clause-legal c = λ o H seat leads look legal is.
-    legal_more o H _ legal is (back_for o H c.args.look.now c.args.finding.now look)
-    (c.reply_to-reply.ensures.replies o H leads look)
+    (settled_next o H _ c.args.look.now.number c.args.finding.now c.answer_finding-reply.result right))

@@ -1,10 +1,18 @@
 use Rattle.std.proofs.Common.{◌≡◌, ℕ, [], ◌∷◌, ◌++◌, length, arith, refl, sym, ap, subst, ◌∙◌}
 use Rattle.dg_game.specs.Replies.{Replies}
+use Rattle.dg_game.specs.State.{LeadsTo}
 use Rattle.dg_game.specs.declared.entry.Entry.{Entry}
 use Rattle.dg_log.specs.Written.{Written}
 use Rattle.dg_table.specs.Lock.{IsKeptLook}
 use Rattle.dg_table.proofs.Steps.{held_more, history_more, kept_more, answered}
 use Rattle.dg_table.proofs.held.Held.enter.Goals as goal
+
+pub follow-requires-clause-right : goal.follow-requires-clause-right
+follow-requires-clause-right g c =
+    let e : Entry = c.args.slot.value in
+    let replies = rw (← c.self.view_is) at c.requires.replies in
+    let entry : c.entry-entry.result.now ≡ e = c.entry-entry.ensures ∙ ap (λ (r : ℕ × Entry). r.1) c.in-Ok.ensures.0 in
+    (g.N.Name.start, c.self.inside.pen.entries, c.self.invariant.0.game', rw entry replies)
 
 pub invariant_of-self-2 : goal.invariant_of-self-2
 invariant_of-self-2 g c =
@@ -12,7 +20,12 @@ invariant_of-self-2 g c =
     let history : c.put.new.self.entries ≡ c.self.inside.pen.entries ++ e ∷ [] =
     ap (λ (w : Written). w.entries) c.in-Ok.ensures.1 in
     let legal = rw (← c.self.view_is) at c.requires.legal in
-    let leads = rw (← c.self.view_is) at c.requires.leads in
+    let replies = rw (← c.self.view_is) at c.requires.replies in
+    let entry : c.entry-entry.result.now ≡ e = c.entry-entry.ensures ∙ ap (λ (r : ℕ × Entry). r.1) c.in-Ok.ensures.0 in
+    let H = c.self.inside.pen.entries in
+    let shown = subst (λ (x : Entry). Replies g.N.Name.start H x.request x.reply) (sym entry) replies in
+    let leads = subst (λ (x : Entry). LeadsTo g.N.Name.start (H ++ x ∷ []) c.follow.new.self) entry
+    (c.follow.ensures.leads g.N.Name.start H c.self.invariant.0.game' shown) in
     let own : e.seat ≡ c.seat.inside.number = rw (← c.seat.view_is) at c.requires.seat in
     let seated = c.seat.invariant in (
       rw history (held_more e c.from-place.result _ c.self.invariant.0 legal leads
@@ -32,7 +45,7 @@ invariant_of-seat g c =
     let legal = rw (← c.self.view_is) at c.requires.legal in
     let replies = rw (← c.self.view_is) at c.requires.replies in
     let own : e.seat ≡ c.seat.inside.number = rw (← c.seat.view_is) at c.requires.seat in
-    let entry : c.entry.result.now ≡ e = c.entry.ensures ∙ ap (λ (r : ℕ × Entry). r.1) receipt in
+    let entry : c.entry-entry.result.now ≡ e = c.entry-entry.ensures ∙ ap (λ (r : ℕ × Entry). r.1) receipt in
     let shown = subst (λ (x : Entry). Replies g.N.Name.start H x.request x.reply) (sym entry) replies in
     let seen =
     subst (λ (x : Entry). IsKeptLook g.N.Name.start
