@@ -1,13 +1,17 @@
 //! Entering what was reckoned on a look.
 ghost use Rattle.std.specs.Prelude.{◌≡◌, length, IfOk, IfErr};
+ghost use Rattle.dg_verdict.specs.declared.verdict.Verdict.{Verdict as VerdictData};
+ghost use Rattle.dg_analyst.specs.Views.{IsJudged};
 ghost use Rattle.dg_table.specs.Faults.{RefusesCall};
 ghost use Rattle.dg_table.specs.Seats.{Keeps};
 ghost use Rattle.dg_table.specs.Settled.{IsSettled};
 
+use crate::looks::Look;
 use crate::reckoning::{Reckoned, Tried};
 use dg_game::Finding;
 use dg_log::{Name, Receipt};
 use dg_table::{Fault, Seat, Table};
+use dg_verdict::judge_aimed;
 use std::alloc::Global;
 use std::sync::Wait;
 
@@ -37,6 +41,30 @@ pub fn commit<N: Name>(
         Ok(receipt) => Ok(receipt),
         Err(fault) => Err((reckoned, fault)),
     }
+}
+
+/// Reckons the verdict on a look, by the aim of the table, and enters it, as `reckon_aimed` and `commit` do one after the
+/// other. The look stays the caller's.
+///
+/// It waits and is refused as `commit`; then the seat knows what it knew, and there is no entry.
+pub fn commit_look<N: Name>(
+    table: &Table<N>,
+    rt: &impl Wait,
+    alloc: Global,
+    seat: &mut Seat<N>,
+    look: &Look<N>,
+) -> Result<Receipt<N>, Fault>
+    ensures settled { (v : VerdictData) × IsJudged N.start.q look.now v ×
+        IfOk result (λ r. IsSettled N.start N.seats (length N.cells) look.now.receipt
+        look.now.shown (Finding.Judged v) r seat.old seat.new) }
+    ensures fault { IfErr result (λ f. Keeps seat.old seat.new ×
+        RefusesCall N.start N.seats (length N.cells) seat.new f) }
+{
+    let shown = &look.shown;
+    let q = usize::from(look.q);
+    let verdict = judge_aimed(&shown.graph, table.aim(), q, &shown.position);
+    let finding = Finding::Judged(verdict);
+    table.settle(rt, alloc, seat, &look.receipt, shown, &finding)
 }
 
 /// Enters the answer of a rank test on a look: as stale just where gifts, levies or joins were accepted since the look;

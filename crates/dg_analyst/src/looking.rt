@@ -28,14 +28,14 @@ pub fn look<N: Name>(
         RefusesCall N.start N.seats (length N.cells) seat.new f) }
 {
     let receipt = table.call(rt, alloc, seat, Plain::Look)?;
-    let Some(shown) = seat.look_data() else {
+    let Some(shown) = seat.last_look() else {
         unreachable!()
     };
     let start = table.start();
     let _graph = start.graph();
     Ok(Look {
         receipt,
-        shown,
+        shown: *shown,
         q: start.q(),
     })
 }

@@ -9,7 +9,7 @@ ghost use Rattle.dg_session.specs.SoFar.{speaker, Tells, Hears, Obeys};
 
 use crate::addressing::Addressing;
 use crate::ends::SessionEnd;
-use dg_analyst::{Look, commit, commit_rank, look, reckon_aimed, try_rank};
+use dg_analyst::{Look, commit_look, commit_rank, look, try_rank};
 use dg_file::Names;
 use dg_game::{Command, Plain};
 use dg_lines::{LineFault, parse_line, push_entry};
@@ -183,14 +183,16 @@ fn enter_verdict<N: Name, R: Threads + Wait>(
     ensures { Obeys (setup shared.now.how N.start N.seats (length N.cells) shared.now.names.now)
         Commit (speaker seat.old kept.old said.old) (speaker seat.new kept.new said.new) result }
 {
-    let Some(look) = kept.take() else {
+    let Some(look) = kept else {
         return said.say(b"bad look\n");
     };
     let _receipt = look.receipt();
-    let reckoned = reckon_aimed(look, shared.table.aim());
-    match commit(shared.table, shared.rt, shared.alloc, seat, reckoned) {
-        Ok(receipt) => said.say_entry(shared.table, shared.names, &receipt),
-        Err((_, fault)) => Err(SessionEnd::Table(fault)),
+    match commit_look(shared.table, shared.rt, shared.alloc, seat, look) {
+        Ok(receipt) => {
+            *kept = None;
+            said.say_entry(shared.table, shared.names, &receipt)
+        }
+        Err(fault) => Err(SessionEnd::Table(fault)),
     }
 }
 

@@ -1,5 +1,5 @@
 //! Seats: who calls a table, and what they know of its history.
-ghost use Rattle.std.specs.Prelude.{◌≡◌, ◌≤◌, [], ◌∷◌, ◌++◌, length, true, None, IfOk, IfSome, MatchResult};
+ghost use Rattle.std.specs.Prelude.{◌≡◌, ◌≤◌, [], ◌∷◌, ◌++◌, length, true, None, Some, IfOk, IfSome, MatchOption, MatchResult};
 ghost use Rattle.dg_table.specs.Histories.{HasPast};
 ghost use Rattle.dg_table.specs.Looks.{HasVertices, IsLastLook};
 ghost use Rattle.dg_table.specs.Opened.{MayHaveSeats, AreFresh};
@@ -105,6 +105,14 @@ impl<N: Name> Seat<N> {
         ensures vertices { IfSome result (HasVertices N.start.graph.size) }
     {
         self.look
+    }
+
+    /// The same where it lies.
+    pub fn last_look(&self) -> Option<&LookData>
+        ensures { MatchOption result (IsLastLook self.now.mine None)
+            (λ x. IsLastLook self.now.mine (Some x.now) × HasVertices N.start.graph.size x.now) }
+    {
+        self.look.as_ref()
     }
 
     /// Tells the seat of an entry; each later call then comes after it in the history.

@@ -1,7 +1,7 @@
 //! Calls one after another, and what they are answered.
 use crate::game::triangle;
 use dg_chips::{Divisor, Move, Start};
-use dg_game::{Game, Outcome, Plain, Refusal, Reply};
+use dg_game::{Entry, Game, Outcome, Plain, Refusal, Reply};
 use std::test::Fail;
 
 #[test]
@@ -79,6 +79,46 @@ fn calls_come_to_outcomes(rt: HostRuntime) -> Result<(), Fail> {
         let told = game.take(plain);
         assert!(rt; told == *outcome, "call {i}");
         assert!(rt; game.reply(told) == *reply, "call {i}");
+    }
+    Ok(())
+}
+
+// The reply to the first call after the start, and the game that follows its entry.
+fn followed(start: &Start, plain: &Plain) -> (Reply, Game) {
+    let mut game = Game::new(start);
+    let entry = Entry {
+        seat: 1,
+        request: plain.request(),
+        reply: game.answer(plain),
+    };
+    game.follow(&entry);
+    (entry.reply, game)
+}
+
+#[test]
+fn games_follow_entries(rt: HostRuntime) -> Result<(), Fail> {
+    let graph = triangle()?;
+    let joined = graph.join(0, 1)?;
+    let before = Divisor::new(&graph, &[2, -1, -1])?;
+    let lent = Divisor::new(&graph, &[0, 0, 0])?;
+    let given = Divisor::new(&graph, &[2, 4, -1])?;
+    let start = Start::new(graph, before, 0)?;
+    let rows = [
+        (Plain::Move(Move::Lend(0)), Reply::Moved(lent), 0, lent),
+        (Plain::Gift(1, 5), Reply::Given(1, given), 1, given),
+        (Plain::Join(0, 1), Reply::Joined(1, before), 1, before),
+        (Plain::Join(0, 0), Reply::Refused(Refusal::Loop), 0, before),
+        (Plain::Look, Reply::Looked(0, before, graph), 0, before),
+        (Plain::Claim, Reply::NotWon, 0, before),
+    ];
+    for (i, (plain, reply, gifts, amounts)) in rows.iter().enumerate() {
+        let (answered, game) = followed(&start, plain);
+        assert!(rt; answered == *reply, "call {i}");
+        assert_eq!(rt; game.entries(), 1);
+        assert_eq!(rt; game.gifts(), *gifts);
+        assert!(rt; *game.position() == *amounts, "call {i}");
+        let has_joined = matches!(reply, Reply::Joined(_, _));
+        assert!(rt; (*game.graph() == joined) == has_joined, "call {i}");
     }
     Ok(())
 }

@@ -61,9 +61,9 @@ const CASES: [Carried; 5] = [
     },
 ];
 
-// The reply to a verdict on the start that is entered after a look and a call, with this drift in the look's data; or
-// `None` where the verdict is not right.
-fn settled(start: &Start, call: Plain, drift: &Drift, verdict: &Verdict) -> Option<Reply> {
+// The reply to a verdict on the start after a look and a call, with this drift in the look's data: as it is answered, and
+// as it is entered. `None` where the verdict is not right.
+fn settled(start: &Start, call: Plain, drift: &Drift, verdict: &Verdict) -> Option<[Reply; 2]> {
     let mut game = Game::new(start);
     let look = LookData {
         drift: *drift,
@@ -75,7 +75,10 @@ fn settled(start: &Start, call: Plain, drift: &Drift, verdict: &Verdict) -> Opti
     if !check(&look.graph, q, &look.position, verdict) {
         return None;
     }
-    Some(game.settle(&look, &Finding::Judged(*verdict)))
+    let finding = Finding::Judged(*verdict);
+    let answered = game.answer_finding(&look, &finding);
+    let entered = game.settle(&look, &finding);
+    Some([answered, entered])
 }
 
 /// The verdict with this script and order that wins with no dollar left.
@@ -102,15 +105,15 @@ fn verdicts_are_carried_along(rt: HostRuntime) -> Result<(), Fail> {
         let verdict = won_by(&graph, &case.script, case.order)?;
         let entered = won_by(&graph, &case.carried, case.order)?;
         for drift in [Drift::zero(&graph), odd] {
-            let reply = settled(&start, case.call, &drift, &verdict);
+            let replies = settled(&start, case.call, &drift, &verdict);
             assert!(rt;
-                reply == Some(Reply::Verdict(entered)),
+                replies == Some([Reply::Verdict(entered); 2]),
                 "{:?}",
                 case.carried
             );
         }
-        let reply = settled(&start, Plain::Gift(1, 1), &odd, &verdict);
-        assert!(rt; reply == Some(Reply::Stale(1)), "{:?}", case.carried);
+        let replies = settled(&start, Plain::Gift(1, 1), &odd, &verdict);
+        assert!(rt; replies == Some([Reply::Stale(1); 2]), "{:?}", case.carried);
     }
     Ok(())
 }

@@ -7,16 +7,16 @@ use Rattle.dg_game_tests.proofs.game.verdicts.settled.Goals as goal
 pub act-requires-2 : goal.act-requires-2
 act-requires-2 c = omega (arith, (c.act.ensures.leads c.args.start.now [] 1 c.new-game.ensures).entries)
 
-pub settle-requires-clause-room : goal.settle-requires-clause-room
-settle-requires-clause-room c =
+pub settle-entered-requires-clause-room : goal.settle-entered-requires-clause-room
+settle-entered-requires-clause-room c =
     omega (
       arith,
       (c.act-2.ensures.leads c.args.start.now _ 1
           (c.act.ensures.leads c.args.start.now [] 1 c.new-game.ensures)).entries,
     )
 
-pub settle-requires-clause-look : goal.settle-requires-clause-look
-settle-requires-clause-look c =
+pub answer_finding-answered-requires-clause-look : goal.answer_finding-answered-requires-clause-look
+answer_finding-answered-requires-clause-look c =
     let first = c.act.ensures.leads c.args.start.now [] 1 c.new-game.ensures in
     let second = c.act-2.ensures.leads c.args.start.now _ 1 first in
     let x : LookData = record c.look_data.result { drift = c.args.drift.now } in (
@@ -28,8 +28,28 @@ settle-requires-clause-look c =
           c.look_data.ensures.number c.look_data.ensures.gifts c.look_data.ensures.graph c.look_data.ensures.position),
     )
 
-pub settle-requires-clause-found : goal.settle-requires-clause-found
-settle-requires-clause-found c =
+pub answer_finding-answered-requires-clause-found : goal.answer_finding-answered-requires-clause-found
+answer_finding-answered-requires-clause-found c =
+    let second = c.act-2.ensures.leads c.args.start.now _ 1
+    (c.act.ensures.leads c.args.start.now [] 1 c.new-game.ensures) in
+    let q : c.from-q.result ≡ c.act-2.new.self.q = c.from-q.ensures ∙ c.q.ensures ∙ sym second.q in
+    rw (← q) c.if-not-check.ensures
+
+pub settle-entered-requires-clause-look : goal.settle-entered-requires-clause-look
+settle-entered-requires-clause-look c =
+    let first = c.act.ensures.leads c.args.start.now [] 1 c.new-game.ensures in
+    let second = c.act-2.ensures.leads c.args.start.now _ 1 first in
+    let x : LookData = record c.look_data.result { drift = c.args.drift.now } in (
+      c.args.start.now,
+      _,
+      second,
+      look_kept c.args.start.now _ _ x
+          (look_new c.args.start.now [] c.new-game.result _ x c.new-game.ensures refl
+          c.look_data.ensures.number c.look_data.ensures.gifts c.look_data.ensures.graph c.look_data.ensures.position),
+    )
+
+pub settle-entered-requires-clause-found : goal.settle-entered-requires-clause-found
+settle-entered-requires-clause-found c =
     let second = c.act-2.ensures.leads c.args.start.now _ 1
     (c.act.ensures.leads c.args.start.now [] 1 c.new-game.ensures) in
     let q : c.from-q.result ≡ c.act-2.new.self.q = c.from-q.ensures ∙ c.q.ensures ∙ sym second.q in
