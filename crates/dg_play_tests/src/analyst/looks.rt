@@ -3,7 +3,7 @@
 use crate::gates::Counts;
 use crate::openings::{Scene, on_a_table};
 use crate::tables::{triangle, winnable};
-use dg_analyst::{commit, commit_rank, look, reckon, reckon_aimed, try_rank};
+use dg_analyst::{commit, commit_look, commit_rank, look, reckon, reckon_aimed, try_rank};
 use dg_chips::{Divisor, Move};
 use dg_game::{Plain, Reply};
 use dg_log::Name;
@@ -32,7 +32,7 @@ fn findings_are_entered_on_what_is_found(rt: HostRuntime) -> Result<(), Fail> {
         (&owing, Scene::TooMuch),
         (&owing, Scene::Drift),
     ] {
-        on_a_table(&rt, rt.alloc(), 3, start, 2, scene)?;
+        on_a_table(&rt, rt.alloc(), 5, start, 2, scene)?;
     }
     Ok(())
 }
@@ -51,6 +51,9 @@ pub(crate) fn judged<N: Name, R: Wait + Abort>(
     assert_eq!(rt; (taken.receipt().number(), taken.gifts()), (0, 0));
     assert!(rt; *taken.position() == *table.start().divisor());
     assert_eq!(rt; taken.graph().size(), 3);
+    let kept = first.last_look().ok_or("a look")?;
+    assert_eq!(rt; (kept.number, kept.gifts), (0, 0));
+    assert!(rt; kept.position == *taken.position());
     let reckoned = reckon(taken);
     assert!(rt; reckoned.verdict().winnable);
     table.call(rt, alloc, second, between)?;
@@ -59,7 +62,19 @@ pub(crate) fn judged<N: Name, R: Wait + Abort>(
         .ok_or("an entry")?;
     assert_eq!(rt; receipt.number(), 2);
     assert!(rt; table.log().entry(&receipt).reply == reply);
+    let taken = look(table, rt, alloc, second)?;
+    let receipt = commit_look(table, rt, alloc, first, &taken)?;
+    assert_eq!(rt; (taken.receipt().number(), receipt.number()), (3, 4));
+    assert!(rt; is_won(&table.log().entry(&receipt).reply));
     Ok(())
+}
+
+// Whether it tells of a verdict by which the position can be won.
+fn is_won(reply: &Reply) -> bool {
+    match reply {
+        Reply::Verdict(verdict) => verdict.winnable,
+        _ => false,
+    }
 }
 
 // The same with a rank test by two workers, each of which enters the gate; the move between leaves its answer as it was.
