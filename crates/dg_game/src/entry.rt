@@ -5,7 +5,7 @@ ghost use Rattle.dg_game.specs.Schedule.{asked};
 
 use dg_chips::{Divisor, Move, MoveFault};
 use dg_graph::{Graph, JoinFault};
-use dg_rank::RankVerdict;
+use dg_ranked::RankVerdict;
 use dg_verdict::Verdict;
 
 /// The most seats of a table: they are numbered from 1 up to this.

@@ -2,13 +2,14 @@
 ghost use Rattle.std.specs.Prelude.{◌≡◌, ℕ, ◌<◌, MatchResult};
 ghost use Rattle.dg_rank.specs.Limits.{IsPastLimits};
 ghost use Rattle.dg_rank.specs.Ranks.{IsWithin};
-ghost use Rattle.dg_rank.specs.declared.rank_verdict.RankFault.TheVariants.{TooMany};
+ghost use Rattle.dg_rank.specs.declared.rank_fault.RankFault.TheVariants.{TooMany};
 ghost use Rattle.dg_game.specs.Look.{IsFoundFor, asked_for};
 ghost use Rattle.dg_game.specs.declared.entry.Request.TheVariants.{Judge as JudgeRequest, Rank as RankRequest};
 
 use crate::entry::Request;
 use crate::look::LookData;
-use dg_rank::{RankFault, RankVerdict, rank_at_least};
+use dg_rank::{RankFault, rank_at_least};
+use dg_ranked::RankVerdict;
 use dg_reduce::Aim;
 use dg_verdict::{Verdict, judge_aimed};
 

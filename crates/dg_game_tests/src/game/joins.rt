@@ -3,7 +3,7 @@ use crate::game::{call, commit, triangle};
 use dg_chips::{Divisor, Move, Script, Start, Wide};
 use dg_game::{Command, Game, Plain, Refusal, Reply, Step, rehearse};
 use dg_graph::Graph;
-use dg_rank::RankVerdict;
+use dg_ranked::RankVerdict;
 use dg_verdict::Verdict;
 use std::test::Fail;
 

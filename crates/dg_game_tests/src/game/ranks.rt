@@ -3,7 +3,7 @@ use crate::game::{call, commit, rank, triangle};
 use dg_chips::{Divisor, Move, Start};
 use dg_game::{Command, Entry, Plain, RehearseFault, Reply, Request, Step, rehearse};
 use dg_graph::Graph;
-use dg_rank::RankVerdict;
+use dg_ranked::RankVerdict;
 use std::test::Fail;
 
 const LOOK: Step = Step {
