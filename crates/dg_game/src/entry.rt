@@ -1,7 +1,7 @@
 //! Entries of a history: what was asked, and what was answered.
 ghost use Rattle.std.specs.Prelude.{◌≡◌};
 ghost use Rattle.dg_game.specs.Refusals.{refusal_for, join_refusal_for};
-ghost use Rattle.dg_game.specs.Schedule.{asked};
+ghost use Rattle.dg_game.specs.Requests.{asked};
 
 use dg_chips::{Divisor, Move, MoveFault};
 use dg_graph::{Graph, JoinFault};

@@ -1,8 +1,9 @@
 //! Schedules that enter verdicts on looks.
 use crate::game::{call, commit, triangle};
 use dg_chips::{Divisor, Move, Script, Start, Wide};
-use dg_game::{Command, Plain, RehearseFault, Reply, Request, Step, rehearse};
+use dg_game::{Command, Plain, Reply, Request, Step};
 use dg_graph::Graph;
+use dg_rehearsal::{RehearseFault, rehearse};
 use dg_verdict::Verdict;
 use std::test::Fail;
 

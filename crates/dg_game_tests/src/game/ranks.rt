@@ -1,9 +1,10 @@
 //! Schedules that enter rank tests on looks.
 use crate::game::{call, commit, rank, triangle};
 use dg_chips::{Divisor, Move, Start};
-use dg_game::{Command, Entry, Plain, RehearseFault, Reply, Request, Step, rehearse};
+use dg_game::{Command, Entry, Plain, Reply, Request, Step};
 use dg_graph::Graph;
 use dg_ranked::RankVerdict;
+use dg_rehearsal::{RehearseFault, rehearse};
 use std::test::Fail;
 
 const LOOK: Step = Step {

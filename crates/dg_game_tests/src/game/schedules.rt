@@ -1,9 +1,8 @@
 //! Schedules of calls, and those that are refused for a seat or for their length.
 use crate::game::{call, triangle};
 use dg_chips::{Divisor, Move, Start};
-use dg_game::{
-    Entry, MAX_ENTRIES, Outcome, Plain, Rehearsal, RehearseFault, Reply, Request, rehearse,
-};
+use dg_game::{Entry, MAX_ENTRIES, Outcome, Plain, Reply, Request};
+use dg_rehearsal::{Rehearsal, RehearseFault, rehearse};
 use std::test::Fail;
 
 fn start() -> Result<Start, Fail> {

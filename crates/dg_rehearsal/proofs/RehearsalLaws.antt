@@ -1,4 +1,5 @@
 -- A schedule goes on by a step.
+--   entries_more   where the entries are those of the first steps, one more of the next step keeps them so
 --   good_more      with one more good step all steps so far are good
 --   playing_none   before the first step the schedule is in play
 --   playing_more   one more entry that the next step asks for, and the looks kept after it, play the schedule on
@@ -22,9 +23,10 @@ use Rattle.dg_chips.specs.Opening.{Opening}
 use Rattle.dg_rank.specs.Limits.{IsPastLimits}
 use Rattle.dg_game.specs.Legal.{IsSeat, IsLegal}
 use Rattle.dg_game.specs.Look.{asked_for}
-use Rattle.dg_game.specs.Rehearsal.{KeepsLook, IsPlaying}
-use Rattle.dg_game.specs.Schedule.{asked, UsesUp, UsesLook, IsKept, IsAsked, IsEntryOf}
-use Rattle.dg_game.specs.ScheduleFaults.{HasLook, HasTrials, IsGood, AreGoodBefore, IsFirstFault}
+use Rattle.dg_rehearsal.specs.Rehearsal.{KeepsLook, IsPlaying}
+use Rattle.dg_game.specs.Requests.{asked}
+use Rattle.dg_rehearsal.specs.Schedule.{UsesUp, UsesLook, IsKept, IsAsked, IsEntryOf}
+use Rattle.dg_rehearsal.specs.ScheduleFaults.{HasLook, HasTrials, IsGood, AreGoodBefore, IsFirstFault}
 use Rattle.dg_game.specs.State.{LeadsTo}
 use Rattle.dg_game.specs.declared.entry.Entry.{Entry}
 use Rattle.dg_game.specs.declared.entry.Plain.{Plain}
@@ -33,14 +35,29 @@ use Rattle.dg_game.specs.declared.entry.Reply.{Reply}
 use Rattle.dg_game.specs.declared.finding.Finding.{Finding}
 use Rattle.dg_game.specs.declared.game.TheConstants.{MAX_ENTRIES}
 use Rattle.dg_game.specs.declared.look.LookData.{LookData}
-use Rattle.dg_game.specs.declared.schedule.Rehearsal.{Rehearsal}
-use Rattle.dg_game.specs.declared.schedule.RehearseFault.TheVariants.{NoLook, TooMany}
+use Rattle.dg_rehearsal.specs.declared.schedule.Rehearsal.{Rehearsal}
+use Rattle.dg_rehearsal.specs.declared.schedule.RehearseFault.TheVariants.{NoLook, TooMany}
 use Rattle.dg_game.specs.declared.step.Command.{Command}
 use Rattle.dg_game.specs.declared.step.Command.TheVariants.{Call, Commit, Rank}
 use Rattle.dg_game.specs.declared.step.Step.{Step}
-use Rattle.dg_game.proofs.LegalLaws.{legal_none, entries_more}
-use Rattle.dg_game.proofs.KeptLaws.{keeps_more, keeps_new, keeps_none}
+use Rattle.dg_game.proofs.ListLaws.{more_holds}
+use Rattle.dg_game.proofs.LegalLaws.{legal_none}
+use Rattle.dg_rehearsal.proofs.KeptLaws.{keeps_more, keeps_new, keeps_none}
 use Rattle.dg_game.proofs.LookLaws.{look_new}
+
+entries_more : (steps : List Step) (H : List Entry) (step : Step) (e : Entry) →
+    slice_get steps (length H) ≡ Some step →
+    IsEntryOf steps (length H) step e →
+    ((j : ℕ) (s : Step) (x : Entry) → slice_get steps j ≡ Some s → slice_get H j ≡ Some x → IsEntryOf steps j s x) →
+    (j : ℕ) (s : Step) (x : Entry) → slice_get steps j ≡ Some s → slice_get (H ++ e ∷ []) j ≡ Some x →
+    IsEntryOf steps j s x
+entries_more steps H step e there new before j s x step_at at = elim (more_holds H e j x at) [
+  | inl old ↦ before j s x step_at old.1
+  | inr last ↦
+      let same : Some s ≡ Some step = sym step_at ∙ ap (slice_get steps) last.0 ∙ there in
+      let step_is : s ≡ step = (cc) in
+      rw (last.0, step_is, last.1) new
+]
 
 good_more : (size : ℕ) (steps : List Step) (n : ℕ) (step : Step) → slice_get steps n ≡ Some step →
     IsGood size steps n step →
@@ -62,12 +79,13 @@ pub playing_more : (o : Opening) (H : List Entry) (steps : List Step) (r t : Reh
     IsPlaying o steps H r →
     slice_get steps (length H) ≡ Some step → IsGood o.graph.size steps (length H) step →
     IsEntryOf steps (length H) step e →
-    IsLegal o (H ++ e ∷ []) → LeadsTo o (H ++ e ∷ []) t.game → length t.looks ≡ 65 →
+    IsLegal o (H ++ e ∷ []) → LeadsTo o (H ++ e ∷ []) t.game → t.q ≡ r.q → length t.looks ≡ 65 →
     AreLooks o (H ++ e ∷ []) steps t.looks → IsPlaying o steps (H ++ e ∷ []) t
-playing_more o H steps r t step e playing there good asks legal leads places looks =
+playing_more o H steps r t step e playing there good asks legal leads q places looks =
     let longer : length (H ++ e ∷ []) ≡ length H + 1 = omega (arith, length-append H (e ∷ [])) in
     record {
       leads = leads;
+      q = q ∙ playing.q;
       legal = legal;
       good = rw longer (good_more o.graph.size steps (length H) step there good playing.good);
       entries = entries_more steps H step e there asks playing.entries;
@@ -133,13 +151,13 @@ pub called : (o : Opening) (H : List Entry) (steps : List Step) (r t : Rehearsal
     IsPlaying o steps H r → slice_get steps (length H) ≡ Some (record { seat = seat; command = Call p }) → IsSeat seat →
     IsLegal o (H ++ (record { seat = seat; request = asked p; reply = reply }) ∷ []) →
     LeadsTo o (H ++ (record { seat = seat; request = asked p; reply = reply }) ∷ []) t.game →
-    length t.looks ≡ 65 →
+    t.q ≡ r.q → length t.looks ≡ 65 →
     AreLooks o (H ++ (record { seat = seat; request = asked p; reply = reply }) ∷ []) steps t.looks →
     IsPlaying o steps (H ++ (record { seat = seat; request = asked p; reply = reply }) ∷ []) t
-called o H steps r t seat p reply playing there is legal leads places looks =
+called o H steps r t seat p reply playing there is legal leads q places looks =
     playing_more o H steps r t (record { seat = seat; command = Call p })
     (record { seat = seat; request = asked p; reply = reply })
-    playing there (is, tt, tt) (record { seat = refl; request = refl }) legal leads places looks
+    playing there (is, tt, tt) (record { seat = refl; request = refl }) legal leads q places looks
 
 has_look : (steps : List Step) (seat j i : ℕ) (c : Command) → IsKept steps seat j i → HasLook steps seat j c
 has_look steps seat j i (Call p) kept = tt
@@ -154,20 +172,21 @@ pub entered : (o : Opening) (H : List Entry) (steps : List Step) (r t : Rehearsa
     IsAsked steps seat (length H) c (asked_for x.number finding) →
     IsLegal o (H ++ (record { seat = seat; request = asked_for x.number finding; reply = reply }) ∷ []) →
     LeadsTo o (H ++ (record { seat = seat; request = asked_for x.number finding; reply = reply }) ∷ []) t.game →
-    t.looks ≡ set r.looks seat None →
+    t.q ≡ r.q → t.looks ≡ set r.looks seat None →
     IsPlaying o steps (H ++ (record { seat = seat; request = asked_for x.number finding; reply = reply }) ∷ []) t
-entered o H steps r t seat c x finding reply playing there is (kept, look) up trials asks legal leads replaced =
+entered o H steps r t seat c x finding reply playing there is (kept, look) up trials asks legal leads q replaced =
     let step : Step = record { seat = seat; command = c } in
     let e : Entry = record { seat = seat; request = asked_for x.number finding; reply = reply } in
     playing_more o H steps r t step e playing there (is, has_look steps seat (length H) x.number c kept, trials)
-    (record { seat = refl; request = asks }) legal leads (ap length replaced ∙ length-set _ _ _ ∙ playing.places)
+    (record { seat = refl; request = asks }) legal leads q (ap length replaced ∙ length-set _ _ _ ∙ playing.places)
     (rw replaced (looks_set o H e steps step r.looks None there playing.places is
     (keeps_none o H e steps seat c there up) playing.looks))
 
-pub playing_none : (o : Opening) (steps : List Step) (r : Rehearsal) → LeadsTo o [] r.game →
+pub playing_none : (o : Opening) (steps : List Step) (r : Rehearsal) → LeadsTo o [] r.game → r.q ≡ o.q →
     r.looks ≡ replicate 65 None → IsPlaying o steps [] r
-playing_none o steps r leads empty = record {
+playing_none o steps r leads q empty = record {
   leads = leads;
+  q = q;
   legal = legal_none o;
   good = λ k step below at. absurd (omega arith);
   entries = λ j step e at there. absurd (cc);

@@ -1,6 +1,6 @@
 use Rattle.dg_game.specs.declared.step.Command.TheVariants.{Commit}
 use Rattle.dg_game.proofs.LookLaws.{look_fits, look_vertices}
-use Rattle.dg_game.proofs.schedule.Rehearsal.commit.Goals as goal
+use Rattle.dg_rehearsal.proofs.schedule.Rehearsal.commit.Goals as goal
 
 pub judge_look_aimed-finding-requires-clause-size : goal.judge_look_aimed-finding-requires-clause-size
 judge_look_aimed-finding-requires-clause-size c =

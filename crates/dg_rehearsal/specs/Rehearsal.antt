@@ -1,8 +1,8 @@
 -- A schedule that is being played.
 --   KeepsLook o H steps seat x  == x is the look that the seat keeps after the history H, if it
 --                                  keeps one
---   IsPlaying o steps H r       == after the first steps the history is H, and r holds the game and
---                                  the looks kept
+--   IsPlaying o steps H r       == after the first steps the history is H, and r holds the game, the
+--                                  vertex q and the looks kept
 --   IsInPlay r                  == r is what some schedule has come to
 --   PlaysOn r step e t          == wherever r is come to and the step is next, it gives the entry e
 --                                  and comes to t
@@ -14,12 +14,12 @@ use Rattle.dg_chips.specs.Opening.{Opening}
 use Rattle.dg_game.specs.Legal.{IsSeat, IsLegal}
 use Rattle.dg_game.specs.Look.{IsLookAt}
 use Rattle.dg_game.specs.State.{LeadsTo}
-use Rattle.dg_game.specs.Schedule.{IsKept, IsEntryOf}
-use Rattle.dg_game.specs.ScheduleFaults.{AreGoodBefore, IsFirstFault}
+use Rattle.dg_rehearsal.specs.Schedule.{IsKept, IsEntryOf}
+use Rattle.dg_rehearsal.specs.ScheduleFaults.{AreGoodBefore, IsFirstFault}
 use Rattle.dg_game.specs.declared.entry.Entry.{Entry}
 use Rattle.dg_game.specs.declared.look.LookData.{LookData}
-use Rattle.dg_game.specs.declared.schedule.Rehearsal.{Rehearsal}
-use Rattle.dg_game.specs.declared.schedule.RehearseFault.{RehearseFault}
+use Rattle.dg_rehearsal.specs.declared.schedule.Rehearsal.{Rehearsal}
+use Rattle.dg_rehearsal.specs.declared.schedule.RehearseFault.{RehearseFault}
 use Rattle.dg_game.specs.declared.step.Step.{Step}
 
 abbrev pub KeepsLook : Opening → List Entry → List Step → ℕ → Option LookData → Type 0
@@ -29,6 +29,7 @@ KeepsLook o H steps seat None = (i : ℕ) → ¬ IsKept steps seat (length H) i
 pub record IsPlaying (o : Opening) (steps : List Step) (H : List Entry)
     (r : Rehearsal) : Type 0 where
   pub leads : LeadsTo o H r.game
+  pub q : r.q ≡ o.q
   pub legal : IsLegal o H
   pub good : AreGoodBefore o.graph.size steps (length H)
   pub entries : (j : ℕ) (step : Step) (e : Entry) → slice_get steps j ≡ Some step →

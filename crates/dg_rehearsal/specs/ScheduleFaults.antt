@@ -15,10 +15,10 @@ use Rattle.std.specs.Prelude.{◌≡◌, ℕ, ◌<◌, ◌≤◌, List, slice_ge
 use Rattle.dg_rank.specs.Limits.{IsPastLimits}
 use Rattle.dg_rank.specs.Ranks.{IsWithin}
 use Rattle.dg_game.specs.Legal.{IsSeat}
-use Rattle.dg_game.specs.Schedule.{IsKept}
+use Rattle.dg_rehearsal.specs.Schedule.{IsKept}
 use Rattle.dg_game.specs.declared.game.TheConstants.{MAX_ENTRIES}
-use Rattle.dg_game.specs.declared.schedule.RehearseFault.{RehearseFault}
-use Rattle.dg_game.specs.declared.schedule.RehearseFault.TheVariants.{Seat, Full, NoLook, TooMany, OutOfMemory}
+use Rattle.dg_rehearsal.specs.declared.schedule.RehearseFault.{RehearseFault}
+use Rattle.dg_rehearsal.specs.declared.schedule.RehearseFault.TheVariants.{Seat, Full, NoLook, TooMany, OutOfMemory}
 use Rattle.dg_game.specs.declared.step.Command.{Command}
 use Rattle.dg_game.specs.declared.step.Command.TheVariants.{Call, Commit, Rank}
 use Rattle.dg_game.specs.declared.step.Step.{Step}

@@ -10,8 +10,8 @@ use Rattle.std.proofs.Common.{◌≡◌, ℕ, ◌+◌, List, [], ◌∷◌, ◌+
 use Rattle.std.proofs.lemmas.Bool.{cases_lt}
 use Rattle.dg_chips.specs.Opening.{Opening}
 use Rattle.dg_game.specs.Look.{IsLookAt}
-use Rattle.dg_game.specs.Rehearsal.{KeepsLook}
-use Rattle.dg_game.specs.Schedule.{UsesUp, UsesLook, IsKept}
+use Rattle.dg_rehearsal.specs.Rehearsal.{KeepsLook}
+use Rattle.dg_rehearsal.specs.Schedule.{UsesUp, UsesLook, IsKept}
 use Rattle.dg_game.specs.declared.entry.Entry.{Entry}
 use Rattle.dg_game.specs.declared.entry.Plain.TheVariants as plain
 use Rattle.dg_game.specs.declared.look.LookData.{LookData}

@@ -1,6 +1,6 @@
-use Rattle.std.proofs.Common.{None, ap, set}
-use Rattle.dg_game.proofs.RehearsalLaws.{entered}
-use Rattle.dg_game.proofs.schedule.Rehearsal.enter.Goals as goal
+use Rattle.std.proofs.Common.{None, refl, ap, set}
+use Rattle.dg_rehearsal.proofs.RehearsalLaws.{entered}
+use Rattle.dg_rehearsal.proofs.schedule.Rehearsal.enter.Goals as goal
 
 pub settle-reply-requires-clause-look : goal.settle-reply-requires-clause-look
 settle-reply-requires-clause-look c =
@@ -13,5 +13,5 @@ returns c = λ o H steps command playing keeps there up trials asks.
     (entered o H steps c.args.self.now _ c.args.seat command c.args.look.now c.args.finding.now c.settle-reply.result
     playing there c.requires.seat keeps up trials asks
     (c.settle-reply.ensures.legal o H c.args.seat playing.leads keeps.1 playing.legal c.requires.seat)
-    (c.settle-reply.ensures.leads o H c.args.seat playing.leads keeps.1)
+    (c.settle-reply.ensures.leads o H c.args.seat playing.leads keeps.1) refl
     (ap (λ i. set c.args.self.now.looks i None) c.from.ensures))

@@ -1,8 +1,8 @@
 use Rattle.std.proofs.Common.{◌≡◌, ◌≤◌, length, vec_capacity}
 use Rattle.std.specs.Prelude.{min}
-use Rattle.dg_game.specs.Rehearsal.{IsPlaying}
+use Rattle.dg_rehearsal.specs.Rehearsal.{IsPlaying}
 use Rattle.dg_game.specs.declared.game.TheConstants.{MAX_ENTRIES}
-use Rattle.dg_game.proofs.schedule.rehearse.Given as goal
+use Rattle.dg_rehearsal.proofs.schedule.rehearse.Given as goal
 
 abbrev pub invariant-loop-step : goal.invariant-loop-step
 invariant-loop-step g l = record {

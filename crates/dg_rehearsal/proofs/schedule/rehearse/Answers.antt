@@ -1,7 +1,7 @@
 use Rattle.std.proofs.Common.{◌≡◌, ◌<◌, [], ◌∷◌, ◌++◌, length, length-append, slice_get, Some, arith, refl, ◌∙◌, ap}
 use Rattle.std.proofs.lemmas.Option.{slice_get_read}
-use Rattle.dg_game.proofs.RehearsalLaws.{told_err}
-use Rattle.dg_game.proofs.schedule.rehearse.Goals as goal
+use Rattle.dg_rehearsal.proofs.RehearsalLaws.{told_err}
+use Rattle.dg_rehearsal.proofs.schedule.rehearse.Goals as goal
 
 pub loop-step-init : goal.loop-step-init
 loop-step-init g c =

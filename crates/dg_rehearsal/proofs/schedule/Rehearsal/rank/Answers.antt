@@ -2,9 +2,9 @@ use Rattle.std.proofs.Common.{◌≡◌, arith, ap, ◌∙◌}
 use Rattle.dg_theory.specs.Multigraph.{Multigraph}
 use Rattle.dg_game.specs.declared.step.Command.TheVariants.{Rank}
 use Rattle.dg_game.proofs.LookLaws.{look_fits, look_vertices}
-use Rattle.dg_game.proofs.RehearsalLaws.{past_limits}
+use Rattle.dg_rehearsal.proofs.RehearsalLaws.{past_limits}
 use Rattle.dg_game.proofs.StepLaw.{vertices_stay}
-use Rattle.dg_game.proofs.schedule.Rehearsal.rank.Goals as goal
+use Rattle.dg_rehearsal.proofs.schedule.Rehearsal.rank.Goals as goal
 
 pub rank_look-requires-clause-size : goal.rank_look-requires-clause-size
 rank_look-requires-clause-size c =

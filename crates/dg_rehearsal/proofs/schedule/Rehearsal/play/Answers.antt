@@ -2,8 +2,8 @@ use Rattle.std.proofs.Common.{◌≡◌, length, slice_get, Some, arith, ap, ◌
 use Rattle.std.proofs.lemmas.Result.{MatchResult-weaker}
 use Rattle.dg_game.specs.declared.step.Command.{Command}
 use Rattle.dg_game.specs.declared.step.Command.TheVariants.{Call}
-use Rattle.dg_game.proofs.RehearsalLaws.{lookless, told_ok_or}
-use Rattle.dg_game.proofs.schedule.Rehearsal.play.Goals as goal
+use Rattle.dg_rehearsal.proofs.RehearsalLaws.{lookless, told_ok_or}
+use Rattle.dg_rehearsal.proofs.schedule.Rehearsal.play.Goals as goal
 
 pub returns-in-Call-clause-plays : goal.returns-in-Call-clause-plays
 returns-in-Call-clause-plays c =

@@ -4,21 +4,20 @@ ghost use Rattle.dg_chips.specs.Opening.{Opening};
 ghost use Rattle.dg_game.specs.Legal.{IsSeat};
 ghost use Rattle.dg_game.specs.Look.{IsFoundFor, asked_for};
 ghost use Rattle.dg_game.specs.Outcomes.{entry_of};
-ghost use Rattle.dg_game.specs.Schedule.{UsesUp, IsKept, IsAsked, IsRehearsal};
-ghost use Rattle.dg_game.specs.ScheduleFaults.{HasTrials, AreGoodBefore, IsFirstFault};
-ghost use Rattle.dg_game.specs.Rehearsal.{KeepsLook, IsPlaying, IsInPlay, PlaysOn, StopsPlay};
+ghost use Rattle.dg_rehearsal.specs.Schedule.{UsesUp, IsKept, IsAsked, IsRehearsal};
+ghost use Rattle.dg_rehearsal.specs.ScheduleFaults.{HasTrials, AreGoodBefore, IsFirstFault};
+ghost use Rattle.dg_rehearsal.specs.Rehearsal.{KeepsLook, IsPlaying, IsInPlay, PlaysOn, StopsPlay};
 ghost use Rattle.dg_game.specs.declared.entry.Entry.{Entry};
 ghost use Rattle.dg_game.specs.declared.step.Command.{Command};
 ghost use Rattle.dg_game.specs.declared.step.Step.{Step};
 ghost use Rattle.dg_game.specs.declared.step.Command.TheVariants.{Call, Commit, Rank};
 
-use crate::entry::{Entry, MAX_SEATS, Plain};
-use crate::finding::{Finding, judge_look_aimed, rank_look};
-use crate::game::{Game, MAX_ENTRIES};
-use crate::look::LookData;
-use crate::outcome::Outcome;
-use crate::step::{Command, Step};
+use crate::ranking::rank_look;
 use dg_chips::Start;
+use dg_game::{
+    Command, Entry, Finding, Game, LookData, MAX_ENTRIES, MAX_SEATS, Outcome, Plain, Step,
+    judge_look_aimed,
+};
 use dg_reduce::Aim;
 use std::alloc::Allocator;
 
@@ -42,6 +41,8 @@ pub enum RehearseFault {
 pub struct Rehearsal {
     /// The game as it stands.
     pub game: Game,
+    /// The vertex from which verdicts are reckoned.
+    pub q: usize,
     /// What serves its verdicts until an edge is added; no answer depends on it.
     pub aim: Aim,
     /// The look that a seat has taken last and not used up, at the place of the seat's number.
@@ -81,9 +82,11 @@ impl Rehearsal {
     pub fn new(start: &Start) -> Rehearsal
         ensures { (steps : List Step) → IsPlaying start.now steps [] result }
     {
+        let q = usize::from(start.q());
         Rehearsal {
             game: Game::new(start),
-            aim: Aim::new(start.graph(), usize::from(start.q())),
+            q,
+            aim: Aim::new(start.graph(), q),
             looks: [None; 65],
         }
     }
@@ -181,7 +184,7 @@ impl Rehearsal {
         ensures same { result ≡ None → self.new ≡ self.old }
     {
         let look = self.kept(seat)?;
-        let finding = judge_look_aimed(&self.aim, self.game.q(), &look);
+        let finding = judge_look_aimed(&self.aim, self.q(), &look);
         Some(self.enter(seat, &look, &finding))
     }
 
@@ -199,11 +202,21 @@ impl Rehearsal {
         let Some(look) = self.kept(seat) else {
             return Err(RehearseFault::NoLook(i));
         };
-        let Ok(finding) = rank_look(self.game.q(), &look, k) else {
+        let Ok(finding) = rank_look(self.q(), &look, k) else {
             return Err(RehearseFault::TooMany(i));
         };
         let entry = self.enter(seat, &look, &finding);
         Ok(entry)
+    }
+
+    /// The vertex from which verdicts are reckoned, which is that of the game.
+    fn q(&self) -> usize
+        requires { IsInPlay self.now }
+        ensures q { result ≡ self.now.game.q }
+        ensures vertex { result < self.now.game.graph.size }
+    {
+        let _position = self.game.position();
+        self.q
     }
 
     /// The look that a seat keeps, if it keeps one.

@@ -1,5 +1,4 @@
 -- Schedules: lists of steps, each a seat and a command.
---   asked call                    == the request that a call of the game makes
 --   IsLook call                   == the call is a look
 --   UsesUp command                == the command uses a look up
 --   UsesLook command              == the command takes a look, or uses one up
@@ -13,6 +12,7 @@
 --                                    those of the steps, in order
 use Rattle.std.specs.Prelude.{◌≡◌, ℕ, ◌<◌, List, length, slice_get, Some, ⊤}
 use Rattle.dg_chips.specs.Opening.{Opening}
+use Rattle.dg_game.specs.Requests.{asked}
 use Rattle.dg_game.specs.Legal.{IsLegal}
 use Rattle.dg_game.specs.declared.entry.Entry.{Entry}
 use Rattle.dg_game.specs.declared.entry.Plain.{Plain}
@@ -22,13 +22,6 @@ use Rattle.dg_game.specs.declared.entry.Request.TheVariants as request
 use Rattle.dg_game.specs.declared.step.Command.{Command}
 use Rattle.dg_game.specs.declared.step.Command.TheVariants.{Call, Commit, Rank}
 use Rattle.dg_game.specs.declared.step.Step.{Step}
-
-abbrev pub asked : Plain → Request
-asked (plain.Move m) = request.Move m
-asked (plain.Gift v x) = request.Gift v x
-asked (plain.Join u v) = request.Join u v
-asked plain.Look = request.Look
-asked plain.Claim = request.Claim
 
 abbrev pub IsLook : Plain → Type 0
 IsLook plain.Look = ⊤
