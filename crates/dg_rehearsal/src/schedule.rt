@@ -36,7 +36,7 @@ pub enum RehearseFault {
     OutOfMemory,
 }
 
-/// A schedule that is being played: the game, and for each seat the look that it keeps.
+/// A schedule that is being played: the game, its vertex q, and for each seat the look that it keeps.
 #[derive(Drop)]
 pub struct Rehearsal {
     /// The game as it stands.
@@ -92,7 +92,7 @@ impl Rehearsal {
     }
 
     /// Plays the next step, and gives its entry. The condition is that steps were played from a start, and nothing else
-    /// has happened to the game or the looks.
+    /// has happened to the game, the vertex q or the looks.
     ///
     /// Refused with `Seat`, `Full`, `NoLook` or `TooMany` as `rehearse` refuses the step; then nothing has changed.
     pub fn play(&mut self, step: &Step) -> Result<Entry, RehearseFault>

@@ -1,5 +1,6 @@
 //! Schedules that enter rank tests on looks.
-use crate::game::{call, commit, rank, triangle};
+use crate::game::{call, commit, triangle};
+use crate::rehearsal::rank;
 use dg_chips::{Divisor, Move, Start};
 use dg_game::{Command, Entry, Plain, Reply, Request, Step};
 use dg_graph::Graph;
