@@ -15,8 +15,9 @@ use Rattle.dg_theory.specs.Burning.{BurnsInOrder}
 use Rattle.dg_graph.specs.declared.limits.TheConstants.{MAX_VERTICES}
 use Rattle.dg_chips.specs.Opening.{Opening}
 use Rattle.dg_chips.specs.Vector.{at}
-use Rattle.dg_rank.specs.Ranks.{IsRankTest, IsWithin, MayHaveWorkers}
-use Rattle.dg_rank.specs.declared.rank_verdict.RankVerdict.{RankVerdict}
+use Rattle.dg_ranked.specs.RankTests.{IsRankTest}
+use Rattle.dg_rank.specs.Ranks.{IsWithin, MayHaveWorkers}
+use Rattle.dg_ranked.specs.declared.rank_verdict.RankVerdict.{RankVerdict}
 use Rattle.dg_verdict.specs.Right.{IsRight}
 use Rattle.dg_verdict.specs.declared.verdict.Verdict.{Verdict}
 use Rattle.dg_game.specs.declared.entry.Entry.{Entry}

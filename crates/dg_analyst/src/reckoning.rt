@@ -7,7 +7,8 @@ ghost use Rattle.dg_game.specs.Look.{IsFoundFor};
 use crate::looks::Look;
 use dg_game::Finding;
 use dg_log::Name;
-use dg_rank::{Gate, RankFault, RankVerdict, rank_with};
+use dg_rank::{Gate, RankFault, rank_with};
+use dg_ranked::RankVerdict;
 use dg_reduce::Aim;
 use dg_verdict::{Verdict, judge_aimed};
 use std::marker::Model;
@@ -61,7 +62,7 @@ pub struct Tried<N: Name> {
 impl<N: Name> Model for Tried<N> {
     ghost use Rattle.dg_analyst.specs.Views.{Found};
     ghost use Rattle.dg_game.specs.declared.finding.Finding.TheVariants.{Ranked};
-    ghost use Rattle.dg_rank.specs.declared.rank_verdict.RankVerdict.{RankVerdict as RankData};
+    ghost use Rattle.dg_ranked.specs.declared.rank_verdict.RankVerdict.{RankVerdict as RankData};
     ghost use Rattle.dg_game.specs.Look.{IsFoundFor};
 
     ghost Value = { Found RankData };

@@ -9,20 +9,19 @@
 --   sized_reply        a right reply has the size of the graph
 --   legal_sized        each reply of a legal history has the size of the start
 --   legal_looks        each look of a legal history is what is kept of it
---   entries_more       where the entries are those of the first steps, one more of the next step keeps them so
-use Rattle.std.proofs.Common.{◌≡◌, ℕ, ◌<◌, ◌≤◌, List, [], ◌∷◌, ◌++◌, length, take, slice_get, Some, arith, sym, ap, subst, ◌∙◌, inl, inr}
+use Rattle.std.proofs.Common.{◌≡◌, ℕ, ◌<◌, ◌≤◌, List, [], ◌∷◌, ◌++◌, length, take, slice_get, Some, arith, ap, subst, ◌∙◌, inl, inr}
 use Rattle.std.proofs.Math.Seq.{take-append_seam}
 use Rattle.std.proofs.lemmas.List.{take-append-le, take-take, length-take}
 use Rattle.std.proofs.lemmas.Option.{slice_get_within}
 use Rattle.dg_theory.specs.Multigraph.{Multigraph}
 use Rattle.dg_chips.specs.Opening.{Opening}
-use Rattle.dg_rank.specs.declared.rank_verdict.RankVerdict.TheVariants.{AtLeast, Below}
+use Rattle.dg_ranked.specs.declared.rank_verdict.RankVerdict.TheVariants.{AtLeast, Below}
 use Rattle.dg_game.specs.History.{position_after}
 use Rattle.dg_game.specs.Replies.{Replies}
 use Rattle.dg_game.specs.Legal.{IsSeat, LooksBack, IsLegal}
 use Rattle.dg_game.specs.LegalLaws.{HasSize, LegalIsSized, LooksAreShown}
 use Rattle.dg_game.specs.Look.{IsLookAt, asked_for}
-use Rattle.dg_game.specs.Schedule.{asked, IsEntryOf}
+use Rattle.dg_game.specs.Requests.{asked}
 use Rattle.dg_game.specs.declared.entry.Entry.{Entry}
 use Rattle.dg_game.specs.declared.entry.Plain.{Plain}
 use Rattle.dg_game.specs.declared.entry.Plain.TheVariants as plain
@@ -33,7 +32,6 @@ use Rattle.dg_game.specs.declared.entry.Reply.TheVariants.{Moved, Given, Joined,
 use Rattle.dg_game.specs.declared.finding.Finding.{Finding}
 use Rattle.dg_game.specs.declared.finding.Finding.TheVariants.{Judged, Ranked}
 use Rattle.dg_game.specs.declared.look.LookData.{LookData}
-use Rattle.dg_game.specs.declared.step.Step.{Step}
 use Rattle.dg_game.proofs.ListLaws.{more_holds, slice_get_taken}
 use Rattle.dg_game.proofs.StepLaw.{vertices_stay}
 
@@ -102,17 +100,3 @@ legal_looks o H e x legal at asks shows =
     let right : Replies o (take x.number H) e.request e.reply = (legal x.number e at).2 in
     let (gifts, amounts, graph) = rw (asks, shows) at right in
     record { look = (e, at, asks); gifts = gifts; graph = graph; amounts = amounts }
-
-pub entries_more : (steps : List Step) (H : List Entry) (step : Step) (e : Entry) →
-    slice_get steps (length H) ≡ Some step →
-    IsEntryOf steps (length H) step e →
-    ((j : ℕ) (s : Step) (x : Entry) → slice_get steps j ≡ Some s → slice_get H j ≡ Some x → IsEntryOf steps j s x) →
-    (j : ℕ) (s : Step) (x : Entry) → slice_get steps j ≡ Some s → slice_get (H ++ e ∷ []) j ≡ Some x →
-    IsEntryOf steps j s x
-entries_more steps H step e there new before j s x step_at at = elim (more_holds H e j x at) [
-  | inl old ↦ before j s x step_at old.1
-  | inr last ↦
-      let same : Some s ≡ Some step = sym step_at ∙ ap (slice_get steps) last.0 ∙ there in
-      let step_is : s ≡ step = (cc) in
-      rw (last.0, step_is, last.1) new
-]

@@ -7,5 +7,3 @@ pub mod LegalLaws
 pub mod GraphLaws
 pub mod RankTests
 pub mod LookLaws
-pub mod KeptLaws
-pub mod RehearsalLaws

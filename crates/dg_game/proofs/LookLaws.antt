@@ -26,8 +26,8 @@ use Rattle.dg_verdict.specs.Right.{IsRight}
 use Rattle.dg_verdict.specs.Rebasing.{IsRebasable}
 use Rattle.dg_verdict.specs.declared.verdict.Verdict.{Verdict as AVerdict}
 use Rattle.dg_verdict.proofs.Agreement.{right-cong}
-use Rattle.dg_rank.specs.Ranks.{IsRankTest}
-use Rattle.dg_rank.specs.declared.rank_verdict.RankVerdict.{RankVerdict}
+use Rattle.dg_ranked.specs.RankTests.{IsRankTest}
+use Rattle.dg_ranked.specs.declared.rank_verdict.RankVerdict.{RankVerdict}
 use Rattle.dg_game.specs.Position.{Position, fired_by}
 use Rattle.dg_game.specs.History.{position_after, script_by, scripts_played, gifts_in}
 use Rattle.dg_game.specs.Look.{IsLookAt, degree_of, asked_for}

@@ -14,7 +14,7 @@ use Rattle.dg_game.specs.Position.{Position, Shows, joined_at}
 use Rattle.dg_game.specs.History.{position_after, gifts_in, gift_counted, scripts_played}
 use Rattle.dg_game.specs.Step.{after_reply}
 use Rattle.dg_game.specs.Replies.{Replies, RepliesAt}
-use Rattle.dg_game.specs.Schedule.{asked}
+use Rattle.dg_game.specs.Requests.{asked}
 use Rattle.dg_game.specs.State.{State, LeadsTo, IsNext, position_of, amounts_after, gifts_after, graph_after}
 use Rattle.dg_game.specs.declared.entry.Entry.{Entry}
 use Rattle.dg_game.specs.declared.entry.Plain.{Plain}

@@ -1,7 +1,8 @@
--- The one-player game: positions, histories, what may be replied, and schedules.
+-- The one-player game: positions, histories, and what may be asked and replied.
 pub mod Position
 pub mod History
 pub mod Step
+pub mod Requests
 pub mod Refusals
 pub mod MoveReplies
 pub mod GiftReplies
@@ -12,7 +13,3 @@ pub mod Look
 pub mod LegalLaws
 pub mod State
 pub mod Outcomes
-pub mod Schedule
-pub mod ScheduleFaults
--- Words of private functions: a schedule as it is played.
-pub mod Rehearsal

@@ -11,9 +11,9 @@ use Rattle.std.specs.Prelude.{◌≡◌, ℕ, List, take, ⊤}
 use Rattle.dg_chips.specs.Vector.{at}
 use Rattle.dg_chips.specs.Opening.{Opening}
 use Rattle.dg_verdict.specs.Right.{IsRight}
-use Rattle.dg_rank.specs.Ranks.{IsRankTest}
-use Rattle.dg_rank.specs.declared.rank_verdict.RankVerdict.{RankVerdict}
-use Rattle.dg_rank.specs.declared.rank_verdict.RankVerdict.TheVariants.{AtLeast, Below}
+use Rattle.dg_ranked.specs.RankTests.{IsRankTest}
+use Rattle.dg_ranked.specs.declared.rank_verdict.RankVerdict.{RankVerdict}
+use Rattle.dg_ranked.specs.declared.rank_verdict.RankVerdict.TheVariants.{AtLeast, Below}
 use Rattle.dg_game.specs.Position.{Shows}
 use Rattle.dg_game.specs.History.{position_after, gifts_in}
 use Rattle.dg_game.specs.Legal.{IsLookIn}

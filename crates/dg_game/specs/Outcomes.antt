@@ -3,7 +3,7 @@
 --                                   game in the state s
 --   entry_of seat call outcome s == the entry of such a call of the seat
 use Rattle.std.specs.Prelude.{ℕ}
-use Rattle.dg_game.specs.Schedule.{asked}
+use Rattle.dg_game.specs.Requests.{asked}
 use Rattle.dg_game.specs.State.{State}
 use Rattle.dg_game.specs.declared.entry.Entry.{Entry}
 use Rattle.dg_game.specs.declared.entry.Plain.{Plain}

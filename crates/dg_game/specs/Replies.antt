@@ -14,7 +14,7 @@ use Rattle.std.specs.Prelude.{◌≡◌, ◌≢◌, ℕ, List, take}
 use Rattle.dg_theory.specs.Firing.{IsEffective}
 use Rattle.dg_chips.specs.Opening.{Opening}
 use Rattle.dg_verdict.specs.Right.{IsRight}
-use Rattle.dg_rank.specs.Ranks.{IsRankTest}
+use Rattle.dg_ranked.specs.RankTests.{IsRankTest}
 use Rattle.dg_game.specs.Position.{Position, Shows}
 use Rattle.dg_game.specs.History.{position_after, gifts_in}
 use Rattle.dg_game.specs.MoveReplies.{RepliesToMove}

@@ -1,11 +1,11 @@
 //! Entries of a history: what was asked, and what was answered.
 ghost use Rattle.std.specs.Prelude.{◌≡◌};
 ghost use Rattle.dg_game.specs.Refusals.{refusal_for, join_refusal_for};
-ghost use Rattle.dg_game.specs.Schedule.{asked};
+ghost use Rattle.dg_game.specs.Requests.{asked};
 
 use dg_chips::{Divisor, Move, MoveFault};
 use dg_graph::{Graph, JoinFault};
-use dg_rank::RankVerdict;
+use dg_ranked::RankVerdict;
 use dg_verdict::Verdict;
 
 /// The most seats of a table: they are numbered from 1 up to this.

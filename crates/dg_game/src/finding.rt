@@ -1,14 +1,11 @@
 //! What is reckoned on a look, with no game at hand: verdicts and rank tests.
-ghost use Rattle.std.specs.Prelude.{◌≡◌, ℕ, ◌<◌, MatchResult};
-ghost use Rattle.dg_rank.specs.Limits.{IsPastLimits};
-ghost use Rattle.dg_rank.specs.Ranks.{IsWithin};
-ghost use Rattle.dg_rank.specs.declared.rank_verdict.RankFault.TheVariants.{TooMany};
+ghost use Rattle.std.specs.Prelude.{◌≡◌, ℕ, ◌<◌};
 ghost use Rattle.dg_game.specs.Look.{IsFoundFor, asked_for};
-ghost use Rattle.dg_game.specs.declared.entry.Request.TheVariants.{Judge as JudgeRequest, Rank as RankRequest};
+ghost use Rattle.dg_game.specs.declared.entry.Request.TheVariants.{Judge as JudgeRequest};
 
 use crate::entry::Request;
 use crate::look::LookData;
-use dg_rank::{RankFault, RankVerdict, rank_at_least};
+use dg_ranked::RankVerdict;
 use dg_reduce::Aim;
 use dg_verdict::{Verdict, judge_aimed};
 
@@ -54,19 +51,4 @@ pub fn judge_look_aimed(aim: &Aim, q: usize, look: &LookData) -> Finding
     ensures asks { (i : ℕ) → asked_for i result ≡ JudgeRequest i }
 {
     Finding::Judged(judge_aimed(&look.graph, aim, q, &look.position))
-}
-
-/// The rank test of degree k for the amounts that a look showed. The conditions are those of `judge_look`.
-///
-/// Refused with `TooMany` alone, where k is above 1,000 or there are more than 200,000 trials.
-pub fn rank_look(q: usize, look: &LookData, k: u32) -> Result<Finding, RankFault>
-    requires size { look.now.position.size ≡ look.now.graph.size }
-    requires vertex { q < look.now.graph.size }
-    ensures { MatchResult result
-        (λ f. IsWithin look.now.graph.size k × IsFoundFor q look.now f ×
-        ((i : ℕ) → asked_for i f ≡ RankRequest i k))
-        (λ e. (e ≡ TooMany) × IsPastLimits look.now.graph.size k) }
-{
-    let verdict = rank_at_least(&look.graph, q, &look.position, k)?;
-    Ok(Finding::Ranked(verdict))
 }

@@ -15,7 +15,7 @@ ghost use Rattle.dg_game.specs.History.{with_entry};
 ghost use Rattle.dg_game.specs.Legal.{IsSeat, IsLegal};
 ghost use Rattle.dg_game.specs.Look.{IsLookAt, IsFoundFor, asked_for, KeepsFinding};
 ghost use Rattle.dg_game.specs.State.{State, IsState, LeadsTo, IsNext, position_of};
-ghost use Rattle.dg_game.specs.Schedule.{asked};
+ghost use Rattle.dg_game.specs.Requests.{asked};
 ghost use Rattle.dg_game.specs.declared.entry.Entry.{Entry as EntryData};
 ghost use Rattle.dg_game.specs.declared.entry.Reply.TheVariants.{Given, Refused};
 ghost use Rattle.dg_game.specs.declared.entry.Request.TheVariants.{Move as MoveRequest, Gift as GiftRequest, Join as JoinRequest, Look as LookRequest, Claim as ClaimRequest};
@@ -100,7 +100,7 @@ impl Game {
     }
 
     /// The vertex from which verdicts are reckoned.
-    pub(crate) fn q(&self) -> usize
+    fn q(&self) -> usize
         ensures q { result ≡ self.now.q }
         ensures vertex { result < self.now.graph.size }
     {

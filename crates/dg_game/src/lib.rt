@@ -1,5 +1,4 @@
-//! The dollar game of one table, played by one hand: requests, replies and the history that they make. No call takes memory
-//! but `rehearse`.
+//! The dollar game of one table, played by one hand: requests, replies and the history that they make. No call takes memory.
 #![tactic(auto)]
 
 mod entry;
@@ -8,14 +7,12 @@ mod game;
 mod laws;
 mod look;
 mod outcome;
-mod schedule;
 mod step;
 
 pub use entry::{Entry, MAX_GIFT, MAX_SEATS, Plain, Refusal, Reply, Request};
-pub use finding::{Finding, judge_look, judge_look_aimed, rank_look};
+pub use finding::{Finding, judge_look, judge_look_aimed};
 pub use game::{Game, MAX_ENTRIES};
 pub use laws::{law_of_histories, law_of_legal_histories};
 pub use look::LookData;
 pub use outcome::Outcome;
-pub use schedule::{Rehearsal, RehearseFault, rehearse};
 pub use step::{Command, Step};

@@ -1,9 +1,11 @@
-//! The tests of verdicts, of ranks and of the one-player game, which call only what those crates make public.
+//! The tests of verdicts, of ranks, of the one-player game and of schedules, which call only what those crates make public.
 #![tactic(auto)]
 
 #[cfg(test)]
 mod game;
 #[cfg(test)]
 mod rank;
+#[cfg(test)]
+mod rehearsal;
 #[cfg(test)]
 mod verdict;

@@ -12,7 +12,7 @@ use dg_chips::Divisor;
 use dg_file::{MAX_LABEL, Names};
 use dg_game::{Game, Outcome, Refusal, Reply};
 use dg_graph::MAX_VERTICES;
-use dg_rank::RankVerdict;
+use dg_ranked::RankVerdict;
 use dg_verdict::Verdict;
 use itoa::Buffer;
 use std::alloc::{AllocError, Allocator};

@@ -10,7 +10,7 @@ use dg_game::{Entry, Reply, Request};
 use dg_graph::Graph;
 use dg_log::{Log, LogFault, Name, Row};
 use dg_observer::{Gifts, Observer, ObserverFault};
-use dg_rank::RankVerdict;
+use dg_ranked::RankVerdict;
 use dg_session::{SessionEnd, serve};
 use dg_strategy::{Strategy, greedy_settler, play, settle_out};
 use dg_streams::{Input, Output};

@@ -1,4 +1,4 @@
--- What trials are, how far rank tests go, and what they answer.
+-- What trials are, how far rank tests go, and what they tell.
 pub mod Trials
 pub mod Limits
 pub mod Divisors

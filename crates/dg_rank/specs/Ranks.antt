@@ -1,6 +1,5 @@
--- What rank tests answer.
+-- How far rank tests go, what they tell of ranks, and why one is refused.
 --   IsWithin n k           == a rank test of degree k on n vertices is within the limits
---   IsRankTest g D k x     == the verdict x of the rank test of degree k is right for D
 --   IsUnsettled g D k      == what D less k dollars holds in all is at least 0 and less than the
 --                             genus
 --   IsRankInLimits g D r   == r is the rank of D, and the test of the next degree is within the
@@ -21,21 +20,15 @@
 use Rattle.std.specs.Prelude.{◌≡◌, ℕ, ◌<◌, ◌≤◌, ◌⊎◌, ℤ, pos, ◌+ℤ◌, ◌-ℤ◌, ◌≤ℤ◌, ◌<ℤ◌}
 use Rattle.dg_theory.specs.Multigraph.{Multigraph, genus}
 use Rattle.dg_theory.specs.Firing.{Amounts, degree}
-use Rattle.dg_theory.specs.Rank.{less, canonical, HasRankAtLeast, IsFirstLoss, IsRank}
-use Rattle.dg_chips.specs.Vector.{at, IsInRange}
+use Rattle.dg_theory.specs.Rank.{less, canonical, HasRankAtLeast, IsRank}
+use Rattle.dg_chips.specs.Vector.{IsInRange}
 use Rattle.dg_rank.specs.Limits.{IsWithinLimits, IsPastLimits}
-use Rattle.dg_rank.specs.declared.rank_verdict.RankVerdict.{RankVerdict}
-use Rattle.dg_rank.specs.declared.rank_verdict.RankVerdict.TheVariants.{AtLeast, Below}
-use Rattle.dg_rank.specs.declared.rank_verdict.RankFault.{RankFault}
-use Rattle.dg_rank.specs.declared.rank_verdict.RankFault.TheVariants.{TooMany, Workers, OutOfMemory, Spawn}
+use Rattle.dg_rank.specs.declared.rank_fault.RankFault.{RankFault}
+use Rattle.dg_rank.specs.declared.rank_fault.RankFault.TheVariants.{TooMany, Workers, OutOfMemory, Spawn}
 use Rattle.dg_rank.specs.declared.workers.TheConstants.{MAX_WORKERS}
 
 abbrev pub IsWithin : ℕ → ℕ → Type 0
 IsWithin n k = (c : ℕ) × IsWithinLimits n k c
-
-abbrev pub IsRankTest : Multigraph → Amounts → ℕ → RankVerdict → Type 0
-IsRankTest g D k (AtLeast j) = (j ≡ k) × HasRankAtLeast g D k
-IsRankTest g D k (Below j d) = (j ≡ k) × (d.size ≡ g.size) × IsFirstLoss g D k (at d)
 
 pub record IsUnsettled (g : Multigraph) (D : Amounts) (k : ℕ) : Type 0 where
   pub least : pos k ≤ℤ degree g.size D

@@ -11,12 +11,12 @@ ghost use Rattle.dg_chips.specs.Vector.{at};
 ghost use Rattle.dg_rank.specs.Limits.{IsWithinLimits};
 ghost use Rattle.dg_rank.specs.Losses.{IsFound, IsTold};
 ghost use Rattle.dg_rank.specs.Ranks.{IsUnsettled, BothArePast};
-ghost use Rattle.dg_rank.specs.declared.rank_verdict.RankFault.TheVariants.{TooMany};
+ghost use Rattle.dg_rank.specs.declared.rank_fault.RankFault.TheVariants.{TooMany};
 
 use crate::counting::trials;
 use crate::enumeration::Trial;
 use crate::first_loss::first_loss;
-use crate::rank_verdict::RankFault;
+use crate::rank_fault::RankFault;
 use dg_chips::{Divisor, Wide};
 use dg_graph::Graph;
 use dg_reduce::reduce_wide;

@@ -8,13 +8,13 @@ mod enumeration;
 mod first_loss;
 mod numbers;
 mod pieces;
-mod rank_verdict;
+mod rank_fault;
 mod ranks;
 mod workers;
 
 pub use counting::{MAX_DEGREE, MAX_TRIALS, trial, trials};
 pub use duals::has_rank;
 pub use numbers::{both_ranks, both_ranks_in_limits, rank};
-pub use rank_verdict::{RankFault, RankVerdict};
+pub use rank_fault::RankFault;
 pub use ranks::rank_at_least;
 pub use workers::{Gate, MAX_WORKERS, OpenGate, rank_with};

@@ -5,11 +5,11 @@ ghost use Rattle.dg_rank.specs.Losses.{IsFound};
 ghost use Rattle.dg_rank.specs.Pieces.{piece_start, CanSearch, IsOutcome, IsOutcomeOf, IsOutcomeFrom};
 ghost use Rattle.dg_rank.specs.declared.pieces.Search.{Search};
 ghost use Rattle.dg_rank.specs.Ranks.{MayHaveWorkers};
-ghost use Rattle.dg_rank.specs.declared.rank_verdict.RankFault.TheVariants.{Spawn};
+ghost use Rattle.dg_rank.specs.declared.rank_fault.RankFault.TheVariants.{Spawn};
 
 use crate::enumeration::Trial;
 use crate::first_loss::first_loss;
-use crate::rank_verdict::RankFault;
+use crate::rank_fault::RankFault;
 use crate::workers::Gate;
 use dg_chips::Wide;
 use dg_graph::Graph;

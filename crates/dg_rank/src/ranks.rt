@@ -6,15 +6,17 @@ ghost use Rattle.dg_chips.specs.Vector.{at};
 ghost use Rattle.dg_rank.specs.Limits.{IsPastLimits, IsWithinLimits};
 ghost use Rattle.dg_rank.specs.Trials.{IsTrial};
 ghost use Rattle.dg_rank.specs.Losses.{IsFound};
-ghost use Rattle.dg_rank.specs.Ranks.{IsWithin, IsRankTest, IsUnsettled};
-ghost use Rattle.dg_rank.specs.declared.rank_verdict.RankFault.TheVariants.{TooMany};
+ghost use Rattle.dg_ranked.specs.RankTests.{IsRankTest};
+ghost use Rattle.dg_rank.specs.Ranks.{IsWithin, IsUnsettled};
+ghost use Rattle.dg_rank.specs.declared.rank_fault.RankFault.TheVariants.{TooMany};
 
 use crate::counting::trials;
 use crate::duals::{degree_left, loss_after, told_by_dual};
 use crate::enumeration::Trial;
-use crate::rank_verdict::{RankFault, RankVerdict};
+use crate::rank_fault::RankFault;
 use dg_chips::Divisor;
 use dg_graph::Graph;
+use dg_ranked::RankVerdict;
 use dg_reduce::reduce;
 
 /// Tests whether the rank of a divisor is at least k: whether every effective divisor of degree k can be lost and the

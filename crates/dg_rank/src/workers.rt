@@ -1,16 +1,18 @@
 //! Rank tests among workers.
 ghost use Rattle.std.specs.Prelude.{◌≡◌, ◌<◌, MatchResult};
 ghost use Rattle.dg_chips.specs.Vector.{at};
-ghost use Rattle.dg_rank.specs.Ranks.{IsWithin, IsRankTest, IsRankFault, MayHaveWorkers};
-ghost use Rattle.dg_rank.specs.declared.rank_verdict.RankFault.TheVariants.{Spawn};
+ghost use Rattle.dg_ranked.specs.RankTests.{IsRankTest};
+ghost use Rattle.dg_rank.specs.Ranks.{IsWithin, IsRankFault, MayHaveWorkers};
+ghost use Rattle.dg_rank.specs.declared.rank_fault.RankFault.TheVariants.{Spawn};
 
 use crate::counting::trials;
 use crate::duals::{Told, told_by_dual};
 use crate::pieces::{Search, first_loss_among};
-use crate::rank_verdict::{RankFault, RankVerdict};
+use crate::rank_fault::RankFault;
 use crate::ranks::{settled, verdict_on};
 use dg_chips::{Divisor, Wide};
 use dg_graph::Graph;
+use dg_ranked::RankVerdict;
 use dg_reduce::reduce;
 use std::marker::Sync;
 use std::sync::Wait;

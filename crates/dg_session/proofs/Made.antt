@@ -17,10 +17,10 @@ use Rattle.dg_chips.specs.Opening.{Opening}
 use Rattle.dg_rank.specs.Ranks.{IsWithin}
 use Rattle.dg_rank.specs.Limits.{IsPastLimits}
 use Rattle.dg_rank.proofs.CountedOnce.{counted_once}
-use Rattle.dg_rank.specs.declared.rank_verdict.RankVerdict.{RankVerdict}
-use Rattle.dg_rank.specs.declared.rank_verdict.RankVerdict.TheVariants.{AtLeast, Below}
+use Rattle.dg_ranked.specs.declared.rank_verdict.RankVerdict.{RankVerdict}
+use Rattle.dg_ranked.specs.declared.rank_verdict.RankVerdict.TheVariants.{AtLeast, Below}
 use Rattle.dg_game.specs.Look.{degree_of, asked_for}
-use Rattle.dg_game.specs.Schedule.{asked}
+use Rattle.dg_game.specs.Requests.{asked}
 use Rattle.dg_game.specs.declared.entry.Entry.{Entry}
 use Rattle.dg_game.specs.declared.entry.Plain.{Plain}
 use Rattle.dg_game.specs.declared.entry.Plain.TheVariants as plain

@@ -34,8 +34,9 @@ use Rattle.dg_chips.specs.Vector.{at}
 use Rattle.dg_verdict.specs.declared.verdict.Verdict.{Verdict}
 use Rattle.dg_verdict.specs.Right.{IsRight}
 use Rattle.dg_rank.specs.Limits.{IsPastLimits}
-use Rattle.dg_rank.specs.Ranks.{IsRankTest, BothArePast, NeedsPastTests}
-use Rattle.dg_rank.specs.declared.rank_verdict.RankVerdict.{RankVerdict}
+use Rattle.dg_ranked.specs.RankTests.{IsRankTest}
+use Rattle.dg_rank.specs.Ranks.{BothArePast, NeedsPastTests}
+use Rattle.dg_ranked.specs.declared.rank_verdict.RankVerdict.{RankVerdict}
 use Rattle.dg_game.specs.declared.entry.Reply.TheVariants.{Verdict as Found, Rank as Tested}
 use Rattle.dg_lines.specs.Texts.{text_of}
 use Rattle.dg_file.specs.TableFiles.{IsTableFile}

@@ -6,7 +6,8 @@ use crate::answering::push_line;
 use dg_chips::Start;
 use dg_file::TableFile;
 use dg_game::Reply;
-use dg_rank::{RankVerdict, both_ranks, has_rank, rank_at_least};
+use dg_rank::{both_ranks, has_rank, rank_at_least};
+use dg_ranked::RankVerdict;
 use itoa::Buffer;
 use std::alloc::AllocError;
 

@@ -13,7 +13,7 @@ use Rattle.dg_theory.specs.Firing.{FiresTo}
 use Rattle.dg_chips.specs.Opening.{Opening}
 use Rattle.dg_chips.specs.Vector.{at}
 use Rattle.dg_verdict.specs.Right.{IsRight}
-use Rattle.dg_rank.specs.Ranks.{IsRankTest}
+use Rattle.dg_ranked.specs.RankTests.{IsRankTest}
 use Rattle.dg_game.specs.Position.{Position}
 use Rattle.dg_game.specs.History.{position_after, gifts_in}
 use Rattle.dg_game.specs.Look.{asked_for, degree_of, KeepsFinding}

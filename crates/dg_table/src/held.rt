@@ -4,7 +4,7 @@ ghost use Rattle.dg_chips.specs.Opening.{Opening};
 ghost use Rattle.dg_game.specs.Legal.{IsSeat, IsLegal};
 ghost use Rattle.dg_game.specs.Look.{IsFoundFor};
 ghost use Rattle.dg_game.specs.Replies.{Replies};
-ghost use Rattle.dg_game.specs.Schedule.{asked};
+ghost use Rattle.dg_game.specs.Requests.{asked};
 ghost use Rattle.dg_game.specs.State.{LeadsTo};
 ghost use Rattle.dg_table.specs.Answered.{IsAnsweredAfter};
 ghost use Rattle.dg_table.specs.Closing.{HasSeat, IsComplete, AllHeld, AreTotals, IsMissing, SomeKeepsMore, RefusesClose};

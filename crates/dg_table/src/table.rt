@@ -1,7 +1,7 @@
 //! The table that seats call.
 ghost use Rattle.std.specs.Prelude.{◌≡◌, length, IfOk, IfErr, MatchResult};
 ghost use Rattle.dg_game.specs.Look.{IsFoundFor};
-ghost use Rattle.dg_game.specs.Schedule.{asked};
+ghost use Rattle.dg_game.specs.Requests.{asked};
 ghost use Rattle.dg_table.specs.Answered.{IsAnswered};
 ghost use Rattle.dg_table.specs.Closing.{IsClosed, AreTotals, IsCloseRefused};
 ghost use Rattle.dg_table.specs.Faults.{RefusesCall};

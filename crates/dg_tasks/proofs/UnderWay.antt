@@ -18,12 +18,12 @@
 use Rattle.std.proofs.Common.{◌≡◌, ℕ, ◌+◌, ◌≤◌, ◌==◌, cond, true, false, List, [], ◌∷◌, ◌++◌, length, slice_get, Option, Some, None, arith, refl, sym, ap, subst, ◌∙◌, append_assoc, append-nil, length-append}
 use Rattle.std.specs.Option.{is_none}
 use Rattle.dg_chips.specs.Opening.{Opening}
-use Rattle.dg_game.specs.Rehearsal.{IsPlaying, PlaysOn, StopsPlay}
-use Rattle.dg_game.specs.ScheduleFaults.{IsFirstFault}
+use Rattle.dg_rehearsal.specs.Rehearsal.{IsPlaying, PlaysOn, StopsPlay}
+use Rattle.dg_rehearsal.specs.ScheduleFaults.{IsFirstFault}
 use Rattle.dg_game.specs.declared.entry.Entry.{Entry}
-use Rattle.dg_game.specs.declared.schedule.Rehearsal.{Rehearsal}
-use Rattle.dg_game.specs.declared.schedule.RehearseFault.{RehearseFault}
-use Rattle.dg_game.specs.declared.schedule.RehearseFault.TheVariants.{Seat}
+use Rattle.dg_rehearsal.specs.declared.schedule.Rehearsal.{Rehearsal}
+use Rattle.dg_rehearsal.specs.declared.schedule.RehearseFault.{RehearseFault}
+use Rattle.dg_rehearsal.specs.declared.schedule.RehearseFault.TheVariants.{Seat}
 use Rattle.dg_game.specs.declared.step.Step.{Step}
 use Rattle.dg_game.proofs.ListLaws.{slice_get-seam}
 use Rattle.dg_lines.specs.Cuts.{lines, onto_first}

@@ -21,8 +21,9 @@ use Rattle.dg_chips.specs.Dual.{IsDualFault}
 use Rattle.dg_chips.specs.Opening.{Opening}
 use Rattle.dg_chips.specs.Vector.{at}
 use Rattle.dg_rank.specs.Limits.{IsPastLimits}
-use Rattle.dg_rank.specs.Ranks.{IsRankTest, IsRankInLimits, DualNeedsTooMany}
-use Rattle.dg_rank.specs.declared.rank_verdict.RankVerdict.{RankVerdict}
+use Rattle.dg_ranked.specs.RankTests.{IsRankTest}
+use Rattle.dg_rank.specs.Ranks.{IsRankInLimits, DualNeedsTooMany}
+use Rattle.dg_ranked.specs.declared.rank_verdict.RankVerdict.{RankVerdict}
 use Rattle.dg_game.specs.declared.entry.Reply.TheVariants.{Rank}
 use Rattle.dg_lines.specs.Texts.{text_of}
 use Rattle.dg_tasks.specs.declared.fault.TaskFault.{TaskFault}

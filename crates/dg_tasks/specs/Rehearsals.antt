@@ -6,12 +6,12 @@
 --   IsStopped o steps fault         == the fault is the first of these steps, whatever steps follow
 use Rattle.std.specs.Prelude.{◌≡◌, ℕ, List, ◌++◌, length}
 use Rattle.dg_chips.specs.Opening.{Opening}
-use Rattle.dg_game.specs.Rehearsal.{IsPlaying}
-use Rattle.dg_game.specs.Schedule.{IsRehearsal}
-use Rattle.dg_game.specs.ScheduleFaults.{IsFirstFault}
+use Rattle.dg_rehearsal.specs.Rehearsal.{IsPlaying}
+use Rattle.dg_rehearsal.specs.Schedule.{IsRehearsal}
+use Rattle.dg_rehearsal.specs.ScheduleFaults.{IsFirstFault}
 use Rattle.dg_game.specs.declared.entry.Entry.{Entry}
-use Rattle.dg_game.specs.declared.schedule.Rehearsal.{Rehearsal}
-use Rattle.dg_game.specs.declared.schedule.RehearseFault.{RehearseFault}
+use Rattle.dg_rehearsal.specs.declared.schedule.Rehearsal.{Rehearsal}
+use Rattle.dg_rehearsal.specs.declared.schedule.RehearseFault.{RehearseFault}
 use Rattle.dg_game.specs.declared.step.Step.{Step}
 use Rattle.dg_lines.specs.Schedules.{AreStepsOf}
 use Rattle.dg_lines.specs.Texts.{history_text}

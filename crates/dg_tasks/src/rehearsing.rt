@@ -10,8 +10,9 @@ ghost use Rattle.dg_tasks.specs.Refusals.{RefusesSchedule};
 
 use crate::fault::TaskFault;
 use dg_file::{Names, TableFile};
-use dg_game::{Command, Plain, Rehearsal, RehearseFault, Step};
+use dg_game::{Command, Plain, Step};
 use dg_lines::{Lines, parse_step, push_entry, push_outcome};
+use dg_rehearsal::{Rehearsal, RehearseFault};
 use std::alloc::Global;
 
 /// The history of a schedule as text: a line for each entry, with its number, from 0 on, and the text of its reply. The

@@ -1,9 +1,10 @@
 //! Edges that are added in play, and what they do to verdicts.
 use crate::game::{call, commit, triangle};
 use dg_chips::{Divisor, Move, Script, Start, Wide};
-use dg_game::{Command, Game, Plain, Refusal, Reply, Step, rehearse};
+use dg_game::{Command, Game, Plain, Refusal, Reply, Step};
 use dg_graph::Graph;
-use dg_rank::RankVerdict;
+use dg_ranked::RankVerdict;
+use dg_rehearsal::rehearse;
 use dg_verdict::Verdict;
 use std::test::Fail;
 

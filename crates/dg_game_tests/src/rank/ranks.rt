@@ -5,9 +5,10 @@ use crate::rank::references::plainly;
 use dg_chips::{Divisor, dual};
 use dg_graph::Graph;
 use dg_rank::{
-    OpenGate, RankFault, RankVerdict, both_ranks, both_ranks_in_limits, has_rank, rank,
-    rank_at_least, rank_with,
+    OpenGate, RankFault, both_ranks, both_ranks_in_limits, has_rank, rank, rank_at_least,
+    rank_with,
 };
+use dg_ranked::RankVerdict;
 use std::test::Fail;
 
 // By hand. With 3 edges between two vertices, a move changes the amount of vertex 0 by 3. So of degree 0 a divisor is

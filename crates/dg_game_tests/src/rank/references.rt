@@ -3,7 +3,8 @@ ghost use Rattle.std.specs.Prelude.{◌≡◌, ◌<◌, ◌^◌, IfOk};
 
 use dg_chips::{ChipFault, Divisor};
 use dg_graph::{Graph, GraphFault};
-use dg_rank::{RankVerdict, has_rank, rank_at_least, trial, trials};
+use dg_rank::{has_rank, rank_at_least, trial, trials};
+use dg_ranked::RankVerdict;
 use dg_reduce::reduce;
 use std::test::Fail;
 

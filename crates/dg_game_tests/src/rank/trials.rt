@@ -1,7 +1,8 @@
 //! How many trials there are, which, and in which order they are walked.
 use dg_chips::Divisor;
 use dg_graph::Graph;
-use dg_rank::{RankVerdict, rank_at_least, trial, trials};
+use dg_rank::{rank_at_least, trial, trials};
+use dg_ranked::RankVerdict;
 use std::test::Fail;
 
 #[test]

@@ -3,7 +3,8 @@ ghost use Rattle.std.specs.Prelude.{◌<◌};
 
 use dg_chips::Divisor;
 use dg_graph::Graph;
-use dg_rank::{Gate, OpenGate, RankFault, RankVerdict, rank_at_least, rank_with};
+use dg_rank::{Gate, OpenGate, RankFault, rank_at_least, rank_with};
+use dg_ranked::RankVerdict;
 use std::sync::Wait;
 use std::sync::atomic::{AtomicBool, AtomicU64, Ordering};
 use std::test::Fail;

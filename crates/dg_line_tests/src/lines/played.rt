@@ -3,9 +3,9 @@
 use crate::lines::{named, triangle};
 use dg_chips::{Divisor, Start};
 use dg_file::Names;
-use dg_game::rehearse;
 use dg_graph::Graph;
 use dg_lines::{history_lines, parse_steps};
+use dg_rehearsal::rehearse;
 use std::alloc::Global;
 use std::test::Fail;
 

@@ -5,7 +5,7 @@ use dg_chips::{Divisor, Script, Start, Wide};
 use dg_game::{Game, Outcome, Refusal, Reply};
 use dg_graph::Graph;
 use dg_lines::{push_entry, push_outcome, reply_text};
-use dg_rank::RankVerdict;
+use dg_ranked::RankVerdict;
 use dg_verdict::Verdict;
 use std::test::Fail;
 

@@ -7,7 +7,8 @@ use dg_analyst::{commit, commit_look, commit_rank, look, reckon, reckon_aimed, t
 use dg_chips::{Divisor, Move};
 use dg_game::{Plain, Reply};
 use dg_log::Name;
-use dg_rank::{OpenGate, RankFault, RankVerdict};
+use dg_rank::{OpenGate, RankFault};
+use dg_ranked::RankVerdict;
 use dg_table::{Seat, Table};
 use std::alloc::Global;
 use std::process::Abort;

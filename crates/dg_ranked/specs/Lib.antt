@@ -1,0 +1,2 @@
+-- What rank tests answer.
+pub mod RankTests

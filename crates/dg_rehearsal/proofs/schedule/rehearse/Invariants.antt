@@ -1,0 +1,13 @@
+use Rattle.std.proofs.Common.{◌≡◌, ◌≤◌, length, vec_capacity}
+use Rattle.std.specs.Prelude.{min}
+use Rattle.dg_rehearsal.specs.Rehearsal.{IsPlaying}
+use Rattle.dg_game.specs.declared.game.TheConstants.{MAX_ENTRIES}
+use Rattle.dg_rehearsal.proofs.schedule.rehearse.Given as goal
+
+abbrev pub invariant-loop-step : goal.invariant-loop-step
+invariant-loop-step g l = record {
+  room : min (length l.steps) MAX_ENTRIES ≤ vec_capacity l.history;
+  few : l.step-index ≤ MAX_ENTRIES;
+  played : length l.history.items ≡ l.step-index;
+  playing : IsPlaying l.start l.steps l.history.items l.rehearsal;
+}

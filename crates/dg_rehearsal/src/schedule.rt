@@ -1,0 +1,254 @@
+//! Schedules: their steps are played one after another.
+ghost use Rattle.std.specs.Prelude.{◌≡◌, ℕ, ◌<◌, ◌≤◌, List, [], ◌∷◌, ◌++◌, length, slice_get, Some, MatchResult, MatchOption, OnErr, None};
+ghost use Rattle.dg_chips.specs.Opening.{Opening};
+ghost use Rattle.dg_game.specs.Legal.{IsSeat};
+ghost use Rattle.dg_game.specs.Look.{IsFoundFor, asked_for};
+ghost use Rattle.dg_game.specs.Outcomes.{entry_of};
+ghost use Rattle.dg_rehearsal.specs.Schedule.{UsesUp, IsKept, IsAsked, IsRehearsal};
+ghost use Rattle.dg_rehearsal.specs.ScheduleFaults.{HasTrials, AreGoodBefore, IsFirstFault};
+ghost use Rattle.dg_rehearsal.specs.Rehearsal.{KeepsLook, IsPlaying, IsInPlay, PlaysOn, StopsPlay};
+ghost use Rattle.dg_game.specs.declared.entry.Entry.{Entry};
+ghost use Rattle.dg_game.specs.declared.step.Command.{Command};
+ghost use Rattle.dg_game.specs.declared.step.Step.{Step};
+ghost use Rattle.dg_game.specs.declared.step.Command.TheVariants.{Call, Commit, Rank};
+
+use crate::ranking::rank_look;
+use dg_chips::Start;
+use dg_game::{
+    Command, Entry, Finding, Game, LookData, MAX_ENTRIES, MAX_SEATS, Outcome, Plain, Step,
+    judge_look_aimed,
+};
+use dg_reduce::Aim;
+use std::alloc::Allocator;
+
+/// Why a schedule is not played. Steps are numbered from 0.
+#[derive(Clone, Copy, Debug, PartialEq, Eq)]
+pub enum RehearseFault {
+    /// The step's seat is not 1 to 64.
+    Seat(usize),
+    /// The history has no room for the step.
+    Full(usize),
+    /// The step wants a look, and its seat keeps none.
+    NoLook(usize),
+    /// The step is a rank test of a degree above 1,000, or with more than 200,000 trials.
+    TooMany(usize),
+    /// There is not enough memory.
+    OutOfMemory,
+}
+
+/// A schedule that is being played: the game, its vertex q, and for each seat the look that it keeps.
+#[derive(Drop)]
+pub struct Rehearsal {
+    /// The game as it stands.
+    pub game: Game,
+    /// The vertex from which verdicts are reckoned.
+    pub q: usize,
+    /// What serves its verdicts until an edge is added; no answer depends on it.
+    pub aim: Aim,
+    /// The look that a seat has taken last and not used up, at the place of the seat's number.
+    pub looks: [Option<LookData>; 65],
+}
+
+/// Plays the steps one after another from the start, and gives the history: entry j has the seat and the request of
+/// step j. A commit enters the verdict on the last look of its seat, and uses the look up; so does a rank test.
+///
+/// Refused with `OutOfMemory`, and then step by step with `Seat` where a seat is not 1 to 64, with `Full` for the step
+/// of number 65,536, with `NoLook` where the seat of a commit or of a rank test keeps no look, and with `TooMany` where
+/// a rank test is past the limits: a degree of 1,000, and 200,000 trials. A refusal gives no history.
+pub fn rehearse<A: Allocator + Drop>(
+    alloc: A,
+    start: &Start,
+    steps: &[Step],
+) -> Result<Vec<Entry, A>, RehearseFault>
+    ensures { MatchResult result
+        (λ history. IsRehearsal start.now steps.now history.items ×
+        (length steps.now ≤ MAX_ENTRIES) ×
+        AreGoodBefore start.now.graph.size steps.now (length steps.now))
+        (IsFirstFault start.now.graph.size steps.now) }
+{
+    let Ok(mut history) = Vec::with_capacity(alloc, steps.len().min(MAX_ENTRIES)) else {
+        return Err(RehearseFault::OutOfMemory);
+    };
+    let mut rehearsal = Rehearsal::new(start);
+    for step in steps {
+        let entry = rehearsal.play(step)?;
+        history.push(entry).unwrap();
+    }
+    Ok(history)
+}
+
+impl Rehearsal {
+    /// The schedule before its first step.
+    pub fn new(start: &Start) -> Rehearsal
+        ensures { (steps : List Step) → IsPlaying start.now steps [] result }
+    {
+        let q = usize::from(start.q());
+        Rehearsal {
+            game: Game::new(start),
+            q,
+            aim: Aim::new(start.graph(), q),
+            looks: [None; 65],
+        }
+    }
+
+    /// Plays the next step, and gives its entry. The condition is that steps were played from a start, and nothing else
+    /// has happened to the game, the vertex q or the looks.
+    ///
+    /// Refused with `Seat`, `Full`, `NoLook` or `TooMany` as `rehearse` refuses the step; then nothing has changed.
+    pub fn play(&mut self, step: &Step) -> Result<Entry, RehearseFault>
+        requires { IsInPlay self.old }
+        ensures plays { MatchResult result
+            (λ e. (self.old.game.entries < MAX_ENTRIES) × PlaysOn self.old step.now e self.new)
+            (StopsPlay self.old step.now) }
+        ensures same { OnErr result (self.new ≡ self.old) }
+    {
+        let i = self.game.entries() as usize;
+        let seat = step.seat;
+        if let Some(fault) = self.barred(seat) {
+            return Err(fault);
+        }
+        match &step.command {
+            Command::Call(plain) => {
+                let outcome = self.take(seat, plain);
+                Ok(Entry {
+                    seat,
+                    request: plain.request(),
+                    reply: self.game.reply(outcome),
+                })
+            }
+            Command::Commit => self.commit(seat).ok_or(RehearseFault::NoLook(i)),
+            Command::Rank(k) => self.rank(seat, *k),
+        }
+    }
+
+    /// Plays a call as the next step, as `play` does, and tells in few words what it came to. The condition is that of
+    /// `play`.
+    ///
+    /// Refused with `Seat` or `Full` as `rehearse` refuses the step; then nothing has changed.
+    pub fn call(&mut self, seat: u8, plain: &Plain) -> Result<Outcome, RehearseFault>
+        requires { IsInPlay self.old }
+        ensures plays { MatchResult result
+            (λ outcome. (self.old.game.entries < MAX_ENTRIES) ×
+            PlaysOn self.old (record { seat = seat; command = Call plain.now })
+            (entry_of seat plain.now outcome self.new.game) self.new)
+            (StopsPlay self.old (record { seat = seat; command = Call plain.now })) }
+        ensures same { OnErr result (self.new ≡ self.old) }
+    {
+        match self.barred(seat) {
+            Some(fault) => Err(fault),
+            None => Ok(self.take(seat, plain)),
+        }
+    }
+
+    /// Why the seat can have no step next, whatever its command.
+    fn barred(&self, seat: u8) -> Option<RehearseFault>
+        requires { IsInPlay self.now }
+        ensures { MatchOption result
+            (IsSeat seat × (self.now.game.entries < MAX_ENTRIES))
+            (λ fault. (c : Command) →
+            StopsPlay self.now (record { seat = seat; command = c }) fault) }
+    {
+        let i = self.game.entries() as usize;
+        if seat < 1 || seat > MAX_SEATS {
+            return Some(RehearseFault::Seat(i));
+        }
+        if i == MAX_ENTRIES {
+            return Some(RehearseFault::Full(i));
+        }
+        None
+    }
+
+    /// Answers a seat's call; a look is kept for the seat.
+    fn take(&mut self, seat: u8, plain: &Plain) -> Outcome
+        requires playing { IsInPlay self.old }
+        requires room { self.old.game.entries < MAX_ENTRIES }
+        requires seat { IsSeat seat }
+        ensures { PlaysOn self.old (record { seat = seat; command = Call plain.now })
+            (entry_of seat plain.now result self.new.game) self.new }
+    {
+        if let Plain::Look = plain {
+            self.looks[usize::from(seat)] = Some(self.game.look_data());
+        }
+        self.game.take(plain)
+    }
+
+    /// Enters the verdict on the look that a seat keeps, which is used up; `None` where it keeps none.
+    fn commit(&mut self, seat: u8) -> Option<Entry>
+        requires playing { IsInPlay self.old }
+        requires room { self.old.game.entries < MAX_ENTRIES }
+        requires seat { IsSeat seat }
+        ensures plays { MatchOption result
+            ((o : Opening) (H : List Entry) (steps : List Step) → IsPlaying o steps H self.old →
+            (i : ℕ) → ¬ IsKept steps seat (length H) i)
+            (λ e. PlaysOn self.old (record { seat = seat; command = Commit }) e self.new) }
+        ensures same { result ≡ None → self.new ≡ self.old }
+    {
+        let look = self.kept(seat)?;
+        let finding = judge_look_aimed(&self.aim, self.q(), &look);
+        Some(self.enter(seat, &look, &finding))
+    }
+
+    /// Enters the rank test of degree k on the look that a seat keeps, which is used up; or why it can't be entered.
+    fn rank(&mut self, seat: u8, k: u32) -> Result<Entry, RehearseFault>
+        requires playing { IsInPlay self.old }
+        requires room { self.old.game.entries < MAX_ENTRIES }
+        requires seat { IsSeat seat }
+        ensures plays { MatchResult result
+            (λ e. PlaysOn self.old (record { seat = seat; command = Rank k }) e self.new)
+            (StopsPlay self.old (record { seat = seat; command = Rank k })) }
+        ensures same { OnErr result (self.new ≡ self.old) }
+    {
+        let i = self.game.entries() as usize;
+        let Some(look) = self.kept(seat) else {
+            return Err(RehearseFault::NoLook(i));
+        };
+        let Ok(finding) = rank_look(self.q(), &look, k) else {
+            return Err(RehearseFault::TooMany(i));
+        };
+        let entry = self.enter(seat, &look, &finding);
+        Ok(entry)
+    }
+
+    /// The vertex from which verdicts are reckoned, which is that of the game.
+    fn q(&self) -> usize
+        requires { IsInPlay self.now }
+        ensures q { result ≡ self.now.game.q }
+        ensures vertex { result < self.now.game.graph.size }
+    {
+        let _position = self.game.position();
+        self.q
+    }
+
+    /// The look that a seat keeps, if it keeps one.
+    fn kept(&self, seat: u8) -> Option<LookData>
+        requires playing { IsInPlay self.now }
+        requires seat { IsSeat seat }
+        ensures { (o : Opening) (H : List Entry) (steps : List Step) →
+            IsPlaying o steps H self.now → KeepsLook o H steps seat result }
+    {
+        self.looks[usize::from(seat)]
+    }
+
+    /// Enters what was reckoned on the look that a seat keeps, and uses the look up.
+    fn enter(&mut self, seat: u8, look: &LookData, finding: &Finding) -> Entry
+        requires playing { (o : Opening) × (H : List Entry) × (steps : List Step) ×
+            IsPlaying o steps H self.old × KeepsLook o H steps seat (Some look.now) }
+        requires found { IsFoundFor self.old.game.q look.now finding.now }
+        requires room { self.old.game.entries < MAX_ENTRIES }
+        requires seat { IsSeat seat }
+        ensures { (o : Opening) (H : List Entry) (steps : List Step) (c : Command) →
+            IsPlaying o steps H self.old → KeepsLook o H steps seat (Some look.now) →
+            slice_get steps (length H) ≡ Some (record { seat = seat; command = c }) →
+            UsesUp c → HasTrials o.graph.size c →
+            IsAsked steps seat (length H) c (asked_for look.now.number finding.now) →
+            IsPlaying o steps (H ++ result ∷ []) self.new }
+    {
+        let reply = self.game.settle(look, finding);
+        self.looks[usize::from(seat)] = None;
+        Entry {
+            seat,
+            request: finding.request(look.number),
+            reply,
+        }
+    }
+}
