@@ -9,7 +9,6 @@
 --   looks_left     the looks kept after a call that is no look
 --   called         a call plays the schedule on
 --   entered        a finding that was reckoned on the seat's look plays the schedule on when it is entered
---   lookless       a step that wants a look that the seat does not keep is the first fault
 --   past_limits    a rank test past the limits is the first fault, where the seat keeps a look
 --   told_err       a refusal that is handed on tells what it told before
 use Rattle.std.proofs.Common.{◌≡◌, ℕ, ◌+◌, ◌<◌, List, [], ◌∷◌, ◌++◌, length, length-append, slice_get, Option, Some, None, Result, Ok, Err, set, arith, refl, sym, ap, ◌∙◌, inl, inr, length-set, replicate}
@@ -34,7 +33,7 @@ use Rattle.dg_game.specs.declared.finding.Finding.{Finding}
 use Rattle.dg_game.specs.declared.game.TheConstants.{MAX_ENTRIES}
 use Rattle.dg_game.specs.declared.look.LookData.{LookData}
 use Rattle.dg_rehearsal.specs.declared.schedule.Rehearsal.{Rehearsal}
-use Rattle.dg_rehearsal.specs.declared.schedule.RehearseFault.TheVariants.{NoLook, TooMany}
+use Rattle.dg_rehearsal.specs.declared.schedule.RehearseFault.TheVariants.{TooMany}
 use Rattle.dg_game.specs.declared.step.Command.{Command}
 use Rattle.dg_game.specs.declared.step.Command.TheVariants.{Call, Commit, Rank}
 use Rattle.dg_game.specs.declared.step.Step.{Step}
@@ -192,13 +191,6 @@ playing_none o steps r leads q empty = record {
   looks = λ seat is. rw (empty, get_or-replicate {A = Option LookData} 65 seat None None (omega (arith, is.1)))
       (λ i kept. absurd (omega (arith, kept.before)));
 }
-
-pub lookless : (o : Opening) (H : List Entry) (steps : List Step) (r : Rehearsal) (step : Step) (i : ℕ) →
-    IsPlaying o steps H r →
-    slice_get steps (length H) ≡ Some step → i ≡ length H → i < MAX_ENTRIES → IsSeat step.seat →
-    (¬ HasLook steps step.seat (length H) step.command) → IsFirstFault o.graph.size steps (NoLook i)
-lookless o H steps r step i playing there here room seat none =
-    (room, rw here playing.good, (step, rw here there, (seat, rw here none)))
 
 pub past_limits : (o : Opening) (H : List Entry) (steps : List Step) (r : Rehearsal) (seat k j i : ℕ) →
     IsPlaying o steps H r →
