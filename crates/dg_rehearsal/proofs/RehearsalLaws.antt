@@ -9,13 +9,10 @@
 --   looks_left     the looks kept after a call that is no look
 --   called         a call plays the schedule on
 --   entered        a finding that was reckoned on the seat's look plays the schedule on when it is entered
---   lookless       a step that wants a look that the seat does not keep is the first fault
 --   past_limits    a rank test past the limits is the first fault, where the seat keeps a look
---   told_ok_or     what an option tells, its `ok_or` tells as well
 --   told_err       a refusal that is handed on tells what it told before
 use Rattle.std.proofs.Common.{◌≡◌, ℕ, ◌+◌, ◌<◌, List, [], ◌∷◌, ◌++◌, length, length-append, slice_get, Option, Some, None, Result, Ok, Err, set, arith, refl, sym, ap, ◌∙◌, inl, inr, length-set, replicate}
 use Rattle.std.specs.List.{slice_index_or}
-use Rattle.std.specs.Option.{ok_or, MatchOption}
 use Rattle.std.specs.Result.{MatchResult, IsErrAnd}
 use Rattle.std.proofs.lemmas.Bool.{cases_lt, cases_eq}
 use Rattle.std.proofs.lemmas.List.{get_or-set_same, get_or-set_other, get_or-replicate, length-replicate}
@@ -36,7 +33,7 @@ use Rattle.dg_game.specs.declared.finding.Finding.{Finding}
 use Rattle.dg_game.specs.declared.game.TheConstants.{MAX_ENTRIES}
 use Rattle.dg_game.specs.declared.look.LookData.{LookData}
 use Rattle.dg_rehearsal.specs.declared.schedule.Rehearsal.{Rehearsal}
-use Rattle.dg_rehearsal.specs.declared.schedule.RehearseFault.TheVariants.{NoLook, TooMany}
+use Rattle.dg_rehearsal.specs.declared.schedule.RehearseFault.TheVariants.{TooMany}
 use Rattle.dg_game.specs.declared.step.Command.{Command}
 use Rattle.dg_game.specs.declared.step.Command.TheVariants.{Call, Commit, Rank}
 use Rattle.dg_game.specs.declared.step.Step.{Step}
@@ -195,13 +192,6 @@ playing_none o steps r leads q empty = record {
       (λ i kept. absurd (omega (arith, kept.before)));
 }
 
-pub lookless : (o : Opening) (H : List Entry) (steps : List Step) (r : Rehearsal) (step : Step) (i : ℕ) →
-    IsPlaying o steps H r →
-    slice_get steps (length H) ≡ Some step → i ≡ length H → i < MAX_ENTRIES → IsSeat step.seat →
-    (¬ HasLook steps step.seat (length H) step.command) → IsFirstFault o.graph.size steps (NoLook i)
-lookless o H steps r step i playing there here room seat none =
-    (room, rw here playing.good, (step, rw here there, (seat, rw here none)))
-
 pub past_limits : (o : Opening) (H : List Entry) (steps : List Step) (r : Rehearsal) (seat k j i : ℕ) →
     IsPlaying o steps H r →
     slice_get steps (length H) ≡ Some (record { seat = seat; command = Rank k }) → i ≡ length H → i < MAX_ENTRIES →
@@ -212,12 +202,6 @@ past_limits o H steps r seat k j i playing there here room is kept past = (
   rw here playing.good,
   (record { seat = seat; command = Rank k }, rw here there, (is, (j, rw here kept), past)),
 )
-
-pub told_ok_or : {X E : Type 0} (r : Option X) (fault : E) (P : Type 0) (Q R : X → Type 0) (F : E → Type 0) →
-    MatchOption r P Q →
-    (P → F fault) → ((x : X) → Q x → R x) → MatchResult (ok_or r fault) R F
-told_ok_or (Some x) fault P Q R F told none some = some x told
-told_ok_or None fault P Q R F told none some = none told
 
 pub told_err : {X E : Type 0} (r : Result X E) (fault : E) (P : X → Type 0) (Q : E → Type 0) →
     IsErrAnd r (λ e. e ≡ fault) →

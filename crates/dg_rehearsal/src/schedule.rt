@@ -102,7 +102,6 @@ impl Rehearsal {
             (StopsPlay self.old step.now) }
         ensures same { OnErr result (self.new ≡ self.old) }
     {
-        let i = self.game.entries() as usize;
         let seat = step.seat;
         if let Some(fault) = self.barred(seat) {
             return Err(fault);
@@ -116,7 +115,7 @@ impl Rehearsal {
                     reply: self.game.reply(outcome),
                 })
             }
-            Command::Commit => self.commit(seat).ok_or(RehearseFault::NoLook(i)),
+            Command::Commit => self.commit(seat),
             Command::Rank(k) => self.rank(seat, *k),
         }
     }
@@ -172,20 +171,23 @@ impl Rehearsal {
         self.game.take(plain)
     }
 
-    /// Enters the verdict on the look that a seat keeps, which is used up; `None` where it keeps none.
-    fn commit(&mut self, seat: u8) -> Option<Entry>
+    /// Enters the verdict on the look that a seat keeps, which is used up; or why it can't be entered.
+    fn commit(&mut self, seat: u8) -> Result<Entry, RehearseFault>
         requires playing { IsInPlay self.old }
         requires room { self.old.game.entries < MAX_ENTRIES }
         requires seat { IsSeat seat }
-        ensures plays { MatchOption result
-            ((o : Opening) (H : List Entry) (steps : List Step) → IsPlaying o steps H self.old →
-            (i : ℕ) → ¬ IsKept steps seat (length H) i)
-            (λ e. PlaysOn self.old (record { seat = seat; command = Commit }) e self.new) }
-        ensures same { result ≡ None → self.new ≡ self.old }
+        ensures plays { MatchResult result
+            (λ e. PlaysOn self.old (record { seat = seat; command = Commit }) e self.new)
+            (StopsPlay self.old (record { seat = seat; command = Commit })) }
+        ensures same { OnErr result (self.new ≡ self.old) }
     {
-        let look = self.kept(seat)?;
+        let i = self.game.entries() as usize;
+        let Some(look) = self.kept(seat) else {
+            return Err(RehearseFault::NoLook(i));
+        };
         let finding = judge_look_aimed(&self.aim, self.q(), &look);
-        Some(self.enter(seat, &look, &finding))
+        let entry = self.enter(seat, &look, &finding);
+        Ok(entry)
     }
 
     /// Enters the rank test of degree k on the look that a seat keeps, which is used up; or why it can't be entered.

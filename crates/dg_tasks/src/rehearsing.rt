@@ -78,13 +78,12 @@ fn play_on(
         return call_on(rehearsal, text, names, step.seat, plain);
     }
     let number = rehearsal.game.entries() as usize;
-    let entry = match rehearsal.play(step) {
-        Ok(entry) => entry,
-        Err(fault) => return Err(fault),
-    };
-    match push_entry(text, number, &entry.reply, names) {
-        Ok(()) => Ok(()),
-        Err(_) => Err(RehearseFault::OutOfMemory),
+    match &rehearsal.play(step) {
+        Ok(entry) => match push_entry(text, number, &entry.reply, names) {
+            Ok(()) => Ok(()),
+            Err(_) => Err(RehearseFault::OutOfMemory),
+        },
+        Err(fault) => Err(*fault),
     }
 }
 

@@ -5,25 +5,25 @@ use Rattle.dg_rehearsal.proofs.schedule.Rehearsal.commit.Goals as goal
 pub judge_look_aimed-finding-requires-clause-size : goal.judge_look_aimed-finding-requires-clause-size
 judge_look_aimed-finding-requires-clause-size c =
     let (o, H, steps, playing) = c.requires.playing in
-    let (kept, look) = c.in_ok-look.ensures o H steps playing in
-    look_fits o H c.in_ok-look.look look
+    let (kept, look) = c.in-Some.ensures o H steps playing in
+    look_fits o H c.in-Some.look look
 
 pub judge_look_aimed-finding-requires-clause-vertex : goal.judge_look_aimed-finding-requires-clause-vertex
 judge_look_aimed-finding-requires-clause-vertex c =
     let (o, H, steps, playing) = c.requires.playing in
-    let (kept, look) = c.in_ok-look.ensures o H steps playing in
+    let (kept, look) = c.in-Some.ensures o H steps playing in
     rw (look_vertices o H _ _ playing.leads look) c.q.ensures.vertex
 
-pub enter-requires-clause-playing : goal.enter-requires-clause-playing
-enter-requires-clause-playing c =
+pub enter-entry-requires-clause-playing : goal.enter-entry-requires-clause-playing
+enter-entry-requires-clause-playing c =
     let (o, H, steps, playing) = c.requires.playing in
-    (o, H, steps, playing, c.in_ok-look.ensures o H steps playing)
+    (o, H, steps, playing, c.in-Some.ensures o H steps playing)
 
-pub enter-requires-clause-found : goal.enter-requires-clause-found
-enter-requires-clause-found c = rw c.q.ensures.q at c.judge_look_aimed-finding.ensures.found
+pub enter-entry-requires-clause-found : goal.enter-entry-requires-clause-found
+enter-entry-requires-clause-found c = rw c.q.ensures.q at c.judge_look_aimed-finding.ensures.found
 
 pub returns-clause-plays : goal.returns-clause-plays
 returns-clause-plays c = λ o H steps playing there.
-    let keeps = c.in_ok-look.ensures o H steps playing in
-    c.enter.ensures o H steps Commit playing keeps there tt tt
-    (c.in_ok-look.look.number, keeps.0, c.judge_look_aimed-finding.ensures.asks c.in_ok-look.look.number)
+    let keeps = c.in-Some.ensures o H steps playing in
+    c.enter-entry.ensures o H steps Commit playing keeps there tt tt
+    (c.in-Some.look.number, keeps.0, c.judge_look_aimed-finding.ensures.asks c.in-Some.look.number)

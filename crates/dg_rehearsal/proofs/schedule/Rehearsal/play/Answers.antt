@@ -1,8 +1,7 @@
-use Rattle.std.proofs.Common.{◌≡◌, length, slice_get, Some, arith, ap, ◌∙◌}
+use Rattle.std.proofs.Common.{◌≡◌, length, slice_get, Some, ap, ◌∙◌}
 use Rattle.std.proofs.lemmas.Result.{MatchResult-weaker}
 use Rattle.dg_game.specs.declared.step.Command.{Command}
 use Rattle.dg_game.specs.declared.step.Command.TheVariants.{Call}
-use Rattle.dg_rehearsal.proofs.RehearsalLaws.{lookless, told_ok_or}
 use Rattle.dg_rehearsal.proofs.schedule.Rehearsal.play.Goals as goal
 
 pub returns-in-Call-clause-plays : goal.returns-in-Call-clause-plays
@@ -19,16 +18,15 @@ returns-in-Call-clause-plays c =
 pub returns-in-Commit-clause-plays : goal.returns-in-Commit-clause-plays
 returns-in-Commit-clause-plays c =
     let (seat, room) = c.in_default.ensures in
-    rw c.ok_or.ensures.value (told_ok_or c.commit.result _ _ _ _ _ c.commit.ensures.plays
-    (λ none o H steps playing there. lookless o H steps c.args.self.now c.args.step.now _ playing there
-    (omega (arith, playing.leads.entries, c.entries-i.ensures.entries))
-    (omega (arith, room, c.entries-i.ensures.entries)) seat
-    (rw c.in-Commit.is (λ (i, kept). none o H steps playing i kept)))
+    MatchResult-weaker c.commit.result c.commit.ensures.plays
     (λ e goes. (
       room,
       λ o H steps playing there. goes o H steps playing
           (there ∙ ap (λ (k : Command). Some (record { seat = c.args.step.now.seat; command = k })) c.in-Commit.is),
-    )))
+    ))
+    (λ fault told o H steps playing there.
+    told o H steps playing
+    (there ∙ ap (λ (k : Command). Some (record { seat = c.args.step.now.seat; command = k })) c.in-Commit.is))
 
 pub returns-in-Rank-clause-plays : goal.returns-in-Rank-clause-plays
 returns-in-Rank-clause-plays c =
