@@ -56,6 +56,7 @@ pub fn burn(graph: &Graph, q: usize, chips: &Wide) -> Burnt
 
 /// Burns the graph from q, where each vertex holds so many dollars: as `burn` does, and with the counts kept. Amounts above
 /// 64 burn as 64 does, for no vertex has more than 63 edges.
+#[inline(always)]
 pub fn burn_counted(graph: &Graph, q: usize, held: &[u8; 16]) -> Counted
     requires { q < graph.now.size }
     ensures order { BurnsInOrder graph.now q (dollars held.now)
