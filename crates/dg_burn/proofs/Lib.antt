@@ -4,3 +4,5 @@ pub mod Rests
 pub mod Told
 pub mod Fires
 pub mod Capped
+pub mod Lanes
+pub mod Bits

@@ -10,7 +10,7 @@ ghost use Rattle.dg_graph.specs.Sets.{in_set};
 ghost use Rattle.dg_chips.specs.Vector.{at};
 ghost use Rattle.dg_burn.specs.Fires.{dollars, IsHeld};
 
-use crate::fire::Fire;
+use crate::fire::{Fire, gained};
 use dg_chips::Wide;
 use dg_graph::{Graph, MAX_VERTICES, complement};
 
@@ -56,6 +56,7 @@ pub fn burn(graph: &Graph, q: usize, chips: &Wide) -> Burnt
 
 /// Burns the graph from q, where each vertex holds so many dollars: as `burn` does, and with the counts kept. Amounts above
 /// 64 burn as 64 does, for no vertex has more than 63 edges.
+#[inline(always)]
 pub fn burn_counted(graph: &Graph, q: usize, held: &[u8; 16]) -> Counted
     requires { q < graph.now.size }
     ensures order { BurnsInOrder graph.now q (dollars held.now)
@@ -72,7 +73,8 @@ pub fn burn_counted(graph: &Graph, q: usize, held: &[u8; 16]) -> Counted
     ensures whole { (result.burnt.unburnt ≡ 0) ↔ (result.burnt.burnt ≡ graph.now.size) }
 {
     let size = graph.size();
-    let mut fire = Fire::new(held);
+    let unlit = Fire::new(held);
+    let mut fire = unlit;
     fire.burn_vertex(graph, q);
     let mut order = [0; 16];
     order[0] = q as u8;
@@ -88,7 +90,7 @@ pub fn burn_counted(graph: &Graph, q: usize, held: &[u8; 16]) -> Counted
             burnt: count as u8,
             unburnt: complement(size, fire.reached),
         },
-        joined: fire.joined,
+        joined: gained(fire.heat, unlit.heat),
     }
 }
 

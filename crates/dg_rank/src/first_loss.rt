@@ -106,6 +106,9 @@ fn leap(trial: &mut Trial, left: &mut Form) -> u32
 {
     let last = trial.size() - 1;
     let dollars = trial.get(last);
+    if dollars == 0 {
+        return 0;
+    }
     let place = first_rich(trial, left, dollars);
     if place == last {
         return 0;

@@ -2,12 +2,14 @@
 --   edges_apart      an edge of a vertex leads into a set or out of it
 --   rest_lends       a vertex of the set gains what leads out of it, below 0
 --   rest_receives    any other vertex gains all its edges but those that lead out of the set
+--   rest_edges_few   the edges of a vertex that is not in the set, and none of one that is, are at most all its edges
+--   rest_gains       so a vertex gains its edges, if it is not in the set, less those that lead out of it
 --   gain_small       so no vertex gains or loses more than it has edges
 --   gain_past        and past the last vertex nothing is gained
 --   once_more        after one more set has lent, such sets led there
 --   once_falls       the weight falls where one more set lends once
 --   once_limit       from amounts within 2^26 come amounts within 17 * 2^26
-use Rattle.std.proofs.Common.{◌≡◌, ℕ, zero, suc, ◌+◌, ◌*◌, ◌^◌, ◌<◌, ◌≤◌, Bool, true, false, arith, refl, sym, ◌∙◌, ⊎_elim}
+use Rattle.std.proofs.Common.{◌≡◌, ℕ, zero, suc, ◌+◌, ◌*◌, ◌^◌, ◌<◌, ◌≤◌, Bool, true, false, arith, refl, sym, ap, ◌∙◌, ⊎_elim}
 use Rattle.std.specs.Prelude.{if◌then◌else◌}
 use Rattle.std.specs.Int.RustNames.{unsigned_abs}
 use Rattle.std.proofs.lemmas.Bool.{cases_Bool}
@@ -57,6 +59,27 @@ rest_lends g S v inside = omega (arith, ints, gain-inside g S v inside)
 pub rest_receives : (g : Multigraph) (S : ℕ → Bool) (v : ℕ) → S v ≡ false →
     gain g (indicator S) v ≡ pos (valence g v) -ℤ pos (edges_out g S v)
 rest_receives g S v outside = omega (arith, ints, gain-outside g S v outside, edges_apart g S v)
+
+pub rest_edges_few : (g : Multigraph) (S : ℕ → Bool) (v e : ℕ) → e ≡ (if S v then 0 else valence g v) → e ≤ valence g v
+rest_edges_few g S v e edges = ⊎_elim
+    (λ (member : S v ≡ true).
+    let none : e ≡ 0 = edges ∙ ap (λ b. if b then 0 else valence g v) member in
+    omega arith)
+    (λ (other : S v ≡ false).
+    let all : e ≡ valence g v = edges ∙ ap (λ b. if b then 0 else valence g v) other in
+    omega arith)
+    (cases_Bool (S v))
+
+pub rest_gains : (g : Multigraph) (S : ℕ → Bool) (v e : ℕ) → e ≡ (if S v then 0 else valence g v) →
+    gain g (indicator S) v ≡ pos e -ℤ pos (edges_out g S v)
+rest_gains g S v e edges = ⊎_elim
+    (λ (member : S v ≡ true).
+    let none : e ≡ 0 = edges ∙ ap (λ b. if b then 0 else valence g v) member in
+    omega (arith, ints, rest_lends g S v member))
+    (λ (other : S v ≡ false).
+    let all : e ≡ valence g v = edges ∙ ap (λ b. if b then 0 else valence g v) other in
+    omega (arith, ints, rest_receives g S v other))
+    (cases_Bool (S v))
 
 pub gain_small : (g : Multigraph) (S : ℕ → Bool) (v : ℕ) → IsGraph g →
     unsigned_abs (gain g (indicator S) v) ≤ valence g v

@@ -16,3 +16,4 @@ pub mod Joined
 -- Debts that are paid back.
 pub mod DebtSteps
 pub mod FormSteps
+pub mod Halves

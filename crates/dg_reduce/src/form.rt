@@ -1,10 +1,13 @@
 //! Amounts without debts, from which dollars are taken.
 
-ghost use Rattle.std.specs.Prelude.{◌≡◌, ℕ, ◌<◌, ◌≤◌, ◌^◌, ◌-◌, pos, ◌+ℤ◌, ◌-ℤ◌, MatchBool, MatchOption, slice_index};
+ghost use Rattle.std.specs.Prelude.{◌≡◌, ℕ, ◌<◌, ◌≤◌, ◌^◌, ◌-◌, pos, ◌+ℤ◌, ◌-ℤ◌, if◌then◌else◌, MatchBool, MatchOption, slice_index};
+ghost use Rattle.std.specs.List.{slice_index_or};
 ghost use Rattle.std.specs.Int.RustNames.{unsigned_abs};
+ghost use Rattle.dg_theory.specs.Multigraph.{valence};
 ghost use Rattle.dg_theory.specs.Firing.{only_at, indicator, gain, FiresTo, HasNoDebtOff};
 ghost use Rattle.dg_theory.specs.Play.{IsWinnable};
 ghost use Rattle.dg_theory.specs.Reduced.{edges_out, IsReduced};
+ghost use Rattle.dg_graph.specs.declared.limits.TheConstants.{MAX_VERTICES};
 ghost use Rattle.dg_graph.specs.Sets.{in_set};
 ghost use Rattle.dg_chips.specs.Vector.{at};
 ghost use Rattle.dg_burn.specs.Fires.{IsHeld};
@@ -13,8 +16,12 @@ ghost use Rattle.dg_reduce.specs.Rests.{IsRest};
 
 use dg_burn::{Counted, burn_counted};
 use dg_chips::Wide;
-use dg_graph::{Graph, contains};
+use dg_graph::Graph;
 use std::marker::Model;
+use std::simd::prelude::*;
+
+/// The bit of each vertex in its half of a set.
+const PLACES: [u8; 16] = [1, 2, 4, 8, 16, 32, 64, 128, 1, 2, 4, 8, 16, 32, 64, 128];
 
 /// An amount of dollars for each vertex of a graph, in 32 bits, changed in place.
 #[derive(Clone, Copy)]
@@ -85,6 +92,7 @@ impl Form {
 
     /// Pays back what one vertex owes, where nobody else may be in debt: as long as it does, the vertices that burning from it leaves
     /// lend. False where the amounts can't be won; then nothing is said of what is left.
+    #[inline(always)]
     pub fn repay(&mut self, graph: &Graph, v: usize) -> bool
         requires size { self.old.size ≡ graph.now.size }
         requires vertex { v < graph.now.size }
@@ -101,6 +109,7 @@ impl Form {
     }
 
     /// The same, where the vertex is in debt at first.
+    #[inline(never)]
     fn pay(&mut self, graph: &Graph, v: usize) -> bool
         requires size { self.old.size ≡ graph.now.size }
         requires vertex { v < graph.now.size }
@@ -145,7 +154,7 @@ impl Form {
         let amounts = &self.amounts;
         let mut held = [0; 16];
         for v in 0..16 {
-            held[v] = amounts[v].clamp(0, 64) as u8;
+            held[v] = (amounts[v].clamp(0, 255) as u8).min(64);
         }
         held
     }
@@ -161,26 +170,75 @@ impl Form {
             (at self.new) }
     {
         let size = graph.size();
+        let gains = gains_of(graph, rest);
         let mut amounts = self.amounts;
         for v in 0..16 {
-            amounts[v] += gained(graph, rest, v);
+            amounts[v] = with_gain(amounts[v], gains[v]);
         }
         *self = Form { size, amounts };
     }
 }
 
-/// What a vertex gains where each vertex that burning left lends once.
-fn gained(graph: &Graph, rest: &Counted, v: usize) -> i32
-    requires vertex { v < 16 }
+/// What each vertex gains where each vertex that burning left lends once.
+fn gains_of(graph: &Graph, rest: &Counted) -> [i8; 16]
+    requires { (v : ℕ) →
+        slice_index rest.now.joined v ≡ edges_out graph.now (in_set rest.now.burnt.unburnt) v }
+    ensures gains { (v : ℕ) → v < MAX_VERTICES →
+        slice_index_or result v (pos 0)
+        ≡ gain graph.now (indicator (in_set rest.now.burnt.unburnt)) v }
+    ensures few { (v : ℕ) → unsigned_abs (slice_index_or result v (pos 0)) ≤ 63 }
+{
+    let _size = graph.size();
+    let others = outside(rest.burnt.unburnt, u8x16::from_array(*graph.valences())).to_array();
+    let mut gains = [0; 16];
+    for v in 0..16 {
+        gains[v] = gained(graph, rest, others[v], v);
+    }
+    gains
+}
+
+/// What a vertex gains where each vertex that burning left lends once, and a dollar comes along each of so many edges.
+fn gained(graph: &Graph, rest: &Counted, edges: u8, v: usize) -> i8
+    requires vertex { v < MAX_VERTICES }
     requires rest { slice_index rest.now.joined v
         ≡ edges_out graph.now (in_set rest.now.burnt.unburnt) v }
+    requires edges { edges ≡ (if in_set rest.now.burnt.unburnt v then 0 else valence graph.now v) }
     ensures gain { result ≡ gain graph.now (indicator (in_set rest.now.burnt.unburnt)) v }
     ensures few { unsigned_abs result ≤ 63 }
 {
     let _size = graph.size();
-    let lost = i32::from(rest.joined[v]);
-    if contains(rest.burnt.unburnt, v) {
-        return -lost;
-    }
-    i32::from(graph.valences()[v]) - lost
+    difference(edges, rest.joined[v])
+}
+
+/// The difference of two numbers of edges.
+fn difference(more: u8, less: u8) -> i8
+    requires more { more ≤ 63 }
+    requires less { less ≤ 63 }
+    ensures { result ≡ pos more -ℤ pos less }
+{
+    more as i8 - less as i8
+}
+
+/// An amount with what is gained.
+fn with_gain(amount: i32, gain: i8) -> i32
+    requires amount { unsigned_abs amount ≤ 2 ^ 31 - 64 }
+    requires gain { unsigned_abs gain ≤ 63 }
+    ensures { result ≡ amount +ℤ gain }
+{
+    amount + i32::from(gain)
+}
+
+/// The numbers of the vertices that are not in a set, 0 at those that are.
+fn outside(set: u16, numbers: u8x16) -> u8x16
+    ensures { (v : ℕ) → v < MAX_VERTICES →
+        slice_index result v ≡ (if in_set set v then 0 else slice_index numbers v) }
+{
+    let low = (set & 255) as u8;
+    let high = (set >> 8) as u8;
+    let halves = [
+        low, low, low, low, low, low, low, low, high, high, high, high, high, high, high, high,
+    ];
+    let bits = u8x16::from_array(halves) & u8x16::from_array(PLACES);
+    bits.simd_eq(u8x16::splat(0))
+        .select(numbers, u8x16::splat(0))
 }

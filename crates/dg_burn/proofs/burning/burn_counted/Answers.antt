@@ -7,28 +7,23 @@ use Rattle.dg_burn.specs.Fires.{dollars}
 use Rattle.dg_burn.proofs.Rests.{none_after}
 use Rattle.dg_burn.proofs.Steps.{unreached-some, burning-lit, burning-fewer, burning-more, burning-done}
 use Rattle.dg_burn.proofs.Told.{set_is_rest, rest_is_free, rest_counts, none_whole}
-use Rattle.dg_burn.proofs.Fires.{fire-unlit, fire-room, fire-spare, fire-more, burnt_out, least_new, least_burns}
+use Rattle.dg_burn.proofs.Fires.{fire-unlit, fire-room, fire-more, fire-counts, burnt_out, least_burns}
 use Rattle.dg_burn.proofs.burning.burn_counted.Goals as goal
 
 pub burn_vertex-requires-clause-room : goal.burn_vertex-requires-clause-room
 burn_vertex-requires-clause-room c =
-    λ w. fire-room c.args.graph.now c.args.held.now c.new-fire.result c.args.q w c.size-size.ensures.graph
-    (fire-unlit c.args.graph.now c.args.held.now c.new-fire.result c.new-fire.ensures)
-
-pub burn_vertex-requires-clause-spare : goal.burn_vertex-requires-clause-spare
-burn_vertex-requires-clause-spare c = λ w. fire-spare c.args.graph.now c.args.held.now c.new-fire.result w
-    (fire-unlit c.args.graph.now c.args.held.now c.new-fire.result c.new-fire.ensures)
+    λ w. fire-room c.args.graph.now c.args.held.now c.new-unlit.result c.args.q w c.size-size.ensures.graph
+    (fire-unlit c.args.graph.now c.args.held.now c.new-unlit.result c.new-unlit.ensures)
 
 pub burning-init : goal.burning-init
 burning-init c = record {
   state = burning-lit c.args.graph.now c.args.q (dollars c.args.held.now)
-      (in_set c.new-fire.result.reached) _ c.requires
-      c.new-fire.ensures.none_burns c.burn_vertex.ensures.reached;
-  fire = fire-more c.args.graph.now c.args.held.now c.new-fire.result c.burn_vertex.new.self c.args.q
-      c.size-size.ensures.graph.multigraph c.requires (c.new-fire.ensures.none_burns c.args.q)
-      (fire-unlit c.args.graph.now c.args.held.now c.new-fire.result c.new-fire.ensures)
-      c.burn_vertex.ensures.reached c.burn_vertex.ensures.joined c.burn_vertex.ensures.here
-      c.burn_vertex.ensures.others;
+      (in_set c.new-unlit.result.reached) _ c.requires
+      c.new-unlit.ensures.none_burns c.burn_vertex.ensures.reached;
+  fire = fire-more c.args.graph.now c.args.held.now c.new-unlit.result c.burn_vertex.new.self c.args.q
+      c.size-size.ensures.graph.multigraph c.requires (c.new-unlit.ensures.none_burns c.args.q)
+      (fire-unlit c.args.graph.now c.args.held.now c.new-unlit.result c.new-unlit.ensures)
+      c.burn_vertex.ensures.reached c.burn_vertex.ensures.heat;
   places = refl;
   rest = none_after 15 c.args.q;
 }
@@ -55,10 +50,6 @@ burn_vertex-requires-in-Some-clause-room c = λ w.
     fire-room c.args.graph.now c.args.held.now c.burning.fire c.in-Some.v w c.size-size.ensures.graph
     c.burning.invariant.fire
 
-pub burn_vertex-requires-in-Some-clause-spare : goal.burn_vertex-requires-in-Some-clause-spare
-burn_vertex-requires-in-Some-clause-spare c = λ w.
-    fire-spare c.args.graph.now c.args.held.now c.burning.fire w c.burning.invariant.fire
-
 pub burning-smaller : goal.burning-smaller
 burning-smaller c =
     let burns : BurnsNext c.args.graph.now (dollars c.args.held.now) (in_set c.burning.fire.reached) c.in-Some.v =
@@ -82,10 +73,8 @@ burning-preserved c =
           c.burn_vertex-in-Some.ensures.reached);
       fire = fire-more c.args.graph.now c.args.held.now c.burning.fire c.burn_vertex-in-Some.new.self c.in-Some.v
           c.size-size.ensures.graph.multigraph burns.may.vertex
-          (least_new _ _ _ _ c.size-size.ensures.graph c.burning.invariant.fire c.in-Some.ensures)
-          c.burning.invariant.fire
-          c.burn_vertex-in-Some.ensures.reached c.burn_vertex-in-Some.ensures.joined c.burn_vertex-in-Some.ensures.here
-          c.burn_vertex-in-Some.ensures.others;
+          burns.may.unburnt c.burning.invariant.fire
+          c.burn_vertex-in-Some.ensures.reached c.burn_vertex-in-Some.ensures.heat;
       places = length-set _ _ _ ∙ c.burning.invariant.places;
       rest = λ i past. get_or-set_other c.burning.order c.burning.count i c.in-Some.v 0 (omega arith)
           ∙ c.burning.invariant.rest i (omega arith);
@@ -108,7 +97,9 @@ returns-clause-unburnt c =
 
 pub returns-clause-joined : goal.returns-clause-joined
 returns-clause-joined c = λ v.
-    c.burning.invariant.fire.counts v
+    fire-counts c.args.graph.now c.args.held.now c.new-unlit.result c.burning.fire c.gained.result v
+    c.size-size.ensures.graph c.new-unlit.ensures c.burning.invariant.fire
+    c.gained.ensures.gained c.gained.ensures.past
     ∙ rest_counts c.args.graph.now (take c.burning.count c.burning.order)
     (in_set c.burning.fire.reached) c.complement.result v
     c.burning.invariant.state.same (returns-clause-left c)

@@ -26,8 +26,13 @@ few c =
     (omega (arith, c.size-last.ensures.size, trial.places, limits.some)) in
     omega (arith, c.get-dollars.ensures, trial.amount, limits.small)
 
+pub returns-then-dollars-eq0 : goal.returns-then-dollars-eq0
+returns-then-dollars-eq0 c g D k count i limits low is form =
+    stays g D k count i c.args.trial.now c.args.left.now limits low is form
+
 pub first_rich-place-requires-clause-few : goal.first_rich-place-requires-clause-few
-first_rich-place-requires-clause-few c = few c
+first_rich-place-requires-clause-few c =
+    few (goal.at.first_rich-place-requires-clause-few c).After-get-dollars
 
 pub returns-then-place-last : goal.returns-then-place-last
 returns-then-place-last c g D k count i limits low is form =

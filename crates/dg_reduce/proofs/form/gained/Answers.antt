@@ -1,40 +1,43 @@
-use Rattle.std.proofs.Common.{◌≡◌, ◌≤◌, arith, sym}
+use Rattle.std.proofs.Common.{◌≡◌, ◌≤◌, arith}
+use Rattle.std.specs.Prelude.{if◌then◌else◌}
 use Rattle.std.specs.Int.RustNames.{unsigned_abs}
 use Rattle.std.proofs.Math.IntN.{pos, ◌-ℤ◌}
 use Rattle.std.proofs.lemmas.Int.{ints}
 use Rattle.dg_theory.specs.Multigraph.{valence}
 use Rattle.dg_theory.specs.Firing.{gain, indicator}
 use Rattle.dg_theory.specs.Reduced.{edges_out}
+use Rattle.dg_theory.proofs.Debts.{out-le-valence}
 use Rattle.dg_graph.specs.Sets.{in_set}
 use Rattle.dg_graph.proofs.Valences.{valence-few}
-use Rattle.dg_reduce.proofs.FormSteps.{rest_lends, rest_receives, gain_small}
+use Rattle.dg_reduce.proofs.FormSteps.{rest_gains, rest_edges_few, gain_small}
 use Rattle.dg_reduce.proofs.form.gained.Goals as goal
 
-pub returns-then-contains-clause-gain : goal.returns-then-contains-clause-gain
-returns-then-contains-clause-gain c =
+pub difference-requires-clause-more : goal.difference-requires-clause-more
+difference-requires-clause-more c =
     let S = in_set c.args.rest.now.burnt.unburnt in
-    let lent : gain c.args.graph.now (indicator S) c.args.v ≡ pos 0 -ℤ pos (edges_out c.args.graph.now S c.args.v) =
-    rest_lends c.args.graph.now S c.args.v (sym c.if-contains.ensures) in
-    omega (arith, ints)
+    omega (
+      arith,
+      valence-few c.args.graph.now c.args.v c.size-size.ensures.graph,
+      rest_edges_few c.args.graph.now S c.args.v c.args.edges c.requires.edges,
+    )
 
-pub returns-then-contains-clause-few : goal.returns-then-contains-clause-few
-returns-then-contains-clause-few c =
+pub difference-requires-clause-less : goal.difference-requires-clause-less
+difference-requires-clause-less c =
     let S = in_set c.args.rest.now.burnt.unburnt in
-    let few : valence c.args.graph.now c.args.v ≤ 63 =
-    valence-few c.args.graph.now c.args.v c.size-size.ensures.graph in
-    let small : unsigned_abs (gain c.args.graph.now (indicator S) c.args.v) ≤ valence c.args.graph.now c.args.v =
-    gain_small c.args.graph.now S c.args.v c.size-size.ensures.graph in
-    let lent : gain c.args.graph.now (indicator S) c.args.v ≡ pos 0 -ℤ pos (edges_out c.args.graph.now S c.args.v) =
-    rest_lends c.args.graph.now S c.args.v (sym c.if-contains.ensures) in
-    omega (arith, ints)
+    omega (
+      arith,
+      c.requires.rest,
+      valence-few c.args.graph.now c.args.v c.size-size.ensures.graph,
+      out-le-valence c.args.graph.now S c.args.v,
+    )
 
 pub returns-clause-gain : goal.returns-clause-gain
 returns-clause-gain c =
     let S = in_set c.args.rest.now.burnt.unburnt in
-    let got : gain c.args.graph.now (indicator S) c.args.v
-    ≡ pos (valence c.args.graph.now c.args.v) -ℤ pos (edges_out c.args.graph.now S c.args.v) =
-    rest_receives c.args.graph.now S c.args.v (sym c.if-contains.ensures) in
-    omega (arith, ints)
+    let gains : gain c.args.graph.now (indicator S) c.args.v
+    ≡ pos c.args.edges -ℤ pos (edges_out c.args.graph.now S c.args.v) =
+    rest_gains c.args.graph.now S c.args.v c.args.edges c.requires.edges in
+    omega (arith, ints, c.requires.rest)
 
 pub returns-clause-few : goal.returns-clause-few
 returns-clause-few c =
@@ -43,7 +46,4 @@ returns-clause-few c =
     valence-few c.args.graph.now c.args.v c.size-size.ensures.graph in
     let small : unsigned_abs (gain c.args.graph.now (indicator S) c.args.v) ≤ valence c.args.graph.now c.args.v =
     gain_small c.args.graph.now S c.args.v c.size-size.ensures.graph in
-    let got : gain c.args.graph.now (indicator S) c.args.v
-    ≡ pos (valence c.args.graph.now c.args.v) -ℤ pos (edges_out c.args.graph.now S c.args.v) =
-    rest_receives c.args.graph.now S c.args.v (sym c.if-contains.ensures) in
-    omega (arith, ints)
+    rw (returns-clause-gain c) (omega arith)
