@@ -14,7 +14,7 @@ use crate::certificate::Burning;
 use dg_burn::burn_counted;
 use dg_chips::{Script, Wide};
 use dg_graph::{Graph, contains};
-use std::num::saturating_f64_to_i32;
+use std::num::f64_to_bits_with_nan;
 
 /// The most lendings, and the most borrowings, that are guessed.
 const MOST: i64 = 1_000_000_000;
@@ -91,19 +91,28 @@ fn aimed(aim: &Aim, amounts: &[i32; 16]) -> Near {
     };
     for v in 0..16 {
         let times = near.script[v];
-        lend(&mut near.chips, &aim.rows[v], times);
+        // The test also keeps the compiler from taking four rows together, which is slower than one after the other.
+        if times != 0 {
+            lend(&mut near.chips, &aim.rows[v], times);
+        }
     }
     near
 }
 
-/// The whole numbers nearest to some that are not far past a thousand million.
+/// The whole numbers nearest to some that are within a thousand million.
 fn rounded(lendings: &[f64; 16]) -> [i32; 16] {
     let mut whole = [0; 16];
     for v in 0..16 {
-        let above = saturating_f64_to_i32(lendings[v] + 1_000_000_000.5);
-        whole[v] = above.wrapping_sub(1_000_000_000);
+        whole[v] = nearest(lendings[v]);
     }
     whole
+}
+
+/// The whole number nearest to one that is within a thousand million. A sum with the large number has no place for a fraction,
+/// and the last bits of it are the whole number's.
+fn nearest(lendings: f64) -> i32 {
+    let sum = f64_to_bits_with_nan(lendings + 6_755_399_441_055_744.0);
+    ((sum & 0xffff_ffff) as u32).cast_signed()
 }
 
 /// Lets the vertex that this row is of lend so often.
