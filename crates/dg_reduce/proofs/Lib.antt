@@ -15,4 +15,5 @@ pub mod Burnings
 pub mod Joined
 -- Debts that are paid back.
 pub mod DebtSteps
+pub mod Entries
 pub mod FormSteps

@@ -1,13 +1,14 @@
 //! Whether amounts are reduced, and what shows it.
 
 ghost use Rattle.std.specs.Prelude.{◌≡◌, ℕ, ◌<◌, ◌≤◌, MatchBool, MatchOption, IfSome};
+ghost use Rattle.std.specs.Bool.{OnTrue};
 ghost use Rattle.dg_theory.specs.Firing.{HasNoDebtOff};
 ghost use Rattle.dg_theory.specs.Reduced.{IsReduced};
 ghost use Rattle.dg_chips.specs.Vector.{at};
 ghost use Rattle.dg_reduce.specs.Reductions.{IsBurningOrder};
-ghost use Rattle.dg_reduce.specs.Burnings.{IsWhole};
+ghost use Rattle.dg_reduce.specs.Burnings.{IsWhole, IsHeldOff};
 
-use dg_burn::{burn, held_at};
+use dg_burn::burn;
 use dg_chips::Wide;
 use dg_graph::Graph;
 
@@ -37,11 +38,23 @@ pub(crate) fn order_by(
 {
     let _size = graph.size();
     if let Some(burning) = known {
-        if held_at(chips) == burning.held && is_solvent_off(graph, q, chips) {
+        if is_held_off(q, chips, &burning.held) {
             return Some(burning.order);
         }
     }
     order_if_reduced(graph, q, chips)
+}
+
+/// Whether each vertex but q has as many dollars as it is held to have.
+fn is_held_off(q: usize, chips: &Wide, held: &[u8; 16]) -> bool
+    ensures { OnTrue result (IsHeldOff chips.now.size q (at chips.now) held.now) }
+{
+    for v in 0..chips.size() {
+        if v != q && chips.get(v) != i128::from(held[v]) {
+            return false;
+        }
+    }
+    true
 }
 
 /// The order in which all vertices burn from q, the least first, which shows that the amounts are reduced; `None` where

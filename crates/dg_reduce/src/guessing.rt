@@ -3,9 +3,11 @@
 //! Nothing is promised of where a guess leads: whoever fires by it tests that. So its numbers are small, and its sums may
 //! wrap where they are not.
 
-ghost use Rattle.std.specs.Prelude.{◌≡◌, ℕ, ◌<◌, ◌≤◌, pos, IfSome};
+ghost use Rattle.std.specs.Prelude.{◌≡◌, ℕ, ◌<◌, ◌≤◌, pos, length, IfSome};
+ghost use Rattle.std.specs.List.{slice_index_or};
 ghost use Rattle.std.specs.Int.RustNames.{unsigned_abs};
 ghost use Rattle.dg_chips.specs.Vector.{at};
+ghost use Rattle.dg_chips.specs.declared.limits.TheConstants.{MAX_ENTRY};
 ghost use Rattle.dg_reduce.specs.declared.limits.TheConstants.{MAX_START};
 ghost use Rattle.dg_reduce.specs.Burnings.{IsWhole};
 
@@ -17,7 +19,7 @@ use dg_graph::{Graph, contains};
 use std::num::f64_to_bits_with_nan;
 
 /// The most lendings, and the most borrowings, that are guessed.
-const MOST: i64 = 1_000_000_000;
+const MOST: i32 = 1_000_000_000;
 
 /// How often those who owe borrow in turn: more than was ever seen to be needed.
 const PAYING_ROUNDS: usize = 16;
@@ -72,14 +74,14 @@ pub fn guess(graph: &Graph, aim: &Aim, q: usize, chips: &Wide) -> Guessed
 
 /// The amounts, but 0 at q.
 fn amounts_off(q: usize, chips: &Wide) -> [i32; 16]
-    requires { (v : ℕ) → v < chips.now.size → unsigned_abs (at chips.now v) ≤ MAX_START }
+    requires vertex { q < chips.now.size }
+    requires range { (v : ℕ) → v < chips.now.size → unsigned_abs (at chips.now v) ≤ MAX_START }
 {
     let mut amounts = [0; 16];
     for v in 0..chips.size() {
-        if v != q {
-            amounts[v] = chips.get(v) as i32;
-        }
+        amounts[v] = chips.get(v) as i32;
     }
+    amounts[q] = 0;
     amounts
 }
 
@@ -225,11 +227,19 @@ fn script_of(graph: &Graph, q: usize, lendings: &[i32; 16]) -> Script
     ensures at_q { at result q ≡ pos 0 }
 {
     let size = graph.size();
-    let mut entries = [0; 16];
-    for v in 0..size {
-        if v != q {
-            entries[v] = i64::from(lendings[v]).clamp(-MOST, MOST);
-        }
-    }
+    let mut entries = cut_off(lendings);
+    entries[q] = 0;
     Script::sized(&entries[..size])
+}
+
+/// The lendings, cut off at the most that are guessed.
+fn cut_off(lendings: &[i32; 16]) -> [i64; 16]
+    ensures places { length result ≡ 16 }
+    ensures few { (v : ℕ) → unsigned_abs (slice_index_or result v (pos 0)) ≤ MAX_ENTRY }
+{
+    let mut entries = [0; 16];
+    for v in 0..16 {
+        entries[v] = i64::from(lendings[v].clamp(-MOST, MOST));
+    }
+    entries
 }

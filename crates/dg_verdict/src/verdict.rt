@@ -69,12 +69,10 @@ fn judge_by(graph: &Graph, aim: &Aim, q: usize, divisor: &Divisor) -> Verdict
     let _size = graph.size();
     let _amounts = divisor.size();
     let found = reduce_certified(graph, aim, q, &Wide::of(divisor));
-    let reduced = found.reduced;
-    let order = found.order;
     Verdict {
-        winnable: reduced.divisor.get(q) >= 0,
-        script: reduced.script,
-        reduced: reduced.divisor,
-        order,
+        winnable: found.reduced.divisor.get(q) >= 0,
+        script: found.reduced.script,
+        reduced: found.reduced.divisor,
+        order: found.order,
     }
 }
