@@ -15,19 +15,14 @@ use dg_graph::Graph;
 /// A burning from a vertex q in which all vertices burn.
 #[derive(Clone, Copy)]
 pub struct Burning {
-    /// The amounts as far as burning looks at them: 0 for a debt, and 64 for more than 64.
+    /// The amounts as far as burning looks at them: 0 for a debt, and 64 for more than 64. At q it does not look.
     pub held: [u8; 16],
     /// The order in which all vertices burn, the least first; zeros past the last.
     pub order: [u8; 16],
 }
 
 /// What `order_if_reduced` answers, where a burning is at hand: one of the same amounts serves for another.
-pub(crate) fn order_by(
-    graph: &Graph,
-    q: usize,
-    chips: &Wide,
-    known: &Option<Burning>,
-) -> Option<[u8; 16]>
+pub fn order_by(graph: &Graph, q: usize, chips: &Wide, known: &Option<Burning>) -> Option<[u8; 16]>
     requires size { chips.now.size ≡ graph.now.size }
     requires vertex { q < graph.now.size }
     requires known { IfSome known.now (λ x. IsWhole graph.now q x) }
