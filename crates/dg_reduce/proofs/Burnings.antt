@@ -1,27 +1,77 @@
--- A burning serves for the amounts that it tells.
---   whole_order    where nobody off q is in debt, its order is that of the amounts
+-- A burning serves for the amounts that are those that it tells, whatever q has.
+--   held-may       who may burn is the same, where q burns
+--   whole_order    so its order is that of the amounts
 --   whole_reduced  and the amounts are reduced
-use Rattle.std.proofs.Common.{ℕ, take}
+use Rattle.std.proofs.Common.{◌≡◌, ◌≢◌, ℕ, suc, ◌<◌, Bool, true, false, List, [], ◌∷◌, take, arith, ap, sym, ◌∙◌}
+use Rattle.std.specs.Prelude.{◌↔◌, slice_get, Some}
+use Rattle.std.proofs.lemmas.Bool.{both_ways}
+use Rattle.std.proofs.lemmas.Int.{ints}
 use Rattle.dg_theory.specs.Multigraph.{Multigraph}
-use Rattle.dg_theory.specs.Firing.{Amounts, HasNoDebtOff}
+use Rattle.dg_theory.specs.Firing.{Amounts}
+use Rattle.dg_theory.specs.Burning.{among, MayBurn, BurnsNext, BurnsInOrder}
 use Rattle.dg_theory.specs.Reduced.{IsReduced}
-use Rattle.dg_theory.proofs.BurningLaws.{burnt_reduced, reduced_burnt}
-use Rattle.dg_graph.specs.Graph.{IsGraph}
-use Rattle.dg_burn.specs.Fires.{IsHeld}
-use Rattle.dg_burn.proofs.Capped.{same-order}
+use Rattle.dg_theory.proofs.BurningOrder.{among_first, q_burns}
+use Rattle.dg_burn.specs.Fires.{dollars}
 use Rattle.dg_reduce.specs.declared.certificate.Burning.{Burning}
 use Rattle.dg_reduce.specs.Reductions.{IsBurningOrder}
-use Rattle.dg_reduce.specs.Burnings.{IsWhole}
+use Rattle.dg_reduce.specs.Burnings.{IsWhole, IsHeldOff}
 
-pub whole_order : (g : Multigraph) (q : ℕ) (D : Amounts) (x : Burning) → IsGraph g → HasNoDebtOff g q D →
-    IsHeld g.size D x.held → IsWhole g q x → IsBurningOrder g q D x.order
-whole_order g q D x graph solvent same whole = record {
-  burns = same-order g q D x.held (take g.size x.order) graph solvent same whole.order.burns;
+pub held-may : (g : Multigraph) (q : ℕ) (D : Amounts) (held : List ℕ) (B : ℕ → Bool) (v : ℕ) →
+    IsHeldOff g.size q D held → B q ≡ true → MayBurn g (dollars held) B v ↔ MayBurn g D B v
+held-may g q D held B v same burns = (
+  λ may. record {
+    vertex = may.vertex;
+    unburnt = may.unburnt;
+    reached = rw (← here may.vertex may.unburnt) at may.reached;
+  },
+  λ may. record {
+    vertex = may.vertex;
+    unburnt = may.unburnt;
+    reached = rw (here may.vertex may.unburnt) at may.reached;
+  },
+)
+  where
+    here : v < g.size → B v ≡ false → D v ≡ dollars held v
+    here below out = same v below (λ is_q. both_ways _ out (ap B is_q ∙ burns))
+
+-- q is the first to burn
+among-begun : (l : List ℕ) (q i : ℕ) → slice_get l 0 ≡ Some q → among (take (suc i) l) q ≡ true
+among-begun [] q i first = let clash : ⊥ = cc in absurd clash
+among-begun (x ∷ l) q i first = among_first (x ∷ take i l) q first
+
+pub whole_order : (g : Multigraph) (q : ℕ) (D : Amounts) (x : Burning) → IsHeldOff g.size q D x.held →
+    IsWhole g q x → IsBurningOrder g q D x.order
+whole_order g q D x same whole = record {
+  burns = record {
+    begun = record {
+      first = order.begun.first;
+      next = λ i v place.
+          let burns : among (take (suc i) l) q ≡ true = among-begun l q i order.begun.first in
+          let next : BurnsNext g (dollars x.held) (among (take (suc i) l)) v = order.begun.next i v place in
+          record {
+            may = (held-may g q D x.held (among (take (suc i) l)) v same burns).0 next.may;
+            least = λ u before may.
+                next.least u before ((held-may g q D x.held (among (take (suc i) l)) u same burns).1 may);
+          };
+    };
+    last = λ v may.
+        order.last v ((held-may g q D x.held (among l) v same (q_burns g q (dollars x.held) l order)).1 may);
+  };
   rest = whole.order.rest;
 }
+  where
+    l : List ℕ
+    l = take g.size x.order
 
-pub whole_reduced : (g : Multigraph) (q : ℕ) (D : Amounts) (x : Burning) → IsGraph g → HasNoDebtOff g q D →
-    IsHeld g.size D x.held → IsWhole g q x → IsReduced g q D
-whole_reduced g q D x graph solvent same whole =
-    burnt_reduced g q D (take g.size x.order) solvent (whole_order g q D x graph solvent same whole).burns
-    (reduced_burnt g q _ (take g.size x.order) whole.order.burns whole.reduced)
+    order : BurnsInOrder g q (dollars x.held) l
+    order = whole.order.burns
+
+pub whole_reduced : (g : Multigraph) (q : ℕ) (D : Amounts) (x : Burning) → IsHeldOff g.size q D x.held →
+    IsWhole g q x → IsReduced g q D
+whole_reduced g q D x same whole = record {
+  no_debt = λ v below other. omega (arith, ints, same v below other);
+  none_fires = λ S without u below member.
+      let (v, inside, in_v, less) = whole.reduced.none_fires S without u below member in
+      let other : v ≢ q = λ is_q. both_ways _ without (ap S (sym is_q) ∙ in_v) in
+      (v, inside, in_v, omega (arith, ints, same v inside other));
+}

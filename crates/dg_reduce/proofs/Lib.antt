@@ -15,5 +15,6 @@ pub mod Burnings
 pub mod Joined
 -- Debts that are paid back.
 pub mod DebtSteps
+pub mod Entries
 pub mod FormSteps
 pub mod Halves

@@ -7,6 +7,9 @@ ghost use Rattle.std.specs.Prelude.{◌<◌, ◌≤◌};
 
 use dg_graph::{Graph, MAX_VERTICES};
 
+/// What is added to the lendings, so that those halfway between two numbers are rounded up, as they are reckoned here or there.
+const A_BIT_MORE: f64 = 0.001;
+
 /// What guesses for one graph and one vertex q need: made once, it serves each reduction there. For another graph or vertex
 /// it only makes the guesses bad.
 #[derive(Clone, Copy)]
@@ -17,7 +20,7 @@ pub struct Aim {
     inverse: [[f64; 16]; 16],
     /// What that comes to for the dollars that are left to the vertices: half of those that would keep them from burning.
     shift: [f64; 16],
-    /// What each vertex gets when one of them lends.
+    /// What each vertex but q gets when one of them lends.
     pub(crate) rows: [[i32; 16]; 16],
     /// The number of edges at each vertex.
     pub(crate) valences: [i32; 16],
@@ -31,7 +34,7 @@ impl Aim {
             q,
             inverse,
             shift: shift_of(graph, q, &inverse),
-            rows: lending_rows(graph),
+            rows: lending_rows(graph, q),
             valences: valences_of(graph),
         }
     }
@@ -53,24 +56,26 @@ impl Aim {
     }
 }
 
-/// What each vertex gets when one of them lends, a row for each.
-fn lending_rows(graph: &Graph) -> [[i32; 16]; 16] {
+/// What each vertex but q gets when one of them lends, a row for each.
+fn lending_rows(graph: &Graph, q: usize) -> [[i32; 16]; 16] {
     let mut rows = [[0; 16]; 16];
     for v in 0..graph.size() {
-        rows[v] = lending_row(graph, v);
+        rows[v] = lending_row(graph, q, v);
     }
     rows
 }
 
-/// What each vertex gets when v lends: v loses a dollar along each edge.
-fn lending_row(graph: &Graph, v: usize) -> [i32; 16]
+/// What each vertex but q gets when v lends: v loses a dollar along each edge.
+fn lending_row(graph: &Graph, q: usize, v: usize) -> [i32; 16]
     requires { v < graph.now.size }
 {
     let _size = graph.size();
     let edges = graph.row(v);
     let mut row = [0; 16];
     for w in 0..16 {
-        row[w] = i32::from(edges[w]);
+        if w != q {
+            row[w] = i32::from(edges[w]);
+        }
     }
     row[v] = -i32::from(graph.valence(v));
     row
@@ -152,7 +157,7 @@ fn take_pivot(size: usize, rows: &mut [[f64; 16]; 16], inverse: &mut [[f64; 16];
 /// The lendings that leave what is aimed at, where nobody holds anything before: a vertex of valence 3 or more is to keep
 /// half of one dollar less than its valence less 1, so that it burns before long.
 fn shift_of(graph: &Graph, q: usize, inverse: &[[f64; 16]; 16]) -> [f64; 16] {
-    let mut shift = [0.0; 16];
+    let mut shift = [A_BIT_MORE; 16];
     for v in 0..graph.size() {
         let valence = f64::from(graph.valence(v));
         if v != q && valence > 2.0 {

@@ -1,32 +1,28 @@
 //! Whether amounts are reduced, and what shows it.
 
 ghost use Rattle.std.specs.Prelude.{◌≡◌, ℕ, ◌<◌, ◌≤◌, MatchBool, MatchOption, IfSome};
+ghost use Rattle.std.specs.Bool.{OnTrue};
 ghost use Rattle.dg_theory.specs.Firing.{HasNoDebtOff};
 ghost use Rattle.dg_theory.specs.Reduced.{IsReduced};
 ghost use Rattle.dg_chips.specs.Vector.{at};
 ghost use Rattle.dg_reduce.specs.Reductions.{IsBurningOrder};
-ghost use Rattle.dg_reduce.specs.Burnings.{IsWhole};
+ghost use Rattle.dg_reduce.specs.Burnings.{IsWhole, IsHeldOff};
 
-use dg_burn::{burn, held_at};
+use dg_burn::burn;
 use dg_chips::Wide;
 use dg_graph::Graph;
 
 /// A burning from a vertex q in which all vertices burn.
 #[derive(Clone, Copy)]
 pub struct Burning {
-    /// The amounts as far as burning looks at them: 0 for a debt, and 64 for more than 64.
+    /// The amounts as far as burning looks at them: 0 for a debt, and 64 for more than 64. At q it does not look.
     pub held: [u8; 16],
     /// The order in which all vertices burn, the least first; zeros past the last.
     pub order: [u8; 16],
 }
 
 /// What `order_if_reduced` answers, where a burning is at hand: one of the same amounts serves for another.
-pub(crate) fn order_by(
-    graph: &Graph,
-    q: usize,
-    chips: &Wide,
-    known: &Option<Burning>,
-) -> Option<[u8; 16]>
+pub fn order_by(graph: &Graph, q: usize, chips: &Wide, known: &Option<Burning>) -> Option<[u8; 16]>
     requires size { chips.now.size ≡ graph.now.size }
     requires vertex { q < graph.now.size }
     requires known { IfSome known.now (λ x. IsWhole graph.now q x) }
@@ -37,11 +33,23 @@ pub(crate) fn order_by(
 {
     let _size = graph.size();
     if let Some(burning) = known {
-        if held_at(chips) == burning.held && is_solvent_off(graph, q, chips) {
+        if is_held_off(q, chips, &burning.held) {
             return Some(burning.order);
         }
     }
     order_if_reduced(graph, q, chips)
+}
+
+/// Whether each vertex but q has as many dollars as it is held to have.
+fn is_held_off(q: usize, chips: &Wide, held: &[u8; 16]) -> bool
+    ensures { OnTrue result (IsHeldOff chips.now.size q (at chips.now) held.now) }
+{
+    for v in 0..chips.size() {
+        if v != q && chips.get(v) != i128::from(held[v]) {
+            return false;
+        }
+    }
+    true
 }
 
 /// The order in which all vertices burn from q, the least first, which shows that the amounts are reduced; `None` where

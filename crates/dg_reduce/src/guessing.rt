@@ -3,9 +3,11 @@
 //! Nothing is promised of where a guess leads: whoever fires by it tests that. So its numbers are small, and its sums may
 //! wrap where they are not.
 
-ghost use Rattle.std.specs.Prelude.{◌≡◌, ℕ, ◌<◌, ◌≤◌, pos, IfSome};
+ghost use Rattle.std.specs.Prelude.{◌≡◌, ℕ, ◌<◌, ◌≤◌, pos, length, IfSome};
+ghost use Rattle.std.specs.List.{slice_index_or};
 ghost use Rattle.std.specs.Int.RustNames.{unsigned_abs};
 ghost use Rattle.dg_chips.specs.Vector.{at};
+ghost use Rattle.dg_chips.specs.declared.limits.TheConstants.{MAX_ENTRY};
 ghost use Rattle.dg_reduce.specs.declared.limits.TheConstants.{MAX_START};
 ghost use Rattle.dg_reduce.specs.Burnings.{IsWhole};
 
@@ -14,13 +16,13 @@ use crate::certificate::Burning;
 use dg_burn::burn_counted;
 use dg_chips::{Script, Wide};
 use dg_graph::{Graph, contains};
-use std::num::saturating_f64_to_i32;
+use std::num::f64_to_bits_with_nan;
 
 /// The most lendings, and the most borrowings, that are guessed.
-const MOST: i64 = 1_000_000_000;
+const MOST: i32 = 1_000_000_000;
 
-/// How often those who owe borrow in turn: more than was ever seen to be needed.
-const PAYING_ROUNDS: usize = 16;
+/// How often one who owes borrows: more than was ever seen to be needed.
+const PAYINGS: usize = 1000;
 
 /// How many times those who do not burn lend together: more than was ever seen to be needed.
 const BURNING_ROUNDS: usize = 200;
@@ -32,7 +34,7 @@ const SINGLE_ROUNDS: usize = 4;
 /// The most lendings of a round.
 const MOST_TIMES: i32 = 1_000_000;
 
-/// Amounts and lendings near to those of a reduction.
+/// Amounts off q, and lendings, near to those of a reduction. What q holds is not followed: no step looks at it.
 #[derive(Clone, Copy)]
 struct Near {
     chips: [i32; 16],
@@ -44,7 +46,7 @@ struct Near {
 pub struct Guessed {
     /// The script: 0 at q.
     pub script: Script,
-    /// The burning of the amounts that it seems to lead to, where all vertices burn.
+    /// The burning of the amounts off q that it seems to lead to, where all vertices burn.
     pub burning: Option<Burning>,
 }
 
@@ -59,10 +61,13 @@ pub fn guess(graph: &Graph, aim: &Aim, q: usize, chips: &Wide) -> Guessed
     ensures burning { IfSome result.burning (λ x. IsWhole graph.now q x) }
 {
     let _size = graph.size();
-    let mut near = aimed(aim, &amounts_off(q, chips));
-    // No step looks at what q holds, but the burning is to tell it.
-    near.chips[q] = near.chips[q].wrapping_add(chips.get(q) as i32);
-    pay(aim, q, &mut near);
+    let amounts = amounts_off(q, chips);
+    let mut near = Near {
+        chips: amounts,
+        script: rounded(&aim.lendings(&amounts)),
+    };
+    lend_all(aim, &mut near);
+    pay(aim, &mut near);
     let burning = burn_down(graph, aim, q, &mut near);
     Guessed {
         script: script_of(graph, q, &near.script),
@@ -72,38 +77,42 @@ pub fn guess(graph: &Graph, aim: &Aim, q: usize, chips: &Wide) -> Guessed
 
 /// The amounts, but 0 at q.
 fn amounts_off(q: usize, chips: &Wide) -> [i32; 16]
-    requires { (v : ℕ) → v < chips.now.size → unsigned_abs (at chips.now v) ≤ MAX_START }
+    requires vertex { q < chips.now.size }
+    requires range { (v : ℕ) → v < chips.now.size → unsigned_abs (at chips.now v) ≤ MAX_START }
 {
     let mut amounts = [0; 16];
     for v in 0..chips.size() {
-        if v != q {
-            amounts[v] = chips.get(v) as i32;
-        }
+        amounts[v] = chips.get(v) as i32;
     }
+    amounts[q] = 0;
     amounts
 }
 
-/// The whole lendings nearest to those that leave what is aimed at, and where they lead.
-fn aimed(aim: &Aim, amounts: &[i32; 16]) -> Near {
-    let mut near = Near {
-        chips: *amounts,
-        script: rounded(&aim.lendings(amounts)),
-    };
+/// Lets all lend so often.
+fn lend_all(aim: &Aim, near: &mut Near) {
     for v in 0..16 {
         let times = near.script[v];
-        lend(&mut near.chips, &aim.rows[v], times);
+        // The test also keeps the compiler from taking four rows together, which is slower than one after the other.
+        if times != 0 {
+            lend(&mut near.chips, &aim.rows[v], times);
+        }
     }
-    near
 }
 
-/// The whole numbers nearest to some that are not far past a thousand million.
+/// The whole numbers nearest to some that are within a thousand million.
 fn rounded(lendings: &[f64; 16]) -> [i32; 16] {
     let mut whole = [0; 16];
     for v in 0..16 {
-        let above = saturating_f64_to_i32(lendings[v] + 1_000_000_000.5);
-        whole[v] = above.wrapping_sub(1_000_000_000);
+        whole[v] = nearest(lendings[v]);
     }
     whole
+}
+
+/// The whole number nearest to one that is within a thousand million. A sum with the large number has no place for a fraction,
+/// and the last bits of it are the whole number's.
+fn nearest(lendings: f64) -> i32 {
+    let sum = f64_to_bits_with_nan(lendings + 6_755_399_441_055_744.0);
+    ((sum & 0xffff_ffff) as u32).cast_signed()
 }
 
 /// Lets the vertex that this row is of lend so often.
@@ -113,35 +122,29 @@ fn lend(chips: &mut [i32; 16], row: &[i32; 16], times: i32) {
     }
 }
 
-/// Lets each who owes, off q, borrow until it owes no more, again and again.
-fn pay(aim: &Aim, q: usize, near: &mut Near) {
-    for _ in 0..PAYING_ROUNDS {
-        if !owes(q, &near.chips) {
+/// Lets the least who owes borrow until it owes no more, again and again. In whatever turn they borrow, each does so as often
+/// in the end.
+fn pay(aim: &Aim, near: &mut Near) {
+    for _ in 0..PAYINGS {
+        let Some(v) = first_owing(&near.chips) else {
             return;
-        }
-        pay_once(aim, q, near);
+        };
+        let times = times_to_pay(near.chips[v], aim.valences[v]);
+        lend(&mut near.chips, &aim.rows[v], times);
+        near.script[v] = near.script[v].wrapping_add(times);
     }
 }
 
-/// Whether somebody off q owes.
-fn owes(q: usize, chips: &[i32; 16]) -> bool {
+/// The least who owes.
+fn first_owing(chips: &[i32; 16]) -> Option<usize>
+    ensures { IfSome result (λ v. v < 16) }
+{
     for v in 0..16 {
-        if v != q && chips[v] < 0 {
-            return true;
+        if chips[v] < 0 {
+            return Some(v);
         }
     }
-    false
-}
-
-/// Lets each who owes, off q, borrow in turn until it owes no more.
-fn pay_once(aim: &Aim, q: usize, near: &mut Near) {
-    for v in 0..16 {
-        if v != q && near.chips[v] < 0 {
-            let times = times_to_pay(near.chips[v], aim.valences[v]);
-            lend(&mut near.chips, &aim.rows[v], times);
-            near.script[v] = near.script[v].wrapping_add(times);
-        }
-    }
+    None
 }
 
 /// How often, below 0, a vertex that owes lends until it owes no more. A vertex without edges never does.
@@ -216,11 +219,19 @@ fn script_of(graph: &Graph, q: usize, lendings: &[i32; 16]) -> Script
     ensures at_q { at result q ≡ pos 0 }
 {
     let size = graph.size();
-    let mut entries = [0; 16];
-    for v in 0..size {
-        if v != q {
-            entries[v] = i64::from(lendings[v]).clamp(-MOST, MOST);
-        }
-    }
+    let mut entries = cut_off(lendings);
+    entries[q] = 0;
     Script::sized(&entries[..size])
+}
+
+/// The lendings, cut off at the most that are guessed.
+fn cut_off(lendings: &[i32; 16]) -> [i64; 16]
+    ensures places { length result ≡ 16 }
+    ensures few { (v : ℕ) → unsigned_abs (slice_index_or result v (pos 0)) ≤ MAX_ENTRY }
+{
+    let mut entries = [0; 16];
+    for v in 0..16 {
+        entries[v] = i64::from(lendings[v].clamp(-MOST, MOST));
+    }
+    entries
 }

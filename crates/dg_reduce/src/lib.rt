@@ -11,7 +11,7 @@ mod limits;
 mod reducing;
 
 pub use aim::Aim;
-pub use certificate::{Burning, is_solvent_off, order_if_reduced};
+pub use certificate::{Burning, is_solvent_off, order_by, order_if_reduced};
 pub use fallback::{is_within_start, reduce_after, reduce_by_levels};
 pub use form::Form;
 pub use guessing::{Guessed, guess};

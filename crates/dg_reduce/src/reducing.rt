@@ -88,15 +88,30 @@ pub fn certified_by(
 {
     let _size = graph.size();
     let divisor = chips.fired_by(graph, script);
-    if let Some(order) = order_by(graph, q, &divisor, known) {
-        return Certified {
-            reduced: Reduced {
-                divisor,
-                script: *script,
-            },
-            order,
-        };
+    let Some(order) = order_by(graph, q, &divisor, known) else {
+        return certified_after(graph, q, chips, script);
+    };
+    Certified {
+        reduced: Reduced {
+            divisor,
+            script: *script,
+        },
+        order,
     }
+}
+
+/// The reduction that begins with a script, and then goes by the fallback.
+#[cold]
+#[inline(never)]
+fn certified_after(graph: &Graph, q: usize, chips: &Wide, script: &Script) -> Certified
+    requires size { chips.now.size ≡ graph.now.size }
+    requires vertex { q < graph.now.size }
+    requires script { script.now.size ≡ graph.now.size }
+    requires range { (v : ℕ) → v < graph.now.size → unsigned_abs (at chips.now v) ≤ MAX_START }
+    requires start { at script.now q ≡ pos 0 }
+    ensures { IsCertified graph.now q (at chips.now) 451000000 result }
+{
+    let _size = graph.size();
     let reduced = reduce_after(graph, q, chips, script);
     let order = burn(graph, q, &reduced.divisor).order;
     Certified { reduced, order }

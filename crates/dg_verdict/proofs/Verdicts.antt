@@ -1,15 +1,20 @@
 -- What makes a verdict right.
 --   all_in_order    where the order in which vertices burn is that of a reduced divisor, all burn
+--   is_right        a script that leads to a reduced divisor, the order in which all vertices burn there, and whether q owes
 --   told_apart      a flag and a test that is right tell by their being equal whether the flag is right
-use Rattle.std.proofs.Common.{◌≡◌, ℕ, Bool, true, false, List, refl}
-use Rattle.std.specs.Prelude.{◌↔◌, MatchBool}
+use Rattle.std.proofs.Common.{◌≡◌, ℕ, ◌<◌, Bool, true, false, List, take, refl, pos}
+use Rattle.std.specs.Prelude.{◌↔◌, ◌≤ℤ◌, MatchBool}
 use mathlib.Core.Bool.{beq}
 use Rattle.dg_theory.specs.Multigraph.{Multigraph}
-use Rattle.dg_theory.specs.Firing.{Amounts}
+use Rattle.dg_theory.specs.Firing.{Amounts, FiresTo}
 use Rattle.dg_theory.specs.Reduced.{IsReduced}
 use Rattle.dg_theory.specs.Burning.{BurnsInOrder, BurnsAll}
 use Rattle.dg_theory.proofs.BurningOrder.{may_burn}
 use Rattle.dg_theory.proofs.BurningLaws.{reduced_burnt}
+use Rattle.dg_theory.proofs.ReducedLaws.{reduced_decides}
+use Rattle.dg_chips.specs.Vector.{at}
+use Rattle.dg_verdict.specs.declared.verdict.Verdict.{Verdict}
+use Rattle.dg_verdict.specs.Right.{IsRight}
 
 pub all_in_order : (g : Multigraph) (q : ℕ) (D : Amounts) (l : List ℕ) → BurnsInOrder g q D l → IsReduced g q D →
     BurnsAll g q D l
@@ -18,6 +23,22 @@ all_in_order g q D l order reduced = record {
   next = may_burn g q D l order;
   all = reduced_burnt g q D l order reduced;
 }
+
+pub is_right : (g : Multigraph) (q : ℕ) (D : Amounts) (x : Verdict) → q < g.size → x.script.size ≡ g.size →
+    x.reduced.size ≡ g.size → at x.script q ≡ pos 0 → FiresTo g (at x.script) D (at x.reduced) →
+    IsReduced g q (at x.reduced) → BurnsInOrder g q (at x.reduced) (take g.size x.order) →
+    ((x.winnable ≡ true) ↔ (pos 0 ≤ℤ at x.reduced q)) → IsRight g q D x
+is_right g q D x vertex script_size reduced_size at_q led reduced order told =
+    let (to, from) = reduced_decides g q D (at x.reduced) vertex (at x.script, led) reduced in
+    record {
+      script_size = script_size;
+      reduced_size = reduced_size;
+      at_q = at_q;
+      led = led;
+      reduced = reduced;
+      order = all_in_order g q (at x.reduced) (take g.size x.order) order reduced;
+      winnable = (λ yes. from (told.0 yes), λ winnable. told.1 (to winnable));
+    }
 
 pub told_apart : (flag test : Bool) (W P : Type 0) → ((test ≡ true) ↔ W) → (((flag ≡ true) ↔ W) → P) →
     (P → ((flag ≡ true) ↔ W)) → MatchBool (beq flag test) P (¬ P)

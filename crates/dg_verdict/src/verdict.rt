@@ -1,6 +1,6 @@
 //! Verdicts, and how they are made.
 
-ghost use Rattle.std.specs.Prelude.{◌≡◌, ℕ, ◌<◌, ◌≤◌, take};
+ghost use Rattle.std.specs.Prelude.{◌≡◌, ℕ, ◌<◌, ◌≤◌, take, pos};
 ghost use Rattle.std.specs.List.{slice_index_or};
 ghost use Rattle.dg_theory.specs.Burning.{BurnsInOrder};
 ghost use Rattle.dg_chips.specs.Vector.{at};
@@ -8,7 +8,7 @@ ghost use Rattle.dg_verdict.specs.Right.{IsRight};
 
 use dg_chips::{Divisor, Script, Wide};
 use dg_graph::{Graph, MAX_VERTICES};
-use dg_reduce::{Aim, reduce_certified};
+use dg_reduce::{Aim, certified_by, guess, order_by};
 
 /// Whether a divisor is winnable, with what shows it.
 #[derive(Clone, Copy, PartialEq, Eq)]
@@ -68,13 +68,41 @@ fn judge_by(graph: &Graph, aim: &Aim, q: usize, divisor: &Divisor) -> Verdict
     // The clauses of `size` say that graph and divisor are within their limits.
     let _size = graph.size();
     let _amounts = divisor.size();
-    let found = reduce_certified(graph, aim, q, &Wide::of(divisor));
-    let reduced = found.reduced;
-    let order = found.order;
+    let chips = Wide::of(divisor);
+    let guess = guess(graph, aim, q, &chips);
+    let reduced = chips.fired_by(graph, &guess.script);
+    let Some(order) = order_by(graph, q, &reduced, &guess.burning) else {
+        return judge_after(graph, q, divisor, &guess.script);
+    };
     Verdict {
-        winnable: reduced.divisor.get(q) >= 0,
-        script: reduced.script,
-        reduced: reduced.divisor,
+        winnable: reduced.get(q) >= 0,
+        script: guess.script,
+        reduced,
         order,
+    }
+}
+
+/// The verdict where a script does not lead to amounts that are reduced.
+#[cold]
+#[inline(never)]
+fn judge_after(graph: &Graph, q: usize, divisor: &Divisor, script: &Script) -> Verdict
+    requires size { divisor.now.size ≡ graph.now.size }
+    requires vertex { q < graph.now.size }
+    requires script { script.now.size ≡ graph.now.size }
+    requires start { at script.now q ≡ pos 0 }
+    ensures right { IsRight graph.now q (at divisor.now) result }
+    ensures order { BurnsInOrder graph.now q (at result.reduced)
+        (take graph.now.size result.order) }
+    ensures rest { (i : ℕ) → graph.now.size ≤ i → i < MAX_VERTICES →
+        slice_index_or result.order i 0 ≡ 0 }
+{
+    let _size = graph.size();
+    let _amounts = divisor.size();
+    let found = certified_by(graph, q, &Wide::of(divisor), script, &None);
+    Verdict {
+        winnable: found.reduced.divisor.get(q) >= 0,
+        script: found.reduced.script,
+        reduced: found.reduced.divisor,
+        order: found.order,
     }
 }

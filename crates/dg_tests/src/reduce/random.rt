@@ -141,6 +141,16 @@ fn blunt(graph: &Graph, q: usize, script: &Script) -> Script
     Script::relative(&blunt, q)
 }
 
+/// Whether all vertices but q hold the same.
+fn is_same_off(q: usize, held: &[u8; 16], other: &[u8; 16]) -> bool {
+    for v in 0..16 {
+        if v != q && held[v] != other[v] {
+            return false;
+        }
+    }
+    true
+}
+
 /// Whether a random reduction is the same with a guess and by levels, which begin with a blunt script where amounts are
 /// large, and are left out where they take too long; and whether the guess was right, and its burning was that of the reduced
 /// amounts.
@@ -176,7 +186,7 @@ fn agrees(
     let order = order_if_reduced(graph, q, &wanted.divisor);
     let left = chips.fired_by(graph, &script);
     let known = match burning {
-        Some(burning) => burning.held == held_at(&left),
+        Some(burning) => is_same_off(q, &burning.held, &held_at(&left)),
         None => false,
     };
     Some((

@@ -3,8 +3,8 @@ use Rattle.dg_chips.specs.Vector.{at}
 use Rattle.dg_reduce.proofs.Outcome.{reduction_within}
 use Rattle.dg_reduce.proofs.reducing.certified_by.Goals as goal
 
-pub returns-in-Some : goal.returns-in-Some
-returns-in-Some c = record {
+pub returns : goal.returns
+returns c = record {
   reduction = reduction_within c.args.graph.now c.args.q
       (at c.args.chips.now) 2000000 451000000 _ c.size-size.ensures.graph
       c.requires.vertex c.requires.range (c.fired_by-divisor.ensures.size, c.requires.script) c.in-Some.ensures.0

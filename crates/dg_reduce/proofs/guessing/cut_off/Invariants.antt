@@ -1,11 +1,10 @@
 use Rattle.std.proofs.Common.{◌≡◌, ℕ, ◌≤◌, length, pos}
 use Rattle.std.specs.List.{slice_index_or}
 use Rattle.std.specs.Int.RustNames.{unsigned_abs}
-use Rattle.dg_reduce.proofs.guessing.script_of.Given as goal
+use Rattle.dg_reduce.proofs.guessing.cut_off.Given as goal
 
 abbrev pub invariant-loop-v : goal.invariant-loop-v
 invariant-loop-v l = record {
   places : length l.entries ≡ 16;
-  at_q : slice_index_or l.entries l.q (pos 0) ≡ pos 0;
   few : (w : ℕ) → unsigned_abs (slice_index_or l.entries w (pos 0)) ≤ 1000000000;
 }

@@ -1,0 +1,15 @@
+-- Entries of a script that are written one by one.
+--   few_set  if each is within a limit, and one more is, then each is once that is written
+use Rattle.std.proofs.Common.{ℕ, ◌<◌, ◌≤◌, List, length, slice_set, get_or-set_same, get_or-set_other, inl, inr, pos}
+use Rattle.std.specs.List.{slice_index_or}
+use Rattle.std.specs.Int.RustNames.{unsigned_abs}
+use Rattle.std.proofs.Math.IntN.{ℤ}
+use Rattle.std.proofs.lemmas.Bool.{cases_eq}
+
+pub few_set : (xs : List ℤ) (v : ℕ) (x : ℤ) → v < length xs → unsigned_abs x ≤ 1000000000 →
+    ((w : ℕ) → unsigned_abs (slice_index_or xs w (pos 0)) ≤ 1000000000) →
+    (w : ℕ) → unsigned_abs (slice_index_or (slice_set xs v x) w (pos 0)) ≤ 1000000000
+few_set xs v x inside small few w = elim (cases_eq w v) [
+  | inl same ↦ rw (same, get_or-set_same xs v x (pos 0) inside) small
+  | inr other ↦ rw (get_or-set_other xs v w x (pos 0) other) (few w)
+]

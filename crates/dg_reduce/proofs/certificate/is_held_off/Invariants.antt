@@ -1,0 +1,6 @@
+use Rattle.dg_chips.specs.Vector.{at}
+use Rattle.dg_reduce.specs.Burnings.{IsHeldOff}
+use Rattle.dg_reduce.proofs.certificate.is_held_off.Given as goal
+
+abbrev pub invariant-loop-v : goal.invariant-loop-v
+invariant-loop-v l = IsHeldOff l.v l.q (at l.chips) l.held
