@@ -10,6 +10,13 @@ use dg_log::{Digest, Name, Past, Receipt};
 use std::alloc::{AllocError, Global};
 use std::marker::Model;
 
+/// What is in the box of an entry before it is answered.
+const BLANK: Entry = Entry {
+    seat: 0,
+    request: Request::Look,
+    reply: Reply::Won,
+};
+
 /// A seat of the table N: the receipts of its own calls, and of the entries that it was told of, and the history as it found
 /// it at its last call. A contract sees its number, these entries with their numbers, that history, whether it has space for one
 /// more call, and whether it has space to be told of one more entry.
@@ -152,11 +159,6 @@ impl<N: Name> Seat<N> {
     {
         self.mine.reserve(1)?;
         self.told.reserve(1)?;
-        let entry = Entry {
-            seat: self.number,
-            request: Request::Look,
-            reply: Reply::Won,
-        };
-        Ok(Box::new(alloc, entry)?)
+        Ok(Box::new(alloc, BLANK)?)
     }
 }
