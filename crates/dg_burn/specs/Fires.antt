@@ -8,15 +8,16 @@
 --   IsHeld n D l      == l are the amounts D of n vertices, capped
 --   heat x v          == the heat of v
 --   burns n x v       == v burns: it is one of n vertices and not one of those that do not
---   IsUnlit n l x     == none of n vertices burns, and the heat of each is what it lacks to 127
---                        dollars
+--   IsUnlit n l x     == those that do not burn are below n, none of n vertices burns, and the
+--                        heat of each is what it lacks to 127 dollars
 --   IsOut x           == no vertex that does not burn has a heat above 127
 --   IsLeastToBurn x v == v is the least vertex that does not burn and has
 --   IsEmpty S         == S has no vertex
 --   IsLeastIn S v     == v is the least vertex of S
 --   IsWithout S v T   == T is the set S without v
---   IsFire g l x      == the heat of each vertex is what it lacks to 127 dollars, where it holds
---                        what l tells, and its edges to those that burn
+--   IsFire g l x      == those that do not burn are vertices of the graph, and the heat of each
+--                        vertex is what it lacks to 127 dollars, where it holds what l tells, and
+--                        its edges to those that burn
 use Rattle.std.specs.Prelude.{◌≡◌, ◌≢◌, ℕ, ◌+◌, ◌-◌, ◌<◌, ◌≤◌, ◌&&◌, min, nat_lt, not, Bool, true, false, List, ℤ, pos, negsuc, slice_index}
 use Rattle.dg_theory.specs.Multigraph.{Multigraph}
 use Rattle.dg_theory.specs.Firing.{Amounts}
