@@ -1,35 +1,53 @@
 -- Sets of vertices as numbers, once more.
---   without_bits   the bits of a number that are not set in another
+--   both_bits      the bits that are set in two numbers
+--   without_bit    a number without one bit that is set, which is turned
 --   least_bit      the lowest bit of a number that is not 0
-use Rattle.std.proofs.Common.{◌≡◌, ℕ, zero, suc, ◌-◌, ◌^◌, ◌<◌, ◌≤◌, not, ◌&&◌, nat_eq, min, arith, refl, ap, ◌∙◌, ⊎_elim, bit_and, w16}
+--   all_inside     all vertices below n are below n
+--   none_burnt     and where they are left none burns
+use Rattle.std.proofs.Common.{◌≡◌, ℕ, zero, suc, ◌+◌, ◌*◌, ◌%◌, ◌^◌, ◌<◌, Bool, true, false, not, ◌&&◌, nat_eq, min, arith, refl, sym, ap, ap₂, ◌∙◌, bit_and, w16}
+use Rattle.std.specs.Prelude.{nat_lt}
+use Rattle.std.specs.Int.RustNames.{bit_xor}
 use Rattle.std.specs.Int.{bit_at, trailing_zeros}
-use Rattle.std.proofs.lemmas.Bool.{cases_lt}
-use Rattle.std.proofs.lemmas.Nat.Bits.{bit_at-lt, bit_at_and, bit_at_not, bit_at_above, bit_at-trailing_zeros}
-use Rattle.dg_graph.specs.Sets.{in_set}
-use Rattle.dg_burn.specs.Fires.{IsLeastIn}
+use Rattle.std.proofs.lemmas.Bool.{eqb-true, ltb-true, and_parts}
+use Rattle.std.proofs.lemmas.Nat.{one_shl}
+use Rattle.std.proofs.lemmas.Nat.Bits.{bit_at-lt, bit_at_and, bit_at_xor, bit_at-pow_same, bit_at-pow_other, bit_at-trailing_zeros}
+use Rattle.dg_graph.specs.Sets.{in_set, IsSetBelow}
+use Rattle.dg_graph.proofs.SetLaws.{in_set-none}
+use Rattle.dg_burn.specs.Fires.{IsLeastIn, IsWithout}
 
-both : (a b c : ℕ) → a < 2 → b < 2 → c ≡ 1 - b → nat_eq (min a c) 1 ≡ (nat_eq a 1 && not (nat_eq b 1))
-both zero b c few_a few_b is = let none : min 0 c ≡ 0 = omega arith in rw none refl
-both (suc zero) zero c few_a few_b is = rw is refl
-both (suc zero) (suc zero) c few_a few_b is = rw is refl
-both (suc zero) (suc (suc b)) c few_a few_b is = absurd (omega arith)
-both (suc (suc a)) b c few_a few_b is = absurd (omega arith)
+both_ones : (a b : ℕ) → a < 2 → b < 2 → nat_eq (min a b) 1 ≡ (nat_eq a 1 && nat_eq b 1)
+both_ones zero b few_a few_b = let none : min 0 b ≡ 0 = omega arith in rw none refl
+both_ones (suc zero) zero few_a few_b = refl
+both_ones (suc zero) (suc zero) few_a few_b = refl
+both_ones (suc zero) (suc (suc b)) few_a few_b = absurd (omega arith)
+both_ones (suc (suc a)) b few_a few_b = absurd (omega arith)
 
-pub without_bits : (set others v : ℕ) → set < 2 ^ 16 → others < 2 ^ 16 →
-    in_set (bit_and set (2 ^ 16 - 1 - others)) v ≡ (in_set set v && not (in_set others v))
+pub both_bits : (set other v : ℕ) → in_set (bit_and set other) v ≡ (in_set set v && in_set other v)
 unfolding in_set
-without_bits set others v few small =
-    let bits : bit_at (bit_and set (2 ^ 16 - 1 - others)) v ≡ min (bit_at set v) (bit_at (2 ^ 16 - 1 - others) v) =
-    bit_at_and set (2 ^ 16 - 1 - others) v in
-    ap (λ b. nat_eq b 1) bits
-    ∙ ⊎_elim
-    (λ (below : v < 16).
-    both (bit_at set v) (bit_at others v) _ (bit_at-lt set v) (bit_at-lt others v) (bit_at_not w16 others v small below))
-    (λ (past : 16 ≤ v).
-    let none : bit_at set v ≡ 0 = bit_at_above set 16 v few past in
-    let least : min 0 (bit_at (2 ^ 16 - 1 - others) v) ≡ 0 = omega arith in
-    rw (none, least) refl)
-    (cases_lt v 16)
+both_bits set other v =
+    ap (λ b. nat_eq b 1) (bit_at_and set other v)
+    ∙ both_ones (bit_at set v) (bit_at other v) (bit_at-lt set v) (bit_at-lt other v)
+
+-- the test of a bit that is turned, or not, by one more bit
+turned : (a b : ℕ) → a < 2 → b ≡ 0 → nat_eq a 1 ≡ nat_eq ((a + b) % 2) 1
+turned zero b few is = rw is refl
+turned (suc zero) b few is = rw is refl
+turned (suc (suc a)) b few is = absurd (omega arith)
+
+pub without_bit : (set v : ℕ) → v < 16 → in_set set v ≡ true →
+    IsWithout (in_set set) v (in_set (bit_xor set (1 * 2 ^ v % 2 ^ 16)))
+unfolding in_set
+without_bit set v few member = record {
+  here =
+      let one : bit_at set v ≡ 1 = eqb-true (bit_at set v) 1 member in
+      ap (λ m. nat_eq (bit_at (bit_xor set m) v) 1) (one_shl v 16 few)
+      ∙ ap (λ b. nat_eq b 1) (bit_at_xor set (2 ^ v) v)
+      ∙ ap₂ (λ a b. nat_eq ((a + b) % 2) 1) one (bit_at-pow_same v);
+  others = λ w other.
+      turned (bit_at set w) (bit_at (2 ^ v) w) (bit_at-lt set w) (bit_at-pow_other v w other)
+      ∙ sym (ap (λ b. nat_eq b 1) (bit_at_xor set (2 ^ v) w))
+      ∙ sym (ap (λ m. nat_eq (bit_at (bit_xor set m) w) 1) (one_shl v 16 few));
+}
 
 pub least_bit : (set : ℕ) → 0 < set → set < 2 ^ 16 → IsLeastIn (in_set set) (trailing_zeros w16 set)
 unfolding in_set
@@ -40,3 +58,22 @@ least_bit set some few =
       here = ap (λ b. nat_eq b 1) least.1;
       least = λ u below. ap (λ b. nat_eq b 1) (least.2 u below);
     }
+
+-- of all vertices below n, none burns
+pub all_inside : (n set : ℕ) → ((v : ℕ) → in_set set v ≡ (nat_lt v n && not (in_set 0 v))) → IsSetBelow n (in_set set)
+all_inside n set all v member = ltb-true v n (and_parts (nat_lt v n) _ (sym (all v) ∙ member)).0
+
+pub none_burnt : (n set : ℕ) → ((v : ℕ) → in_set set v ≡ (nat_lt v n && not (in_set 0 v))) →
+    (v : ℕ) → (nat_lt v n && not (in_set set v)) ≡ false
+none_burnt n set all v =
+    let is : in_set set v ≡ nat_lt v n =
+    all v ∙ ap (λ b. nat_lt v n && not b) (in_set-none v) ∙ and_one (nat_lt v n) in
+    ap (λ b. nat_lt v n && not b) is ∙ and_opposite (nat_lt v n)
+  where
+    and_one : (b : Bool) → (b && not false) ≡ b
+    and_one true = refl
+    and_one false = refl
+
+    and_opposite : (b : Bool) → (b && not b) ≡ false
+    and_opposite true = refl
+    and_opposite false = refl

@@ -6,12 +6,16 @@
 --   fire-room      the edges of one vertex more fit into a byte
 --   fire-more      a fire is counted after one vertex more burns
 --   fire-counts    what a fire gained in heat are the edges to burning vertices
+--   left-out       who is left does not burn
+--   out-left       who does not burn is left
+--   left-rest      who is left are all but those that burn
+--   left-less      where one is left less, one burns more
 --   burnt_out      in a fire, nobody may burn where each has burnt whose heat is above 127
 --   least_burns    in a fire, the least vertex that has not and whose heat is burns next
-use Rattle.std.proofs.Common.{◌≡◌, ℕ, zero, suc, ◌+◌, ◌-◌, ◌<◌, ◌≤◌, Bool, false, List, arith, refl, ap, ⊎_elim}
-use Rattle.std.specs.Prelude.{if◌then◌else◌, slice_index, ◌<ℤ◌}
+use Rattle.std.proofs.Common.{◌≡◌, ℕ, zero, suc, ◌+◌, ◌-◌, ◌<◌, ◌≤◌, Bool, true, false, not, ◌&&◌, List, arith, refl, sym, ap, ap₂, ◌∙◌, ⊎_elim}
+use Rattle.std.specs.Prelude.{nat_lt, if◌then◌else◌, slice_index, ◌<ℤ◌}
 use Rattle.std.proofs.Math.IntN.{pos}
-use Rattle.std.proofs.lemmas.Bool.{cases_lt}
+use Rattle.std.proofs.lemmas.Bool.{cases_Bool, cases_eq, cases_lt, lt-ltb, both_ways, not-false}
 use Rattle.std.proofs.lemmas.Int.{ints}
 use Rattle.dg_theory.specs.Sums.{total_below}
 use Rattle.dg_theory.specs.Multigraph.{Multigraph, IsMultigraph, edges_between, valence}
@@ -19,10 +23,10 @@ use Rattle.dg_theory.specs.Burning.{edges_into, MayBurn, BurnsNext}
 use Rattle.dg_theory.proofs.TotalLaws.{total_below-cong, total_below-term, total_below-differ_at}
 use Rattle.dg_theory.proofs.Debts.{into-le-valence}
 use Rattle.dg_graph.specs.Graph.{IsGraph}
-use Rattle.dg_graph.specs.Sets.{in_set, IsWith}
+use Rattle.dg_graph.specs.Sets.{in_set, IsSetBelow, IsWith}
 use Rattle.dg_graph.proofs.Valences.{valence-few, valence-outside}
 use Rattle.dg_burn.specs.declared.fire.Fire.{Fire}
-use Rattle.dg_burn.specs.Fires.{dollars, heat, IsUnlit, IsOut, IsLeastToBurn, IsFire}
+use Rattle.dg_burn.specs.Fires.{dollars, heat, burns, IsUnlit, IsOut, IsLeastToBurn, IsWithout, IsFire}
 
 total-zero : (n : ℕ) → total_below n (λ _. 0) ≡ 0
 total-zero zero = refl
@@ -62,75 +66,112 @@ edge-few g v w graph = ⊎_elim
     (λ (outside : g.size ≤ w). omega (arith, graph.multigraph.inside v w outside))
     (cases_lt w g.size)
 
-pub fire-unlit : (g : Multigraph) (held : List ℕ) (x : Fire) → IsUnlit held x → IsFire g held x
+pub fire-unlit : (g : Multigraph) (held : List ℕ) (x : Fire) → IsUnlit g.size held x → IsFire g held x
 fire-unlit g held x unlit = record {
-  heats = λ v below. omega (arith, unlit.cold v below, into-none g (in_set x.reached) v unlit.none_burns);
+  inside = unlit.inside;
+  heats = λ v below. omega (arith, unlit.cold v below, into-none g (burns g.size x) v unlit.none_burns);
 }
 
 pub fire-room : (g : Multigraph) (held : List ℕ) (x : Fire) (v w : ℕ) → IsGraph g → IsFire g held x → w < 16 →
     heat x w + edges_between g v w ≤ 255
 fire-room g held x v w graph fire below =
-    omega (arith, fire.heats w below, into-few g (in_set x.reached) w graph, edge-few g v w graph)
+    omega (arith, fire.heats w below, into-few g (burns g.size x) w graph, edge-few g v w graph)
+
+-- who is left and of the graph does not burn, and the other way round
+pub left-out : (n : ℕ) (x : Fire) (v : ℕ) → in_set x.left v ≡ true → burns n x v ≡ false
+left-out n x v left = ap (λ b. nat_lt v n && not b) left ∙ and_none (nat_lt v n)
+  where
+    and_none : (b : Bool) → (b && false) ≡ false
+    and_none true = refl
+    and_none false = refl
+
+pub out-left : (n : ℕ) (x : Fire) (v : ℕ) → v < n → burns n x v ≡ false → in_set x.left v ≡ true
+out-left n x v below out = not-false (in_set x.left v)
+    (sym (ap (λ b. b && not (in_set x.left v)) (lt-ltb v n below)) ∙ out)
+
+-- where one is left less, one burns more
+pub left-less : (n : ℕ) (x y : Fire) (v : ℕ) → v < n → IsWithout (in_set x.left) v (in_set y.left) →
+    IsWith (burns n x) v (burns n y)
+left-less n x y v below less = record {
+  here = ap₂ (λ b c. b && not c) (lt-ltb v n below) less.here;
+  others = λ w other. ap (λ b. nat_lt w n && not b) (sym (less.others w other));
+}
+
+pub left-rest : (n k : ℕ) (x : Fire) → k ≡ n → IsSetBelow n (in_set x.left) →
+    (v : ℕ) → in_set x.left v ≡ (nat_lt v k && not (burns n x v))
+left-rest n k x size inside v = ⊎_elim
+    (λ (left : in_set x.left v ≡ true).
+    left ∙ sym (ap₂ (λ b c. b && not c) (lt-ltb v k (omega (arith, inside v left))) (left-out n x v left)))
+    (λ (out : in_set x.left v ≡ false).
+    out ∙ sym (ap (λ m. nat_lt v m && not (burns n x v)) size
+    ∙ ap (λ b. nat_lt v n && not (nat_lt v n && not b)) out ∙ neither (nat_lt v n)))
+    (cases_Bool (in_set x.left v))
+  where
+    neither : (b : Bool) → (b && not (b && not false)) ≡ false
+    neither true = refl
+    neither false = refl
+
+inside-less : (n : ℕ) (x y : Fire) (v : ℕ) → IsWithout (in_set x.left) v (in_set y.left) →
+    IsSetBelow n (in_set x.left) → IsSetBelow n (in_set y.left)
+inside-less n x y v less inside w member = ⊎_elim
+    (λ (equal : w ≡ v). absurd (both_ways _ (ap (in_set y.left) equal ∙ less.here) member))
+    (λ (other : w ≡ v → ⊥). inside w (less.others w other ∙ member))
+    (cases_eq w v)
 
 pub fire-more : (g : Multigraph) (held : List ℕ) (x y : Fire) (v : ℕ) → IsMultigraph g → v < g.size →
-    in_set x.reached v ≡ false → IsFire g held x → IsWith (in_set x.reached) v (in_set y.reached) →
+    burns g.size x v ≡ false → IsFire g held x → IsWithout (in_set x.left) v (in_set y.left) →
     ((w : ℕ) → w < 16 → heat y w ≡ heat x w + edges_between g v w) → IsFire g held y
-fire-more g held x y v graph below new fire more heats = record {
+fire-more g held x y v graph below new fire less heats = record {
+  inside = inside-less g.size x y v less fire.inside;
   heats = λ w few. omega (
     arith,
     heats w few,
     fire.heats w few,
-    into-more g (in_set x.reached) (in_set y.reached) v w graph below new more,
+    into-more g (burns g.size x) (burns g.size y) v w graph below new (left-less g.size x y v below less),
   );
 }
 
 pub fire-counts : (g : Multigraph) (held : List ℕ) (x y : Fire) (counts : List ℕ) (v : ℕ) → IsGraph g →
-    IsUnlit held x → IsFire g held y → ((w : ℕ) → w < 16 → slice_index counts w ≡ heat y w - heat x w) →
-    ((w : ℕ) → 16 ≤ w → slice_index counts w ≡ 0) → slice_index counts v ≡ edges_into g (in_set y.reached) v
+    IsUnlit g.size held x → IsFire g held y → ((w : ℕ) → w < 16 → slice_index counts w ≡ heat y w - heat x w) →
+    ((w : ℕ) → 16 ≤ w → slice_index counts w ≡ 0) → slice_index counts v ≡ edges_into g (burns g.size y) v
 fire-counts g held x y counts v graph unlit fire gained past = ⊎_elim
     (λ (below : v < 16). omega (arith, gained v below, unlit.cold v below, fire.heats v below))
     (λ (outside : 16 ≤ v). omega (
       arith,
       past v outside,
-      into-le-valence g (in_set y.reached) v,
+      into-le-valence g (burns g.size y) v,
       valence-outside g v graph (omega (arith, graph.few)),
     ))
     (cases_lt v 16)
 
 pub burnt_out : (g : Multigraph) (held : List ℕ) (x : Fire) → IsGraph g → IsFire g held x → IsOut x →
-    (v : ℕ) → ¬ MayBurn g (dollars held) (in_set x.reached) v
+    (v : ℕ) → ¬ MayBurn g (dollars held) (burns g.size x) v
 burnt_out g held x graph fire none v may =
     let below : v < g.size = may.vertex in
-    let less : pos (slice_index held v) <ℤ pos (edges_into g (in_set x.reached) v) = may.reached in
+    let less : pos (slice_index held v) <ℤ pos (edges_into g (burns g.size x) v) = may.reached in
     omega (
       arith,
       ints,
-      none v (omega (arith, graph.few)) may.unburnt,
+      none v (omega (arith, graph.few)) (out-left g.size x v below may.unburnt),
       fire.heats v (omega (arith, graph.few)),
-      into-few g (in_set x.reached) v graph,
+      into-few g (burns g.size x) v graph,
     )
 
 pub least_burns : (g : Multigraph) (held : List ℕ) (x : Fire) (v : ℕ) → IsGraph g → IsFire g held x →
-    IsLeastToBurn x v → BurnsNext g (dollars held) (in_set x.reached) v
+    IsLeastToBurn x v → BurnsNext g (dollars held) (burns g.size x) v
 least_burns g held x v graph fire next = record {
   may = record {
-    vertex = ⊎_elim
-        (λ (inside : v < g.size). inside)
-        (λ (outside : g.size ≤ v).
-        let none : valence g v ≡ 0 = valence-outside g v graph outside in
-        let into : edges_into g (in_set x.reached) v ≤ valence g v = into-le-valence g (in_set x.reached) v in
-        absurd (omega (arith, next.burns, fire.heats v next.few)))
-        (cases_lt v g.size);
-    unburnt = next.new;
-    reached = omega (arith, ints, next.burns, fire.heats v next.few, into-few g (in_set x.reached) v graph);
+    vertex = fire.inside v next.new;
+    unburnt = left-out g.size x v next.new;
+    reached = omega (arith, ints, next.burns, fire.heats v next.few, into-few g (burns g.size x) v graph);
   };
   least = λ u earlier may.
-      let less : pos (slice_index held u) <ℤ pos (edges_into g (in_set x.reached) u) = may.reached in
+      let less : pos (slice_index held u) <ℤ pos (edges_into g (burns g.size x) u) = may.reached in
       omega (
         arith,
         ints,
-        next.least u earlier may.unburnt,
+        next.least u earlier (out-left g.size x u may.vertex may.unburnt),
         fire.heats u (omega (arith, next.few)),
-        into-few g (in_set x.reached) u graph,
+        into-few g (burns g.size x) u graph,
       );
 }

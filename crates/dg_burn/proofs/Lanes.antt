@@ -16,7 +16,9 @@ use lib.Lanes.{Each1, zip2, sel_l, mask_l, top}
 use Rattle.dg_graph.specs.Sets.{in_set}
 
 pub lane-few : (xs : List ℕ) (v : ℕ) → v < length xs → Each1 (Fits w8) xs → slice_index xs v ≤ 255
-lane-few xs v few fits = let fit : Fits w8 (slice_index xs v) = Each1-get_or (Fits w8) xs v 0 few fits in omega (arith, fit.fits)
+lane-few xs v few fits =
+    let fit : Fits w8 (slice_index xs v) = Each1-get_or (Fits w8) xs v 0 few fits in
+    omega (arith, fit.fits)
 
 pub lane_sum : (xs ys : List ℕ) (v : ℕ) → v < length xs → v < length ys →
     slice_index xs v + slice_index ys v ≤ 255 →
@@ -54,15 +56,18 @@ lane_more xs v long few =
 length-more : (xs : List ℕ) → length xs ≡ 16 → length (more xs) ≡ 16
 length-more xs long =
     let marks : length (map (top 7) (zip2 compared xs (replicate 16 127))) ≡ 16 =
-    length-map (zip2 compared xs (replicate 16 127)) (top 7) ∙ length-zip2 compared xs (replicate 16 127) long ∙ long in
-    length-sel_l (map (top 7) (zip2 compared xs (replicate 16 127))) (replicate 16 127) xs marks (marks ∙ sym long) ∙ marks
+    length-map (zip2 compared xs (replicate 16 127)) (top 7)
+    ∙ length-zip2 compared xs (replicate 16 127) long ∙ long in
+    length-sel_l (map (top 7) (zip2 compared xs (replicate 16 127))) (replicate 16 127) xs marks (marks ∙ sym long)
+    ∙ marks
 
 pub lane_lack : (xs : List ℕ) (v : ℕ) → length xs ≡ 16 → v < 16 → slice_index xs v ≤ 255 →
     slice_index (zip2 (λ a b. (a + (256 - b)) % 256) (more xs) xs) v ≡ 127 - slice_index xs v
 lane_lack xs v long few small =
     let lane : slice_index (zip2 (λ a b. (a + (256 - b)) % 256) (more xs) xs) v
     ≡ (slice_index (more xs) v + (256 - slice_index xs v)) % 256 =
-    get_or-zip2 (λ a b. (a + (256 - b)) % 256) (more xs) xs v 0 0 0 (omega (arith, length-more xs long)) (omega arith) in
+    get_or-zip2 (λ a b. (a + (256 - b)) % 256) (more xs) xs v 0 0 0 (omega (arith, length-more xs long))
+    (omega arith) in
     ⊎_elim
     (λ (below : slice_index xs v < 127).
     let is : slice_index (more xs) v ≡ 127 =
@@ -86,7 +91,8 @@ marks_are xs long =
 pub marks-few : (xs : List ℕ) → length xs ≡ 16 → marks xs < 2 ^ 16
 marks-few xs long =
     let lanes : length (zip2 ltb (replicate 16 127) xs) ≡ 16 = length-zip2 ltb (replicate 16 127) xs (sym long) in
-    let few : mask_l (zip2 ltb (replicate 16 127) xs) < 2 ^ 16 = rw lanes at (mask_l-lt (zip2 ltb (replicate 16 127) xs)) in
+    let few : mask_l (zip2 ltb (replicate 16 127) xs) < 2 ^ 16 =
+    rw lanes at (mask_l-lt (zip2 ltb (replicate 16 127) xs)) in
     omega (arith, marks_are xs long)
 
 one_bit : (b : Bool) → nat_eq (cond b 1 0) 1 ≡ b

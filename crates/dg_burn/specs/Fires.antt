@@ -7,19 +7,23 @@
 --                        other
 --   IsHeld n D l      == l are the amounts D of n vertices, capped
 --   heat x v          == the heat of v
---   IsUnlit l x       == nothing burns, and the heat of each is what it lacks to 127 dollars
+--   burns n x v       == v burns: it is one of n vertices and not one of those that do not
+--   IsUnlit n l x     == those that do not burn are below n, none of n vertices burns, and the
+--                        heat of each is what it lacks to 127 dollars
 --   IsOut x           == no vertex that does not burn has a heat above 127
 --   IsLeastToBurn x v == v is the least vertex that does not burn and has
 --   IsEmpty S         == S has no vertex
 --   IsLeastIn S v     == v is the least vertex of S
---   IsFire g l x      == the heat of each vertex is what it lacks to 127 dollars, where it holds
---                        what l tells, and its edges to those that burn
-use Rattle.std.specs.Prelude.{◌≡◌, ℕ, ◌+◌, ◌-◌, ◌<◌, ◌≤◌, min, Bool, true, false, List, ℤ, pos, negsuc, slice_index}
+--   IsWithout S v T   == T is the set S without v
+--   IsFire g l x      == those that do not burn are vertices of the graph, and the heat of each
+--                        vertex is what it lacks to 127 dollars, where it holds what l tells, and
+--                        its edges to those that burn
+use Rattle.std.specs.Prelude.{◌≡◌, ◌≢◌, ℕ, ◌+◌, ◌-◌, ◌<◌, ◌≤◌, ◌&&◌, min, nat_lt, not, Bool, true, false, List, ℤ, pos, negsuc, slice_index}
 use Rattle.dg_theory.specs.Multigraph.{Multigraph}
 use Rattle.dg_theory.specs.Firing.{Amounts}
 use Rattle.dg_theory.specs.Burning.{edges_into}
 use Rattle.dg_graph.specs.declared.limits.TheConstants.{MAX_VERTICES}
-use Rattle.dg_graph.specs.Sets.{in_set}
+use Rattle.dg_graph.specs.Sets.{in_set, IsSetBelow}
 use Rattle.dg_burn.specs.declared.fire.Fire.{Fire}
 
 abbrev pub dollars : List ℕ → Amounts
@@ -35,18 +39,22 @@ IsHeld n D held = (v : ℕ) → v < n → slice_index held v ≡ capped (D v)
 abbrev pub heat : Fire → ℕ → ℕ
 heat x v = slice_index x.heat v
 
-pub record IsUnlit (l : List ℕ) (x : Fire) : Type 0 where
-  pub none_burns : (v : ℕ) → in_set x.reached v ≡ false
+abbrev pub burns : ℕ → Fire → ℕ → Bool
+burns n x v = nat_lt v n && not (in_set x.left v)
+
+pub record IsUnlit (n : ℕ) (l : List ℕ) (x : Fire) : Type 0 where
+  pub inside : IsSetBelow n (in_set x.left)
+  pub none_burns : (v : ℕ) → burns n x v ≡ false
   pub cold : (v : ℕ) → v < MAX_VERTICES → heat x v ≡ 127 - slice_index l v
 
 abbrev pub IsOut : Fire → Type 0
-IsOut x = (v : ℕ) → v < MAX_VERTICES → in_set x.reached v ≡ false → heat x v ≤ 127
+IsOut x = (v : ℕ) → v < MAX_VERTICES → in_set x.left v ≡ true → heat x v ≤ 127
 
 pub record IsLeastToBurn (x : Fire) (v : ℕ) : Type 0 where
   pub few : v < MAX_VERTICES
-  pub new : in_set x.reached v ≡ false
+  pub new : in_set x.left v ≡ true
   pub burns : 127 < heat x v
-  pub least : (u : ℕ) → u < v → in_set x.reached u ≡ false → heat x u ≤ 127
+  pub least : (u : ℕ) → u < v → in_set x.left u ≡ true → heat x u ≤ 127
 
 abbrev pub IsEmpty : (ℕ → Bool) → Type 0
 IsEmpty S = (v : ℕ) → S v ≡ false
@@ -56,6 +64,11 @@ pub record IsLeastIn (S : ℕ → Bool) (v : ℕ) : Type 0 where
   pub here : S v ≡ true
   pub least : (u : ℕ) → u < v → S u ≡ false
 
+pub record IsWithout (S : ℕ → Bool) (v : ℕ) (T : ℕ → Bool) : Type 0 where
+  pub here : T v ≡ false
+  pub others : (w : ℕ) → w ≢ v → S w ≡ T w
+
 pub record IsFire (g : Multigraph) (l : List ℕ) (x : Fire) : Type 0 where
+  pub inside : IsSetBelow g.size (in_set x.left)
   pub heats : (v : ℕ) → v < MAX_VERTICES →
-      heat x v ≡ (127 - slice_index l v) + edges_into g (in_set x.reached) v
+      heat x v ≡ (127 - slice_index l v) + edges_into g (burns g.size x) v

@@ -12,7 +12,7 @@ ghost use Rattle.dg_burn.specs.Fires.{dollars, IsHeld};
 
 use crate::fire::{Fire, gained};
 use dg_chips::Wide;
-use dg_graph::{Graph, MAX_VERTICES, complement};
+use dg_graph::{Graph, MAX_VERTICES};
 
 /// What burning from a vertex comes to.
 #[derive(Clone, Copy, Debug, PartialEq, Eq)]
@@ -72,8 +72,8 @@ pub fn burn_counted(graph: &Graph, q: usize, held: &[u8; 16]) -> Counted
         slice_index result.joined v ≡ edges_out graph.now (in_set result.burnt.unburnt) v }
     ensures whole { (result.burnt.unburnt ≡ 0) ↔ (result.burnt.burnt ≡ graph.now.size) }
 {
-    let size = graph.size();
-    let unlit = Fire::new(held);
+    let _size = graph.size();
+    let unlit = Fire::new(graph, held);
     let mut fire = unlit;
     fire.burn_vertex(graph, q);
     let mut order = [0; 16];
@@ -88,7 +88,7 @@ pub fn burn_counted(graph: &Graph, q: usize, held: &[u8; 16]) -> Counted
         burnt: Burnt {
             order,
             burnt: count as u8,
-            unburnt: complement(size, fire.reached),
+            unburnt: fire.left,
         },
         joined: gained(fire.heat, unlit.heat),
     }

@@ -1,12 +1,12 @@
 //! A fire that spreads over a graph.
 
-ghost use Rattle.std.specs.Prelude.{◌≡◌, ℕ, ◌+◌, ◌-◌, ◌<◌, ◌≤◌, ◌&&◌, not, nat_lt, MatchOption, slice_index};
+ghost use Rattle.std.specs.Prelude.{◌≡◌, ℕ, ◌+◌, ◌-◌, ◌<◌, ◌≤◌, ◌&&◌, true, nat_lt, MatchOption, slice_index};
 ghost use Rattle.dg_theory.specs.Multigraph.{edges_between};
 ghost use Rattle.dg_graph.specs.declared.limits.TheConstants.{MAX_VERTICES};
-ghost use Rattle.dg_graph.specs.Sets.{in_set, IsWith};
-ghost use Rattle.dg_burn.specs.Fires.{heat, IsUnlit, IsOut, IsLeastToBurn, IsLeastIn, IsEmpty};
+ghost use Rattle.dg_graph.specs.Sets.{in_set};
+ghost use Rattle.dg_burn.specs.Fires.{heat, IsUnlit, IsOut, IsLeastToBurn, IsLeastIn, IsEmpty, IsWithout};
 
-use dg_graph::{Graph, with_vertex};
+use dg_graph::{Graph, complement};
 use std::simd::prelude::*;
 
 /// More dollars than a vertex has edges: who holds more burns as who holds so many.
@@ -15,8 +15,8 @@ const ENOUGH: u8 = 127;
 /// A fire on a graph, as far as it has come.
 #[derive(Clone, Copy)]
 pub struct Fire {
-    /// The set of the vertices that burn.
-    pub reached: u16,
+    /// The set of the vertices that do not burn.
+    pub left: u16,
     /// How many dollars each vertex lacks to enough, and how many edges join it to those that burn: who does not burn and has
     /// more than enough of both burns next.
     pub heat: u8x16,
@@ -24,11 +24,11 @@ pub struct Fire {
 
 impl Fire {
     /// The fire before any vertex burns.
-    pub fn new(held: &[u8; 16]) -> Fire
-        ensures { IsUnlit held.now result }
+    pub fn new(graph: &Graph, held: &[u8; 16]) -> Fire
+        ensures { IsUnlit graph.now.size held.now result }
     {
         Fire {
-            reached: 0,
+            left: complement(graph.size(), 0),
             heat: lack_of(u8x16::from_array(*held)),
         }
     }
@@ -37,20 +37,21 @@ impl Fire {
     pub fn next_vertex(&self) -> Option<usize>
         ensures { MatchOption result (IsOut self.now) (IsLeastToBurn self.now) }
     {
-        least_in(without(hot(self.heat), self.reached))
+        least_in(both(hot(self.heat), self.left))
     }
 
-    /// Lets a vertex burn: its edges are counted at all vertices.
+    /// Lets a vertex that is left burn: its edges are counted at all vertices.
     pub fn burn_vertex(&mut self, graph: &Graph, v: usize)
         requires vertex { v < graph.now.size }
+        requires left { in_set self.old.left v ≡ true }
         requires room { (w : ℕ) → w < MAX_VERTICES →
             heat self.old w + edges_between graph.now v w ≤ 255 }
-        ensures reached { IsWith (in_set self.old.reached) v (in_set self.new.reached) }
+        ensures left { IsWithout (in_set self.old.left) v (in_set self.new.left) }
         ensures heat { (w : ℕ) → w < MAX_VERTICES →
             heat self.new w ≡ heat self.old w + edges_between graph.now v w }
     {
         let _size = graph.size();
-        self.reached = with_vertex(self.reached, v);
+        self.left = without_vertex(self.left, v);
         self.heat = with_row(self.heat, u8x16::from_array(*graph.row(v)));
     }
 }
@@ -88,11 +89,20 @@ fn hot(heat: u8x16) -> u16
     heat.simd_gt(u8x16::splat(ENOUGH)).to_bitmask() as u16
 }
 
-/// The vertices of a set that are not in another.
-fn without(set: u16, others: u16) -> u16
-    ensures { (v : ℕ) → in_set result v ≡ (in_set set v && not (in_set others v)) }
+/// The vertices that are in two sets.
+fn both(set: u16, other: u16) -> u16
+    ensures { (v : ℕ) → in_set result v ≡ (in_set set v && in_set other v) }
 {
-    set & !others
+    set & other
+}
+
+/// The set without one of its vertices.
+fn without_vertex(set: u16, v: usize) -> u16
+    requires few { v < MAX_VERTICES }
+    requires member { in_set set v ≡ true }
+    ensures { IsWithout (in_set set) v (in_set result) }
+{
+    set ^ 1 << v
 }
 
 /// The least vertex of a set.

@@ -113,11 +113,12 @@ impl Trial {
         ensures held { 0 < result → 0 < slice_index self.now result }
         ensures after { (u : ℕ) → result < u → slice_index self.now u ≡ 0 }
     {
-        let mut place = self.size() - 1;
-        while place > 0 && self.get(place) == 0 {
-            place -= 1;
+        for place in (1..self.size()).rev() {
+            if self.get(place) > 0 {
+                return place;
+            }
         }
-        place
+        0
     }
 
     /// A trial as a divisor.

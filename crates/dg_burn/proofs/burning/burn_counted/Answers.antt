@@ -2,12 +2,11 @@ use Rattle.std.proofs.Common.{◌<◌, length, take, arith, refl, length-set, �
 use Rattle.std.proofs.lemmas.Int.{ints}
 use Rattle.std.proofs.lemmas.List.{take_more_set}
 use Rattle.dg_theory.specs.Burning.{BurnsNext}
-use Rattle.dg_graph.specs.Sets.{in_set}
-use Rattle.dg_burn.specs.Fires.{dollars}
+use Rattle.dg_burn.specs.Fires.{dollars, burns}
 use Rattle.dg_burn.proofs.Rests.{none_after}
 use Rattle.dg_burn.proofs.Steps.{unreached-some, burning-lit, burning-fewer, burning-more, burning-done}
 use Rattle.dg_burn.proofs.Told.{set_is_rest, rest_is_free, rest_counts, none_whole}
-use Rattle.dg_burn.proofs.Fires.{fire-unlit, fire-room, fire-more, fire-counts, burnt_out, least_burns}
+use Rattle.dg_burn.proofs.Fires.{fire-unlit, fire-room, fire-more, fire-counts, out-left, left-less, left-rest, burnt_out, least_burns}
 use Rattle.dg_burn.proofs.burning.burn_counted.Goals as goal
 
 pub burn_vertex-requires-clause-room : goal.burn_vertex-requires-clause-room
@@ -15,35 +14,46 @@ burn_vertex-requires-clause-room c =
     λ w. fire-room c.args.graph.now c.args.held.now c.new-unlit.result c.args.q w c.size-size.ensures.graph
     (fire-unlit c.args.graph.now c.args.held.now c.new-unlit.result c.new-unlit.ensures)
 
+pub burn_vertex-requires-clause-left : goal.burn_vertex-requires-clause-left
+burn_vertex-requires-clause-left c =
+    out-left c.args.graph.now.size c.new-unlit.result c.args.q c.requires (c.new-unlit.ensures.none_burns c.args.q)
+
+pub burn_vertex-requires-in-Some-clause-left : goal.burn_vertex-requires-in-Some-clause-left
+burn_vertex-requires-in-Some-clause-left c = c.in-Some.ensures.new
+
 pub burning-init : goal.burning-init
 burning-init c = record {
   state = burning-lit c.args.graph.now c.args.q (dollars c.args.held.now)
-      (in_set c.new-unlit.result.reached) _ c.requires
-      c.new-unlit.ensures.none_burns c.burn_vertex.ensures.reached;
+      (burns c.args.graph.now.size c.new-unlit.result) _ c.requires
+      c.new-unlit.ensures.none_burns
+      (left-less c.args.graph.now.size c.new-unlit.result c.burn_vertex.new.self c.args.q c.requires
+      c.burn_vertex.ensures.left);
   fire = fire-more c.args.graph.now c.args.held.now c.new-unlit.result c.burn_vertex.new.self c.args.q
       c.size-size.ensures.graph.multigraph c.requires (c.new-unlit.ensures.none_burns c.args.q)
       (fire-unlit c.args.graph.now c.args.held.now c.new-unlit.result c.new-unlit.ensures)
-      c.burn_vertex.ensures.reached c.burn_vertex.ensures.heat;
+      c.burn_vertex.ensures.left c.burn_vertex.ensures.heat;
   places = refl;
   rest = none_after 15 c.args.q;
 }
 
 pub bounds-order-count : goal.bounds-order-count
 bounds-order-count c =
-    let burns : BurnsNext c.args.graph.now (dollars c.args.held.now) (in_set c.burning.fire.reached) c.in-Some.v =
+    let next :
+    BurnsNext c.args.graph.now (dollars c.args.held.now) (burns c.args.graph.now.size c.burning.fire) c.in-Some.v =
     least_burns _ _ _ _ c.size-size.ensures.graph c.burning.invariant.fire c.in-Some.ensures in
     omega (
       arith,
       c.size-size.ensures.graph.few,
       c.burning.invariant.state.left,
-      unreached-some c.args.graph.now _ _ c.in-Some.v burns,
+      unreached-some c.args.graph.now _ _ c.in-Some.v next,
     )
 
 pub burn_vertex-requires-in-Some-clause-vertex : goal.burn_vertex-requires-in-Some-clause-vertex
 burn_vertex-requires-in-Some-clause-vertex c =
-    let burns : BurnsNext c.args.graph.now (dollars c.args.held.now) (in_set c.burning.fire.reached) c.in-Some.v =
+    let next :
+    BurnsNext c.args.graph.now (dollars c.args.held.now) (burns c.args.graph.now.size c.burning.fire) c.in-Some.v =
     least_burns _ _ _ _ c.size-size.ensures.graph c.burning.invariant.fire c.in-Some.ensures in
-    burns.may.vertex
+    next.may.vertex
 
 pub burn_vertex-requires-in-Some-clause-room : goal.burn_vertex-requires-in-Some-clause-room
 burn_vertex-requires-in-Some-clause-room c = λ w.
@@ -52,29 +62,35 @@ burn_vertex-requires-in-Some-clause-room c = λ w.
 
 pub burning-smaller : goal.burning-smaller
 burning-smaller c =
-    let burns : BurnsNext c.args.graph.now (dollars c.args.held.now) (in_set c.burning.fire.reached) c.in-Some.v =
+    let next :
+    BurnsNext c.args.graph.now (dollars c.args.held.now) (burns c.args.graph.now.size c.burning.fire) c.in-Some.v =
     least_burns _ _ _ _ c.size-size.ensures.graph c.burning.invariant.fire c.in-Some.ensures in
-    omega (arith, burning-fewer c.args.graph.now _ _ _ c.in-Some.v burns c.burn_vertex-in-Some.ensures.reached)
+    let more = left-less c.args.graph.now.size c.burning.fire c.burn_vertex-in-Some.new.self c.in-Some.v next.may.vertex
+    c.burn_vertex-in-Some.ensures.left in
+    omega (arith, burning-fewer c.args.graph.now _ _ _ c.in-Some.v next more)
 
 pub burning-preserved : goal.burning-preserved
 burning-preserved c =
-    let burns : BurnsNext c.args.graph.now (dollars c.args.held.now) (in_set c.burning.fire.reached) c.in-Some.v =
+    let next :
+    BurnsNext c.args.graph.now (dollars c.args.held.now) (burns c.args.graph.now.size c.burning.fire) c.in-Some.v =
     least_burns _ _ _ _ c.size-size.ensures.graph c.burning.invariant.fire c.in-Some.ensures in
+    let more = left-less c.args.graph.now.size c.burning.fire c.burn_vertex-in-Some.new.self c.in-Some.v next.may.vertex
+    c.burn_vertex-in-Some.ensures.left in
     let within : c.burning.count < length c.burning.order = omega (
       arith,
       c.burning.invariant.places,
       c.size-size.ensures.graph.few,
       c.burning.invariant.state.left,
-      burning-fewer c.args.graph.now _ _ _ c.in-Some.v burns c.burn_vertex-in-Some.ensures.reached,
+      burning-fewer c.args.graph.now _ _ _ c.in-Some.v next more,
     ) in
     record {
       state = rw (take_more_set c.burning.order c.burning.count c.in-Some.v within)
-          (burning-more _ _ _ _ _ _ _ c.in-Some.v c.burning.invariant.state burns
-          c.burn_vertex-in-Some.ensures.reached);
+          (burning-more _ _ _ _ _ _ _ c.in-Some.v c.burning.invariant.state next
+          more);
       fire = fire-more c.args.graph.now c.args.held.now c.burning.fire c.burn_vertex-in-Some.new.self c.in-Some.v
-          c.size-size.ensures.graph.multigraph burns.may.vertex
-          burns.may.unburnt c.burning.invariant.fire
-          c.burn_vertex-in-Some.ensures.reached c.burn_vertex-in-Some.ensures.heat;
+          c.size-size.ensures.graph.multigraph next.may.vertex
+          next.may.unburnt c.burning.invariant.fire
+          c.burn_vertex-in-Some.ensures.left c.burn_vertex-in-Some.ensures.heat;
       places = length-set _ _ _ ∙ c.burning.invariant.places;
       rest = λ i past. get_or-set_other c.burning.order c.burning.count i c.in-Some.v 0 (omega arith)
           ∙ c.burning.invariant.rest i (omega arith);
@@ -86,12 +102,14 @@ returns-clause-order c = burning-done _ _ _ _ _ _ c.burning.invariant.state
 
 pub returns-clause-left : goal.returns-clause-left
 returns-clause-left c =
-    set_is_rest c.args.graph.now _ _ _ _ c.size-size.ensures.size c.burning.invariant.state.same c.complement.ensures
+    set_is_rest c.args.graph.now _ _ _ _ c.size-size.ensures.size c.burning.invariant.state.same
+    (left-rest c.args.graph.now.size c.size-size.result c.burning.fire c.size-size.ensures.size
+    c.burning.invariant.fire.inside)
 
 pub returns-clause-unburnt : goal.returns-clause-unburnt
 returns-clause-unburnt c =
     rest_is_free c.args.graph.now c.args.q (dollars c.args.held.now)
-    (take c.burning.count c.burning.order) c.complement.result
+    (take c.burning.count c.burning.order) c.burning.fire.left
     c.size-size.ensures.graph.multigraph c.requires (λ v _ _. omega (arith, ints)) (returns-clause-order c)
     (returns-clause-left c)
 
@@ -101,9 +119,11 @@ returns-clause-joined c = λ v.
     c.size-size.ensures.graph c.new-unlit.ensures c.burning.invariant.fire
     c.gained.ensures.gained c.gained.ensures.past
     ∙ rest_counts c.args.graph.now (take c.burning.count c.burning.order)
-    (in_set c.burning.fire.reached) c.complement.result v
+    (burns c.args.graph.now.size c.burning.fire) c.burning.fire.left v
     c.burning.invariant.state.same (returns-clause-left c)
 
 pub returns-clause-whole : goal.returns-clause-whole
 returns-clause-whole c =
-    none_whole c.args.graph.now _ _ _ _ _ _ _ c.burning.invariant.state c.size-size.ensures.size c.complement.ensures
+    none_whole c.args.graph.now _ _ _ _ _ _ _ c.burning.invariant.state c.size-size.ensures.size
+    (left-rest c.args.graph.now.size c.size-size.result c.burning.fire c.size-size.ensures.size
+    c.burning.invariant.fire.inside)

@@ -1,5 +1,4 @@
 use Rattle.std.proofs.Common.{◌≡◌, ◌≤◌, arith}
-use Rattle.std.specs.Prelude.{if◌then◌else◌}
 use Rattle.std.specs.Int.RustNames.{unsigned_abs}
 use Rattle.std.proofs.Math.IntN.{pos, ◌-ℤ◌}
 use Rattle.std.proofs.lemmas.Int.{ints}

@@ -1,9 +1,6 @@
-use Rattle.std.proofs.Common.{◌≡◌, ℕ, ◌<◌, slice_index, length}
+use Rattle.std.proofs.Common.{◌≡◌, ℕ, ◌≤◌, slice_index, length}
 use Rattle.dg_rank.proofs.enumeration.Trial.last_held.Given as goal
 
 abbrev pub invariant-loop-place : goal.invariant-loop-place
 invariant-loop-place l =
-    record { within : l.place < length l.self; after : (u : ℕ) → l.place < u → slice_index l.self u ≡ 0 }
-
-abbrev pub decreases-loop-place : goal.decreases-loop-place
-decreases-loop-place l = l.place
+    record { within : l.place ≤ length l.self; after : (u : ℕ) → l.place ≤ u → slice_index l.self u ≡ 0 }
