@@ -1,8 +1,8 @@
 -- A schedule that is being played.
 --   KeepsLook o H steps seat x  == x is the look that the seat keeps after the history H, if it
 --                                  keeps one
---   IsPlaying o steps H r       == after the first steps the history is H, and r holds the game, the
---                                  vertex q and the looks kept
+--   IsPlaying o steps H r       == after the first steps the history is H, and r holds the game,
+--                                  its vertex q and the looks kept
 --   IsInPlay r                  == r is what some schedule has come to
 --   PlaysOn r step e t          == wherever r is come to and the step is next, it gives the entry e
 --                                  and comes to t
