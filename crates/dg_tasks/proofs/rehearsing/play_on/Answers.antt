@@ -18,14 +18,14 @@ play-requires c =
 pub returns-in-Err : goal.returns-in-Err
 returns-in-Err c = λ o steps known.
     stopped_at o c.args.names.now steps c.args.step.now c.args.rehearsal.now c.args.text.now.items c.in-Err.fault
-    c.in-Err.ensures.plays known
+    (rw c.in-Err.is at c.play.ensures.plays) known
 
 pub push_entry-requires : goal.push_entry-requires
 push_entry-requires c =
     let (o, steps, fit, known) = c.requires in
     let H : List Entry = known.history in
     let e : Entry = c.in-Ok.entry in
-    let (room, plays) = c.in-Ok.ensures.plays in
+    let (room, plays) = rw c.in-Ok.is at c.play.ensures.plays in
     let all : List Step = steps ++ c.args.step.now ∷ [] in
     let more = plays o H all (known.playing (c.args.step.now ∷ []))
     (next_is steps [] c.args.step.now (length H) known.count) in
@@ -33,7 +33,7 @@ push_entry-requires c =
 
 pub returns-in-Ok-push_entry : goal.returns-in-Ok-push_entry
 returns-in-Ok-push_entry c = λ o steps known.
-    let (room, plays) = c.in-Ok.ensures.plays in
+    let (room, plays) = rw c.in-Ok.is at c.play.ensures.plays in
     played_more o c.args.names.now steps c.args.step.now c.in-Ok.entry c.args.rehearsal.now c.play.new.self
     c.args.text.now.items
     c.push_entry.new.text.items _ plays c.entries-number.ensures.entries c.in-Ok-push_entry.ensures known
