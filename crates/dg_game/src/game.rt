@@ -194,47 +194,71 @@ impl Game {
         }
     }
 
-    /// The reply to a call, as the game answers it after its history. Nothing changes: `follow` takes the entry into the
-    /// history.
-    pub fn answer(&self, plain: &Plain) -> Reply
+    /// Writes the reply to a call, as the game answers it after its history. The game stays as it is: `follow` takes the entry
+    /// into the history.
+    pub fn answer(&self, plain: &Plain, reply: &mut Reply)
         ensures replies { (o : Opening) (H : List EntryData) → LeadsTo o H self.now →
-            Replies o H (asked plain.now) result }
+            Replies o H (asked plain.now) reply.new }
         ensures legal { (o : Opening) (H : List EntryData) (seat : ℕ) → LeadsTo o H self.now →
-            IsLegal o H → IsSeat seat → IsLegal o (with_entry H seat (asked plain.now) result) }
+            IsLegal o H → IsSeat seat → IsLegal o (with_entry H seat (asked plain.now) reply.new) }
     {
-        self.reply_now(plain)
+        self.answer_now(plain, reply);
     }
 
-    /// The reply to a call that is right as the game stands.
-    fn reply_now(&self, plain: &Plain) -> Reply
-        ensures { RepliesAt (position_of self.now) self.now.gifts plain.now result }
+    /// Writes the reply to a call that is right as the game stands.
+    fn answer_now(&self, plain: &Plain, reply: &mut Reply)
+        ensures { RepliesAt (position_of self.now) self.now.gifts plain.now reply.new }
     {
         match plain {
-            Plain::Move(play) => match apply(&self.graph, &self.amounts, play) {
-                Ok(amounts) => Reply::Moved(amounts),
-                Err(fault) => Reply::Refused(Refusal::from(fault)),
-            },
-            Plain::Gift(v, dollars) => match self.after_gift(*v, *dollars) {
-                Ok(amounts) => Reply::Given(self.gifts + 1, amounts),
-                Err(refusal) => Reply::Refused(refusal),
-            },
-            Plain::Join(u, v) => match self.graph.join(*u, *v) {
-                Ok(_) => Reply::Joined(self.gifts + 1, self.amounts),
-                Err(fault) => Reply::Refused(Refusal::from(fault)),
-            },
-            Plain::Look => Reply::Looked(self.gifts, self.amounts, self.graph),
-            Plain::Claim => self.claimed(),
+            Plain::Move(play) => self.answer_move(play, reply),
+            Plain::Gift(v, dollars) => self.answer_gift(*v, *dollars, reply),
+            Plain::Join(u, v) => self.answer_join(*u, *v, reply),
+            Plain::Look => *reply = Reply::Looked(self.gifts, self.amounts, self.graph),
+            Plain::Claim => self.answer_claim(reply),
         }
     }
 
-    /// The reply to a claim.
-    fn claimed(&self) -> Reply
-        ensures { RepliesToClaim (position_of self.now) result }
+    /// Writes the reply to a move.
+    #[inline(never)]
+    fn answer_move(&self, play: &Move, reply: &mut Reply)
+        ensures { RepliesToMove (position_of self.now) play.now reply.new }
+    {
+        match apply(&self.graph, &self.amounts, play) {
+            Ok(amounts) => *reply = Reply::Moved(amounts),
+            Err(fault) => *reply = Reply::Refused(Refusal::from(fault)),
+        }
+    }
+
+    /// Writes the reply to a gift or a levy.
+    #[inline(never)]
+    fn answer_gift(&self, v: u8, dollars: i64, reply: &mut Reply)
+        ensures { RepliesToGift (position_of self.now) self.now.gifts v dollars reply.new }
+    {
+        match self.after_gift(v, dollars) {
+            Ok(amounts) => *reply = Reply::Given(self.gifts + 1, amounts),
+            Err(refusal) => *reply = Reply::Refused(refusal),
+        }
+    }
+
+    /// Writes the reply to a join.
+    #[inline(never)]
+    fn answer_join(&self, u: u8, v: u8, reply: &mut Reply)
+        ensures { RepliesToJoin (position_of self.now) self.now.gifts u v reply.new }
+    {
+        match self.graph.join(u, v) {
+            Ok(_) => *reply = Reply::Joined(self.gifts + 1, self.amounts),
+            Err(fault) => *reply = Reply::Refused(Refusal::from(fault)),
+        }
+    }
+
+    /// Writes the reply to a claim.
+    fn answer_claim(&self, reply: &mut Reply)
+        ensures { RepliesToClaim (position_of self.now) reply.new }
     {
         if self.amounts.is_effective() {
-            Reply::Won
+            *reply = Reply::Won;
         } else {
-            Reply::NotWon
+            *reply = Reply::NotWon;
         }
     }
 
@@ -293,45 +317,47 @@ impl Game {
             IsLegal o (with_entry H seat (asked_for look.now.number finding.now) result) }
         ensures kept { KeepsFinding finding.now result }
     {
-        let reply = self.answer_finding(look, finding);
+        let mut reply = Reply::Won;
+        self.answer_finding(look, finding, &mut reply);
         self.entries += 1;
         reply
     }
 
-    /// The reply to what was reckoned on a look, as `settle` gives it. Nothing changes: `follow` takes the entry into the
-    /// history. The conditions are those of `settle` but for the number of entries.
-    pub fn answer_finding(&self, look: &LookData, finding: &Finding) -> Reply
+    /// Writes the reply to what was reckoned on a look, as `settle` gives it. The game stays as it is: `follow` takes the entry
+    /// into the history. The conditions are those of `settle` but for the number of entries.
+    pub fn answer_finding(&self, look: &LookData, finding: &Finding, reply: &mut Reply)
         requires look { (o : Opening) × (H : List EntryData) × LeadsTo o H self.now ×
             IsLookAt o H look.now }
         requires found { IsFoundFor self.now.q look.now finding.now }
         ensures replies { (o : Opening) (H : List EntryData) → LeadsTo o H self.now →
-            IsLookAt o H look.now → Replies o H (asked_for look.now.number finding.now) result }
+            IsLookAt o H look.now → Replies o H (asked_for look.now.number finding.now) reply.new }
         ensures legal { (o : Opening) (H : List EntryData) (seat : ℕ) → LeadsTo o H self.now →
             IsLookAt o H look.now → IsLegal o H → IsSeat seat →
-            IsLegal o (with_entry H seat (asked_for look.now.number finding.now) result) }
-        ensures kept { KeepsFinding finding.now result }
+            IsLegal o (with_entry H seat (asked_for look.now.number finding.now) reply.new) }
+        ensures kept { KeepsFinding finding.now reply.new }
     {
-        self.reply_to(look, finding)
+        self.answer_found(look, finding, reply);
     }
 
-    /// The reply to a finding that is right as the game stands.
-    fn reply_to(&self, look: &LookData, finding: &Finding) -> Reply
+    /// Writes the reply to a finding that is right as the game stands.
+    fn answer_found(&self, look: &LookData, finding: &Finding, reply: &mut Reply)
         requires look { (o : Opening) × (H : List EntryData) × LeadsTo o H self.now ×
             IsLookAt o H look.now }
         requires found { IsFoundFor self.now.q look.now finding.now }
         ensures replies { (o : Opening) (H : List EntryData) → LeadsTo o H self.now →
-            IsLookAt o H look.now → Replies o H (asked_for look.now.number finding.now) result }
-        ensures kept { KeepsFinding finding.now result }
+            IsLookAt o H look.now → Replies o H (asked_for look.now.number finding.now) reply.new }
+        ensures kept { KeepsFinding finding.now reply.new }
     {
         if self.gifts != look.gifts {
-            return Reply::Stale(self.gifts);
+            *reply = Reply::Stale(self.gifts);
+            return;
         }
         match finding {
             Finding::Judged(verdict) => {
                 let carried = self.verdict_now(&look.position, &look.drift, verdict);
-                Reply::Verdict(carried)
+                *reply = Reply::Verdict(carried);
             }
-            Finding::Ranked(verdict) => Reply::Rank(*verdict),
+            Finding::Ranked(verdict) => *reply = Reply::Rank(*verdict),
         }
     }
 

@@ -149,7 +149,6 @@ fn with_none(keyword: Alone) -> Command
 }
 
 /// The command of a command word and the word after it.
-#[inline(never)]
 fn with_one(keyword: Single, word: &[u8], names: &Names) -> Result<Command, LineFault>
     requires { IsWellFormed (single keyword) (word.now ∷ []) }
     ensures { MatchResult result
@@ -181,7 +180,6 @@ fn with_one(keyword: Single, word: &[u8], names: &Names) -> Result<Command, Line
 }
 
 /// The command of a command word and the two words after it.
-#[inline(never)]
 fn with_two(
     keyword: Double,
     first: &[u8],

@@ -138,7 +138,7 @@ impl<N: Name> Held<N> {
         let entry = &mut *slot;
         entry.seat = seat.number();
         entry.request = plain.request();
-        entry.reply = self.game.answer(&plain);
+        self.game.answer(&plain, &mut entry.reply);
         self.enter(log, seat, slot)
     }
 
@@ -170,7 +170,7 @@ impl<N: Name> Held<N> {
         let entry = &mut *slot;
         entry.seat = seat.number();
         entry.request = chosen.request();
-        entry.reply = self.game.answer(&chosen);
+        self.game.answer(&chosen, &mut entry.reply);
         self.enter(log, seat, slot)
     }
 
@@ -204,7 +204,7 @@ impl<N: Name> Held<N> {
         let entry = &mut *slot;
         entry.seat = seat.number();
         entry.request = finding.request(shown.number);
-        entry.reply = self.game.answer_finding(shown, finding);
+        self.game.answer_finding(shown, finding, &mut entry.reply);
         let receipt = self.enter(log, seat, slot)?;
         seat.hear(look);
         Ok(receipt)

@@ -86,11 +86,12 @@ fn calls_come_to_outcomes(rt: HostRuntime) -> Result<(), Fail> {
 // The reply to the first call after the start, and the game that follows its entry.
 fn followed(start: &Start, plain: &Plain) -> (Reply, Game) {
     let mut game = Game::new(start);
-    let entry = Entry {
+    let mut entry = Entry {
         seat: 1,
         request: plain.request(),
-        reply: game.answer(plain),
+        reply: Reply::Won,
     };
+    game.answer(plain, &mut entry.reply);
     game.follow(&entry);
     (entry.reply, game)
 }

@@ -76,7 +76,8 @@ fn settled(start: &Start, call: Plain, drift: &Drift, verdict: &Verdict) -> Opti
         return None;
     }
     let finding = Finding::Judged(*verdict);
-    let answered = game.answer_finding(&look, &finding);
+    let mut answered = Reply::Won;
+    game.answer_finding(&look, &finding, &mut answered);
     let entered = game.settle(&look, &finding);
     Some([answered, entered])
 }

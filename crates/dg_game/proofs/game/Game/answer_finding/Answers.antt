@@ -4,4 +4,4 @@ use Rattle.dg_game.proofs.game.Game.answer_finding.Goals as goal
 pub returns-clause-legal : goal.returns-clause-legal
 returns-clause-legal c = λ o H seat leads look legal is.
     legal_more o H _ legal is (back_for o H c.args.look.now c.args.finding.now look)
-    (c.reply_to.ensures.replies o H leads look)
+    (c.answer_found.ensures.replies o H leads look)

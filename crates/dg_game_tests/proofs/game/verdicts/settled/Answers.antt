@@ -15,8 +15,8 @@ settle-entered-requires-clause-room c =
           (c.act.ensures.leads c.args.start.now [] 1 c.new-game.ensures)).entries,
     )
 
-pub answer_finding-answered-requires-clause-look : goal.answer_finding-answered-requires-clause-look
-answer_finding-answered-requires-clause-look c =
+pub answer_finding-requires-clause-look : goal.answer_finding-requires-clause-look
+answer_finding-requires-clause-look c =
     let first = c.act.ensures.leads c.args.start.now [] 1 c.new-game.ensures in
     let second = c.act-2.ensures.leads c.args.start.now _ 1 first in
     let x : LookData = record c.look_data.result { drift = c.args.drift.now } in (
@@ -28,8 +28,8 @@ answer_finding-answered-requires-clause-look c =
           c.look_data.ensures.number c.look_data.ensures.gifts c.look_data.ensures.graph c.look_data.ensures.position),
     )
 
-pub answer_finding-answered-requires-clause-found : goal.answer_finding-answered-requires-clause-found
-answer_finding-answered-requires-clause-found c =
+pub answer_finding-requires-clause-found : goal.answer_finding-requires-clause-found
+answer_finding-requires-clause-found c =
     let second = c.act-2.ensures.leads c.args.start.now _ 1
     (c.act.ensures.leads c.args.start.now [] 1 c.new-game.ensures) in
     let q : c.from-q.result ≡ c.act-2.new.self.q = c.from-q.ensures ∙ c.q.ensures ∙ sym second.q in

@@ -5,16 +5,16 @@ use Rattle.dg_table.proofs.Findings.{look_stands}
 use Rattle.dg_table.proofs.Steps.{settling_refused, settled}
 use Rattle.dg_table.proofs.held.Held.settle.Goals as goal
 
-pub answer_finding-entry-requires-clause-look : goal.answer_finding-entry-requires-clause-look
-answer_finding-entry-requires-clause-look g c =
+pub answer_finding-requires-clause-look : goal.answer_finding-requires-clause-look
+answer_finding-requires-clause-look g c =
     let H = c.args.self.now.entries in
     let held = rw c.self.view_is at c.self.invariant.0 in
     let look = look_stands g.N.Name.start H c.args.look.now c.args.shown.now held.legal c.requires.look
     c.in_ok-ready_on.ensures.1 in
     (g.N.Name.start, H, held.game', look)
 
-pub answer_finding-entry-requires-clause-found : goal.answer_finding-entry-requires-clause-found
-answer_finding-entry-requires-clause-found g c =
+pub answer_finding-requires-clause-found : goal.answer_finding-requires-clause-found
+answer_finding-requires-clause-found g c =
     let held = rw c.self.view_is at c.self.invariant.0 in
     rw held.game'.q c.requires.found
 
@@ -24,7 +24,7 @@ enter-requires-clause-replies g c =
     let held = rw c.self.view_is at c.self.invariant.0 in
     let look = look_stands g.N.Name.start H c.args.look.now c.args.shown.now held.legal c.requires.look
     c.in_ok-ready_on.ensures.1 in
-    rw c.request-entry.ensures (c.answer_finding-entry.ensures.replies g.N.Name.start H held.game' look)
+    rw c.request-entry.ensures (c.answer_finding.ensures.replies g.N.Name.start H held.game' look)
 
 pub enter-requires-clause-legal : goal.enter-requires-clause-legal
 enter-requires-clause-legal g c =
@@ -33,7 +33,7 @@ enter-requires-clause-legal g c =
     let look = look_stands g.N.Name.start H c.args.look.now c.args.shown.now held.legal c.requires.look
     c.in_ok-ready_on.ensures.1 in
     rw (c.request-entry.ensures, c.number-entry.ensures)
-    (c.answer_finding-entry.ensures.legal g.N.Name.start H c.args.seat.now.number held.game' look held.legal
+    (c.answer_finding.ensures.legal g.N.Name.start H c.args.seat.now.number held.game' look held.legal
     c.in_ok-ready_on.ensures.0.seat)
 
 pub returns-in_err-receipt-clause-refused : goal.returns-in_err-receipt-clause-refused
@@ -53,7 +53,7 @@ returns-clause-settled g c =
     let H = c.args.self.now.entries in
     let entered = c.in_ok-receipt.ensures.entered in
     let kept : KeepsFinding c.args.finding.now c.in_ok-receipt.receipt.1.reply =
-    rw c.in_ok-receipt.ensures.reply c.answer_finding-entry.ensures.kept in (
+    rw c.in_ok-receipt.ensures.reply c.answer_finding.ensures.kept in (
       settled g.N.Name.start g.N.Name.seats
           (length g.N.Name.cells) H c.args.look.now c.args.shown.now c.args.finding.now c.in_ok-receipt.receipt
           c.args.seat.now c.enter.new.seat

@@ -1,7 +1,7 @@
 use Rattle.std.proofs.Common.{◌≡◌, arith, ap}
 use Rattle.dg_game.specs.State.{State}
 use Rattle.dg_game.proofs.LookLaws.{moved_since, judged_after, ranked_after, look_size}
-use Rattle.dg_game.proofs.game.Game.reply_to.Goals as goal
+use Rattle.dg_game.proofs.game.Game.answer_found.Goals as goal
 
 pub verdict_now-carried-requires-clause-size : goal.verdict_now-carried-requires-clause-size
 verdict_now-carried-requires-clause-size c = let (o, H, leads, look) = c.requires.look in look_size o H _ _ leads look
