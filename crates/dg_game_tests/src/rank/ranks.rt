@@ -5,8 +5,7 @@ use crate::rank::references::plainly;
 use dg_chips::{Divisor, dual};
 use dg_graph::Graph;
 use dg_rank::{
-    OpenGate, RankFault, both_ranks, both_ranks_in_limits, has_rank, rank, rank_at_least,
-    rank_with,
+    OpenGate, RankFault, both_ranks, both_ranks_in_limits, has_rank, rank, rank_at_least, rank_with,
 };
 use dg_ranked::RankVerdict;
 use std::test::Fail;
