@@ -3,7 +3,6 @@
 --   ends_count       there are as many ends as scripts
 --   calls_are        the calls that were counted are those of the history
 --   contents_count   each script has its bytes
---   read_named       there are as many names as each reply of a legal history that is read has amounts
 --   shown_size       the amounts after a history are as many as the graph's vertices
 --   whole            sessions of fresh seats, which a table was closed with, are a party
 --   whole_lent       so are they where the seats were lent as the front of a list
@@ -17,9 +16,7 @@ use Rattle.dg_chips.specs.Opening.{Opening}
 use Rattle.dg_chips.specs.Vector.{Vector, at}
 use Rattle.dg_game.specs.Position.{Shows}
 use Rattle.dg_game.specs.History.{position_after, gifts_in}
-use Rattle.dg_game.specs.Legal.{IsLegal}
-use Rattle.dg_lines.specs.Texts.{pairs, AllHaveNames}
-use Rattle.dg_lines.proofs.Printing.{legal_named}
+use Rattle.dg_lines.specs.Texts.{pairs}
 use Rattle.dg_game.specs.declared.entry.Entry.{Entry}
 use Rattle.dg_game.proofs.StepLaw.{vertices_stay}
 use Rattle.dg_table.specs.Seats.{SeatView, entries_of}
@@ -104,11 +101,6 @@ pub contents_count : (scripts : List (Vec ℕ)) → length (contents scripts) �
 contents_count [] = refl
 contents_count (script ∷ scripts) = ap suc (contents_count scripts)
 
-pub read_named : (names : List (List ℕ)) (o : Opening) (H history : List Entry) → history ≡ H
-    → length names ≡ o.graph.size
-    → IsLegal o H → AllHaveNames names history
-read_named names o H history read fit legal = legal_named names o history fit (rw read legal)
-
 pub shown_size : (o : Opening) (H : List Entry) (position : Vector) → Shows (position_after o H) position
     → o.graph.size ≡ position.size
 shown_size o H position shown = sym (shown.size ∙ vertices_stay o H)
@@ -171,19 +163,18 @@ seats_kept o seats cap names (c ∷ cs) (x ∷ xs) (y ∷ ys) [] are = elim are 
 
 pub whole_lent : (o : Opening) (cap : ℕ) (names scripts : List (List ℕ)) (n m len : ℕ)
     (opened xs ys rest : List SeatView)
-    (ends : List (Result ℕ SessionEnd)) (H history : List Entry) (entries gifts : ℕ) (graph : Multigraph)
+    (ends : List (Result ℕ SessionEnd)) (H : List Entry) (entries gifts : ℕ) (graph : Multigraph)
     (position : Vector) (calls text : List ℕ)
     → length scripts ≡ n → n ≡ m → AreFresh n opened → xs ≡ opened → len ≡ length opened
     → AreSessions o m cap names scripts xs ys ends
     → IsClosed o m cap (take len (ys ++ rest)) H
     × AreTotals o m (take len (ys ++ rest)) H entries gifts graph position calls
-    → n ≤ length calls → history ≡ H
-    → text ≡ entries_text names 0 history ++ totals_text names entries gifts position (take n calls)
+    → n ≤ length calls
+    → text ≡ entries_text names 0 H ++ totals_text names entries gifts position (take n calls)
     → IsParty o cap names scripts ends text
-whole_lent o cap names scripts n m len opened xs ys rest ends H history entries gifts graph position calls text many
-    same fresh lent counted are closed enough read printed =
+whole_lent o cap names scripts n m len opened xs ys rest ends H entries gifts graph position calls text many
+    same fresh lent counted are closed enough printed =
     let all : length ys ≡ len = seats_kept o m cap names scripts xs ys ends are ∙ ap length lent ∙ sym counted in
     let front : take len (ys ++ rest) ≡ ys = ap (λ k. take k (ys ++ rest)) (sym all) ∙ take-append_seam ys rest in
     whole o cap names scripts n xs ys ends H entries gifts graph position calls text many (rw lent fresh) (rw same are)
-    (rw (same, ← front) closed.0) (rw (same, ← front) closed.1) enough
-    (printed ∙ ap (λ K. entries_text names 0 K ++ totals_text names entries gifts position (take n calls)) read)
+    (rw (same, ← front) closed.0) (rw (same, ← front) closed.1) enough printed

@@ -79,10 +79,7 @@ fn party_of<N: Name + Send + Sync, R: Threads + Wait + Sync, G: Gate>(
     let Ok(audit) = table.close(seats) else {
         return Err(PartyRefusal::Log);
     };
-    let Ok(history) = audit.history(alloc) else {
-        return Err(PartyRefusal::OutOfMemory);
-    };
-    match closing_text(alloc, names, &history, &audit, count) {
+    match closing_text(alloc, names, &audit, count) {
         Ok(text) => Ok(Played { ends, text }),
         Err(_) => Err(PartyRefusal::OutOfMemory),
     }

@@ -1,5 +1,5 @@
 //! What is left of a table that was closed.
-ghost use Rattle.std.specs.Prelude.{◌≡◌, IfOk};
+ghost use Rattle.std.specs.Prelude.{◌≡◌, ◌<◌, length, slice_get, Some, IfOk};
 
 use dg_chips::Divisor;
 use dg_game::Entry;
@@ -26,15 +26,29 @@ pub struct Audit<N: Name> {
 }
 
 impl<N: Name> Audit<N> {
+    /// How many entries the history has.
+    pub fn len(&self) -> u32
+        ensures { result ≡ length self.now.pen.entries }
+    {
+        self.pen.len()
+    }
+
+    /// The entry of this number, where it lies. The condition is that there is one.
+    pub fn entry(&self, number: u32) -> &Entry
+        requires { number < length self.now.pen.entries }
+        ensures { slice_get self.now.pen.entries number ≡ Some result.now }
+    {
+        self.log.entry(&self.pen.receipt(number))
+    }
+
     /// The history: all entries, in order.
     pub fn history(&self, alloc: Global) -> Result<Vec<Entry>, AllocError>
         ensures { IfOk result (λ v. v.items ≡ self.now.pen.entries) }
     {
-        let count = self.pen.len();
+        let count = self.len();
         let mut entries = Vec::with_capacity(alloc, count as usize)?;
         for number in 0..count {
-            let receipt = self.pen.receipt(number);
-            entries.push(*self.log.entry(&receipt))?;
+            entries.push(*self.entry(number))?;
         }
         Ok(entries)
     }

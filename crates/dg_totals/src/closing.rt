@@ -13,24 +13,25 @@ use itoa::Buffer;
 use std::alloc::{AllocError, Global};
 
 /// The text of a table that was closed: the lines of its entries, and then its totals, with the calls of so many seats. The
-/// conditions are that the history's replies and the amounts after it have as many vertices as there are names, and at most 64 seats. Refused
-/// at the growth that was refused.
+/// conditions are that the history's replies and the amounts after it have as many vertices as there are names, and at most 64
+/// seats.
+///
+/// Refused where there is not enough memory.
 pub fn closing_text<N: Name>(
     alloc: Global,
     names: &Names,
-    history: &[Entry],
     audit: &Audit<N>,
     seats: usize,
 ) -> Result<Vec<u8>, AllocError>
-    requires history { AllHaveNames names.now history.now }
+    requires history { AllHaveNames names.now audit.now.pen.entries }
     requires position { length names.now ≡ audit.now.position.size }
     requires seats { seats ≤ 64 }
-    ensures { IfOk result (λ text. text.items ≡ entries_text names.now 0 history.now
+    ensures { IfOk result (λ text. text.items ≡ entries_text names.now 0 audit.now.pen.entries
         ++ totals_text names.now audit.now.entries audit.now.gifts audit.now.position
         (take seats audit.now.calls)) }
 {
     let mut text = Vec::new(alloc);
-    push_entries(&mut text, names, history)?;
+    push_entries(&mut text, names, audit)?;
     push_totals(
         &mut text,
         names,
@@ -42,14 +43,18 @@ pub fn closing_text<N: Name>(
     Ok(text)
 }
 
-// The lines of the entries of a history, numbered from 0 on, after the text.
-fn push_entries(text: &mut Vec<u8>, names: &Names, history: &[Entry]) -> Result<(), AllocError>
-    requires { AllHaveNames names.now history.now }
+// The lines of the entries of the history, numbered from 0 on, after the text.
+fn push_entries<N: Name>(
+    text: &mut Vec<u8>,
+    names: &Names,
+    audit: &Audit<N>,
+) -> Result<(), AllocError>
+    requires { AllHaveNames names.now audit.now.pen.entries }
     ensures { OnOk result
-        (text.new.items ≡ text.old.items ++ entries_text names.now 0 history.now) }
+        (text.new.items ≡ text.old.items ++ entries_text names.now 0 audit.now.pen.entries) }
 {
-    'entries: for (number, entry) in history.iter().enumerate() {
-        push_seat_entry(text, names, number, entry)?;
+    'entries: for number in 0..audit.len() {
+        push_seat_entry(text, names, number, audit.entry(number))?;
     }
     Ok(())
 }
@@ -58,7 +63,7 @@ fn push_entries(text: &mut Vec<u8>, names: &Names, history: &[Entry]) -> Result<
 fn push_seat_entry(
     text: &mut Vec<u8>,
     names: &Names,
-    number: usize,
+    number: u32,
     entry: &Entry,
 ) -> Result<(), AllocError>
     requires { HasNames names.now entry.now.reply }

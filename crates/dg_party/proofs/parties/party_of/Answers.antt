@@ -1,11 +1,12 @@
 use Rattle.std.proofs.Common.{rules, length, ap, ◌∙◌}
 use Rattle.dg_party.specs.Sessions.{contents}
-use Rattle.dg_party.proofs.Whole.{contents_count, read_named, shown_size, whole_lent}
+use Rattle.dg_lines.proofs.Printing.{legal_named}
+use Rattle.dg_party.proofs.Whole.{contents_count, shown_size, whole_lent}
 use Rattle.dg_party.proofs.parties.party_of.Goals as goal
 
 pub closing_text-requires-clause-history : goal.closing_text-requires-clause-history
 closing_text-requires-clause-history g c =
-    read_named c.args.names.now g.N.Name.start c.in-Ok-close.audit.pen.entries c.deref.result.now (search rules)
+    legal_named c.args.names.now g.N.Name.start c.in-Ok-close.audit.pen.entries
     (c.requires.names ∙ ap (λ o. o.graph.size) c.requires.start) c.in-Ok-close.ensures.0.history.legal
 
 pub closing_text-requires-clause-position : goal.closing_text-requires-clause-position
@@ -20,9 +21,8 @@ returns-in-Ok-closing_text g c =
     (length c.args.scripts.now)
     g.N.Name.seats c.in-Ok.opened.1.len c.in-Ok.opened.1.items c.deref_mut.result.now c.sessions.new.seats _
     c.in-Ok-sessions.ends.items
-    c.in-Ok-close.audit.pen.entries c.deref.result.now c.in-Ok-close.audit.entries c.in-Ok-close.audit.gifts
+    c.in-Ok-close.audit.pen.entries c.in-Ok-close.audit.entries c.in-Ok-close.audit.gifts
     c.in-Ok-close.audit.graph c.in-Ok-close.audit.position c.in-Ok-close.audit.calls c.in-Ok-closing_text.text.items
     (contents_count c.args.scripts.now) c.requires.seats
     c.in-Ok.ensures (search rules) (search rules) c.in-Ok-sessions.ensures.ok c.in-Ok-close.ensures (search rules)
-    (search rules)
     c.in-Ok-closing_text.ensures

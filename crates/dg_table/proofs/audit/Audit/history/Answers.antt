@@ -1,4 +1,4 @@
-use Rattle.std.proofs.Common.{◌≡◌, [], ◌∷◌, ◌++◌, get_or, take, sym, ap, ◌∙◌}
+use Rattle.std.proofs.Common.{[], ◌∷◌, ◌++◌, take, sym, ap, ◌∙◌}
 use Rattle.std.proofs.lemmas.List.{take_more}
 use Rattle.std.proofs.lemmas.Option.{slice_get_within, get_or_from_slice_get}
 use Rattle.dg_table.proofs.audit.Audit.history.Goals as goal
@@ -7,8 +7,8 @@ pub loop-number-preserved : goal.loop-number-preserved
 loop-number-preserved g c =
     let H = c.args.self.now.pen.entries in
     let n = c.loop-number.number in
-    let e = c.receipt-receipt.result.1 in
-    let there = c.receipt-receipt.ensures.entry in
-    let next : c.entry.result.now ≡ get_or H n e = c.entry.ensures ∙ sym (get_or_from_slice_get H n e e there) in
-    c.in_ok-push.ensures.items ∙ ap (λ es. es ++ c.entry.result.now ∷ []) c.loop-number.invariant
-    ∙ ap (λ x. take n H ++ x ∷ []) next ∙ sym (take_more H n e (slice_get_within H n e there))
+    let e = c.entry.result.now in
+    let there = c.entry.ensures in
+    c.in_ok-push.ensures.items ∙ ap (λ es. es ++ e ∷ []) c.loop-number.invariant
+    ∙ ap (λ x. take n H ++ x ∷ []) (sym (get_or_from_slice_get H n e e there))
+    ∙ sym (take_more H n e (slice_get_within H n e there))
