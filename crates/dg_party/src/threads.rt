@@ -7,11 +7,10 @@ use dg_beside::{NotStarted, beside};
 use dg_file::Names;
 use dg_log::Name;
 use dg_rank::Gate;
-use dg_session::{SessionEnd, serve};
-use dg_streams::{Input, Output};
+use dg_session::{SessionEnd, serve_unheard};
+use dg_streams::Input;
 use dg_table::{Seat, Table};
 use std::alloc::Global;
-use std::io;
 use std::sync::Wait;
 use std::thread::Threads;
 
@@ -121,7 +120,7 @@ fn play<'a, N: Name + Send + Sync, R: Threads + Wait + Sync, G: Gate>(
     }
 }
 
-// A session of the seat over a script, after the gate. What it writes nobody keeps.
+// A session of the seat over a script, after the gate. What it would say nobody hears.
 fn hold<'a, N: Name, R: Threads + Wait, G: Gate>(
     room: &Room<'a, N, R, G>,
     script: &[u8],
@@ -133,16 +132,8 @@ fn hold<'a, N: Name, R: Threads + Wait, G: Gate>(
 {
     room.gate.enter(u32::from(seat.number()));
     let mut input = Input::new(script);
-    let mut output = Output::new(io::sink());
-    match serve(
-        room.rt,
-        room.alloc,
-        room.table,
-        seat,
-        room.names,
-        &mut input,
-        &mut output,
-        1,
+    match serve_unheard(
+        room.rt, room.alloc, room.table, seat, room.names, &mut input, 1,
     ) {
         Ok(count) => Ok(count),
         Err(end) => Err(end),

@@ -17,7 +17,7 @@ use Rattle.dg_session.specs.Setup.{Setup}
 use Rattle.dg_session.specs.Streams.{IsLine, AreLines}
 use Rattle.dg_session.specs.Speakers.{Speakers, AnswersLineOf, RefusesLineOf}
 use Rattle.dg_session.specs.Ends.{Answers}
-use Rattle.dg_session.specs.SoFar.{SoFar, Talk, IsAnswered, IsReady, Goes, Halts, RefusesPart, StaysAt}
+use Rattle.dg_session.specs.SoFar.{SoFar, IsReady, Goes, Halts, RefusesPart, StaysAt}
 use Rattle.dg_session.specs.declared.ends.TheConstants.{MAX_LINE, MAX_LINES}
 use Rattle.dg_session.specs.declared.ends.SessionEnd.{SessionEnd}
 use Rattle.dg_session.specs.declared.ends.SessionEnd.TheVariants.{LongLine, Turns}
@@ -105,23 +105,20 @@ module _ {t : Setup} {old at : SoFar} {bytes rest text : List ℕ} (g : Goes t o
     };
   }
 
-  pub goes_line : {new : SoFar} {more text' : List ℕ} (part : List ℕ) → rest ≡ part ++ 10 ∷ more
+  pub goes_line : {new : SoFar} {more told : List ℕ} (part : List ℕ) → rest ≡ part ++ 10 ∷ more
       → IsLine (at.pending ++ part)
-      → at.count < MAX_LINES
-      → IsAnswered t (at.pending ++ part) (record { who = at.who; said = text })
-      (record { who = new.who; said = text' })
-      → new.pending ≡ [] → new.count ≡ at.count + 1 → Goes t old bytes more new text'
-  goes_line {new} {more} {text'} part cut is few said none next =
+      → at.count < MAX_LINES → AnswersLineOf t at.who (at.pending ++ part) new.who told
+      → new.pending ≡ [] → new.count ≡ at.count + 1 → Goes t old bytes more new (text ++ told)
+  goes_line {new} {more} {told} part cut is few holds none next =
       let line = at.pending ++ part in
-      let sizes = sizes_kept t at.who new.who line said.text said.holds in record {
+      let sizes = sizes_kept t at.who new.who line told holds in record {
         ls = g.ls ++ line ∷ [];
         came = subst (λ p. Begins IsLine (old.pending ++ bytes) (g.ls ++ line ∷ []) (p ++ more)) (sym none)
             (begins_then g.came (subst (λ l. Begins IsLine l (line ∷ []) more)
             (append_assoc at.pending part (10 ∷ more) ∙ ap (λ l. at.pending ++ l) (sym cut)) (begins_one more is)));
         counted = let size = length-append g.ls (line ∷ []) in omega (arith, size, g.counted, next);
-        answered = subst (Answers t old.who (g.ls ++ line ∷ []) new.who) (sym said.said)
-            (answers_more t old.who at.who new.who g.ls (line ∷ []) text said.text g.answered
-            (answers_one t at.who new.who line said.text said.holds));
+        answered = answers_more t old.who at.who new.who g.ls (line ∷ []) text told g.answered
+            (answers_one t at.who new.who line told holds);
         ready = record {
           line = empty_line new.pending none;
           few = omega (arith, few, next);
@@ -154,58 +151,50 @@ module _ {t : Setup} {old at : SoFar} {bytes rest text : List ℕ} (g : Goes t o
   halts_part {E} {end} part more cut plain some h =
       record { rest = rest; at = at; goes = g; fails = inl (stays part more end cut plain some h, refl) }
 
-  pub halts_line : {E : Type 0} {text' : List ℕ} {z : Speakers} {end : SessionEnd} (part more : List ℕ)
+  pub halts_line : {E : Type 0} {z : Speakers} {end : SessionEnd} (part more : List ℕ)
       → rest ≡ part ++ 10 ∷ more
       → IsLine (at.pending ++ part) → at.count < MAX_LINES → RefusesLineOf t at.who (at.pending ++ part) z end
-      → text' ≡ text
-      → Halts t E old bytes z text' end
-  halts_line {E} {text'} {z} {end} part more cut is few refused same = subst (λ l. Halts t E old bytes z l end)
-      (sym same)
-      (record {
-        rest = rest;
-        at = at;
-        goes = g;
-        fails = inr (record {
-          line = at.pending ++ part;
-          came = (
-            omega arith,
-            inl (
-              more,
-              subst (λ l. Begins IsLine l ((at.pending ++ part) ∷ []) more)
-                  (append_assoc at.pending part (10 ∷ more) ∙ ap (λ l. at.pending ++ l) (sym cut)) (begins_one more is),
-            ),
-          );
-          few = few;
-          stops = refused;
-        });
-      })
+      → Halts t E old bytes z text end
+  halts_line {E} {z} {end} part more cut is few refused = record {
+    rest = rest;
+    at = at;
+    goes = g;
+    fails = inr (record {
+      line = at.pending ++ part;
+      came = (
+        omega arith,
+        inl (
+          more,
+          subst (λ l. Begins IsLine l ((at.pending ++ part) ∷ []) more)
+              (append_assoc at.pending part (10 ∷ more) ∙ ap (λ l. at.pending ++ l) (sym cut)) (begins_one more is),
+        ),
+      );
+      few = few;
+      stops = refused;
+    });
+  }
 
 -- what is pending is the last line
-pub last_none : (t : Setup) (s : Speakers) (p text : List ℕ) → length p ≡ 0 → text ≡ []
-    → Answers t s (last_line p) s text
-last_none t s [] text none unsaid = subst (Answers t s [] s) (sym unsaid) (answers_none t s)
-last_none t s (b ∷ bs) text none unsaid = absurd (omega (arith, none))
+pub last_none : (t : Setup) (s : Speakers) (p : List ℕ) → length p ≡ 0 → Answers t s (last_line p) s []
+last_none t s [] none = answers_none t s
+last_none t s (b ∷ bs) none = absurd (omega (arith, none))
 
 pub last_counted : (p : List ℕ) (c : ℕ) → length p ≡ 0 → c ≡ c + length (last_line p)
 last_counted [] c none = omega arith
 last_counted (b ∷ bs) c none = absurd (omega (arith, none))
 
-pub last_one : {t : Setup} {old new : Talk} (p : List ℕ) → 1 ≤ length p → old.said ≡ [] → IsAnswered t (p ++ []) old new
-    → Answers t old.who (last_line p) new.who new.said
-last_one [] some none said = absurd (omega (arith, some))
-last_one {t} {old} {new} (b ∷ bs) some none said =
-    subst (Answers t old.who ((b ∷ bs) ∷ []) new.who) (sym (said.said ∙ ap (λ l. l ++ said.text) none))
-    (answers_one t old.who new.who (b ∷ bs) said.text
-    (subst (λ l. AnswersLineOf t old.who l new.who said.text) (append-nil (b ∷ bs)) said.holds))
+pub last_one : {t : Setup} {s z : Speakers} {text : List ℕ} (p : List ℕ) → 1 ≤ length p
+    → AnswersLineOf t s (p ++ []) z text → Answers t s (last_line p) z text
+last_one [] some holds = absurd (omega (arith, some))
+last_one {t} {s} {z} {text} (b ∷ bs) some holds =
+    answers_one t s z (b ∷ bs) text (subst (λ l. AnswersLineOf t s l z text) (append-nil (b ∷ bs)) holds)
 
-pub last_halts : {t : Setup} {E : Type 0} {at : SoFar} {z : Speakers} {old text : List ℕ} {end : SessionEnd} → E
-    → IsReady at
-    → 1 ≤ length at.pending → old ≡ [] → RefusesLineOf t at.who (at.pending ++ []) z end → text ≡ old
-    → Halts t E at [] z text end
-last_halts {t} {E} {at} {z} {old} {text} {end} over ready some none refused same = record {
+pub last_halts : {t : Setup} {E : Type 0} {at : SoFar} {z : Speakers} {end : SessionEnd} → E → IsReady at
+    → 1 ≤ length at.pending → RefusesLineOf t at.who (at.pending ++ []) z end → Halts t E at [] z [] end
+last_halts {t} {E} {at} {z} {end} over ready some refused = record {
   rest = [];
   at = at;
-  goes = goes_none (same ∙ none) ready;
+  goes = goes_none refl ready;
   fails = inr (record {
     line = at.pending;
     came = subst (AreLines E (at.pending ++ [])) (one_line at.pending some) (lines_end at.pending over ready.line);

@@ -4,4 +4,5 @@ pub mod Made
 pub mod Lines
 pub mod Seated
 pub mod Going
+pub mod Spoken
 pub mod Sessions

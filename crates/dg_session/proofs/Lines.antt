@@ -1,7 +1,7 @@
 -- Lines that a seat hears.
 --   heard       a line is answered or refused as its command
 --   bad_heard   a line with a fault is answered by it
-use Rattle.std.proofs.Common.{ℕ, inl, inr, List, [], Result, Ok, Err, refl, sym, subst}
+use Rattle.std.proofs.Common.{ℕ, inl, inr, List, [], Option, Result, Ok, Err, refl, sym, subst}
 use Rattle.dg_game.specs.declared.step.Command.{Command}
 use Rattle.dg_lines.specs.Commands.{IsCommandLine}
 use Rattle.dg_lines.specs.LineFaults.{IsLineFault}
@@ -45,7 +45,7 @@ heard {command = command} {result = Ok b} spelled h = record {
 heard {t = t} {line} {command} {old} {new} {result = Err end} spelled h =
     record { done = tt; refused = line_refused t line command old new end spelled h.refused; unsaid = h.unsaid }
 
-pub bad_heard : {B : Type 0} {t : Setup} {line said : List ℕ} {old : Speaker} {result : Result B SessionEnd}
+pub bad_heard : {B : Type 0} {t : Setup} {line : List ℕ} {said : Option (List ℕ)} {old : Speaker} {result : Result B SessionEnd}
     (fault : LineFault)
     → IsLineFault t.names fault line → Tells (fault_text fault) old.said said result
     → Hears t line old (record old { said = said }) result

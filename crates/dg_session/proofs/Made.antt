@@ -169,8 +169,8 @@ entered {t = t} {command} {r = r} {old} {new} {result = Err end} stands opens ke
 }
 
 -- nothing is made, and some words are said, or are not for want of memory
-pub words_said : {B : Type 0} {t : Setup} {command : Command} {x : SeatView} {kept after : Option ℕ} {old new : List ℕ}
-    {result : Result B SessionEnd} (words : List ℕ) → OnOk result
+pub words_said : {B : Type 0} {t : Setup} {command : Command} {x : SeatView} {kept after : Option ℕ}
+    {old new : Option (List ℕ)} {result : Result B SessionEnd} (words : List ℕ) → OnOk result
     (AnswersCommand t kept command [] after words)
     → Tells words old new result
     → Obeys t command (record { seat = x; kept = kept; said = old }) (record { seat = x; kept = after; said = new })
@@ -189,7 +189,7 @@ words_said {t = t} {command} {x} {kept} {result = Err end} words answers told = 
 
 -- nothing is made, since the table refuses the call
 pub call_refused : {B : Type 0} {t : Setup} {command : Command} {x y : SeatView} {kept after : Option ℕ}
-    {said : List ℕ} {fault : Fault}
+    {said : Option (List ℕ)} {fault : Fault}
     {result : Result B SessionEnd} → CallsTable t.opening.graph.size kept command → Keeps x y
     → RefusesCall t.opening t.seats t.cap y fault → result ≡ Err (Table fault)
     → Obeys t command (record { seat = x; kept = kept; said = said }) (record { seat = y; kept = after; said = said })
@@ -205,7 +205,7 @@ any_ok (Err end) p = tt
 
 -- with the look that is kept, or with none
 pub with_look : {B : Type 0} {t : Setup} {command : Command} {x : SeatView} {kept : Option LookView} {look : LookView}
-    {said : List ℕ}
+    {said : Option (List ℕ)}
     {new : Speaker} {result : Result B SessionEnd} → kept ≡ Some look
     → Obeys t command (record { seat = x; kept = Some look.receipt.0; said = said }) new result
     → Obeys t command (record { seat = x; kept = kept_number kept; said = said }) new result
@@ -214,7 +214,7 @@ with_look {t = t} {command} {x} {said = said} {new} {result} is obeys =
     result) (sym is) obeys
 
 pub with_none : {B : Type 0} {t : Setup} {command : Command} {x : SeatView} {kept after : Option LookView}
-    {old new : List ℕ}
+    {old new : Option (List ℕ)}
     {result : Result B SessionEnd} → kept ≡ None → after ≡ None
     → AnswersCommand t None command [] None (codes "bad look\n")
     → Tells (codes "bad look\n") old new result

@@ -68,7 +68,7 @@ numbers_set (w ∷ xs) zero x y at same = let is : w ≡ x = cc in ap (λ n. n �
     (same ∙ sym (ap (λ (x : SeatView). x.number) is))
 numbers_set (w ∷ xs) (suc i) x y at same = ap (λ l. w.number ∷ l) (numbers_set xs i x y at same)
 
-pub spoken : {B : Type 0} {t : Setup} {line text old new : List ℕ} {result : Result B SessionEnd} (xs : List SeatView)
+pub spoken : {B : Type 0} {t : Setup} {line text : List ℕ} {old new : Option (List ℕ)} {result : Result B SessionEnd} (xs : List SeatView)
     (ks : List (Option LookView)) (i : ℕ) (d y : SeatView) (e l : Option LookView) → IsFor t.how (length xs) line i text
     → i < length xs → length ks ≡ length xs
     → Hears t text (record { seat = slice_index_or xs i d; kept = kept_number (slice_index_or ks i e); said = old })
@@ -116,7 +116,7 @@ spoken {result = Err end} xs ks i d y e l for low size h = record {
   unsaid = h.unsaid;
 }
 
-pub unspoken : {B : Type 0} {t : Setup} {line old new : List ℕ} {s : Speakers} {result : Result B SessionEnd}
+pub unspoken : {B : Type 0} {t : Setup} {line : List ℕ} {old new : Option (List ℕ)} {s : Speakers} {result : Result B SessionEnd}
     → IsForNone t.how (length s.seats) line → Tells (codes "bad seat\n") old new result
     → Handles t line (record { who = s; said = old }) (record { who = s; said = new }) result
 unspoken {result = Ok b} none told =

@@ -13,6 +13,7 @@
 --   session_ends, session_closes   it ends with its input, or at the last line
 --   not_read, write_failed   what ended was no read; and where the writer took no more it has failed
 --   numbers_of       each seat has its number at the end
+--   number_alone     so has the seat that is alone
 --   one_more         what holds of each seat so far, and of the next
 --   fewer_left       fewer bytes can still be read
 use Rattle.std.proofs.Common.{◌≡◌, ◌≢◌, ℕ, zero, suc, ◌+◌, ◌-◌, ◌*◌, ◌<◌, ◌≤◌, inl, inr, List, [], ◌∷◌, ◌++◌, length, take, map, Option, None, Result, Ok, Err, OnOk, IfErr, true, refl, sym, ap, subst, ◌∙◌, arith, append-nil, length-append, All, flat_map}
@@ -281,25 +282,29 @@ module _ {t : Setup} {input rest old : Option (List ℕ)} {xs : List SeatView} {
   ]
 
   pub session_halts : {rest' : Option (List ℕ)} {B : Type 0} {taken : Result B SessionEnd} {to : SoFar}
-      {bytes text : List ℕ} {end : SessionEnd} → Consumes rest rest' bytes → length bytes ≤ READ_SIZE
-      → Takes t at bytes to text taken → IsWritten taken text w w' (Err end) → Over rest' to.who end
-  session_halts {taken = taken} {to} {bytes} {text} read small takes written =
-      breaks (λ (none : ⊥). absurd none) bytes text to.who taken read small takes.halted
-      (on_ok taken (λ (g : Goes t at bytes [] to text) front. over_goes far to.who g read small front (inl refl))
+      {before after : Option (List ℕ)} {bytes : List ℕ} {end : SessionEnd} → Consumes rest rest' bytes
+      → length bytes ≤ READ_SIZE → (takes : Takes t at bytes to before after taken)
+      → IsWritten taken takes.text w w' (Err end) → Over rest' to.who end
+  session_halts {taken = taken} {to} {bytes = bytes} read small takes written =
+      breaks (λ (none : ⊥). absurd none) bytes takes.text to.who taken read small takes.halted
+      (on_ok taken (λ (g : Goes t at bytes [] to takes.text) front. over_goes far to.who g read small front (inl refl))
       takes.taken) written
 
   pub session_closes : {rest' : Option (List ℕ)} {B : Type 0} {taken : Result B SessionEnd} {to : SoFar}
-      {text : List ℕ} {end : SessionEnd} → Consumes rest rest' [] → IsAtEnd rest' → TakesEnd t at to text taken
-      → IsWritten taken text w w' (Err end) → Over rest' to.who end
-  session_closes {taken = taken} {to} {text} read over takes written =
-      breaks (λ (end : ⊤). over) [] text to.who taken read (omega arith) takes.halted
-      (on_ok taken (λ (all : Answers t at.who (last_line at.pending) to.who text) front.
-      over_end far text to.who read over all front (inl refl)) takes.answered) written
+      {before after : Option (List ℕ)} {end : SessionEnd} → Consumes rest rest' [] → IsAtEnd rest'
+      → (takes : TakesEnd t at to before after taken) → IsWritten taken takes.text w w' (Err end)
+      → Over rest' to.who end
+  session_closes {taken = taken} {to} read over takes written =
+      breaks (λ (end : ⊤). over) [] takes.text to.who taken read (omega arith) takes.halted
+      (on_ok taken (λ (all : Answers t at.who (last_line at.pending) to.who takes.text) front.
+      over_end far takes.text to.who read over all front (inl refl)) takes.answered) written
 
   pub session_ends : {rest' : Option (List ℕ)} {B : Type 0} {taken : Result B SessionEnd} {b : B} {to : SoFar}
-      {text : List ℕ} → Consumes rest rest' [] → IsAtEnd rest' → TakesEnd t at to text taken
-      → IsWritten taken text w w' (Ok b) → IsOver t input rest' old w'.contents xs to.who.seats (Ok to.count)
-  session_ends {taken = taken} {to = to} {text} read over takes written =
+      {before after : Option (List ℕ)} → Consumes rest rest' [] → IsAtEnd rest'
+      → (takes : TakesEnd t at to before after taken) → IsWritten taken takes.text w w' (Ok b)
+      → IsOver t input rest' old w'.contents xs to.who.seats (Ok to.count)
+  session_ends {taken = taken} {to = to} read over takes written =
+      let text = takes.text in
       let (answered, done) = written_ok taken text w w' written takes.answered in
       let (counted, again) = written_ok taken text w w' written takes.counted in
       let whole = subst (Begins IsLine (far.stream ++ []) far.goes.ls) (append-nil at.pending) (begins far []) in
@@ -359,6 +364,16 @@ numbers_of {t} {rest = rest} {xs = xs} {result = result} h =
     ∙ numbers_ended t (IsAtEnd rest) h.stream (h.told ++ h.last) h.after h.end result h.ends
     ∙ numbers_answered t h.last h.middle h.after h.text h.second
     ∙ numbers_answered t h.told (newcomers xs) h.middle h.said h.first
+
+pub number_alone : (xs ys : List SeatView) (x d : SeatView) → xs ≡ x ∷ []
+    → map (λ (x : SeatView). x.number) ys ≡ map (λ (x : SeatView). x.number) xs
+    → (slice_index_or ys 0 d).number ≡ x.number
+number_alone xs ys x d alone same = here ys (same ∙ ap (map (λ (x : SeatView). x.number)) alone)
+  where
+    here : (ys : List SeatView) → map (λ (x : SeatView). x.number) ys ≡ x.number ∷ []
+        → (slice_index_or ys 0 d).number ≡ x.number
+    here [] p = absurd cc
+    here (y ∷ ys) p = let first : y.number ≡ x.number = cc in first
 
 -- each seat, one after another
 taken_get : {X : Type 0} (xs : List X) (i : ℕ) (d : X) → i < length xs

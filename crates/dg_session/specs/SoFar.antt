@@ -1,7 +1,8 @@
 -- How far a session is, and how it goes on: what each floor, from the bytes that are read down to
 -- one command, promises of its states before and after. No public contract speaks of it.
+--   heard text == what was said, where it is kept: nobody hears the others
 --   Speaker    == how far a seat is: the seat, the number of the look that it keeps, if it keeps
---                 one, and what was said
+--                 one, and what was said, where it is kept
 --   Talk       == how far all seats are: who speaks, and what was said
 --   SoFar      == how far the session is: what came after the last newline, how many lines are
 --                 answered, and who speaks
@@ -21,13 +22,17 @@
 --   StopsIn t ended at rest z end  == or at the line that comes next, as it is refused
 --   Halts t ended old bytes z text end == the bytes are taken but for a rest, and there the session
 --                 ends so; z speak then; `ended` says that no more is to come
---   Takes t old bytes new text result == the bytes are taken, or the session halts in them
---   TakesEnd t old new text result == so is the end: what is pending is the last line, if it has a
---                         byte
+--   Takes t old bytes new before after result == the bytes are taken, or the session halts in
+--                         them; what is said of it comes after what was said before
+--   TakesEnd t old new before after result == so is the end: what is pending is the last line, if
+--                         it has a byte
+--   IsSaid said text == what was said, where it is kept, is the text
+--   IsCleared old new == it is kept as before, and is nothing now
 --   IsWritten taken text old new result == all that was said is written, and it ends as the taking
 --                 did; or a front of it is, and the writer took no more
-use Rattle.std.specs.Prelude.{◌≡◌, ◌≢◌, ℕ, ◌+◌, ◌<◌, ◌≤◌, ◌⊎◌, List, [], ◌∷◌, ◌++◌, length, true, Option, Result, Ok, Err, OnOk, OnErr, IfErr, ⊤}
-use Rattle.std.specs.Io.KnownBytes.{Appends}
+use Rattle.std.specs.Prelude.{◌≡◌, ◌≢◌, ℕ, ◌+◌, ◌<◌, ◌≤◌, ◌⊎◌, List, [], ◌∷◌, ◌++◌, length, true, Option, None, Some, Result, Ok, Err, OnOk, OnErr, IfErr, ⊤}
+use Rattle.std.specs.Global.{Vec}
+use Rattle.std.specs.Io.KnownBytes.{Appends, append_known}
 use Rattle.dg_game.specs.declared.entry.Entry.{Entry}
 use Rattle.dg_game.specs.declared.step.Command.{Command}
 use Rattle.dg_table.specs.Seats.{SeatView}
@@ -46,20 +51,24 @@ use Rattle.dg_session.specs.declared.ends.TheConstants.{MAX_LINE, MAX_LINES}
 use Rattle.dg_session.specs.declared.ends.SessionEnd.{SessionEnd}
 use Rattle.dg_session.specs.declared.ends.SessionEnd.TheVariants.{Write, LongLine, Turns, Memory}
 
+abbrev pub heard : Option (Vec ℕ) → Option (List ℕ)
+heard None = None
+heard (Some text) = Some text.items
+
 pub record Speaker : Type 0 where
   pub seat : SeatView
   pub kept : Option ℕ
-  pub said : List ℕ
+  pub said : Option (List ℕ)
 
 abbrev pub speaker : SeatView → Option LookView → Said → Speaker
-speaker x look said = record { seat = x; kept = kept_number look; said = said.text.items }
+speaker x look said = record { seat = x; kept = kept_number look; said = heard said.text }
 
 pub record Talk : Type 0 where
   pub who : Speakers
-  pub said : List ℕ
+  pub said : Option (List ℕ)
 
 abbrev pub talk : List SeatView → List (Option LookView) → Said → Talk
-talk xs looks said = record { who = speakers xs looks; said = said.text.items }
+talk xs looks said = record { who = speakers xs looks; said = heard said.text }
 
 pub record SoFar : Type 0 where
   pub pending : List ℕ
@@ -78,10 +87,11 @@ pub record IsDone (A : List (ℕ × Entry) → Option ℕ → List ℕ → Type 
   pub text : List ℕ
   pub answers : A made new.kept text
   pub gained : Gains old.seat new.seat made
-  pub said : new.said ≡ old.said ++ text
+  pub said : new.said ≡ append_known old.said text
 
-abbrev pub Tells : {B : Type 0} → List ℕ → List ℕ → List ℕ → Result B SessionEnd → Type 0
-Tells words old new (Ok b) = new ≡ old ++ words
+abbrev pub Tells : {B : Type 0} → List ℕ → Option (List ℕ) → Option (List ℕ)
+    → Result B SessionEnd → Type 0
+Tells words old new (Ok b) = new ≡ append_known old words
 Tells words old new (Err end) = (end ≡ Memory) × (new ≡ old)
 
 pub record Obeys {B : Type 0} (t : Setup) (command : Command) (old new : Speaker)
@@ -101,7 +111,7 @@ pub record Hears {B : Type 0} (t : Setup) (line : List ℕ) (old new : Speaker)
 pub record IsAnswered (t : Setup) (line : List ℕ) (old new : Talk) : Type 0 where
   pub text : List ℕ
   pub holds : AnswersLineOf t old.who line new.who text
-  pub said : new.said ≡ old.said ++ text
+  pub said : new.said ≡ append_known old.said text
 
 pub record Handles {B : Type 0} (t : Setup) (line : List ℕ) (old new : Talk)
     (result : Result B SessionEnd) : Type 0 where
@@ -151,15 +161,27 @@ pub record Halts (t : Setup) (ended : Type 0) (old : SoFar) (bytes : List ℕ) (
   pub fails : (StaysAt at rest end × (z ≡ at.who)) ⊎ StopsIn t ended at rest z end
 
 pub record Takes {B : Type 0} (t : Setup) (old : SoFar) (bytes : List ℕ) (new : SoFar)
-    (text : List ℕ) (result : Result B SessionEnd) : Type 0 where
+    (before after : Option (List ℕ)) (result : Result B SessionEnd) : Type 0 where
+  pub text : List ℕ
+  pub said : after ≡ append_known before text
   pub taken : OnOk result (Goes t old bytes [] new text)
   pub halted : IfErr result (Halts t ⊥ old bytes new.who text)
 
-pub record TakesEnd {B : Type 0} (t : Setup) (old new : SoFar) (text : List ℕ)
+pub record TakesEnd {B : Type 0} (t : Setup) (old new : SoFar) (before after : Option (List ℕ))
     (result : Result B SessionEnd) : Type 0 where
+  pub text : List ℕ
+  pub said : after ≡ append_known before text
   pub answered : OnOk result (Answers t old.who (last_line old.pending) new.who text)
   pub counted : OnOk result (new.count ≡ old.count + length (last_line old.pending))
   pub halted : IfErr result (Halts t ⊤ old [] new.who text)
+
+abbrev pub IsSaid : Option (List ℕ) → List ℕ → Type 0
+IsSaid None text = ⊤
+IsSaid (Some said) text = said ≡ text
+
+abbrev pub IsCleared : Option (List ℕ) → Option (List ℕ) → Type 0
+IsCleared None new = new ≡ None
+IsCleared (Some text) new = new ≡ Some []
 
 abbrev pub IsWritten : {B : Type 0} → Result B SessionEnd → List ℕ → Writing → Writing
     → Result B SessionEnd → Type 0

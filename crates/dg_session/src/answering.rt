@@ -5,7 +5,7 @@ ghost use Rattle.dg_game.specs.declared.step.Command.TheVariants.{Call, Commit, 
 ghost use Rattle.dg_lines.specs.Texts.{HasNames, entry_text};
 ghost use Rattle.dg_session.specs.Saying.{fault_text};
 ghost use Rattle.dg_session.specs.Setup.{setup};
-ghost use Rattle.dg_session.specs.SoFar.{speaker, Tells, Hears, Obeys};
+ghost use Rattle.dg_session.specs.SoFar.{heard, speaker, Tells, Hears, Obeys};
 
 use crate::addressing::Addressing;
 use crate::ends::SessionEnd;
@@ -36,7 +36,8 @@ pub(crate) struct Shared<'a, N: Name, R: Threads + Wait> {
 /// What was said and is not written yet: always whole lines.
 #[derive(Drop)]
 pub(crate) struct Said {
-    pub(crate) text: Vec<u8>,
+    /// `None` where nobody hears it.
+    pub(crate) text: Option<Vec<u8>>,
     /// Where the line of an entry is made.
     pub(crate) line: Vec<u8>,
 }
@@ -44,9 +45,12 @@ pub(crate) struct Said {
 impl Said {
     /// Says the words. Where memory is refused, nothing more is said.
     pub(crate) fn say(&mut self, words: &[u8]) -> Result<(), SessionEnd>
-        ensures { Tells words.now self.old.text.items self.new.text.items result }
+        ensures { Tells words.now (heard self.old.text) (heard self.new.text) result }
     {
-        match self.text.extend_from_slice(words) {
+        let Some(text) = &mut self.text else {
+            return Ok(());
+        };
+        match text.extend_from_slice(words) {
             Ok(()) => Ok(()),
             Err(_) => Err(SessionEnd::Memory),
         }
@@ -61,8 +65,11 @@ impl Said {
     ) -> Result<(), SessionEnd>
         requires { HasNames names.now receipt.now.1.reply }
         ensures { Tells (entry_text names.now receipt.now.0 receipt.now.1.reply)
-            self.old.text.items self.new.text.items result }
+            (heard self.old.text) (heard self.new.text) result }
     {
+        let Some(text) = &mut self.text else {
+            return Ok(());
+        };
         let entry = table.log().entry(receipt);
         self.line.clear();
         match push_entry(
@@ -71,7 +78,7 @@ impl Said {
             &entry.reply,
             names,
         ) {
-            Ok(()) => match self.text.extend_from_slice(&self.line) {
+            Ok(()) => match text.extend_from_slice(&self.line) {
                 Ok(()) => Ok(()),
                 Err(_) => Err(SessionEnd::Memory),
             },
@@ -106,7 +113,7 @@ pub(crate) fn answer_seat<N: Name, R: Threads + Wait>(
         line.now (speaker seat.old kept.old said.old) (speaker seat.new kept.new said.new) result }
 {
     match parse_line(line, shared.names) {
-        Ok(command) => obey(shared, kept, said, seat, command),
+        Ok(command) => obey(shared, kept, said, seat, &command),
         Err(fault) => said.say(fault_words(fault)),
     }
 }
@@ -118,16 +125,18 @@ fn obey<N: Name, R: Threads + Wait>(
     kept: &mut Option<Look<N>>,
     said: &mut Said,
     seat: &mut Seat<N>,
-    command: Command,
+    command: &Command,
 ) -> Result<(), SessionEnd>
     ensures { Obeys (setup shared.now.how N.start N.seats (length N.cells) shared.now.names.now)
-        command (speaker seat.old kept.old said.old) (speaker seat.new kept.new said.new) result }
+        command.now (speaker seat.old kept.old said.old) (speaker seat.new kept.new said.new) result }
 {
     match command {
-        Command::Call(Plain::Look) => take_look(shared, kept, said, seat),
-        Command::Call(plain) => call(shared, kept, said, seat, plain),
+        Command::Call(plain) => match plain {
+            Plain::Look => take_look(shared, kept, said, seat),
+            _ => call(shared, kept, said, seat, plain),
+        },
         Command::Commit => enter_verdict(shared, kept, said, seat),
-        Command::Rank(k) => enter_rank(shared, kept, said, seat, k),
+        Command::Rank(k) => enter_rank(shared, kept, said, seat, *k),
     }
 }
 
@@ -160,14 +169,14 @@ fn call<N: Name, R: Threads + Wait>(
     kept: &mut Option<Look<N>>,
     said: &mut Said,
     seat: &mut Seat<N>,
-    plain: Plain,
+    plain: &Plain,
 ) -> Result<(), SessionEnd>
-    requires { plain ≢ Plain.Look }
+    requires { plain.now ≢ Plain.Look }
     ensures { Obeys (setup shared.now.how N.start N.seats (length N.cells) shared.now.names.now)
-        (Call plain) (speaker seat.old kept.old said.old) (speaker seat.new kept.new said.new)
+        (Call plain.now) (speaker seat.old kept.old said.old) (speaker seat.new kept.new said.new)
         result }
 {
-    match shared.table.call(shared.rt, shared.alloc, seat, plain) {
+    match shared.table.call(shared.rt, shared.alloc, seat, *plain) {
         Ok(receipt) => said.say_entry(shared.table, shared.names, &receipt),
         Err(fault) => Err(SessionEnd::Table(fault)),
     }

@@ -12,4 +12,4 @@ mod taking;
 pub use addressing::Addressing;
 pub use ends::{MAX_LINE, MAX_LINES, READ_SIZE, SessionEnd};
 pub use laws::streams_are_cut_in_one_way;
-pub use serving::{serve, serve_seats};
+pub use serving::{serve, serve_seats, serve_unheard};

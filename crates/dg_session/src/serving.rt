@@ -1,12 +1,12 @@
 //! Serving a stream of lines.
-ghost use Rattle.std.specs.Prelude.{◌≡◌, ◌≤◌, [], length, map, Err, OnOk, All, true};
+ghost use Rattle.std.specs.Prelude.{◌≡◌, ◌≢◌, ◌≤◌, List, ℕ, [], length, map, None, Err, OnOk, All, true};
 ghost use Rattle.dg_rank.specs.Ranks.{MayHaveWorkers};
 ghost use Rattle.dg_table.specs.Histories.{HasPast};
 ghost use Rattle.dg_session.specs.Ends.{IsSession, IsSessionOf};
-ghost use Rattle.dg_session.specs.SoFar.{IsWritten};
+ghost use Rattle.dg_session.specs.SoFar.{heard, IsSaid, IsCleared, IsWritten};
 
 use crate::addressing::Addressing;
-use crate::answering::Shared;
+use crate::answering::{Said, Shared};
 use crate::ends::{READ_SIZE, SessionEnd};
 use crate::taking::{Progress, take_bytes, take_end};
 use dg_file::Names;
@@ -14,7 +14,7 @@ use dg_log::Name;
 use dg_streams::{Input, Output};
 use dg_table::{Seat, Table};
 use std::alloc::Global;
-use std::io::{Read, Write};
+use std::io::{self, Read, Write};
 use std::slice;
 use std::sync::Wait;
 use std::thread::Threads;
@@ -94,7 +94,41 @@ pub fn serve_seats<N: Name, R: Threads + Wait, I: Read, O: Write>(
         workers,
         how,
     };
-    let ended = serve_lines(&shared, seats, reader, writer);
+    let ended = serve_lines(&shared, seats, reader, writer, Some(Vec::new(alloc)));
+    have_pasts(seats);
+    ended
+}
+
+/// The same for one seat, where nobody hears what is said: no text is made of it. So it does not end with `Write`.
+pub fn serve_unheard<N: Name, R: Threads + Wait, I: Read>(
+    rt: &R,
+    alloc: Global,
+    table: &Table<N>,
+    seat: &mut Seat<N>,
+    names: &Names,
+    reader: &mut Input<I>,
+    workers: u32,
+) -> Result<u32, SessionEnd>
+    requires names { length names.now ≡ N.start.graph.size }
+    requires workers { MayHaveWorkers workers }
+    ensures session { IsSession N.start N.seats (length N.cells) names.now reader.old.remaining
+        reader.new.remaining None None seat.old seat.new result }
+    ensures history { HasPast N.start N.seats (length N.cells) seat.new }
+    ensures number { seat.new.number ≡ seat.old.number }
+    ensures read { result ≡ Err SessionEnd.Read → reader.new.has_failed ≡ true }
+    ensures write { result ≢ Err SessionEnd.Write }
+{
+    let shared = Shared {
+        rt,
+        alloc,
+        table,
+        names,
+        workers,
+        how: Addressing::OneSeat,
+    };
+    let mut writer = Output::new(io::sink());
+    let seats = slice::from_mut(seat);
+    let ended = serve_lines(&shared, seats, reader, &mut writer, None);
     have_pasts(seats);
     ended
 }
@@ -114,18 +148,22 @@ fn serve_lines<N: Name, R: Threads + Wait, I: Read, O: Write>(
     seats: &mut [Seat<N>],
     reader: &mut Input<I>,
     writer: &mut Output<O>,
+    text: Option<Vec<u8>>,
 ) -> Result<u32, SessionEnd>
-    requires { 1 ≤ length seats.old }
+    requires some { 1 ≤ length seats.old }
+    requires said { IsSaid (heard text) [] }
+    requires unknown { heard text ≡ None → writer.old.contents ≡ None }
     ensures session { IsSessionOf shared.now.how N.start N.seats (length N.cells)
         shared.now.names.now reader.old.remaining reader.new.remaining writer.old.contents
         writer.new.contents seats.old seats.new result }
     ensures read { result ≡ Err SessionEnd.Read → reader.new.has_failed ≡ true }
     ensures write { result ≡ Err SessionEnd.Write → writer.new.has_failed ≡ true }
+    ensures still { heard text ≡ None → writer.new ≡ writer.old }
 {
     let Ok(mut buffer) = vec![in shared.alloc; 0u8; READ_SIZE] else {
         return Err(SessionEnd::Memory);
     };
-    let Some(mut progress) = Progress::new(shared.alloc, seats) else {
+    let Some(mut progress) = Progress::new(shared.alloc, seats, text) else {
         return Err(SessionEnd::Memory);
     };
     'reads: loop {
@@ -134,28 +172,34 @@ fn serve_lines<N: Name, R: Threads + Wait, I: Read, O: Write>(
         };
         if size == 0 {
             let taken = take_end(shared, &mut progress, seats);
-            match write_said(writer, &mut progress.said.text, taken) {
+            match write_said(writer, &mut progress.said, taken) {
                 Ok(()) => return Ok(progress.count),
                 Err(end) => return Err(end),
             }
         }
         let taken = take_bytes(shared, &mut progress, seats, &buffer[..size]);
-        match write_said(writer, &mut progress.said.text, taken) {
+        match write_said(writer, &mut progress.said, taken) {
             Ok(()) => {}
             Err(end) => return Err(end),
         }
     }
 }
 
-/// Writes what was said, after which nothing is; and ends as what was taken did, if it did.
+/// Writes what was said, if it is heard, after which nothing is; and ends as what was taken did, if it did.
 fn write_said<O: Write>(
     writer: &mut Output<O>,
-    text: &mut Vec<u8>,
+    said: &mut Said,
     taken: Result<(), SessionEnd>,
 ) -> Result<(), SessionEnd>
-    ensures written { IsWritten taken text.old.items writer.old writer.new result }
-    ensures cleared { OnOk result (text.new.items ≡ []) }
+    requires { heard said.old.text ≡ None → writer.old.contents ≡ None }
+    ensures written { (text : List ℕ) → IsSaid (heard said.old.text) text →
+        IsWritten taken text writer.old writer.new result }
+    ensures cleared { OnOk result (IsCleared (heard said.old.text) (heard said.new.text)) }
+    ensures still { heard said.old.text ≡ None → writer.new ≡ writer.old }
 {
+    let Some(text) = &mut said.text else {
+        return taken;
+    };
     match writer.write_whole(text) {
         Ok(()) => {
             text.clear();

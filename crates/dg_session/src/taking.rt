@@ -2,7 +2,7 @@
 ghost use Rattle.std.specs.Prelude.{◌≡◌, ◌≢◌, ◌+◌, ◌++◌, ◌<◌, ◌≤◌, [], length, map, None, OnOk, IfErr, IfSome};
 ghost use Rattle.dg_session.specs.Speakers.{kept_number};
 ghost use Rattle.dg_session.specs.Setup.{setup};
-ghost use Rattle.dg_session.specs.SoFar.{talk, so_far, Handles, IsReady, RefusesPart, Takes, TakesEnd};
+ghost use Rattle.dg_session.specs.SoFar.{heard, talk, so_far, Handles, IsReady, RefusesPart, Takes, TakesEnd};
 
 use crate::answering::{Said, Shared};
 use crate::ends::{MAX_LINE, MAX_LINES, SessionEnd};
@@ -28,13 +28,18 @@ pub(crate) struct Progress<N: Name> {
 }
 
 impl<N: Name> Progress<N> {
-    /// That of a session which has read nothing, of seats that keep no look. `None` where memory is refused.
-    pub(crate) fn new(alloc: Global, seats: &[Seat<N>]) -> Option<Progress<N>>
+    /// That of a session which has read nothing, of seats that keep no look, with this text to say it in. `None` where memory
+    /// is refused.
+    pub(crate) fn new(
+        alloc: Global,
+        seats: &[Seat<N>],
+        text: Option<Vec<u8>>,
+    ) -> Option<Progress<N>>
         ensures pending { IfSome result (λ p. p.pending.items ≡ []) }
         ensures count { IfSome result (λ p. p.count ≡ 0) }
         ensures kept { IfSome result (λ p.
             map kept_number p.kept.items ≡ map (λ x. None) seats.now) }
-        ensures said { IfSome result (λ p. p.said.text.items ≡ []) }
+        ensures said { IfSome result (λ p. p.said.text ≡ text) }
     {
         let kept = match no_looks(alloc, seats) {
             Some(kept) => kept,
@@ -45,7 +50,7 @@ impl<N: Name> Progress<N> {
             count: 0,
             kept,
             said: Said {
-                text: Vec::new(alloc),
+                text,
                 line: Vec::new(alloc),
             },
         })
@@ -154,11 +159,10 @@ pub(crate) fn take_bytes<N: Name, R: Threads + Wait>(
     seats: &mut [Seat<N>],
     bytes: &[u8],
 ) -> Result<(), SessionEnd>
-    requires ready { IsReady (so_far progress.old seats.old) }
-    requires said { progress.old.said.text.items ≡ [] }
+    requires { IsReady (so_far progress.old seats.old) }
     ensures { Takes (setup shared.now.how N.start N.seats (length N.cells) shared.now.names.now)
         (so_far progress.old seats.old) bytes.now (so_far progress.new seats.new)
-        progress.new.said.text.items result }
+        (heard progress.old.said.text) (heard progress.new.said.text) result }
 {
     let mut rest = bytes;
     'parts: while !rest.is_empty() {
@@ -188,11 +192,10 @@ pub(crate) fn take_end<N: Name, R: Threads + Wait>(
     progress: &mut Progress<N>,
     seats: &mut [Seat<N>],
 ) -> Result<(), SessionEnd>
-    requires ready { IsReady (so_far progress.old seats.old) }
-    requires said { progress.old.said.text.items ≡ [] }
+    requires { IsReady (so_far progress.old seats.old) }
     ensures { TakesEnd (setup shared.now.how N.start N.seats (length N.cells) shared.now.names.now)
         (so_far progress.old seats.old) (so_far progress.new seats.new)
-        progress.new.said.text.items result }
+        (heard progress.old.said.text) (heard progress.new.said.text) result }
 {
     if progress.pending.is_empty() {
         return Ok(());

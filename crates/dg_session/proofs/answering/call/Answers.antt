@@ -8,7 +8,7 @@ say_entry-requires g c = named c.args.shared.now.names.now c.args.shared.now.nam
 pub returns-in-Ok : goal.returns-in-Ok
 returns-in-Ok g c =
     entered (call_made c.in-Ok.ensures.answered) (λ made after text enters. enters)
-    (any_ok _ (sym (call_keeps _ _ c.args.plain c.requires))) c.say_entry.ensures
+    (any_ok _ (sym (call_keeps _ _ c.args.plain.now c.requires))) c.say_entry.ensures
 
 pub returns-in-Err : goal.returns-in-Err
 returns-in-Err g c = call_refused tt c.in-Err.ensures.fault.0 c.in-Err.ensures.fault.1 refl

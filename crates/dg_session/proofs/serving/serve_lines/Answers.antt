@@ -1,22 +1,25 @@
-use Rattle.std.proofs.Common.{◌<◌, ◌∙◌, [], length, refl, arith, map, None}
+use Rattle.std.proofs.Common.{◌<◌, ◌∙◌, [], length, refl, ap, arith, map, None}
 use Rattle.dg_streams.proofs.Reading.{chunk_size, read_chunk, read_nothing}
 use Rattle.dg_session.specs.Speakers.{kept_number}
 use Rattle.dg_session.proofs.Sessions.{so_far_new, so_far_more, session_unsaid, session_reads, session_ends, session_closes, session_halts, written_ok, not_read, write_failed, halts_by, fewer_left}
+use Rattle.dg_session.specs.SoFar.{heard}
+use Rattle.dg_session.proofs.Spoken.{said_whole, cleared_whole, unheard, silent}
 use Rattle.dg_session.proofs.serving.serve_lines.Goals as goal
 
 pub returns-in_default-clause-session : goal.returns-in_default-clause-session
 returns-in_default-clause-session g c =
-    session_unsaid (so_far_new (map (λ x. None) c.args.seats.now) [] 0 refl refl refl c.requires)
+    session_unsaid (so_far_new (map (λ x. None) c.args.seats.now) [] 0 refl refl refl c.requires.some)
 
 pub returns-in_default-new-clause-session : goal.returns-in_default-new-clause-session
 returns-in_default-new-clause-session g c =
-    session_unsaid (so_far_new (map (λ x. None) c.args.seats.now) [] 0 refl refl refl c.requires)
+    session_unsaid (so_far_new (map (λ x. None) c.args.seats.now) [] 0 refl refl refl c.requires.some)
 
 pub reads-init : goal.reads-init
 reads-init g c = (
   so_far_new (map kept_number c.in-Some.progress.kept.items) c.in-Some.progress.pending.items c.in-Some.progress.count
-      c.in-Some.ensures.pending c.in-Some.ensures.count c.in-Some.ensures.kept c.requires,
-  c.in-Some.ensures.said,
+      c.in-Some.ensures.pending c.in-Some.ensures.count c.in-Some.ensures.kept c.requires.some,
+  ap heard c.in-Some.ensures.said,
+  λ none. refl,
   omega (arith, c.in-Ok.ensures.len, c.in-Ok.buffer.ok.0),
 )
 
@@ -33,39 +36,53 @@ returns-in_default-read_some-clause-write g c e = absurd cc
 pub returns-in-Ok-write_said-clause-session : goal.returns-in-Ok-write_said-clause-session
 returns-in-Ok-write_said-clause-session g c =
     let zero = c.if-size-eq0.true in
-    let room : 0 < length c.reads.buffer.items = omega (arith, c.reads.invariant.2) in
+    let room : 0 < length c.reads.buffer.items = omega (arith, c.reads.invariant.3) in
     session_ends c.reads.writer c.write_said.new.writer c.reads.invariant.0
     (read_nothing _ _ _ _ zero c.in-Some-read_some.ensures.bytes) (c.in-Some-read_some.ensures.end zero room)
-    c.take_end-taken.ensures c.in-Ok-write_said.ensures.written
+    c.take_end-taken.ensures (c.in-Ok-write_said.ensures.written c.take_end-taken.ensures.text
+    (said_whole (heard c.args.text) _ c.requires.said c.reads.invariant.1
+    c.take_end-taken.ensures.said))
 
 pub returns-in-Err-clause-session : goal.returns-in-Err-clause-session
 returns-in-Err-clause-session g c =
     let zero = c.if-size-eq0.true in
-    let room : 0 < length c.reads.buffer.items = omega (arith, c.reads.invariant.2) in
+    let room : 0 < length c.reads.buffer.items = omega (arith, c.reads.invariant.3) in
     session_closes c.reads.writer c.write_said.new.writer c.reads.invariant.0
     (read_nothing _ _ _ _ zero c.in-Some-read_some.ensures.bytes) (c.in-Some-read_some.ensures.end zero room)
-    c.take_end-taken.ensures c.in-Err.ensures.written
+    c.take_end-taken.ensures (c.in-Err.ensures.written c.take_end-taken.ensures.text
+    (said_whole (heard c.args.text) _ c.requires.said c.reads.invariant.1
+    c.take_end-taken.ensures.said))
 
 pub returns-in-Err-clause-read : goal.returns-in-Err-clause-read
 returns-in-Err-clause-read g c e =
     absurd (not_read c.take_end-taken.result _ c.reads.writer c.write_said.new.writer c.in-Err.end
     c.take_end-taken.ensures.halted
-    (λ end. halts_by end) c.in-Err.ensures.written e)
+    (λ end. halts_by end) (c.in-Err.ensures.written c.take_end-taken.ensures.text
+    (said_whole (heard c.args.text) _ c.requires.said c.reads.invariant.1
+    c.take_end-taken.ensures.said)) e)
 
 pub returns-in-Err-clause-write : goal.returns-in-Err-clause-write
 returns-in-Err-clause-write g c e =
     write_failed c.take_end-taken.result _ c.reads.writer c.write_said.new.writer c.in-Err.end
     c.take_end-taken.ensures.halted
-    (λ end. halts_by end) c.in-Err.ensures.written e
+    (λ end. halts_by end) (c.in-Err.ensures.written c.take_end-taken.ensures.text
+    (said_whole (heard c.args.text) _ c.requires.said c.reads.invariant.1
+    c.take_end-taken.ensures.said)) e
 
 pub reads-preserved : goal.reads-preserved
 reads-preserved g c =
     let (goes, written) = written_ok c.take_bytes-taken.result _ c.reads.writer c.write_said-in-reads.new.writer
-    c.in-Ok-write_said-2.ensures.written c.take_bytes-taken.ensures.taken in (
+    (c.in-Ok-write_said-2.ensures.written c.take_bytes-taken.ensures.text
+    (said_whole (heard c.args.text) _ c.requires.said c.reads.invariant.1
+    c.take_bytes-taken.ensures.said))
+    c.take_bytes-taken.ensures.taken in (
       so_far_more c.reads.invariant.0 (read_chunk _ _ _ _ _ c.deref.ensures.value c.in-Some-read_some.ensures.bytes)
           goes written,
-      c.in-Ok-write_said-2.ensures.cleared,
-      c.read_some.ensures.size ∙ c.reads.invariant.2,
+      cleared_whole (heard c.args.text) _ c.requires.said c.reads.invariant.1 c.take_bytes-taken.ensures.said
+          c.in-Ok-write_said-2.ensures.cleared,
+      λ none. c.write_said-in-reads.ensures.still (silent _ c.reads.invariant.1 c.take_bytes-taken.ensures.said none)
+          ∙ c.reads.invariant.2 none,
+      c.read_some.ensures.size ∙ c.reads.invariant.3,
     )
 
 pub reads-smaller : goal.reads-smaller
@@ -73,7 +90,10 @@ reads-smaller g c =
     let size = chunk_size c.in-Some-read_some.size c.deref.result.now c.read_some.new.buffer.items c.deref.ensures.value
     c.in-Some-read_some.ensures.bound in
     let (goes, written) = written_ok c.take_bytes-taken.result _ c.reads.writer c.write_said-in-reads.new.writer
-    c.in-Ok-write_said-2.ensures.written c.take_bytes-taken.ensures.taken in
+    (c.in-Ok-write_said-2.ensures.written c.take_bytes-taken.ensures.text
+    (said_whole (heard c.args.text) _ c.requires.said c.reads.invariant.1
+    c.take_bytes-taken.ensures.said))
+    c.take_bytes-taken.ensures.taken in
     let zero = c.if-size-eq0.false in
     fewer_left c.reads.invariant.0.goes.ready goes (omega (arith, size, zero))
 
@@ -81,18 +101,52 @@ pub returns-in-Err-write_said-clause-session : goal.returns-in-Err-write_said-cl
 returns-in-Err-write_said-clause-session g c =
     let size = chunk_size c.in-Some-read_some.size c.deref.result.now c.read_some.new.buffer.items c.deref.ensures.value
     c.in-Some-read_some.ensures.bound in
-    let room = c.read_some.ensures.size ∙ c.reads.invariant.2 in
+    let room = c.read_some.ensures.size ∙ c.reads.invariant.3 in
     session_halts c.reads.writer c.write_said-in-reads.new.writer c.reads.invariant.0
     (read_chunk _ _ _ _ _ c.deref.ensures.value c.in-Some-read_some.ensures.bytes)
     (omega (arith, size, c.in-Some-read_some.ensures.bound, room))
-    c.take_bytes-taken.ensures c.in-Err-write_said.ensures.written
+    c.take_bytes-taken.ensures (c.in-Err-write_said.ensures.written c.take_bytes-taken.ensures.text
+    (said_whole (heard c.args.text) _ c.requires.said c.reads.invariant.1
+    c.take_bytes-taken.ensures.said))
 
 pub returns-in-Err-write_said-clause-read : goal.returns-in-Err-write_said-clause-read
 returns-in-Err-write_said-clause-read g c e =
     absurd (not_read c.take_bytes-taken.result _ c.reads.writer c.write_said-in-reads.new.writer c.in-Err-write_said.end
-    c.take_bytes-taken.ensures.halted (λ end. halts_by end) c.in-Err-write_said.ensures.written e)
+    c.take_bytes-taken.ensures.halted (λ end. halts_by end) (c.in-Err-write_said.ensures.written
+    c.take_bytes-taken.ensures.text
+    (said_whole (heard c.args.text) _ c.requires.said c.reads.invariant.1
+    c.take_bytes-taken.ensures.said)) e)
 
 pub returns-in-Err-write_said-clause-write : goal.returns-in-Err-write_said-clause-write
 returns-in-Err-write_said-clause-write g c e =
     write_failed c.take_bytes-taken.result _ c.reads.writer c.write_said-in-reads.new.writer c.in-Err-write_said.end
-    c.take_bytes-taken.ensures.halted (λ end. halts_by end) c.in-Err-write_said.ensures.written e
+    c.take_bytes-taken.ensures.halted (λ end. halts_by end) (c.in-Err-write_said.ensures.written
+    c.take_bytes-taken.ensures.text
+    (said_whole (heard c.args.text) _ c.requires.said c.reads.invariant.1
+    c.take_bytes-taken.ensures.said)) e
+
+-- a session that nobody hears leaves the writer as it was
+pub write_said-requires : goal.write_said-requires
+write_said-requires g c none =
+    let silent = unheard (heard c.args.text) _ c.reads.invariant.1 c.take_end-taken.ensures.said none in
+    ap (λ w. w.contents) (c.reads.invariant.2 silent) ∙ c.requires.unknown silent
+
+pub write_said-requires-in-reads : goal.write_said-requires-in-reads
+write_said-requires-in-reads g c none =
+    let silent = unheard (heard c.args.text) _ c.reads.invariant.1 c.take_bytes-taken.ensures.said none in
+    ap (λ w. w.contents) (c.reads.invariant.2 silent) ∙ c.requires.unknown silent
+
+pub returns-in-Ok-write_said-clause-still : goal.returns-in-Ok-write_said-clause-still
+returns-in-Ok-write_said-clause-still g c none =
+    c.write_said.ensures.still (silent _ c.reads.invariant.1 c.take_end-taken.ensures.said none)
+    ∙ c.reads.invariant.2 none
+
+pub returns-in-Err-clause-still : goal.returns-in-Err-clause-still
+returns-in-Err-clause-still g c none =
+    c.write_said.ensures.still (silent _ c.reads.invariant.1 c.take_end-taken.ensures.said none)
+    ∙ c.reads.invariant.2 none
+
+pub returns-in-Err-write_said-clause-still : goal.returns-in-Err-write_said-clause-still
+returns-in-Err-write_said-clause-still g c none =
+    c.write_said-in-reads.ensures.still (silent _ c.reads.invariant.1 c.take_bytes-taken.ensures.said none)
+    ∙ c.reads.invariant.2 none

@@ -1,7 +1,8 @@
--- All that was read is handled but what is pending, and all that there was to say is written.
-use Rattle.std.proofs.Common.{◌≡◌, length, []}
+-- All that was read is handled but what is pending, and all that there was to say is written, where it is heard; otherwise
+-- the writer is as it was.
+use Rattle.std.proofs.Common.{◌≡◌, length, None}
 use Rattle.dg_session.specs.Setup.{setup}
-use Rattle.dg_session.specs.SoFar.{so_far}
+use Rattle.dg_session.specs.SoFar.{heard, so_far}
 use Rattle.dg_session.specs.declared.ends.TheConstants.{READ_SIZE}
 use Rattle.dg_session.proofs.Sessions.{IsSoFar, bytes_left}
 use Rattle.dg_session.proofs.serving.serve_lines.Given as goal
@@ -11,7 +12,8 @@ invariant-reads g l =
     IsSoFar (setup l.shared.how g.N.Name.start g.N.Name.seats (length g.N.Name.cells) l.shared.names.now)
     l.fn.reader.remaining l.reader.remaining l.fn.writer.contents l.writer.contents l.fn.seats
     (so_far l.progress l.seats)
-    × (l.progress.said.text.items ≡ []) × (length l.buffer.items ≡ READ_SIZE)
+    × (heard l.progress.said.text ≡ heard l.fn.text) × (heard l.fn.text ≡ None → l.writer ≡ l.fn.writer)
+    × (length l.buffer.items ≡ READ_SIZE)
 
 abbrev pub decreases-reads : goal.decreases-reads
 decreases-reads g l = bytes_left l.progress.pending.items l.progress.count

@@ -1,13 +1,14 @@
 -- All but the rest is taken at each turn.
-use Rattle.std.proofs.Common.{◌<◌, ◌≤◌, ◌+◌, ◌∙◌, List, ℕ, length, subst, append-nil, rules, tests}
+use Rattle.std.proofs.Common.{◌<◌, ◌≤◌, ◌+◌, ◌∙◌, ◌++◌, List, [], ℕ, length, refl, subst, append-nil, rules, tests}
 use Rattle.dg_session.specs.SoFar.{RefusesPart}
 use Rattle.dg_session.specs.declared.ends.TheConstants.{MAX_LINE, MAX_LINES}
 use Rattle.dg_lines.proofs.Streams.{part_plain, part_front, part_whole, part_line, line_shorter}
 use Rattle.dg_session.proofs.Going.{goes_none, goes_part, goes_line, halts_part, halts_line, line_with}
+use Rattle.dg_session.proofs.Spoken.{said_none, said_more}
 use Rattle.dg_session.proofs.taking.take_bytes.Goals as goal
 
 pub parts-init : goal.parts-init
-parts-init g c = goes_none c.requires.said c.requires.ready
+parts-init g c = record { text = []; said = said_none _; goes = goes_none refl c.requires }
 
 pub returns-in-Err : goal.returns-in-Err
 returns-in-Err g c =
@@ -15,8 +16,10 @@ returns-in-Err g c =
     let (more, whole) = part_front c.parts.rest.now part c.cut.ensures.before in
     let some : 1 ≤ length c.parts.rest.now = search (rules, tests) in
     record {
+      text = c.parts.invariant.text;
+      said = c.parts.invariant.said;
       taken = tt;
-      halted = halts_part c.parts.invariant part more whole (part_plain c.parts.rest.now part c.cut.ensures.before) some
+      halted = halts_part c.parts.invariant.goes part more whole (part_plain c.parts.rest.now part c.cut.ensures.before) some
           (subst (λ (l : List ℕ). RefusesPart l c.parts.progress.count part c.in-Err.end) c.deref.ensures.value
           c.in-Err.ensures.refused);
     }
@@ -27,7 +30,9 @@ returns-in-Ok-extend_from_slice g c =
     let whole = part_whole c.parts.rest.now part c.cut.result.1 c.cut.ensures.before c.cut.ensures.after
     c.in_default.is in
     record {
-      taken = goes_part c.parts.invariant part c.extend_from_slice.new.self.items (whole ∙ append-nil part)
+      text = c.parts.invariant.text;
+      said = c.parts.invariant.said;
+      taken = goes_part c.parts.invariant.goes part c.extend_from_slice.new.self.items (whole ∙ append-nil part)
           c.in-Ok-extend_from_slice.ensures.items (part_plain c.parts.rest.now part c.cut.ensures.before)
           (subst (λ (l : List ℕ). length l + length part ≤ MAX_LINE) c.deref.ensures.value c.in-Ok.ensures.short)
           c.in-Ok.ensures.more;
@@ -40,13 +45,14 @@ returns-in-Err-end_line g c =
     let few : c.parts.progress.count < MAX_LINES = search rules in
     let cut = part_line c.parts.rest.now part c.cut.result.1 c.in-Some.after c.cut.ensures.before c.cut.ensures.after
     c.in-Some.is in
-    let is = line_with part c.parts.invariant.ready (part_plain c.parts.rest.now part c.cut.ensures.before)
+    let is = line_with part c.parts.invariant.goes.ready (part_plain c.parts.rest.now part c.cut.ensures.before)
     (subst (λ (l : List ℕ). length l + length part ≤ MAX_LINE) c.deref.ensures.value c.in-Ok.ensures.short) in
     record {
+      text = c.parts.invariant.text;
+      said = c.in-Err-end_line.ensures.handled.unsaid ∙ c.parts.invariant.said;
       taken = tt;
-      halted = halts_line c.parts.invariant part c.in-Some.after.now cut is few
-          c.in-Err-end_line.ensures.handled.refused
-          c.in-Err-end_line.ensures.handled.unsaid;
+      halted = halts_line c.parts.invariant.goes part c.in-Some.after.now cut is few
+          c.in-Err-end_line.ensures.handled.refused;
     }
 
 pub parts-smaller : goal.parts-smaller
@@ -61,7 +67,12 @@ parts-preserved g c =
     let few : c.parts.progress.count < MAX_LINES = search rules in
     let cut = part_line c.parts.rest.now part c.cut.result.1 c.in-Some.after c.cut.ensures.before c.cut.ensures.after
     c.in-Some.is in
-    let is = line_with part c.parts.invariant.ready (part_plain c.parts.rest.now part c.cut.ensures.before)
+    let is = line_with part c.parts.invariant.goes.ready (part_plain c.parts.rest.now part c.cut.ensures.before)
     (subst (λ (l : List ℕ). length l + length part ≤ MAX_LINE) c.deref.ensures.value c.in-Ok.ensures.short) in
-    goes_line c.parts.invariant part cut is few c.in-Ok-end_line.ensures.handled.done c.in-Ok-end_line.ensures.pending
-    c.in-Ok-end_line.ensures.count
+    let done = c.in-Ok-end_line.ensures.handled.done in
+    record {
+      text = c.parts.invariant.text ++ done.text;
+      said = said_more _ _ _ c.parts.invariant.said done.said;
+      goes = goes_line c.parts.invariant.goes part cut is few done.holds c.in-Ok-end_line.ensures.pending
+          c.in-Ok-end_line.ensures.count;
+    }

@@ -1,13 +1,15 @@
 -- All but the rest is taken.
 use Rattle.std.proofs.Common.{length}
 use Rattle.dg_session.specs.Setup.{setup}
-use Rattle.dg_session.specs.SoFar.{so_far, Goes}
+use Rattle.dg_session.specs.SoFar.{heard, so_far}
+use Rattle.dg_session.proofs.Spoken.{HaveGone}
 use Rattle.dg_session.proofs.taking.take_bytes.Given as goal
 
 abbrev pub invariant-parts : goal.invariant-parts
 invariant-parts g l =
-    Goes (setup l.shared.how g.N.Name.start g.N.Name.seats (length g.N.Name.cells) l.shared.names.now)
-    (so_far l.fn.progress l.fn.seats) l.bytes l.rest (so_far l.progress l.seats) l.progress.said.text.items
+    HaveGone (setup l.shared.how g.N.Name.start g.N.Name.seats (length g.N.Name.cells) l.shared.names.now)
+    (so_far l.fn.progress l.fn.seats) l.bytes l.rest (so_far l.progress l.seats)
+    (heard l.fn.progress.said.text) (heard l.progress.said.text)
 
 abbrev pub decreases-parts : goal.decreases-parts
 decreases-parts g l = length l.rest
