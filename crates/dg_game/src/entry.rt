@@ -34,12 +34,21 @@ impl Plain {
     pub fn request(&self) -> Request
         ensures { result ≡ asked self.now }
     {
+        let mut request = Request::Look;
+        self.ask(&mut request);
+        request
+    }
+
+    /// Writes what the entry of the call asks.
+    pub fn ask(&self, request: &mut Request)
+        ensures { request.new ≡ asked self.now }
+    {
         match self {
-            Plain::Move(play) => Request::Move(*play),
-            Plain::Gift(v, dollars) => Request::Gift(*v, *dollars),
-            Plain::Join(u, v) => Request::Join(*u, *v),
-            Plain::Look => Request::Look,
-            Plain::Claim => Request::Claim,
+            Plain::Move(play) => *request = Request::Move(*play),
+            Plain::Gift(v, dollars) => *request = Request::Gift(*v, *dollars),
+            Plain::Join(u, v) => *request = Request::Join(*u, *v),
+            Plain::Look => *request = Request::Look,
+            Plain::Claim => *request = Request::Claim,
         }
     }
 }

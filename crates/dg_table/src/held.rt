@@ -122,12 +122,12 @@ impl<N: Name> Held<N> {
         log: &Log<N>,
         seat: &mut Seat<N>,
         slot: Box<Entry>,
-        plain: Plain,
+        plain: &Plain,
     ) -> Result<Receipt<N>, Fault>
         requires { seat.old.space ≡ true }
         ensures entered { IfOk result
             (λ r. IsAnsweredAfter N.start N.seats (length N.cells) self.old.entries
-            (asked plain) r seat.old seat.new ×
+            (asked plain.now) r seat.old seat.new ×
             (self.new ≡ record { entries = self.old.entries ++ r.1 ∷ []; stuck = false })) }
         ensures refused { IfErr result
             (λ f. (self.new.entries ≡ self.old.entries) × (seat.new ≡ seat.old) ×
@@ -137,8 +137,8 @@ impl<N: Name> Held<N> {
         let mut slot = slot;
         let entry = &mut *slot;
         entry.seat = seat.number();
-        entry.request = plain.request();
-        self.game.answer(&plain, &mut entry.reply);
+        plain.ask(&mut entry.request);
+        self.game.answer(plain, &mut entry.reply);
         self.enter(log, seat, slot)
     }
 
@@ -169,7 +169,7 @@ impl<N: Name> Held<N> {
         let mut slot = slot;
         let entry = &mut *slot;
         entry.seat = seat.number();
-        entry.request = chosen.request();
+        chosen.ask(&mut entry.request);
         self.game.answer(&chosen, &mut entry.reply);
         self.enter(log, seat, slot)
     }

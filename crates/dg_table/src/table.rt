@@ -101,7 +101,7 @@ impl<N: Name> Table<N> {
         let Ok(slot) = seat.room(alloc) else {
             return Err(Fault::OutOfMemory);
         };
-        self.held.lock(rt).call(&self.log, seat, slot, plain)
+        self.held.lock(rt).call(&self.log, seat, slot, &plain)
     }
 
     /// A call of the seat that is chosen at the position which it finds: `choose` is asked once, under the lock, for a move, or

@@ -3,6 +3,6 @@ use Rattle.dg_table.proofs.held.Held.call.Goals as goal
 pub enter-requires-clause-legal : goal.enter-requires-clause-legal
 enter-requires-clause-legal g c =
     let held = rw c.self.view_is at c.self.invariant.0 in
-    rw (c.request-entry.ensures, c.number-entry.ensures)
+    rw (c.ask.ensures, c.number-entry.ensures)
     (c.answer.ensures.legal g.N.Name.start c.args.self.now.entries c.args.seat.now.number
     held.game' held.legal c.in_ok-ready.ensures.stands.seat)

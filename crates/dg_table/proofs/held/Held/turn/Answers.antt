@@ -11,6 +11,6 @@ returns-in_err-ready-clause-refused g c =
 pub enter-requires-clause-legal : goal.enter-requires-clause-legal
 enter-requires-clause-legal g c =
     let held = rw c.self.view_is at c.self.invariant.0 in
-    rw (c.request-entry.ensures, c.number-entry.ensures)
+    rw (c.ask.ensures, c.number-entry.ensures)
     (c.answer.ensures.legal g.N.Name.start c.args.self.now.entries c.args.seat.now.number
     held.game' held.legal c.in_ok-ready.ensures.stands.seat)
