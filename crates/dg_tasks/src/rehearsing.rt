@@ -74,9 +74,30 @@ fn play_on(
         IsPlayed o names.now steps rehearsal.old text.old.items →
         IsStopped o (steps ++ step.now ∷ []) fault) }
 {
-    if let Command::Call(plain) = &step.command {
-        return call_on(rehearsal, text, names, step.seat, plain);
+    match &step.command {
+        Command::Call(plain) => call_on(rehearsal, text, names, step.seat, plain),
+        _ => enter_on(rehearsal, text, names, step),
     }
+}
+
+/// The same for any step. It stands apart for its entry, which need not be cleared where a call is told in few words.
+#[inline(never)]
+fn enter_on(
+    rehearsal: &mut Rehearsal,
+    text: &mut Vec<u8>,
+    names: &Names,
+    step: &Step,
+) -> Result<(), RehearseFault>
+    requires { (o : Opening) × (steps : List Step) × (length names.now ≡ o.graph.size)
+        × IsPlayed o names.now steps rehearsal.old text.old.items }
+    ensures { MatchResult result
+        (λ _. (o : Opening) (steps : List Step) →
+        IsPlayed o names.now steps rehearsal.old text.old.items →
+        IsPlayed o names.now (steps ++ step.now ∷ []) rehearsal.new text.new.items)
+        (λ fault. (o : Opening) (steps : List Step) →
+        IsPlayed o names.now steps rehearsal.old text.old.items →
+        IsStopped o (steps ++ step.now ∷ []) fault) }
+{
     let number = rehearsal.game.entries() as usize;
     match &rehearsal.play(step) {
         Ok(entry) => match push_entry(text, number, &entry.reply, names) {
