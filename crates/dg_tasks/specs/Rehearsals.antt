@@ -4,7 +4,10 @@
 --   IsPlayed o names steps r text   == r is what the steps have come to from the opening o,
 --                                      whatever steps follow, and the text is that of their history
 --   IsStopped o steps fault         == the fault is the first of these steps, whatever steps follow
-use Rattle.std.specs.Prelude.{◌≡◌, ℕ, List, ◌++◌, length}
+--   MayGoOn names r text            == so some steps from some opening have come to this
+--   GoesOn names step r text r' text' result == of all such steps, with this one they come to that;
+--                                      or the fault is the first of them with this one
+use Rattle.std.specs.Prelude.{◌≡◌, ℕ, List, [], ◌∷◌, ◌++◌, length, Result, MatchResult}
 use Rattle.dg_chips.specs.Opening.{Opening}
 use Rattle.dg_rehearsal.specs.Rehearsal.{IsPlaying}
 use Rattle.dg_rehearsal.specs.Schedule.{IsRehearsal}
@@ -33,3 +36,15 @@ pub record IsPlayed (o : Opening) (names : List (List ℕ)) (steps : List Step) 
 
 abbrev pub IsStopped : Opening → List Step → RehearseFault → Type 0
 IsStopped o steps fault = (more : List Step) → IsFirstFault o.graph.size (steps ++ more) fault
+
+abbrev pub MayGoOn : List (List ℕ) → Rehearsal → List ℕ → Type 0
+MayGoOn names r text =
+    (o : Opening) × (steps : List Step) × (length names ≡ o.graph.size) × IsPlayed o names steps r text
+
+abbrev pub GoesOn : {B : Type 0} → List (List ℕ) → Step → Rehearsal → List ℕ → Rehearsal → List ℕ
+    → Result B RehearseFault → Type 0
+GoesOn names step r text r' text' result = MatchResult result
+    (λ _. (o : Opening) (steps : List Step) → IsPlayed o names steps r text →
+    IsPlayed o names (steps ++ step ∷ []) r' text')
+    (λ fault. (o : Opening) (steps : List Step) → IsPlayed o names steps r text →
+    IsStopped o (steps ++ step ∷ []) fault)

@@ -1,11 +1,8 @@
 //! Schedules that are read, played and printed line by line: neither the steps nor the history are kept.
-ghost use Rattle.std.specs.Prelude.{◌≡◌, ◌∷◌, ◌++◌, List, [], length, IfOk, IfErr, MatchResult};
-ghost use Rattle.dg_chips.specs.Opening.{Opening};
-ghost use Rattle.dg_game.specs.Legal.{IsSeat};
+ghost use Rattle.std.specs.Prelude.{IfOk, IfErr};
 ghost use Rattle.dg_game.specs.declared.step.Command.TheVariants.{Call};
-ghost use Rattle.dg_game.specs.declared.step.Step.{Step};
 ghost use Rattle.dg_lines.specs.Cuts.{lines};
-ghost use Rattle.dg_tasks.specs.Rehearsals.{IsPrinted, IsPlayed, IsStopped};
+ghost use Rattle.dg_tasks.specs.Rehearsals.{IsPrinted, MayGoOn, GoesOn};
 ghost use Rattle.dg_tasks.specs.Refusals.{RefusesSchedule};
 
 use crate::fault::TaskFault;
@@ -64,15 +61,8 @@ fn play_on(
     names: &Names,
     step: &Step,
 ) -> Result<(), RehearseFault>
-    requires { (o : Opening) × (steps : List Step) × (length names.now ≡ o.graph.size)
-        × IsPlayed o names.now steps rehearsal.old text.old.items }
-    ensures { MatchResult result
-        (λ _. (o : Opening) (steps : List Step) →
-        IsPlayed o names.now steps rehearsal.old text.old.items →
-        IsPlayed o names.now (steps ++ step.now ∷ []) rehearsal.new text.new.items)
-        (λ fault. (o : Opening) (steps : List Step) →
-        IsPlayed o names.now steps rehearsal.old text.old.items →
-        IsStopped o (steps ++ step.now ∷ []) fault) }
+    requires { MayGoOn names.now rehearsal.old text.old.items }
+    ensures { GoesOn names.now step.now rehearsal.old text.old.items rehearsal.new text.new.items result }
 {
     match &step.command {
         Command::Call(plain) => call_on(rehearsal, text, names, step.seat, plain),
@@ -88,15 +78,8 @@ fn enter_on(
     names: &Names,
     step: &Step,
 ) -> Result<(), RehearseFault>
-    requires { (o : Opening) × (steps : List Step) × (length names.now ≡ o.graph.size)
-        × IsPlayed o names.now steps rehearsal.old text.old.items }
-    ensures { MatchResult result
-        (λ _. (o : Opening) (steps : List Step) →
-        IsPlayed o names.now steps rehearsal.old text.old.items →
-        IsPlayed o names.now (steps ++ step.now ∷ []) rehearsal.new text.new.items)
-        (λ fault. (o : Opening) (steps : List Step) →
-        IsPlayed o names.now steps rehearsal.old text.old.items →
-        IsStopped o (steps ++ step.now ∷ []) fault) }
+    requires { MayGoOn names.now rehearsal.old text.old.items }
+    ensures { GoesOn names.now step.now rehearsal.old text.old.items rehearsal.new text.new.items result }
 {
     let number = rehearsal.game.entries() as usize;
     match &rehearsal.play(step) {
@@ -116,16 +99,9 @@ fn call_on(
     seat: u8,
     plain: &Plain,
 ) -> Result<(), RehearseFault>
-    requires { (o : Opening) × (steps : List Step) × (length names.now ≡ o.graph.size)
-        × IsPlayed o names.now steps rehearsal.old text.old.items }
-    ensures { MatchResult result
-        (λ _. (o : Opening) (steps : List Step) →
-        IsPlayed o names.now steps rehearsal.old text.old.items →
-        IsPlayed o names.now (steps ++ (record { seat = seat; command = Call plain.now }) ∷ [])
-        rehearsal.new text.new.items)
-        (λ fault. (o : Opening) (steps : List Step) →
-        IsPlayed o names.now steps rehearsal.old text.old.items →
-        IsStopped o (steps ++ (record { seat = seat; command = Call plain.now }) ∷ []) fault) }
+    requires { MayGoOn names.now rehearsal.old text.old.items }
+    ensures { GoesOn names.now (record { seat = seat; command = Call plain.now })
+        rehearsal.old text.old.items rehearsal.new text.new.items result }
 {
     let number = rehearsal.game.entries() as usize;
     let outcome = match rehearsal.call(seat, plain) {

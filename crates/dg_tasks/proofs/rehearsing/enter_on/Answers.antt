@@ -1,12 +1,8 @@
-use Rattle.std.proofs.Common.{◌≡◌, List, [], ◌∷◌, ◌++◌, length, ap, sym, subst}
-use Rattle.std.proofs.lemmas.Result.{MatchResult-weaker}
+use Rattle.std.proofs.Common.{List, [], ◌∷◌, ◌++◌, length}
 use Rattle.dg_game.specs.declared.entry.Entry.{Entry}
-use Rattle.dg_game.specs.declared.step.Command.{Command}
-use Rattle.dg_game.specs.declared.step.Command.TheVariants.{Call}
 use Rattle.dg_game.specs.declared.step.Step.{Step}
 use Rattle.dg_game.proofs.ListLaws.{slice_get-seam}
 use Rattle.dg_lines.proofs.Printing.{legal_named}
-use Rattle.dg_tasks.specs.Rehearsals.{IsPlayed, IsStopped}
 use Rattle.dg_tasks.proofs.UnderWay.{played_more, stopped_at, next_is}
 use Rattle.dg_tasks.proofs.rehearsing.enter_on.Goals as goal
 
