@@ -6,7 +6,10 @@ use dg_sweep::{SweepEnd, sweep};
 use std::alloc::Global;
 use std::io;
 use std::io::{ErrorKind, Read};
+use std::process::Abort;
+use std::sync::Wait;
 use std::test::Fail;
+use std::thread::Threads;
 
 // The triangle twice, once as the last line; the beginning of a file; an empty line; and a triangle whose q is no vertex.
 const LINES: &str =
@@ -55,41 +58,95 @@ impl<'a> Read for Flow<'a> {
     }
 }
 
+// Questions about texts, and what is answered.
+static ANSWERS: [(Question, &str, &str); 7] = [
+    (Question::Judge, LINES, JUDGED),
+    (Question::Rank(1), LINES, TESTED),
+    (Question::RiemannRoch, LINES, NUMBERED),
+    (
+        Question::Rank(12),
+        LARGE,
+        "rank at least 12\nrank below 12 at ?\nrefused too many trials\n",
+    ),
+    (
+        Question::RiemannRoch,
+        LARGE,
+        "degree 20 genus 0 rank 20 dual -1\ndegree 11 genus 0 rank 11 dual -1\ndegree 480 genus 481 rank ? dual ?\n",
+    ),
+    (Question::Judge, "", ""),
+    (Question::Judge, "\n", "refused not JSON\n"),
+];
+
 #[test]
 fn lines_are_answered_however_they_come(rt: HostRuntime) -> Result<(), Fail> {
-    let long = vec![in rt.alloc(); b'x'; 1_048_577]?;
-    let most = vec![in rt.alloc(); b'x'; 1_048_576]?;
-    for (question, text, answers) in [
-        (Question::Judge, LINES.as_bytes(), JUDGED),
-        (Question::Rank(1), LINES.as_bytes(), TESTED),
-        (Question::RiemannRoch, LINES.as_bytes(), NUMBERED),
-        (
-            Question::Rank(12),
-            LARGE.as_bytes(),
-            "rank at least 12\nrank below 12 at ?\nrefused too many trials\n",
-        ),
-        (
-            Question::RiemannRoch,
-            LARGE.as_bytes(),
-            "degree 20 genus 0 rank 20 dual -1\ndegree 11 genus 0 rank 11 dual -1\ndegree 480 genus 481 rank ? dual ?\n",
-        ),
-        (Question::Judge, b"".as_slice(), ""),
-        (Question::Judge, b"\n".as_slice(), "refused not JSON\n"),
-        (Question::Judge, most.as_slice(), "refused not JSON\n"),
-        (Question::Judge, long.as_slice(), "refused file too long\n"),
-    ] {
-        for most in [7, 2_000_000] {
-            let mut input = Input::new(Flow {
-                text,
-                most,
-                fails: false,
-            });
-            let mut output = Output::new(Vec::new(rt.alloc()));
-            let end = sweep(&rt, rt.alloc(), question, 1, &mut input, &mut output);
-            assert!(rt; end.is_ok());
-            assert_eq!(rt; output.into_inner().as_slice(), answers.as_bytes());
-        }
+    for (question, text, answers) in &ANSWERS {
+        is_answered_in_any_parts(
+            &rt,
+            rt.alloc(),
+            *question,
+            text.as_bytes(),
+            answers.as_bytes(),
+        );
     }
+    Ok(())
+}
+
+// That the text is answered so where it comes seven bytes at a time, and where it comes at once.
+fn is_answered_in_any_parts<R: Threads + Wait + Abort + Sync>(
+    rt: &R,
+    alloc: Global,
+    question: Question,
+    text: &[u8],
+    answers: &[u8],
+) {
+    for most in [7, 2_000_000] {
+        is_answered(rt, alloc, question, 1, text, most, answers);
+    }
+}
+
+// That the text, which comes in parts of this size at most, is answered so by this many workers.
+fn is_answered<R: Threads + Wait + Abort + Sync>(
+    rt: &R,
+    alloc: Global,
+    question: Question,
+    workers: u32,
+    text: &[u8],
+    most: usize,
+    answers: &[u8],
+) {
+    let mut input = Input::new(Flow {
+        text,
+        most,
+        fails: false,
+    });
+    let mut output = Output::new(Vec::new(alloc));
+    let end = sweep(rt, alloc, question, workers, &mut input, &mut output);
+    assert!(rt; end.is_ok() && output.into_inner().as_slice() == answers);
+}
+
+#[test]
+fn a_line_has_a_mebibyte_at_most(rt: HostRuntime) -> Result<(), Fail> {
+    let most = vec![in rt.alloc(); b'x'; 1_048_576]?;
+    is_answered_in_any_parts(
+        &rt,
+        rt.alloc(),
+        Question::Judge,
+        &most,
+        b"refused not JSON\n",
+    );
+    let long = vec![in rt.alloc(); b'x'; 1_048_577]?;
+    is_answered_in_any_parts(
+        &rt,
+        rt.alloc(),
+        Question::Judge,
+        &long,
+        b"refused file too long\n",
+    );
+    Ok(())
+}
+
+#[test]
+fn a_stream_may_fail(rt: HostRuntime) -> Result<(), Fail> {
     let mut input = Input::new(Flow {
         text: LINES.as_bytes(),
         most: 7,
@@ -124,22 +181,15 @@ fn any_number_of_workers_answers_as_one(rt: HostRuntime) -> Result<(), Fail> {
     let (text, answers) = many_lines(rt.alloc())?;
     for workers in [1, 2, 3, 4, 16] {
         for most in [1_000, 3_001, 2_000_000] {
-            let mut input = Input::new(Flow {
-                text: &text,
-                most,
-                fails: false,
-            });
-            let mut output = Output::new(Vec::new(rt.alloc()));
-            let end = sweep(
+            is_answered(
                 &rt,
                 rt.alloc(),
                 Question::Judge,
                 workers,
-                &mut input,
-                &mut output,
+                &text,
+                most,
+                &answers,
             );
-            assert!(rt; end.is_ok());
-            assert!(rt; output.into_inner().as_slice() == answers.as_slice());
         }
     }
     Ok(())

@@ -4,13 +4,15 @@ use crate::acts::of_rank;
 use crate::outcomes::{Outcome, done_if, tell};
 use crate::tables::triangle;
 use dg_chips::{Divisor, Move};
-use dg_file::TableFile;
+use dg_file::{Names, TableFile};
 use dg_game::{Command, Entry, Plain, Reply, Step};
+use dg_graph::Graph;
 use dg_lines::{StepsFault, parse_steps, reply_text};
 use dg_rank::{OpenGate, rank_with};
 use dg_ranked::RankVerdict;
 use dg_rehearsal::{RehearseFault, rehearse};
 use std::alloc::Global;
+use std::process::Abort;
 use std::sync::Wait;
 use std::test::Fail;
 use std::thread::Threads;
@@ -41,21 +43,42 @@ const STEPS: [Step; 3] = [
 
 const TEXT: &[u8] = b"1 look\n2 lend a\n1 claim\n";
 
+static CALLS: [(&str, Call); 4] = [
+    ("parse_steps", Call::ParseSteps),
+    ("rehearse", Call::Rehearse),
+    ("reply_text", Call::ReplyText),
+    ("rank_with", Call::RankWith),
+];
+
 #[test]
 fn calls_answer_or_refuse(rt: HostRuntime) -> Result<(), Fail> {
     let alloc = rt.alloc();
     let file = triangle(&rt, alloc)?;
-    for (name, call) in [
-        ("parse_steps", Call::ParseSteps),
-        ("rehearse", Call::Rehearse),
-        ("reply_text", Call::ReplyText),
-        ("rank_with", Call::RankWith),
-    ] {
-        let outcome = called(&rt, alloc, &file, call)?;
-        tell(&rt, name, outcome)?;
-        if outcome != Outcome::Done {
-            assert!(&rt; called(&rt, alloc, &file, call)? == Outcome::Done, "{name}");
-        }
+    all_answer_or_refuse(&rt, alloc, &file)
+}
+
+fn all_answer_or_refuse<R: Threads + Wait + Abort + Print>(
+    rt: &R,
+    alloc: Global,
+    file: &TableFile,
+) -> Result<(), Fail> {
+    for (name, call) in &CALLS {
+        answers_or_refuses(rt, alloc, file, name, *call)?;
+    }
+    Ok(())
+}
+
+fn answers_or_refuses<R: Threads + Wait + Abort + Print>(
+    rt: &R,
+    alloc: Global,
+    file: &TableFile,
+    name: &str,
+    call: Call,
+) -> Result<(), Fail> {
+    let outcome = called(rt, alloc, file, call)?;
+    tell(rt, name, outcome)?;
+    if outcome != Outcome::Done {
+        assert!(rt; called(rt, alloc, file, call)? == Outcome::Done, "{name}");
     }
     Ok(())
 }
@@ -68,32 +91,43 @@ fn called<R: Threads + Wait>(
     call: Call,
 ) -> Result<Outcome, Fail> {
     match call {
-        Call::ParseSteps => match parse_steps(alloc, TEXT, file.names()) {
-            Ok(steps) => Ok(done_if(steps.as_slice() == STEPS.as_slice())),
-            Err(StepsFault::OutOfMemory) => Ok(Outcome::Memory),
-            Err(_) => Ok(Outcome::Wrong),
-        },
-        Call::Rehearse => match rehearse(alloc, file.start(), &STEPS) {
-            Ok(history) => Ok(done_if(is_won(history.as_slice(), file)?)),
-            Err(RehearseFault::OutOfMemory) => Ok(Outcome::Memory),
-            Err(_) => Ok(Outcome::Wrong),
-        },
-        Call::ReplyText => {
-            let _graph = file.start().graph();
-            match reply_text(alloc, &Reply::Moved(*file.start().divisor()), file.names()) {
-                Ok(text) => Ok(done_if(text.as_slice() == b"moved a=2 b=-1 c=-1".as_slice())),
-                Err(_) => Ok(Outcome::Memory),
-            }
-        }
-        Call::RankWith => {
-            let graph = file.start().graph();
-            let three = Divisor::new(graph, &[3, 0, 0])?;
-            let loss = Divisor::new(graph, &[0, 1, 2])?;
-            match rank_with(rt, graph, 0, &three, 3, 2, &OpenGate) {
-                Ok(verdict) => Ok(done_if(verdict == RankVerdict::Below(3, loss))),
-                Err(fault) => Ok(of_rank(fault)),
-            }
-        }
+        Call::ParseSteps => Ok(parsed(alloc, file.names())),
+        Call::Rehearse => rehearsed(alloc, file),
+        Call::ReplyText => Ok(written(alloc, file)),
+        Call::RankWith => ranked(rt, file.start().graph()),
+    }
+}
+
+fn parsed(alloc: Global, names: &Names) -> Outcome {
+    match parse_steps(alloc, TEXT, names) {
+        Ok(steps) => done_if(steps.as_slice() == STEPS.as_slice()),
+        Err(StepsFault::OutOfMemory) => Outcome::Memory,
+        Err(_) => Outcome::Wrong,
+    }
+}
+
+fn rehearsed(alloc: Global, file: &TableFile) -> Result<Outcome, Fail> {
+    match rehearse(alloc, file.start(), &STEPS) {
+        Ok(history) => Ok(done_if(is_won(history.as_slice(), file)?)),
+        Err(RehearseFault::OutOfMemory) => Ok(Outcome::Memory),
+        Err(_) => Ok(Outcome::Wrong),
+    }
+}
+
+fn written(alloc: Global, file: &TableFile) -> Outcome {
+    let _graph = file.start().graph();
+    match reply_text(alloc, &Reply::Moved(*file.start().divisor()), file.names()) {
+        Ok(text) => done_if(text.as_slice() == b"moved a=2 b=-1 c=-1".as_slice()),
+        Err(_) => Outcome::Memory,
+    }
+}
+
+fn ranked<R: Threads + Wait>(rt: &R, graph: &Graph) -> Result<Outcome, Fail> {
+    let three = Divisor::new(graph, &[3, 0, 0])?;
+    let loss = Divisor::new(graph, &[0, 1, 2])?;
+    match rank_with(rt, graph, 0, &three, 3, 2, &OpenGate) {
+        Ok(verdict) => Ok(done_if(verdict == RankVerdict::Below(3, loss))),
+        Err(fault) => Ok(of_rank(fault)),
     }
 }
 

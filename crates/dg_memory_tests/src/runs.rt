@@ -4,7 +4,7 @@ use crate::outcomes::{Outcome, done_if, tell};
 use crate::tables::{ANSWER, TEXT, TRIANGLE};
 use dg_asked::{Asked, GreedyTask, PartyTask, Question, RankTask, ServeTask, SweepTask, Task};
 use dg_command::CommandLine;
-use dg_server::{perform, report, run};
+use dg_server::{Fault, perform, report, run};
 use dg_sources::Shelf;
 use dg_streams::Output;
 use std::alloc::{AllocError, Global};
@@ -130,11 +130,19 @@ static MEMORY: [&[u8]; 3] = [
 #[test]
 fn runs_answer_or_refuse(rt: HostRuntime) -> Result<(), Fail> {
     for (name, ask, wanted) in &RUNS {
-        let outcome = performed(&rt, *ask, wanted);
-        tell(&rt, name, outcome)?;
-        if outcome != Outcome::Done {
-            assert!(&rt; performed(&rt, *ask, wanted) == Outcome::Done, "{name}");
-        }
+        run_answers_or_refuses(&rt, name, *ask, wanted)?;
+    }
+    Ok(())
+}
+
+fn run_answers_or_refuses<R>(rt: &R, name: &str, ask: Ask, wanted: &[&[u8]]) -> Result<(), Fail>
+where
+    R: Files + AllocGlobal + Threads + Wait + Abort + Print + Sync,
+{
+    let outcome = performed(rt, ask, wanted);
+    tell(rt, name, outcome)?;
+    if outcome != Outcome::Done {
+        assert!(rt; performed(rt, ask, wanted) == Outcome::Done, "{name}");
     }
     Ok(())
 }
@@ -142,11 +150,19 @@ fn runs_answer_or_refuse(rt: HostRuntime) -> Result<(), Fail> {
 #[test]
 fn command_lines_answer_or_refuse(rt: HostRuntime) -> Result<(), Fail> {
     for (name, words, wanted) in &COMMAND_LINES {
-        let outcome = ran(&rt, words, wanted);
-        tell(&rt, name, outcome)?;
-        if outcome != Outcome::Done {
-            assert!(&rt; ran(&rt, words, wanted) == Outcome::Done, "{name}");
-        }
+        line_answers_or_refuses(&rt, name, words, wanted)?;
+    }
+    Ok(())
+}
+
+fn line_answers_or_refuses<R>(rt: &R, name: &str, words: &[&str], wanted: &[u8]) -> Result<(), Fail>
+where
+    R: Files + AllocGlobal + Threads + Wait + Abort + Print + Sync,
+{
+    let outcome = ran(rt, words, wanted);
+    tell(rt, name, outcome)?;
+    if outcome != Outcome::Done {
+        assert!(rt; ran(rt, words, wanted) == Outcome::Done, "{name}");
     }
     Ok(())
 }
@@ -160,12 +176,30 @@ where
     let Ok(asked) = asked(alloc, ask) else {
         return Outcome::Memory;
     };
-    let Ok(printed) = Vec::with_capacity(alloc, 1_000) else {
+    let Ok((printed, told)) = room(alloc) else {
         return Outcome::Memory;
     };
-    let Ok(mut told) = Vec::with_capacity(alloc, 100) else {
-        return Outcome::Memory;
-    };
+    performed_into(rt, ask, asked, printed, told, wanted)
+}
+
+// Room for what is printed, and for what is said of a fault.
+fn room(alloc: Global) -> Result<(Vec<u8>, Vec<u8>), AllocError> {
+    let printed = Vec::with_capacity(alloc, 1_000)?;
+    let told = Vec::with_capacity(alloc, 100)?;
+    Ok((printed, told))
+}
+
+fn performed_into<R>(
+    rt: &R,
+    ask: Ask,
+    asked: Asked<'static>,
+    printed: Vec<u8>,
+    told: Vec<u8>,
+    wanted: &[&[u8]],
+) -> Outcome
+where
+    R: Files + AllocGlobal + Threads + Wait + Sync,
+{
     let shelf = Shelf {
         files: &[
             ("table.json", TRIANGLE.as_bytes()),
@@ -179,9 +213,18 @@ where
     let printed = output.into_inner();
     match ended {
         Ok(()) => done_if(is_one_of(printed.as_slice(), wanted)),
-        Err(fault) if report(&fault, &mut told) != 4 => Outcome::Wrong,
         Err(_) if !may_be_left(ask, printed.as_slice(), wanted) => Outcome::Wrong,
-        Err(_) => told_of(told.as_slice()),
+        Err(fault) => reported(&fault, told),
+    }
+}
+
+// What was refused, as the fault is reported.
+fn reported(fault: &Fault, told: Vec<u8>) -> Outcome {
+    let mut told = told;
+    if report(fault, &mut told) == 4 {
+        told_of(told.as_slice())
+    } else {
+        Outcome::Wrong
     }
 }
 
@@ -194,12 +237,17 @@ where
     let Ok(words) = owned(alloc, words) else {
         return Outcome::Memory;
     };
-    let Ok(printed) = Vec::with_capacity(alloc, 1_000) else {
+    let Ok((printed, told)) = room(alloc) else {
         return Outcome::Memory;
     };
-    let Ok(mut told) = Vec::with_capacity(alloc, 100) else {
-        return Outcome::Memory;
-    };
+    ran_into(rt, words.as_slice(), printed, told, wanted)
+}
+
+fn ran_into<R>(rt: &R, words: &[String], printed: Vec<u8>, told: Vec<u8>, wanted: &[u8]) -> Outcome
+where
+    R: Files + AllocGlobal + Threads + Wait + Sync,
+{
+    let mut told = told;
     let shelf = Shelf {
         files: &[("table.json", TRIANGLE.as_bytes())],
     };
@@ -207,7 +255,7 @@ where
     let status = run(
         rt,
         &CommandLine,
-        words.as_slice(),
+        words,
         &shelf,
         TEXT,
         &mut output,

@@ -4,6 +4,7 @@ use crate::outcomes::tell_spared;
 use crate::tables::triangle;
 use dg_burn::burn;
 use dg_chips::{Divisor, Drift, Move, Script, Start, Wide};
+use dg_file::Names;
 use dg_game::{Command, Finding, Game, LookData, Plain, Reply, Step};
 use dg_graph::Graph;
 use dg_lines::{parse_line, parse_step};
@@ -20,50 +21,69 @@ const LEND: Command = Command::Call(Plain::Move(Move::Lend(0)));
 #[test]
 fn calls_take_no_memory(rt: HostRuntime) -> Result<(), Fail> {
     let file = triangle(&rt, rt.alloc())?;
-    assert!(&rt; parse_line(b"lend a", file.names()) == Ok(LEND));
-    tell_spared(&rt, "parse_line")?;
+    take_no_memory(&rt, file.names(), file.start())
+}
+
+fn take_no_memory<R: Abort + Print>(rt: &R, names: &Names, start: &Start) -> Result<(), Fail> {
+    parses(rt, names)?;
+    judges(rt, start)?;
+    carries_along(rt, start)?;
+    reduces(rt, start)?;
+    settles(rt, start)?;
+    tests_ranks(rt, start.graph())
+}
+
+fn parses<R: Abort + Print>(rt: &R, names: &Names) -> Result<(), Fail> {
+    assert!(rt; parse_line(b"lend a", names) == Ok(LEND));
+    tell_spared(rt, "parse_line")?;
     let step = Step {
         seat: 7,
         command: LEND,
     };
-    assert!(&rt; parse_step(b"7 lend a", file.names()) == Ok(step));
-    tell_spared(&rt, "parse_step")?;
-    judges(&rt, file.start())?;
-    tests_ranks(&rt, file.start().graph())
+    assert!(rt; parse_step(b"7 lend a", names) == Ok(step));
+    tell_spared(rt, "parse_step")
 }
 
-// The triangle with 2, -1 and -1 dollars is won where b and c borrow once each; after a has lent there is nothing to do.
+// The triangle with 2, -1 and -1 dollars is won where b and c borrow once each.
 fn judges<R: Abort + Print>(rt: &R, start: &Start) -> Result<(), Fail> {
     let (graph, owing) = (start.graph(), start.divisor());
     let verdict = judge(graph, 0, owing);
     tell_spared(rt, "judge")?;
-    assert!(rt; verdict.script == Script::new(graph, &[0, -1, -1])?);
-    assert!(rt; check(graph, 0, owing, &verdict));
-    tell_spared(rt, "check")?;
+    let script = Script::new(graph, &[0, -1, -1])?;
+    assert!(rt; verdict.script == script && check(graph, 0, owing, &verdict));
+    tell_spared(rt, "check")
+}
+
+// After a has lent there is nothing to do.
+fn carries_along<R: Abort + Print>(rt: &R, start: &Start) -> Result<(), Fail> {
+    let (graph, owing) = (start.graph(), start.divisor());
     let none = Script::new(graph, &[0, 0, 0])?;
     let drift = Drift::between(&Script::new(graph, &[1, 0, 0])?, &none);
     let even = Divisor::new(graph, &[0, 0, 0])?;
     assert!(rt; drift.leads(graph, owing, &even));
-    assert!(rt; rebase(0, &verdict, &drift).script == none);
-    tell_spared(rt, "rebase")?;
-    assert!(rt; reduce(graph, 0, owing).divisor == Wide::of(&even));
+    assert!(rt; rebase(0, &judge(graph, 0, owing), &drift).script == none);
+    tell_spared(rt, "rebase")
+}
+
+fn reduces<R: Abort + Print>(rt: &R, start: &Start) -> Result<(), Fail> {
+    let graph = start.graph();
+    let even = Wide::of(&Divisor::new(graph, &[0, 0, 0])?);
+    assert!(rt; reduce(graph, 0, start.divisor()).divisor == even);
     tell_spared(rt, "reduce")?;
-    assert_eq!(rt; burn(graph, 0, &Wide::of(&even)).unburnt, 0);
-    tell_spared(rt, "burn")?;
-    let entered = settled(
-        start,
-        Plain::Move(Move::Lend(0)),
-        &Drift::zero(graph),
-        &verdict,
-    );
+    assert!(rt; burn(graph, 0, &even).unburnt == 0);
+    tell_spared(rt, "burn")
+}
+
+// The verdict on the start has no script any more once a has lent.
+fn settles<R: Abort + Print>(rt: &R, start: &Start) -> Result<(), Fail> {
+    let graph = start.graph();
+    let verdict = judge(graph, 0, start.divisor());
+    let lend = Plain::Move(Move::Lend(0));
+    let entered = settled(start, lend, &Drift::zero(graph), &verdict);
     tell_spared(rt, "Game::act and Game::settle")?;
-    assert!(rt;
-        entered
-            == Some(Reply::Verdict(Verdict {
-                script: none,
-                ..verdict
-            }))
-    );
+    let script = Script::new(graph, &[0, 0, 0])?;
+    let carried = Verdict { script, ..verdict };
+    assert!(rt; entered == Some(Reply::Verdict(carried)));
     Ok(())
 }
 
@@ -72,8 +92,7 @@ fn tests_ranks<R: Abort + Print>(rt: &R, graph: &Graph) -> Result<(), Fail> {
     let one = Divisor::new(graph, &[1, 0, 0])?;
     let loss = Divisor::new(graph, &[0, 0, 1])?;
     assert!(rt; rank_at_least(graph, 0, &one, 1) == Ok(RankVerdict::Below(1, loss)));
-    tell_spared(rt, "rank_at_least")?;
-    Ok(())
+    tell_spared(rt, "rank_at_least")
 }
 
 // The reply to a verdict on the start that is entered after a look and a call, with this drift in the look's data; or

@@ -14,7 +14,7 @@ use dg_ranked::RankVerdict;
 use dg_session::{SessionEnd, serve};
 use dg_strategy::{Strategy, greedy_settler, play, settle_out};
 use dg_streams::{Input, Output};
-use dg_table::{Seat, Table, TableFault};
+use dg_table::{Audit, Seat, Table, TableFault};
 use dg_verdict::Verdict;
 use std::alloc::Global;
 use std::marker::Brand;
@@ -194,10 +194,10 @@ fn watches<N: Name, R: Abort + Print>(rt: &R, alloc: Global, table: &Table<N>) -
         Err(ObserverFault::OutOfMemory) => {
             tell(rt, "Observer::catch_up", Outcome::Memory)?;
             let read = observer.count();
-            assert_eq!(rt; observer.catch_up(table.log())?.saturating_add(read), 7);
+            assert!(rt; observer.catch_up(table.log())?.saturating_add(read) == 7);
         }
     }
-    assert_eq!(rt; (observer.count(), *observer.state()), (7, 1));
+    assert!(rt; observer.count() == 7 && *observer.state() == 1);
     Ok(())
 }
 
@@ -208,25 +208,44 @@ fn closes<N: Name, R: Abort + Print>(
     table: Table<N>,
     seats: Vec<Seat<N>>,
 ) -> Result<Outcome, Fail> {
-    let wanted = replies(table.start().graph())?;
+    let graph = *table.start().graph();
     let audit = table.close(seats).ok().ok_or("an audit")?;
+    is_audited(rt, alloc, &audit, &graph)
+}
+
+fn is_audited<N: Name, R: Abort + Print>(
+    rt: &R,
+    alloc: Global,
+    audit: &Audit<N>,
+    graph: &Graph,
+) -> Result<Outcome, Fail> {
     tell_spared(rt, "Table::close")?;
-    assert_eq!(rt; (audit.entries, audit.gifts), (7, 1));
-    let history = match audit.history(alloc) {
-        Ok(history) => {
-            tell(rt, "Audit::history", Outcome::Done)?;
-            history
-        }
-        Err(_) => {
-            tell(rt, "Audit::history", Outcome::Memory)?;
-            audit.history(alloc)?
-        }
+    assert!(rt; audit.entries == 7 && audit.gifts == 1);
+    let wanted = replies(graph)?;
+    let history = read(rt, alloc, audit)?;
+    are_answered(rt, history.as_slice(), &wanted);
+    Ok(Outcome::Done)
+}
+
+// The history, which is read once more where memory was refused.
+fn read<N: Name, R: Abort + Print>(
+    rt: &R,
+    alloc: Global,
+    audit: &Audit<N>,
+) -> Result<Vec<Entry>, Fail> {
+    let Ok(history) = audit.history(alloc) else {
+        tell(rt, "Audit::history", Outcome::Memory)?;
+        return Ok(audit.history(alloc)?);
     };
-    assert_eq!(rt; history.len(), wanted.len());
+    tell(rt, "Audit::history", Outcome::Done)?;
+    Ok(history)
+}
+
+fn are_answered(rt: &impl Abort, history: &[Entry], wanted: &[Reply]) {
+    assert!(rt; history.len() == wanted.len());
     for (entry, reply) in history.iter().zip(wanted.iter()) {
         assert!(rt; entry.reply == *reply);
     }
-    Ok(Outcome::Done)
 }
 
 // What is answered to what the seats do: after the look a lends, by which all debts are cleared and the verdict on the look

@@ -1,9 +1,10 @@
 //! Verdicts that are entered after a call, with drifts that lead there and drifts that don't.
-use crate::game::triangle;
-use dg_chips::{Divisor, Drift, Move, Script, Start, Wide};
+use crate::game::{start, triangle};
+use dg_chips::{Drift, Move, Script, Start, Wide};
 use dg_game::{Finding, Game, LookData, Plain, Reply};
 use dg_graph::Graph;
 use dg_verdict::{Verdict, check};
+use std::process::Abort;
 use std::test::Fail;
 
 /// A start, the script and the order of its verdict, a call, and the script of the verdict after the call.
@@ -102,19 +103,25 @@ fn verdicts_are_carried_along(rt: HostRuntime) -> Result<(), Fail> {
     let none = Script::new(&graph, &[0, 0, 0])?;
     let odd = Drift::between(&Script::new(&graph, &[0, 1, 0])?, &none);
     for case in &CASES {
-        let start = Start::new(graph, Divisor::new(&graph, &case.amounts)?, case.q)?;
-        let verdict = won_by(&graph, &case.script, case.order)?;
-        let entered = won_by(&graph, &case.carried, case.order)?;
-        for drift in [Drift::zero(&graph), odd] {
-            let replies = settled(&start, case.call, &drift, &verdict);
-            assert!(rt;
-                replies == Some([Reply::Verdict(entered); 2]),
-                "{:?}",
-                case.carried
-            );
-        }
-        let replies = settled(&start, Plain::Gift(1, 1), &odd, &verdict);
-        assert!(rt; replies == Some([Reply::Stale(1); 2]), "{:?}", case.carried);
+        is_carried(&rt, graph, &odd, case)?;
     }
     Ok(())
+}
+
+// Whether the verdict is carried along whatever the drift is, and stale after a gift.
+fn is_carried(rt: &impl Abort, graph: Graph, odd: &Drift, case: &Carried) -> Result<(), Fail> {
+    let start = start(graph, &case.amounts, case.q)?;
+    let verdict = won_by(&graph, &case.script, case.order)?;
+    let carried = Reply::Verdict(won_by(&graph, &case.carried, case.order)?);
+    let is_carried = settles_as(&start, case.call, &Drift::zero(&graph), &verdict, &carried)
+        && settles_as(&start, case.call, odd, &verdict, &carried);
+    assert!(rt; is_carried, "{:?}", case.carried);
+    let is_stale = settles_as(&start, Plain::Gift(1, 1), odd, &verdict, &Reply::Stale(1));
+    assert!(rt; is_stale, "{:?}", case.carried);
+    Ok(())
+}
+
+// Whether this is both answered and entered.
+fn settles_as(start: &Start, call: Plain, drift: &Drift, verdict: &Verdict, reply: &Reply) -> bool {
+    settled(start, call, drift, verdict) == Some([*reply; 2])
 }

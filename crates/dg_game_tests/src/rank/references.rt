@@ -6,6 +6,7 @@ use dg_graph::{Graph, GraphFault};
 use dg_rank::{has_rank, rank_at_least, trial, trials};
 use dg_ranked::RankVerdict;
 use dg_reduce::reduce;
+use std::process::Abort;
 use std::test::Fail;
 
 // Numbers that look random, each from the one before.
@@ -95,22 +96,30 @@ fn walks_answer_as_the_plain_way(rt: HostRuntime) -> Result<(), Fail> {
     let mut most = 0u32;
     let mut below = 0u32;
     for table in 0..600 {
-        let graph = any_graph(&mut numbers)?;
-        let degree = numbers.next() % 4;
-        let divisor = any_divisor(&mut numbers, &graph, degree)?;
-        let wanted = plainly(&graph, &divisor, degree).ok_or("a test within the limits")?;
-        match wanted {
-            RankVerdict::AtLeast(_) => most = most.saturating_add(1),
-            RankVerdict::Below(..) => below = below.saturating_add(1),
+        if passes(&rt, &mut numbers, table)? {
+            most = most.saturating_add(1);
+        } else {
+            below = below.saturating_add(1);
         }
-        let found = rank_at_least(&graph, 0, &divisor, degree)?;
-        assert!(rt; found == wanted, "table {table}");
-        let passes = has_rank(&graph, 0, &divisor, degree)?;
-        assert!(rt;
-            passes == (wanted == RankVerdict::AtLeast(degree)),
-            "table {table}"
-        );
     }
     assert!(rt; most > 100 && below > 100, "{most} and {below}");
     Ok(())
+}
+
+// Whether the next rank test passes, which answers as the plain way.
+fn passes(rt: &impl Abort, numbers: &mut Numbers, table: u32) -> Result<bool, Fail> {
+    let graph = any_graph(numbers)?;
+    let degree = numbers.next() % 4;
+    let divisor = any_divisor(numbers, &graph, degree)?;
+    let wanted = plainly(&graph, &divisor, degree).ok_or("a test within the limits")?;
+    assert!(rt;
+        rank_at_least(&graph, 0, &divisor, degree)? == wanted,
+        "table {table}"
+    );
+    let passes = wanted == RankVerdict::AtLeast(degree);
+    assert!(rt;
+        has_rank(&graph, 0, &divisor, degree)? == passes,
+        "table {table}"
+    );
+    Ok(passes)
 }

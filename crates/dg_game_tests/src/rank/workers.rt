@@ -1,10 +1,12 @@
 //! Rank tests in pieces, each in a thread of its own.
 ghost use Rattle.std.specs.Prelude.{◌<◌};
 
+use crate::rank::ranks::{FOUR, FirstLoss, PAIR, SQUARE, TRIANGLE, verdict};
 use dg_chips::Divisor;
 use dg_graph::Graph;
 use dg_rank::{Gate, OpenGate, RankFault, rank_at_least, rank_with};
 use dg_ranked::RankVerdict;
+use std::process::Abort;
 use std::sync::Wait;
 use std::sync::atomic::{AtomicBool, AtomicU64, Ordering};
 use std::test::Fail;
@@ -62,11 +64,7 @@ fn meets<R: Threads + Wait + Clock + Sync>(
     };
     let divisor = Divisor::new(graph, amounts)?;
     let found = rank_with(rt, graph, 0, &divisor, degree, workers, &meeting)?;
-    let mut each_once = 0;
-    for piece in 0..workers.min(16) {
-        each_once |= 1u64 << (4 * piece);
-    }
-    if meeting.counts.load(Ordering::SeqCst) != each_once {
+    if meeting.counts.load(Ordering::SeqCst) != each_once(workers) {
         return Err(Fail::new("each piece enters the gate once"));
     }
     if meeting.has_missed.load(Ordering::SeqCst) {
@@ -75,43 +73,51 @@ fn meets<R: Threads + Wait + Clock + Sync>(
     Ok(found)
 }
 
+// The counts of so many pieces that entered once.
+fn each_once(workers: u32) -> u64 {
+    let mut counts = 0;
+    for piece in 0..workers.min(16) {
+        counts |= 1u64 << (4 * piece);
+    }
+    counts
+}
+
 // By hand: on the triangle a divisor of degree 0 is winnable where the amounts of the last two vertices agree but for a
 // multiple of 3, and all are won with a degree of at least 1. On the complete graph of four the canonical divisor has the
 // rank 3 - 1.
+static FIRST_LOSSES: [FirstLoss; 8] = [
+    (TRIANGLE, &[1, 0, 0], 1, &[0, 0, 1]),
+    (TRIANGLE, &[2, -1, -1], 0, &[]),
+    (TRIANGLE, &[2, 0, 0], 1, &[]),
+    (TRIANGLE, &[3, 0, 0], 3, &[0, 1, 2]),
+    (TRIANGLE, &[0, 0, 0], 1, &[0, 0, 1]),
+    (TRIANGLE, &[1, 0, 0], 150, &[0, 0, 150]),
+    (TRIANGLE, &[150, 0, 0], 150, &[0, 1, 149]),
+    (FOUR, &[1, 1, 1, 1], 2, &[]),
+];
+
 #[test]
 fn pieces_run_at_once(rt: HostRuntime) -> Result<(), Fail> {
-    let triangle = Graph::new(3, &[(0, 1, 1), (1, 2, 1), (0, 2, 1)])?;
-    let four = Graph::new(
-        4,
-        &[
-            (0, 1, 1),
-            (0, 2, 1),
-            (0, 3, 1),
-            (1, 2, 1),
-            (1, 3, 1),
-            (2, 3, 1),
-        ],
-    )?;
-    let cases: [(Graph, &[i64], u32, &[i64]); 8] = [
-        (triangle, &[1, 0, 0], 1, &[0, 0, 1]),
-        (triangle, &[2, -1, -1], 0, &[]),
-        (triangle, &[2, 0, 0], 1, &[]),
-        (triangle, &[3, 0, 0], 3, &[0, 1, 2]),
-        (triangle, &[0, 0, 0], 1, &[0, 0, 1]),
-        (triangle, &[1, 0, 0], 150, &[0, 0, 150]),
-        (triangle, &[150, 0, 0], 150, &[0, 1, 149]),
-        (four, &[1, 1, 1, 1], 2, &[]),
-    ];
-    for (graph, amounts, degree, loss) in cases {
-        let wanted = if loss.is_empty() {
-            RankVerdict::AtLeast(degree)
-        } else {
-            RankVerdict::Below(degree, Divisor::new(&graph, loss)?)
-        };
-        for workers in [1, 2, 3, 16] {
-            let found = meets(&rt, &graph, amounts, degree, workers)?;
-            assert!(rt; found == wanted, "{workers} workers at {amounts:?}");
-        }
+    for (edges, amounts, degree, loss) in &FIRST_LOSSES {
+        let graph = Graph::new(amounts.len(), edges)?;
+        let wanted = verdict(&graph, *degree, loss)?;
+        all_meet(&rt, &graph, amounts, *degree, &wanted)?;
+    }
+    Ok(())
+}
+
+// Whether this is the answer of pieces that meet, for several numbers of workers.
+fn all_meet<R: Threads + Wait + Clock + Sync + Abort>(
+    rt: &R,
+    graph: &Graph,
+    amounts: &[i64],
+    degree: u32,
+    wanted: &RankVerdict,
+) -> Result<(), Fail> {
+    for workers in [1, 2, 3, 16] {
+        assert!(rt; graph.size() > 0);
+        let found = meets(rt, graph, amounts, degree, workers)?;
+        assert!(rt; found == *wanted, "{workers} workers at {amounts:?}");
     }
     Ok(())
 }
@@ -119,26 +125,31 @@ fn pieces_run_at_once(rt: HostRuntime) -> Result<(), Fail> {
 // A cycle of four vertices, seen from the first, is in debt there; of the three tables some tests are settled by the degree.
 #[test]
 fn any_number_of_workers_agrees_with_one(rt: HostRuntime) -> Result<(), Fail> {
-    let triangle = Graph::new(3, &[(0, 1, 1), (1, 2, 1), (0, 2, 1)])?;
-    let square = Graph::new(4, &[(0, 1, 1), (1, 2, 1), (2, 3, 1), (0, 3, 1)])?;
-    let pair = Graph::new(2, &[(0, 1, 3)])?;
-    let cases: [(Graph, &[i64]); 3] = [
-        (triangle, &[3, 0, 0]),
-        (square, &[-2, 0, 3, 0]),
-        (pair, &[1, 1]),
-    ];
-    for (graph, amounts) in cases {
-        let divisor = Divisor::new(&graph, amounts)?;
-        for degree in 0..=4 {
-            let wanted = rank_at_least(&graph, 0, &divisor, degree);
-            for workers in 1..=16 {
-                let found = rank_with(&rt, &graph, 0, &divisor, degree, workers, &OpenGate);
-                assert!(rt;
-                    found == wanted,
-                    "{workers} workers, {degree} at {amounts:?}"
-                );
-            }
-        }
+    for degree in 0..=4 {
+        all_agree(&rt, TRIANGLE, &[3, 0, 0], degree)?;
+        all_agree(&rt, SQUARE, &[-2, 0, 3, 0], degree)?;
+        all_agree(&rt, PAIR, &[1, 1], degree)?;
+    }
+    Ok(())
+}
+
+// Whether each number of workers answers as one.
+fn all_agree<R: Threads + Wait + Abort>(
+    rt: &R,
+    edges: &[(u8, u8, u8)],
+    amounts: &[i64],
+    degree: u32,
+) -> Result<(), Fail> {
+    let graph = Graph::new(amounts.len(), edges)?;
+    let divisor = Divisor::new(&graph, amounts)?;
+    assert!(rt; graph.size() > 0);
+    let wanted = rank_at_least(&graph, 0, &divisor, degree);
+    for workers in 1..=16 {
+        let found = rank_with(rt, &graph, 0, &divisor, degree, workers, &OpenGate);
+        assert!(rt;
+            found == wanted,
+            "{workers} workers, {degree} at {amounts:?}"
+        );
     }
     Ok(())
 }

@@ -3,7 +3,8 @@
 use dg_chips::{Divisor, Script, Wide};
 use dg_graph::Graph;
 use dg_reduce::Aim;
-use dg_verdict::{judge, judge_aimed};
+use dg_verdict::{Verdict, judge, judge_aimed};
+use std::process::Abort;
 use std::test::Fail;
 
 /// Edges, q, amounts, whether they are winnable, the script, the reduced amounts, and the first places of the order.
@@ -85,27 +86,52 @@ static CASES: [Case; 7] = [
 
 #[test]
 fn what_is_winnable(rt: HostRuntime) -> Result<(), Fail> {
-    for (items, q, amounts, winnable, entries, chips, order) in CASES {
-        let graph = Graph::new(amounts.len(), items)?;
-        let divisor = Divisor::new(&graph, amounts)?;
-        assert!(rt; q < graph.size());
-        let verdict = judge(&graph, q, &divisor);
-        assert_eq!(rt; verdict.winnable, winnable);
-        assert!(rt;
-            verdict.script == Script::new(&graph, entries)?,
-            "{entries:?}"
-        );
-        assert!(rt; verdict.reduced == Wide::new(&graph, chips)?, "{chips:?}");
-        assert!(rt; verdict.order.starts_with(order), "{order:?}");
-        // An aim at another vertex changes nothing.
-        let aim = Aim::new(&graph, 0);
-        assert!(rt; judge_aimed(&graph, &aim, q, &divisor) == verdict);
+    for case in &CASES {
+        is_judged(&rt, case)?;
     }
     Ok(())
 }
 
+fn is_judged(rt: &impl Abort, case: &Case) -> Result<(), Fail> {
+    let (items, q, amounts, winnable, entries, chips, order) = case;
+    let graph = Graph::new(amounts.len(), items)?;
+    let divisor = Divisor::new(&graph, amounts)?;
+    assert!(rt; *q < graph.size());
+    let verdict = judge(&graph, *q, &divisor);
+    assert!(rt;
+        is_won_by(&graph, &verdict, *winnable, entries, chips)?,
+        "{entries:?}"
+    );
+    assert!(rt; verdict.order.starts_with(order), "{order:?}");
+    // An aim at another vertex changes nothing.
+    let aim = Aim::new(&graph, 0);
+    assert!(rt; judge_aimed(&graph, &aim, *q, &divisor) == verdict);
+    Ok(())
+}
+
+// Whether the verdict says so, with this script and these reduced amounts.
+fn is_won_by(
+    graph: &Graph,
+    verdict: &Verdict,
+    winnable: bool,
+    entries: &[i64],
+    chips: &[i128],
+) -> Result<bool, Fail> {
+    let script = Script::new(graph, entries)?;
+    let reduced = Wide::new(graph, chips)?;
+    Ok(verdict.winnable == winnable && verdict.script == script && verdict.reduced == reduced)
+}
+
 #[test]
 fn sixteen_vertices(rt: HostRuntime) -> Result<(), Fail> {
+    let graph = complete()?;
+    assert!(rt; is_judged_alike(&graph, 1_000_000, true)?);
+    assert!(rt; is_judged_alike(&graph, -1_000_000, false)?);
+    Ok(())
+}
+
+// Sixteen vertices, each joined to each of the others by four edges.
+fn complete() -> Result<Graph, Fail> {
     let mut items = [(0, 0, 0); 120];
     let mut count = 0;
     for v in 0..16u8 {
@@ -116,17 +142,18 @@ fn sixteen_vertices(rt: HostRuntime) -> Result<(), Fail> {
             }
         }
     }
-    let graph = Graph::new(16, &items)?;
-    for (amount, winnable) in [(1_000_000, true), (-1_000_000, false)] {
-        let divisor = Divisor::new(&graph, &[amount; 16])?;
-        let verdict = judge(&graph, 0, &divisor);
-        let mut entries = [amount / 4; 16];
-        entries[0] = 0;
-        let mut chips = [0; 16];
-        chips[0] = i128::from(amount) * 16;
-        assert_eq!(rt; verdict.winnable, winnable);
-        assert!(rt; verdict.script == Script::new(&graph, &entries)?);
-        assert!(rt; verdict.reduced == Wide::new(&graph, &chips)?);
+    Ok(Graph::new(16, &items)?)
+}
+
+// Whether vertex 0 gets all where each vertex has the same amount.
+fn is_judged_alike(graph: &Graph, amount: i64, winnable: bool) -> Result<bool, Fail> {
+    if graph.size() != 16 {
+        return Ok(false);
     }
-    Ok(())
+    let verdict = judge(graph, 0, &Divisor::new(graph, &[amount; 16])?);
+    let mut entries = [amount / 4; 16];
+    entries[0] = 0;
+    let mut chips = [0; 16];
+    chips[0] = i128::from(amount) * 16;
+    is_won_by(graph, &verdict, winnable, &entries, &chips)
 }

@@ -1,6 +1,10 @@
 //! What table files describe, and what is a name.
 
+use dg_chips::Start;
 use dg_file::{Names, is_name, read_table};
+use dg_graph::Graph;
+use std::alloc::Global;
+use std::process::Abort;
 use std::test::Fail;
 
 // The vertices of the second edge stand the other way round.
@@ -17,39 +21,48 @@ const ALONE: &str = r#"{"vertices":["a"],"edges":[],"amounts":[-1],"q":"a"}"#;
 #[test]
 fn table_files_are_read(rt: HostRuntime) -> Result<(), Fail> {
     let table = read_table(rt.alloc(), THREE.as_bytes())?;
-    let names = table.names();
-    let start = table.start();
-    let graph = start.graph();
-    assert_eq!(rt; graph.size(), 3);
-    assert_eq!(rt; names.len(), 3);
-    assert!(rt; names.name(0) == "A" && names.name(1) == "b_2" && names.name(2) == "3");
-    assert_eq!(rt; graph.edges(0, 1), 5);
-    assert_eq!(rt; graph.edges(1, 2), 2);
-    assert_eq!(rt; graph.edges(0, 2), 0);
-    let divisor = start.divisor();
-    assert_eq!(rt; divisor.size(), 3);
-    assert!(rt; divisor.get(0) == 2 && divisor.get(1) == -1 && divisor.get(2) == 1_000_000);
-    assert_eq!(rt; start.q(), 1);
+    has_three_names(&rt, table.names());
+    starts_with_three(&rt, table.start());
     Ok(())
+}
+
+fn has_three_names(rt: &impl Abort, names: &Names) {
+    assert!(rt; names.len() == 3);
+    assert!(rt; names.name(0) == "A" && names.name(1) == "b_2" && names.name(2) == "3");
+}
+
+fn starts_with_three(rt: &impl Abort, start: &Start) {
+    let graph = start.graph();
+    assert!(rt; graph.size() == 3);
+    assert!(rt; graph.edges(0, 1) == 5 && graph.edges(1, 2) == 2 && graph.edges(0, 2) == 0);
+    let divisor = start.divisor();
+    assert!(rt; divisor.size() == 3);
+    assert!(rt; divisor.get(0) == 2 && divisor.get(1) == -1 && divisor.get(2) == 1_000_000);
+    assert!(rt; start.q() == 1);
 }
 
 #[test]
 fn edges_of_one_pair_are_added_up(rt: HostRuntime) -> Result<(), Fail> {
     let twice = read_table(rt.alloc(), TWICE.as_bytes())?;
-    let pair = twice.start().graph();
-    assert_eq!(rt; pair.size(), 2);
-    assert_eq!(rt; pair.edges(0, 1), 3);
+    joins_two(&rt, twice.start().graph());
     Ok(())
+}
+
+fn joins_two(rt: &impl Abort, pair: &Graph) {
+    assert!(rt; pair.size() == 2);
+    assert!(rt; pair.edges(0, 1) == 3);
 }
 
 #[test]
 fn a_table_may_have_one_vertex(rt: HostRuntime) -> Result<(), Fail> {
     let alone = read_table(rt.alloc(), ALONE.as_bytes())?;
-    let debt = alone.start().divisor();
-    assert_eq!(rt; debt.size(), 1);
-    assert_eq!(rt; debt.get(0), -1);
-    assert_eq!(rt; alone.start().q(), 0);
+    starts_alone(&rt, alone.start());
     Ok(())
+}
+
+fn starts_alone(rt: &impl Abort, start: &Start) {
+    assert!(rt; start.divisor().size() == 1);
+    assert!(rt; start.divisor().get(0) == -1 && start.q() == 0);
 }
 
 // Bytes, and whether they are a name.
@@ -67,19 +80,31 @@ static NAMES: [(&[u8], bool); 10] = [
 ];
 
 #[test]
-fn names_are_kept_once(rt: HostRuntime) -> Result<(), Fail> {
-    let alloc = rt.alloc();
+fn names_are_told_from_other_texts(rt: HostRuntime) {
     for (bytes, want) in &NAMES {
         assert!(rt; is_name(bytes) == *want, "{:?}", bytes);
     }
-    let mut names = Names::new(alloc);
+}
+
+#[test]
+fn names_are_kept_once(rt: HostRuntime) -> Result<(), Fail> {
+    let mut names = Names::new(rt.alloc());
+    keeps_one(&rt, rt.alloc(), &mut names)?;
+    finds_one(&rt, &names);
+    Ok(())
+}
+
+fn keeps_one(rt: &impl Abort, alloc: Global, names: &mut Names) -> Result<(), Fail> {
     assert!(rt; names.is_empty() && names.place(b"a").is_none());
     assert!(rt; names.add(alloc, "a")?);
     assert!(rt; !names.add(alloc, "a")? && !names.is_empty());
+    Ok(())
+}
+
+fn finds_one(rt: &impl Abort, names: &Names) {
     assert!(rt; names.place(b"a") == Some(0) && names.place(b"A").is_none());
-    assert_eq!(rt; names.len(), 1);
+    assert!(rt; names.len() == 1);
     let mut line = [b'.'; 20];
     let start = names.write_label(0, &mut line, 19);
     assert!(rt; &line[start..] == b" a=.".as_slice());
-    Ok(())
 }

@@ -1,6 +1,8 @@
 //! Table files that are refused, and why.
 
 use dg_file::{FileFault, read_table};
+use std::alloc::Global;
+use std::process::Abort;
 use std::test::Fail;
 
 // A line is a table file, and the text of the fault for which it is refused.
@@ -133,20 +135,33 @@ const TWO_FAULTS: &str = r#"{"vertices":["a","a"],"edges":[],"amounts":[0,0],"q"
 
 #[test]
 fn table_files_are_refused(rt: HostRuntime) -> Result<(), Fail> {
-    let alloc = rt.alloc();
     for lines in [REFUSED, TWO_FAULTS] {
         for line in lines.lines() {
-            let (file, text) = line.split_once(" => ").unwrap_or((line, ""));
-            let told = match read_table(alloc, file.as_bytes()) {
-                Ok(_) => String::new(alloc),
-                Err(fault) => format!(in alloc; "{fault}")?,
-            };
-            assert!(rt; !text.is_empty() && told.as_str() == text, "{line}");
+            is_refused(&rt, rt.alloc(), line)?;
         }
     }
-    assert!(rt; read_table(alloc, b"\xff").err() == Some(FileFault::Json));
+    Ok(())
+}
+
+// A line is a table file and the text of its fault.
+fn is_refused(rt: &impl Abort, alloc: Global, line: &str) -> Result<(), Fail> {
+    let (file, text) = line.split_once(" => ").ok_or("a file and a fault")?;
+    let fault = fault_of(alloc, file.as_bytes()).ok_or("a fault")?;
+    let told = format!(in alloc; "{fault}")?;
+    assert!(rt; told.as_str() == text, "{line}");
+    Ok(())
+}
+
+fn fault_of(alloc: Global, file: &[u8]) -> Option<FileFault> {
+    read_table(alloc, file).err()
+}
+
+#[test]
+fn what_is_no_json_is_refused(rt: HostRuntime) -> Result<(), Fail> {
+    let alloc = rt.alloc();
+    assert!(rt; fault_of(alloc, b"\xff") == Some(FileFault::Json));
     let spaces = vec![in alloc; b' '; 20_000]?;
-    assert!(rt; read_table(alloc, &spaces).err() == Some(FileFault::Json));
+    assert!(rt; fault_of(alloc, &spaces) == Some(FileFault::Json));
     let told = format!(in alloc; "{}", FileFault::OutOfMemory)?;
     assert!(rt; told.as_str() == "out of memory");
     Ok(())

@@ -7,6 +7,7 @@ use dg_graph::Graph;
 use dg_lines::{history_lines, parse_steps};
 use dg_rehearsal::rehearse;
 use std::alloc::Global;
+use std::process::Abort;
 use std::test::Fail;
 
 // The lines of the history that the steps make; none where there are not as many names as vertices.
@@ -49,26 +50,49 @@ static ON_THE_TRIANGLE: [([i64; 3], &str, &str); 4] = [
 
 #[test]
 fn joins_are_played(rt: HostRuntime) -> Result<(), Fail> {
-    let alloc = rt.alloc();
-    let names = triangle(alloc)?;
-    let graph = Graph::new(3, &[(0, 1, 1), (1, 2, 1), (0, 2, 1)])?;
+    let names = triangle(rt.alloc())?;
     for (amounts, steps, want) in &ON_THE_TRIANGLE {
-        let start = Start::new(graph, Divisor::new(&graph, amounts)?, 0)?;
-        let text = played(alloc, &start, &names, steps)?;
-        assert!(rt; text.as_slice() == want.as_bytes(), "at {steps:?}");
+        makes(
+            &rt,
+            rt.alloc(),
+            &on_a_triangle(amounts)?,
+            &names,
+            steps,
+            want,
+        )?;
     }
+    Ok(())
+}
+
+fn on_a_triangle(amounts: &[i64]) -> Result<Start, Fail> {
+    let graph = Graph::new(3, &[(0, 1, 1), (1, 2, 1), (0, 2, 1)])?;
+    Ok(Start::new(graph, Divisor::new(&graph, amounts)?, 0)?)
+}
+
+// That the steps make this history.
+fn makes(
+    rt: &impl Abort,
+    alloc: Global,
+    start: &Start,
+    names: &Names,
+    steps: &str,
+    want: &str,
+) -> Result<(), Fail> {
+    let text = played(alloc, start, names, steps)?;
+    assert!(rt; text.as_slice() == want.as_bytes(), "at {steps:?}");
     Ok(())
 }
 
 #[test]
 fn a_full_vertex_refuses_a_join(rt: HostRuntime) -> Result<(), Fail> {
-    let alloc = rt.alloc();
-    let names = named(alloc, &["a", "b"])?;
-    let graph = Graph::new(2, &[(0, 1, 63)])?;
-    let start = Start::new(graph, Divisor::new(&graph, &[0, 0])?, 0)?;
+    let names = named(rt.alloc(), &["a", "b"])?;
+    let start = on_sixty_three_edges()?;
     let steps = "1 look\n2 join a b\n1 commit\n";
     let want = "0 looked 0 a=0 b=0\n1 refused valence\n2 winnable by a=0 b=0 to a=0 b=0\n";
-    let text = played(alloc, &start, &names, steps)?;
-    assert!(rt; text.as_slice() == want.as_bytes());
-    Ok(())
+    makes(&rt, rt.alloc(), &start, &names, steps, want)
+}
+
+fn on_sixty_three_edges() -> Result<Start, Fail> {
+    let graph = Graph::new(2, &[(0, 1, 63)])?;
+    Ok(Start::new(graph, Divisor::new(&graph, &[0, 0])?, 0)?)
 }

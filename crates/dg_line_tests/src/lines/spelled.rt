@@ -2,9 +2,12 @@
 
 use crate::lines::{named, triangle};
 use dg_chips::{Move, Script};
+use dg_file::Names;
 use dg_game::{Command, Plain, Step};
 use dg_graph::Graph;
 use dg_lines::{LineFault, StepsFault, parse_line, parse_step, parse_steps};
+use std::alloc::{AllocError, Global};
+use std::process::Abort;
 use std::test::Fail;
 
 fn play(play: Move) -> Command {
@@ -50,33 +53,51 @@ static RANKS: [(&str, u32); 3] = [
 #[test]
 fn lines_are_commands(rt: HostRuntime) -> Result<(), Fail> {
     let names = triangle(rt.alloc())?;
+    calls_are_read(&rt, &names);
+    findings_are_read(&rt, &names);
+    scripts_are_read(&rt, &names)
+}
+
+// That the line spells the command.
+fn spells(rt: &impl Abort, names: &Names, line: &[u8], command: Command) {
+    assert!(rt; parse_line(line, names) == Ok(command), "at {line:?}");
+}
+
+fn calls_are_read(rt: &impl Abort, names: &Names) {
     for (line, call) in &CALLS {
-        let found = parse_line(line.as_bytes(), &names);
-        assert!(rt; found == Ok(Command::Call(*call)), "at {line:?}");
+        spells(rt, names, line.as_bytes(), Command::Call(*call));
     }
+}
+
+fn findings_are_read(rt: &impl Abort, names: &Names) {
+    for (line, degree) in &RANKS {
+        spells(rt, names, line.as_bytes(), Command::Rank(*degree));
+    }
+    spells(rt, names, b"commit", Command::Commit);
+}
+
+fn scripts_are_read(rt: &impl Abort, names: &Names) -> Result<(), Fail> {
     let graph = Graph::new(3, &[(0, 1, 1), (1, 2, 1)])?;
     for (line, entries) in &SCRIPTS {
         let script = Script::new(&graph, entries)?;
-        let found = parse_line(line.as_bytes(), &names);
-        assert!(rt; found == Ok(play(Move::Script(script))), "at {line:?}");
+        spells(rt, names, line.as_bytes(), play(Move::Script(script)));
     }
-    for (line, degree) in &RANKS {
-        let found = parse_line(line.as_bytes(), &names);
-        assert!(rt; found == Ok(Command::Rank(*degree)), "at {line:?}");
-    }
-    assert!(rt; parse_line(b"commit", &names) == Ok(Command::Commit));
     Ok(())
 }
 
 #[test]
 fn lines_may_name_sixteen_vertices(rt: HostRuntime) -> Result<(), Fail> {
     let names = named(rt.alloc(), &LETTERS)?;
+    let line = b"fire b,a,c,d,e,f,g,h,i,j,k,l,m,n,o,p";
+    spells(&rt, &names, line, play(Move::Fire(65535)));
+    sixteen_entries_are_read(&rt, &names)
+}
+
+fn sixteen_entries_are_read(rt: &impl Abort, names: &Names) -> Result<(), Fail> {
     let line = b"script p=16,b=2,c=3,d=4,e=5,f=6,g=7,h=8,i=9,j=10,k=11,l=12,m=13,n=14,o=15,a=1";
     let numbers = [1, 2, 3, 4, 5, 6, 7, 8, 9, 10, 11, 12, 13, 14, 15, 16];
-    let full = Script::new(&Graph::new(16, &PATH)?, &numbers)?;
-    assert!(rt; parse_line(line, &names) == Ok(play(Move::Script(full))));
-    let line = b"fire b,a,c,d,e,f,g,h,i,j,k,l,m,n,o,p";
-    assert!(rt; parse_line(line, &names) == Ok(play(Move::Fire(65535))));
+    let script = Script::new(&Graph::new(16, &PATH)?, &numbers)?;
+    spells(rt, names, line, play(Move::Script(script)));
     Ok(())
 }
 
@@ -107,43 +128,63 @@ static PATH: [(u8, u8, u8); 15] = [
 fn lines_are_refused(rt: HostRuntime) -> Result<(), Fail> {
     let names = triangle(rt.alloc())?;
     for (line, fault) in &REFUSED {
-        let want = Err(*fault);
-        assert!(rt; parse_line(line.as_bytes(), &names) == want, "at {line:?}");
+        is_refused(&rt, &names, line.as_bytes(), *fault);
     }
-    let table = [
-        (b"\xff".as_slice(), LineFault::Word),
-        (b"lend \xff".as_slice(), LineFault::Name),
-        (b"fire a,\xff".as_slice(), LineFault::Name),
-        (b"script \xff=1".as_slice(), LineFault::Name),
-        (b"script a=\xff".as_slice(), LineFault::Number),
-        (b"gift a \xff".as_slice(), LineFault::Number),
-        (b"join a \xff".as_slice(), LineFault::Name),
-        (b"rank \xff".as_slice(), LineFault::Number),
-    ];
-    for (line, fault) in table {
-        assert!(rt; parse_line(line, &names) == Err(fault));
-    }
-    let long = [
-        ("", "a", LineFault::Word),
-        ("lend ", "a", LineFault::Name),
-        ("fire ", "a,", LineFault::Name),
-        ("script ", "a=1,", LineFault::Name),
-        ("script a=", "1", LineFault::Number),
-        ("gift a ", "1", LineFault::Number),
-        ("join a ", "a", LineFault::Name),
-        ("rank ", "1", LineFault::Number),
-        ("look", " ", LineFault::Form),
-    ];
-    for (head, part, fault) in long {
-        let mut line = Vec::new(rt.alloc());
-        line.extend_from_slice(head.as_bytes())?;
-        for _ in 0..100_000 {
-            line.extend_from_slice(part.as_bytes())?;
-        }
-        assert!(rt; parse_line(&line, &names) == Err(fault), "at {head:?}");
+    for (line, fault) in &NOT_UTF8 {
+        is_refused(&rt, &names, line, *fault);
     }
     Ok(())
 }
+
+// That the line spells no command, for this fault.
+fn is_refused(rt: &impl Abort, names: &Names, line: &[u8], fault: LineFault) {
+    assert!(rt; parse_line(line, names) == Err(fault), "at {line:?}");
+}
+
+#[test]
+fn long_lines_are_refused(rt: HostRuntime) -> Result<(), Fail> {
+    let names = triangle(rt.alloc())?;
+    for (head, part, fault) in &LONG {
+        let line = long_line(rt.alloc(), head, part)?;
+        let read = parse_line(&line, &names);
+        assert!(rt; read == Err(*fault), "at {head:?}");
+    }
+    Ok(())
+}
+
+// The head, and the part a hundred thousand times.
+fn long_line(alloc: Global, head: &str, part: &str) -> Result<Vec<u8>, AllocError> {
+    let mut line = Vec::new(alloc);
+    line.extend_from_slice(head.as_bytes())?;
+    for _ in 0..100_000 {
+        line.extend_from_slice(part.as_bytes())?;
+    }
+    Ok(line)
+}
+
+static NOT_UTF8: [(&[u8], LineFault); 8] = [
+    (b"\xff", LineFault::Word),
+    (b"lend \xff", LineFault::Name),
+    (b"fire a,\xff", LineFault::Name),
+    (b"script \xff=1", LineFault::Name),
+    (b"script a=\xff", LineFault::Number),
+    (b"gift a \xff", LineFault::Number),
+    (b"join a \xff", LineFault::Name),
+    (b"rank \xff", LineFault::Number),
+];
+
+// The heads of long lines, what follows them again and again, and why such lines are refused.
+static LONG: [(&str, &str, LineFault); 9] = [
+    ("", "a", LineFault::Word),
+    ("lend ", "a", LineFault::Name),
+    ("fire ", "a,", LineFault::Name),
+    ("script ", "a=1,", LineFault::Name),
+    ("script a=", "1", LineFault::Number),
+    ("gift a ", "1", LineFault::Number),
+    ("join a ", "a", LineFault::Name),
+    ("rank ", "1", LineFault::Number),
+    ("look", " ", LineFault::Form),
+];
 
 // Lines that are no commands, and why.
 static REFUSED: [(&str, LineFault); 102] = [
@@ -260,30 +301,36 @@ fn loan(seat: u8) -> Step {
 #[test]
 fn lines_are_steps(rt: HostRuntime) -> Result<(), Fail> {
     let names = triangle(rt.alloc())?;
-    let table = [
-        ("1 lend a", Ok(loan(1))),
-        ("10 lend a", Ok(loan(10))),
-        ("64 lend a", Ok(loan(64))),
-        ("1 lend z", Err(LineFault::Name)),
-        ("1 rank -1", Err(LineFault::Number)),
-        ("1 lend", Err(LineFault::Form)),
-        ("1 ", Err(LineFault::Word)),
-        ("1  lend a", Err(LineFault::Word)),
-        ("0 lend a", Err(LineFault::Seat)),
-        ("65 lend a", Err(LineFault::Seat)),
-        ("01 lend a", Err(LineFault::Seat)),
-        ("+1 lend a", Err(LineFault::Seat)),
-        ("-1 lend a", Err(LineFault::Seat)),
-        (" lend a", Err(LineFault::Seat)),
-        ("lend a", Err(LineFault::Seat)),
-        ("1", Err(LineFault::Seat)),
-        ("", Err(LineFault::Seat)),
-    ];
-    for (line, want) in table {
-        assert!(rt; parse_step(line.as_bytes(), &names) == want, "at {line:?}");
+    for (line, seat) in [("1 lend a", 1), ("10 lend a", 10), ("64 lend a", 64)] {
+        is_step(&rt, &names, line, Ok(loan(seat)));
+    }
+    for (line, fault) in &NO_STEPS {
+        is_step(&rt, &names, line, Err(*fault));
     }
     Ok(())
 }
+
+// That the line is read as this step, or refused so.
+fn is_step(rt: &impl Abort, names: &Names, line: &str, want: Result<Step, LineFault>) {
+    assert!(rt; parse_step(line.as_bytes(), names) == want, "at {line:?}");
+}
+
+static NO_STEPS: [(&str, LineFault); 14] = [
+    ("1 lend z", LineFault::Name),
+    ("1 rank -1", LineFault::Number),
+    ("1 lend", LineFault::Form),
+    ("1 ", LineFault::Word),
+    ("1  lend a", LineFault::Word),
+    ("0 lend a", LineFault::Seat),
+    ("65 lend a", LineFault::Seat),
+    ("01 lend a", LineFault::Seat),
+    ("+1 lend a", LineFault::Seat),
+    ("-1 lend a", LineFault::Seat),
+    (" lend a", LineFault::Seat),
+    ("lend a", LineFault::Seat),
+    ("1", LineFault::Seat),
+    ("", LineFault::Seat),
+];
 
 #[test]
 fn a_file_is_its_lines(rt: HostRuntime) -> Result<(), Fail> {
@@ -292,15 +339,25 @@ fn a_file_is_its_lines(rt: HostRuntime) -> Result<(), Fail> {
         line: 2,
         fault: LineFault::Name,
     };
-    let table = [
+    for (text, want) in [
         ("", Ok(0)),
         ("1 lend a\n2 borrow b\n", Ok(2)),
         ("1 lend a\n2 borrow b", Ok(2)),
         ("1 lend a\n1 lend z\nlend", Err(refused)),
-    ];
-    for (text, want) in table {
-        let read = parse_steps(rt.alloc(), text.as_bytes(), &names);
-        assert!(rt; read.map(|steps| steps.len()) == want, "at {text:?}");
+    ] {
+        has_steps(&rt, rt.alloc(), &names, text, want);
     }
     Ok(())
+}
+
+// That the text has so many steps, or is refused so.
+fn has_steps(
+    rt: &impl Abort,
+    alloc: Global,
+    names: &Names,
+    text: &str,
+    want: Result<usize, StepsFault>,
+) {
+    let read = parse_steps(alloc, text.as_bytes(), names);
+    assert!(rt; read.map(|steps| steps.len()) == want, "at {text:?}");
 }

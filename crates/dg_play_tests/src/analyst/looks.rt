@@ -3,10 +3,12 @@
 use crate::gates::Counts;
 use crate::openings::{Scene, on_a_table};
 use crate::tables::{triangle, winnable};
-use dg_analyst::{commit, commit_look, commit_rank, look, reckon, reckon_aimed, try_rank};
-use dg_chips::{Divisor, Move};
+use dg_analyst::{
+    Look, Reckoned, Tried, commit, commit_look, commit_rank, look, reckon, reckon_aimed, try_rank,
+};
+use dg_chips::{Divisor, Move, Start};
 use dg_game::{Plain, Reply};
-use dg_log::Name;
+use dg_log::{Log, Name, Receipt};
 use dg_rank::{OpenGate, RankFault};
 use dg_ranked::RankVerdict;
 use dg_table::{Seat, Table};
@@ -49,23 +51,61 @@ pub(crate) fn judged<N: Name, R: Wait + Abort>(
     reply: Reply,
 ) -> Result<(), Fail> {
     let taken = look(table, rt, alloc, first)?;
-    assert_eq!(rt; (taken.receipt().number(), taken.gifts()), (0, 0));
-    assert!(rt; *taken.position() == *table.start().divisor());
-    assert_eq!(rt; taken.graph().size(), 3);
-    let kept = first.last_look().ok_or("a look")?;
-    assert_eq!(rt; (kept.number, kept.gifts), (0, 0));
-    assert!(rt; kept.position == *taken.position());
+    finds_the_start(rt, table.start(), &taken);
+    keeps_the_look(rt, first, &taken)?;
     let reckoned = reckon(taken);
     assert!(rt; reckoned.verdict().winnable);
     table.call(rt, alloc, second, between)?;
-    let receipt = commit(table, rt, alloc, first, reckoned)
+    enters_the_verdict(rt, alloc, table, first, reckoned, &reply)?;
+    enters_on_a_look_of(rt, alloc, table, first, second)
+}
+
+// The first look on a table shows its start.
+fn finds_the_start<N: Name>(rt: &impl Abort, start: &Start, taken: &Look<N>) {
+    assert!(rt; taken.receipt().number() == 0 && taken.gifts() == 0);
+    assert!(rt; *taken.position() == *start.divisor());
+    assert!(rt; taken.graph().size() == 3);
+}
+
+fn keeps_the_look<N: Name>(rt: &impl Abort, seat: &Seat<N>, taken: &Look<N>) -> Result<(), Fail> {
+    let kept = seat.last_look().ok_or("a look")?;
+    assert!(rt; kept.number == 0 && kept.gifts == 0);
+    assert!(rt; kept.position == *taken.position());
+    Ok(())
+}
+
+fn enters_the_verdict<N: Name, R: Wait + Abort>(
+    rt: &R,
+    alloc: Global,
+    table: &Table<N>,
+    seat: &mut Seat<N>,
+    reckoned: Reckoned<N>,
+    reply: &Reply,
+) -> Result<(), Fail> {
+    let receipt = commit(table, rt, alloc, seat, reckoned)
         .ok()
         .ok_or("an entry")?;
-    assert_eq!(rt; receipt.number(), 2);
-    assert!(rt; table.log().entry(&receipt).reply == reply);
+    is_third(rt, table.log(), &receipt, reply);
+    Ok(())
+}
+
+// The third entry has this reply.
+fn is_third<N: Name>(rt: &impl Abort, log: &Log<N>, receipt: &Receipt<N>, reply: &Reply) {
+    assert!(rt; receipt.number() == 2);
+    assert!(rt; log.entry(receipt).reply == *reply);
+}
+
+// The second seat looks, and the first enters a verdict on that.
+fn enters_on_a_look_of<N: Name, R: Wait + Abort>(
+    rt: &R,
+    alloc: Global,
+    table: &Table<N>,
+    first: &mut Seat<N>,
+    second: &mut Seat<N>,
+) -> Result<(), Fail> {
     let taken = look(table, rt, alloc, second)?;
     let receipt = commit_look(table, rt, alloc, first, &taken)?;
-    assert_eq!(rt; (taken.receipt().number(), receipt.number()), (3, 4));
+    assert!(rt; taken.receipt().number() == 3 && receipt.number() == 4);
     assert!(rt; is_won(&table.log().entry(&receipt).reply));
     Ok(())
 }
@@ -88,17 +128,25 @@ pub(crate) fn ranked<N: Name, R: Threads + Wait + Abort>(
 ) -> Result<(), Fail> {
     let taken = look(table, rt, alloc, first)?;
     table.call(rt, alloc, second, LEND)?;
-    let gate = Counts::new();
-    let tried = try_rank(rt, taken, 1, 2, &gate).ok().ok_or("a rank test")?;
-    assert_eq!(rt; gate.all(), 0x11);
     let below = RankVerdict::Below(1, Divisor::new(table.start().graph(), &[0, 0, 1])?);
-    assert!(rt; *tried.verdict() == below);
+    let tried = tried_by_two(rt, taken, &below)?;
     let receipt = commit_rank(table, rt, alloc, first, tried)
         .ok()
         .ok_or("an entry")?;
-    assert_eq!(rt; receipt.number(), 2);
-    assert!(rt; table.log().entry(&receipt).reply == Reply::Rank(below));
+    is_third(rt, table.log(), &receipt, &Reply::Rank(below));
     Ok(())
+}
+
+fn tried_by_two<N: Name, R: Threads + Wait + Abort>(
+    rt: &R,
+    taken: Look<N>,
+    verdict: &RankVerdict,
+) -> Result<Tried<N>, Fail> {
+    let gate = Counts::new();
+    let tried = try_rank(rt, taken, 1, 2, &gate).ok().ok_or("a rank test")?;
+    assert!(rt; gate.all() == 0x11);
+    assert!(rt; *tried.verdict() == *verdict);
+    Ok(tried)
 }
 
 // A rank test past the limits, of which there are 200,028 trials, gives the look back, and a verdict can still be entered on it.
@@ -110,19 +158,28 @@ pub(crate) fn asks_too_much<N: Name, R: Threads + Wait + Abort>(
     second: &mut Seat<N>,
 ) -> Result<(), Fail> {
     let taken = look(table, rt, alloc, first)?;
-    let (taken, fault) = try_rank(rt, taken, 631, 1, &OpenGate)
-        .err()
-        .ok_or("a test past the limits")?;
-    assert_eq!(rt; fault, RankFault::TooMany);
-    let (taken, fault) = try_rank(rt, taken, 0, 17, &OpenGate)
-        .err()
-        .ok_or("a test with too many workers")?;
-    assert_eq!(rt; fault, RankFault::Workers);
-    assert_eq!(rt; (taken.receipt().number(), first.calls()), (0, 1));
+    let taken = given_back(rt, taken, 631, 1, RankFault::TooMany)?;
+    let taken = given_back(rt, taken, 0, 17, RankFault::Workers)?;
+    assert!(rt; taken.receipt().number() == 0 && first.calls() == 1);
     let reckoned = reckon_aimed(taken, table.aim());
     let receipt = commit(table, rt, alloc, second, reckoned)
         .ok()
         .ok_or("an entry")?;
-    assert_eq!(rt; (receipt.number(), second.calls()), (1, 1));
+    assert!(rt; receipt.number() == 1 && second.calls() == 1);
     Ok(())
+}
+
+// The look, after a rank test on it is refused with this fault.
+fn given_back<N: Name, R: Threads + Wait + Abort>(
+    rt: &R,
+    taken: Look<N>,
+    k: u32,
+    workers: u32,
+    fault: RankFault,
+) -> Result<Look<N>, Fail> {
+    let (taken, found) = try_rank(rt, taken, k, workers, &OpenGate)
+        .err()
+        .ok_or("a test past the limits")?;
+    assert!(rt; found == fault);
+    Ok(taken)
 }

@@ -79,31 +79,57 @@ pub(crate) fn watched<N: Name, R: Wait + Abort>(
     counts_gifts(rt, alloc, log)?;
     table.call(rt, alloc, second, Plain::Move(Move::Lend(3)))?;
     counts_entries(rt, alloc, log)?;
+    counts_refused_moves(rt, alloc, log)?;
+    has_no_memory(rt, alloc, log);
     follows_the_position(rt, alloc, log, table.start().divisor())
 }
 
 // Of two entries the second is a gift.
 fn counts_gifts<N: Name>(rt: &impl Abort, alloc: Global, log: &Log<N>) -> Result<(), Fail> {
     let mut gifts = Observer::<N, Gifts>::new(alloc, Gifts, 0);
-    assert_eq!(rt; (gifts.catch_up(log)?, *gifts.state()), (2, 1));
-    assert_eq!(rt; (gifts.catch_up(log)?, gifts.count()), (0, 2));
-    assert_eq!(rt; gifts.receipt(1).number(), 1);
+    reads_two(rt, log, &mut gifts)
+}
+
+fn reads_two<N: Name>(
+    rt: &impl Abort,
+    log: &Log<N>,
+    gifts: &mut Observer<N, Gifts>,
+) -> Result<(), Fail> {
+    let read = gifts.catch_up(log)?;
+    assert!(rt; read == 2 && *gifts.state() == 1);
+    let more = gifts.catch_up(log)?;
+    assert!(rt; more == 0 && gifts.count() == 2);
+    assert!(rt; gifts.receipt(1).number() == 1);
     Ok(())
 }
 
-// The third entry is the only refused move, of seat 2. Where there is no memory for it, what was read before stands.
 fn counts_entries<N: Name>(rt: &impl Abort, alloc: Global, log: &Log<N>) -> Result<(), Fail> {
     let mut entries = Observer::<N, Entries>::new(alloc, Entries, 0);
-    assert_eq!(rt; (entries.catch_up(log)?, *entries.state()), (3, 3));
+    let read = entries.catch_up(log)?;
+    assert!(rt; read == 3 && *entries.state() == 3);
+    Ok(())
+}
+
+// The third entry is the only refused move, of seat 2.
+fn counts_refused_moves<N: Name>(rt: &impl Abort, alloc: Global, log: &Log<N>) -> Result<(), Fail> {
     let mut refused = Observer::<N, RefusedMoves>::new(alloc, RefusedMoves, [0; 64]);
-    assert_eq!(rt; refused.catch_up(log)?, 3);
+    let read = refused.catch_up(log)?;
+    assert!(rt; read == 3);
     assert!(rt; refused.state()[0] == 0 && refused.state()[1] == 1);
+    Ok(())
+}
+
+// Where there is no memory for the third entry, what was read before stands.
+fn has_no_memory<N: Name>(rt: &impl Abort, alloc: Global, log: &Log<N>) {
     let mut two = Observer::<N, FirstTwo>::new(alloc, FirstTwo, 0);
     for _ in 0..2 {
-        assert!(rt; two.catch_up(log) == Err(ObserverFault::OutOfMemory));
-        assert_eq!(rt; (two.count(), *two.state()), (2, 2));
+        stays_at_two(rt, log, &mut two);
     }
-    Ok(())
+}
+
+fn stays_at_two<N: Name>(rt: &impl Abort, log: &Log<N>, two: &mut Observer<N, FirstTwo>) {
+    assert!(rt; two.catch_up(log) == Err(ObserverFault::OutOfMemory));
+    assert!(rt; two.count() == 2 && *two.state() == 2);
 }
 
 fn follows_the_position<N: Name>(
@@ -115,7 +141,8 @@ fn follows_the_position<N: Name>(
     requires { opening.now ≡ N.start.divisor }
 {
     let mut position = Observer::<N, Positions<N>>::new(alloc, Positions::new(), *opening);
-    assert_eq!(rt; position.catch_up(log)?, 3);
+    let read = position.catch_up(log)?;
+    assert!(rt; read == 3);
     assert!(rt; *position.state() == amounts(&[-2, 2, 1])?);
     Ok(())
 }

@@ -4,9 +4,10 @@ use crate::gates::{Counts, Early};
 use crate::openings::{Scene, on_a_table};
 use crate::party::meetings::scripts_of;
 use crate::tables::{TRIANGLE, triangle};
-use dg_file::read_table;
+use dg_file::{Names, read_table};
 use dg_log::Name;
 use dg_party::sessions;
+use dg_rank::Gate;
 use dg_table::{Seat, Table};
 use std::alloc::Global;
 use std::process::Abort;
@@ -27,21 +28,45 @@ pub(crate) fn enter_first<N: Name + Send + Sync, R: Threads + Wait + Abort + Syn
     table: &Table<N>,
     seats: &mut [Seat<N>],
 ) -> Result<(), Fail> {
-    let file = read_table(alloc, TRIANGLE.as_bytes())?;
-    let scripts = scripts_of(alloc, &["lend a\n", "look\ncommit\n", "claim"])?;
-    if file.names().len() != table.start().graph().size() || scripts.len() != seats.len() {
-        return Err(Fail::from("another table"));
-    }
     let gate = Early {
         log: table.log(),
         counts: Counts::new(),
         is_late: AtomicBool::new(false),
     };
-    let ends = sessions(rt, alloc, table, seats, file.names(), &scripts, &gate)
+    go_in(rt, alloc, table, seats, &gate)?;
+    assert!(rt; gate.counts.all() == 0x1110);
+    assert!(rt; !gate.is_late.load(Ordering::SeqCst));
+    Ok(())
+}
+
+// Three sessions enter the gate, and each ends after its own text.
+fn go_in<N: Name + Send + Sync, R: Threads + Wait + Abort + Sync, G: Gate>(
+    rt: &R,
+    alloc: Global,
+    table: &Table<N>,
+    seats: &mut [Seat<N>],
+    gate: &G,
+) -> Result<(), Fail> {
+    let file = read_table(alloc, TRIANGLE.as_bytes())?;
+    let scripts = scripts_of(alloc, &["lend a\n", "look\ncommit\n", "claim"])?;
+    end_well(rt, alloc, table, seats, file.names(), &scripts, gate)
+}
+
+fn end_well<N: Name + Send + Sync, R: Threads + Wait + Abort + Sync, G: Gate>(
+    rt: &R,
+    alloc: Global,
+    table: &Table<N>,
+    seats: &mut [Seat<N>],
+    names: &Names,
+    scripts: &[Vec<u8>],
+    gate: &G,
+) -> Result<(), Fail> {
+    if names.len() != table.start().graph().size() || scripts.len() != seats.len() {
+        return Err(Fail::from("another table"));
+    }
+    let ends = sessions(rt, alloc, table, seats, names, scripts, gate)
         .ok()
         .ok_or("sessions")?;
     assert!(rt; ends.as_slice() == [Ok(1), Ok(2), Ok(1)].as_slice());
-    assert_eq!(rt; gate.counts.all(), 0x1110);
-    assert!(rt; !gate.is_late.load(Ordering::SeqCst));
     Ok(())
 }

@@ -1,7 +1,8 @@
 //! Sessions that go on at once.
 
 use crate::tables::TRIANGLE;
-use dg_file::read_table;
+use dg_chips::Start;
+use dg_file::{Names, read_table};
 use dg_party::{Played, party};
 use dg_rank::Gate;
 use dg_session::SessionEnd;
@@ -92,12 +93,20 @@ fn go_on<R: Threads + Wait + Clock + Abort + Sync>(
         has_missed: AtomicBool::new(false),
     };
     let found = played(rt, alloc, texts, &meeting)?;
-    assert!(rt; !meeting.has_missed.load(Ordering::SeqCst));
-    assert_eq!(rt; meeting.entered.load(Ordering::SeqCst), meeting.seats);
-    assert_eq!(rt; meeting.numbers.load(Ordering::SeqCst), numbers);
+    has_let_all_in(rt, &meeting, numbers);
     assert!(rt; found.ends.as_slice() == ends);
-    assert_eq!(rt; str::from_utf8(&found.text)?.lines().count(), lines);
-    assert!(rt; found.text.ends_with(last.as_bytes()));
+    prints(rt, &found.text, lines, last)
+}
+
+fn has_let_all_in<R: Abort>(rt: &R, meeting: &Meeting<'_, R>, numbers: u64) {
+    assert!(rt; !meeting.has_missed.load(Ordering::SeqCst));
+    assert!(rt; meeting.entered.load(Ordering::SeqCst) == meeting.seats);
+    assert!(rt; meeting.numbers.load(Ordering::SeqCst) == numbers);
+}
+
+fn prints(rt: &impl Abort, text: &[u8], lines: usize, last: &str) -> Result<(), Fail> {
+    assert!(rt; str::from_utf8(text)?.lines().count() == lines);
+    assert!(rt; text.ends_with(last.as_bytes()));
     Ok(())
 }
 
@@ -110,10 +119,21 @@ fn played<R: Threads + Wait + Sync, G: Gate>(
 ) -> Result<Played, Fail> {
     let file = read_table(alloc, TRIANGLE.as_bytes())?;
     let scripts = scripts_of(alloc, texts)?;
-    if scripts.is_empty() || scripts.len() > 64 {
-        return Err(Fail::new("1 to 64 scripts"));
+    played_from(rt, alloc, file.start(), file.names(), &scripts, gate)
+}
+
+fn played_from<R: Threads + Wait + Sync, G: Gate>(
+    rt: &R,
+    alloc: Global,
+    start: &Start,
+    names: &Names,
+    scripts: &[Vec<u8>],
+    gate: &G,
+) -> Result<Played, Fail> {
+    if names.len() != start.graph().size() || scripts.is_empty() || scripts.len() > 64 {
+        return Err(Fail::new("a table file and 1 to 64 scripts"));
     }
-    Ok(party(rt, alloc, 100, file.start(), file.names(), &scripts, gate)?)
+    Ok(party(rt, alloc, 100, start, names, scripts, gate)?)
 }
 
 // The bytes of the texts.

@@ -2,7 +2,8 @@
 
 use crate::openings::{Scene, on_a_table};
 use crate::tables::{TRIANGLE, triangle};
-use dg_file::read_table;
+use dg_chips::Start;
+use dg_file::{Names, read_table};
 use dg_log::Name;
 use dg_session::{MAX_LINES, SessionEnd, serve, streams_are_cut_in_one_way};
 use dg_streams::{Input, Output};
@@ -85,40 +86,62 @@ impl Write for Sip {
     }
 }
 
+fn new_flow(text: &[u8], most: usize, fault: Option<ErrorKind>) -> Flow<'_> {
+    Flow {
+        text,
+        most,
+        fault,
+        is_interrupted: false,
+    }
+}
+
+fn new_sip(alloc: Global, most: usize, fails_at: usize, refuses: bool) -> Sip {
+    Sip {
+        held: Vec::new(alloc),
+        most,
+        fails_at,
+        refuses,
+        is_interrupted: false,
+    }
+}
+
 // One byte a read and a write: the reader fails at each byte in turn, or ends after the last.
 #[test]
 fn sessions_end_where_reads_fail(rt: HostRuntime) -> Result<(), Fail> {
     streams_are_cut_in_one_way();
-    let alloc = rt.alloc();
     let owing = triangle(&[2, -1, -1])?;
     let mut lines = 0usize;
     for j in 0..TEXT.len() + 2 {
-        let (at, fault, end) = if j <= TEXT.len() {
-            (j, Some(ErrorKind::Other), Err(SessionEnd::Read))
-        } else {
-            (TEXT.len(), None, Ok(7))
-        };
-        let text = &TEXT[..at];
-        let reader = Flow {
-            text,
-            most: 1,
-            fault,
-            is_interrupted: false,
-        };
-        let writer = Sip {
-            held: Vec::new(alloc),
-            most: 1,
-            fails_at: 1_000,
-            refuses: false,
-            is_interrupted: false,
-        };
-        let scene = Scene::Session(reader, writer, front(lines), end);
-        on_a_table(&rt, alloc, 9, &owing, 1, scene)?;
+        ends_where_a_read_fails(&rt, rt.alloc(), &owing, j, front(lines))?;
         if TEXT.get(j) == Some(&b'\n') {
             lines = lines.wrapping_add(1);
         }
     }
     Ok(())
+}
+
+fn ends_where_a_read_fails<R: Threads + Wait + Abort + Sync>(
+    rt: &R,
+    alloc: Global,
+    owing: &Start,
+    j: usize,
+    answer: &[u8],
+) -> Result<(), Fail> {
+    let (at, fault, end) = if j <= TEXT.len() {
+        (j, Some(ErrorKind::Other), Err(SessionEnd::Read))
+    } else {
+        (TEXT.len(), None, Ok(7))
+    };
+    let reader = new_flow(&TEXT[..at], 1, fault);
+    let writer = new_sip(alloc, 1, 1_000, false);
+    on_a_table(
+        rt,
+        alloc,
+        9,
+        owing,
+        1,
+        Scene::Session(reader, writer, answer, end),
+    )
 }
 
 // The first lines of the answer.
@@ -138,34 +161,37 @@ fn front(lines: usize) -> &'static [u8] {
 // The writer fails at each byte in turn, or takes none there.
 #[test]
 fn sessions_end_where_writes_fail(rt: HostRuntime) -> Result<(), Fail> {
-    let alloc = rt.alloc();
     let owing = triangle(&[2, -1, -1])?;
     for fails_at in 0..ANSWER.len() {
-        let reader = Flow {
-            text: TEXT,
-            most: 1,
-            fault: None,
-            is_interrupted: false,
-        };
-        let writer = Sip {
-            held: Vec::new(alloc),
-            most: 1,
-            fails_at,
-            refuses: fails_at % 2 == 1,
-            is_interrupted: false,
-        };
-        let end = Err(SessionEnd::Write);
-        let scene = Scene::Session(reader, writer, &ANSWER[..fails_at], end);
-        on_a_table(&rt, alloc, 9, &owing, 1, scene)?;
+        ends_where_a_write_fails(&rt, rt.alloc(), &owing, fails_at, &ANSWER[..fails_at])?;
     }
     Ok(())
+}
+
+fn ends_where_a_write_fails<R: Threads + Wait + Abort + Sync>(
+    rt: &R,
+    alloc: Global,
+    owing: &Start,
+    fails_at: usize,
+    answer: &[u8],
+) -> Result<(), Fail> {
+    let reader = new_flow(TEXT, 1, None);
+    let writer = new_sip(alloc, 1, fails_at, fails_at % 2 == 1);
+    let end = Err(SessionEnd::Write);
+    on_a_table(
+        rt,
+        alloc,
+        9,
+        owing,
+        1,
+        Scene::Session(reader, writer, answer, end),
+    )
 }
 
 // The first answers, of lines that come in one read, have more than 4,096 bytes; then come lines of 513 to 1,024 bytes.
 #[test]
 fn long_lines_are_answered(rt: HostRuntime) -> Result<(), Fail> {
     let alloc = rt.alloc();
-    let zero = triangle(&[0, 0, 0])?;
     let (mut text, mut answer) = (Vec::new(alloc), Vec::new(alloc));
     for i in 0..1_000usize {
         let size = if i < 488 { 1 } else { i + 25 };
@@ -173,27 +199,34 @@ fn long_lines_are_answered(rt: HostRuntime) -> Result<(), Fail> {
         text.push(b'\n')?;
         answer.extend_from_slice(b"bad word\n")?;
     }
-    let reader = Flow {
-        text: &text,
-        most: 100_000,
-        fault: None,
-        is_interrupted: false,
-    };
-    let writer = Sip {
-        held: Vec::new(alloc),
-        most: 100_000,
-        fails_at: 100_000,
-        refuses: false,
-        is_interrupted: false,
-    };
-    let scene = Scene::Session(reader, writer, &answer, Ok(1_000));
-    on_a_table(&rt, alloc, 1, &zero, 1, scene)
+    are_answered(&rt, alloc, &text, &answer, 100_000, Ok(1_000))
+}
+
+// Lines that come in few reads, on a table where nobody owes, to a writer that fails where it holds so many bytes.
+fn are_answered<R: Threads + Wait + Abort + Sync>(
+    rt: &R,
+    alloc: Global,
+    text: &[u8],
+    answer: &[u8],
+    fails_at: usize,
+    end: Result<u32, SessionEnd>,
+) -> Result<(), Fail> {
+    let zero = triangle(&[0, 0, 0])?;
+    let reader = new_flow(text, 100_000, None);
+    let writer = new_sip(alloc, 100_000, fails_at, false);
+    on_a_table(
+        rt,
+        alloc,
+        1,
+        &zero,
+        1,
+        Scene::Session(reader, writer, answer, end),
+    )
 }
 
 #[test]
 fn a_million_lines_are_answered(rt: HostRuntime) -> Result<(), Fail> {
     let alloc = rt.alloc();
-    let zero = triangle(&[0, 0, 0])?;
     let (mut text, mut answer) = (Vec::new(alloc), Vec::new(alloc));
     for _ in 0..MAX_LINES {
         text.extend_from_slice(b"x\n")?;
@@ -204,21 +237,7 @@ fn a_million_lines_are_answered(rt: HostRuntime) -> Result<(), Fail> {
         (b"x".as_slice(), Err(SessionEnd::Turns)),
     ] {
         text.extend_from_slice(more)?;
-        let reader = Flow {
-            text: &text,
-            most: 100_000,
-            fault: None,
-            is_interrupted: false,
-        };
-        let writer = Sip {
-            held: Vec::new(alloc),
-            most: 100_000,
-            fails_at: 10_000_000,
-            refuses: false,
-            is_interrupted: false,
-        };
-        let scene = Scene::Session(reader, writer, &answer, end);
-        on_a_table(&rt, alloc, 1, &zero, 1, scene)?;
+        are_answered(&rt, alloc, &text, &answer, 10_000_000, end)?;
     }
     Ok(())
 }
@@ -235,14 +254,36 @@ pub(crate) fn serves<N: Name, R: Threads + Wait + Abort>(
     end: Result<u32, SessionEnd>,
 ) -> Result<(), Fail> {
     let file = read_table(alloc, TRIANGLE.as_bytes())?;
-    let names = file.names();
-    assert_eq!(rt; names.len(), table.start().graph().size());
-    let mut reader = Input::new(reader);
     let mut writer = Output::new(writer);
-    let result = serve(rt, alloc, table, seat, names, &mut reader, &mut writer, 1);
+    ends_so(
+        rt,
+        alloc,
+        table,
+        seat,
+        file.names(),
+        reader,
+        &mut writer,
+        end,
+    );
+    assert!(rt; writer.into_inner().held.as_slice() == answer);
+    Ok(())
+}
+
+// The reader and the writer have failed where the end tells of it.
+fn ends_so<N: Name, R: Threads + Wait + Abort>(
+    rt: &R,
+    alloc: Global,
+    table: &Table<N>,
+    seat: &mut Seat<N>,
+    names: &Names,
+    reader: Flow<'_>,
+    writer: &mut Output<Sip>,
+    end: Result<u32, SessionEnd>,
+) {
+    assert!(rt; names.len() == table.start().graph().size());
+    let mut reader = Input::new(reader);
+    let result = serve(rt, alloc, table, seat, names, &mut reader, writer, 1);
     assert!(rt; result == end);
     assert!(rt; reader.has_failed() == (end == Err(SessionEnd::Read)));
     assert!(rt; writer.has_failed() == (end == Err(SessionEnd::Write)));
-    assert!(rt; writer.into_inner().held.as_slice() == answer);
-    Ok(())
 }

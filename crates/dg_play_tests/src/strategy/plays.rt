@@ -6,7 +6,7 @@ use crate::tables::{amounts, triangle};
 use dg_chips::{Divisor, Move};
 use dg_game::{Reply, Request};
 use dg_graph::Graph;
-use dg_log::Name;
+use dg_log::{Log, Name};
 use dg_strategy::{Ended, Strategy, greedy, greedy_settler, play, settle_out};
 use dg_table::{Seat, Table};
 use std::alloc::Global;
@@ -44,17 +44,22 @@ pub(crate) fn settled<N: Name, R: Wait + Abort>(
     let ended = settle_out(rt, alloc, table, seat, &greedy_settler(), 5)?;
     match (borrowers, ended) {
         (None, Ended::Settled(receipt)) => {
-            assert_eq!(rt; seat.calls(), 1);
+            assert!(rt; seat.calls() == 1);
             assert!(rt; table.log().entry(&receipt).reply == Reply::Won);
+            Ok(())
         }
         (Some(borrowers), Ended::Turns) => {
-            assert_eq!(rt; seat.calls(), 5);
-            for (i, v) in borrowers.iter().enumerate() {
-                let (_, entry) = table.log().read(i as u32).ok_or("an entry")?;
-                assert!(rt; entry.request == Request::Move(Move::Borrow(*v)));
-            }
+            assert!(rt; seat.calls() == 5);
+            have_borrowed(rt, table.log(), &borrowers)
         }
-        _ => return Err(Fail::from("another end")),
+        _ => Err(Fail::from("another end")),
+    }
+}
+
+fn have_borrowed<N: Name>(rt: &impl Abort, log: &Log<N>, borrowers: &[u8; 5]) -> Result<(), Fail> {
+    for (i, v) in borrowers.iter().enumerate() {
+        let (_, entry) = log.read(i as u32).ok_or("an entry")?;
+        assert!(rt; entry.request == Request::Move(Move::Borrow(*v)));
     }
     Ok(())
 }
@@ -66,14 +71,28 @@ pub(crate) fn played<N: Name, R: Wait + Abort>(
     table: &Table<N>,
     seat: &mut Seat<N>,
 ) -> Result<(), Fail> {
-    let lend = Strategy::new(LendFirst);
-    let none = play(rt, alloc, table, seat, &lend, 0)?;
-    assert!(rt; matches!(&none, Ended::Turns) && seat.calls() == 0);
-    let two = play(rt, alloc, table, seat, &lend, 2)?;
-    assert!(rt; matches!(&two, Ended::Turns) && seat.calls() == 2);
+    lends_in_turns(rt, alloc, table, seat, 0)?;
+    lends_in_turns(rt, alloc, table, seat, 2)?;
     table.turn(rt, alloc, seat, &mut |_: &Graph, _: &Divisor| None)?;
     let richest = play(rt, alloc, table, seat, &Strategy::new(LendRichest), 2)?;
     assert!(rt; matches!(&richest, Ended::Turns) && seat.calls() == 5);
+    are_answered(rt, table.log())
+}
+
+// The seat, which has made no call, lends at a in so many turns.
+fn lends_in_turns<N: Name, R: Wait + Abort>(
+    rt: &R,
+    alloc: Global,
+    table: &Table<N>,
+    seat: &mut Seat<N>,
+    turns: u32,
+) -> Result<(), Fail> {
+    let ended = play(rt, alloc, table, seat, &Strategy::new(LendFirst), turns)?;
+    assert!(rt; matches!(&ended, Ended::Turns) && seat.calls() == u64::from(turns));
+    Ok(())
+}
+
+fn are_answered<N: Name>(rt: &impl Abort, log: &Log<N>) -> Result<(), Fail> {
     let replies = [
         Reply::Moved(amounts(&[0, 0, 0])?),
         Reply::Moved(amounts(&[-2, 1, 1])?),
@@ -82,7 +101,7 @@ pub(crate) fn played<N: Name, R: Wait + Abort>(
         Reply::Moved(amounts(&[0, 0, 0])?),
     ];
     for (i, reply) in replies.iter().enumerate() {
-        let (_, entry) = table.log().read(i as u32).ok_or("an entry")?;
+        let (_, entry) = log.read(i as u32).ok_or("an entry")?;
         assert!(rt; entry.reply == *reply, "entry {i}");
     }
     Ok(())

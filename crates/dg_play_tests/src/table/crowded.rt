@@ -6,7 +6,7 @@ use dg_analyst::{Reckoned, Tried, commit, commit_rank, look, reckon, try_rank};
 use dg_chips::Divisor;
 use dg_game::{Plain, Reply};
 use dg_graph::Graph;
-use dg_log::Name;
+use dg_log::{Log, Name};
 use dg_observer::{Gifts, Observer};
 use dg_rank::OpenGate;
 use dg_table::{Fault, Seat, Table};
@@ -32,15 +32,29 @@ pub(crate) fn crowds<N: Name, R: Threads + Wait + Abort>(
 ) -> Result<(), Fail> {
     let mut seats = seats;
     is_filled(rt, alloc, &table, seats.as_mut_slice())?;
-    let log = table.log();
+    is_read_to_its_end(rt, alloc, table.log(), seats.as_mut_slice())?;
+    let audit = table.close(seats).ok().ok_or("an audit")?;
+    assert!(rt; audit.entries == 65_536 && audit.calls.iter().all(|calls| *calls == 1_024));
+    assert!(rt; audit.history(alloc)?.len() == 65_536);
+    Ok(())
+}
+
+fn is_read_to_its_end<N: Name>(
+    rt: &impl Abort,
+    alloc: Global,
+    log: &Log<N>,
+    seats: &mut [Seat<N>],
+) -> Result<(), Fail> {
     let (receipt, entry) = log.read(65_535).ok_or("the last entry")?;
     assert!(rt; entry.seat == 64 && log.entry(&receipt).reply == Reply::Won);
     seats.first_mut().ok_or("a seat")?.learn(&receipt)?;
+    has_no_gift(rt, alloc, log)
+}
+
+fn has_no_gift<N: Name>(rt: &impl Abort, alloc: Global, log: &Log<N>) -> Result<(), Fail> {
     let mut gifts = Observer::<N, Gifts>::new(alloc, Gifts, 0);
-    assert_eq!(rt; (gifts.catch_up(log)?, *gifts.state()), (65_536, 0));
-    let audit = table.close(seats).ok().ok_or("an audit")?;
-    assert!(rt; audit.entries == 65_536 && audit.calls.iter().all(|calls| *calls == 1_024));
-    assert_eq!(rt; audit.history(alloc)?.len(), 65_536);
+    let read = gifts.catch_up(log)?;
+    assert!(rt; read == 65_536 && *gifts.state() == 0);
     Ok(())
 }
 
@@ -53,14 +67,37 @@ fn is_filled<N: Name, R: Threads + Wait + Abort>(
 ) -> Result<(), Fail> {
     let analyst = seats.first_mut().ok_or("a seat")?;
     let reckoned = reckon(look(table, rt, alloc, analyst)?);
-    let tried = try_rank(rt, look(table, rt, alloc, analyst)?, 0, 1, &OpenGate)
-        .ok()
-        .ok_or("a rank test")?;
+    let tried = tried(rt, alloc, table, analyst)?;
+    all_claim(rt, alloc, table, seats)?;
+    let analyst = seats.first_mut().ok_or("a seat")?;
+    is_full(rt, alloc, table, analyst, reckoned, tried)
+}
+
+// The seat looks, and tries whether the rank is at least 0.
+pub(super) fn tried<N: Name, R: Threads + Wait>(
+    rt: &R,
+    alloc: Global,
+    table: &Table<N>,
+    seat: &mut Seat<N>,
+) -> Result<Tried<N>, Fail> {
+    let taken = look(table, rt, alloc, seat)?;
+    Ok(
+        try_rank(rt, taken, 0, 1, &OpenGate)
+            .ok()
+            .ok_or("a rank test")?,
+    )
+}
+
+fn all_claim<N: Name>(
+    rt: &impl Wait,
+    alloc: Global,
+    table: &Table<N>,
+    seats: &mut [Seat<N>],
+) -> Result<(), Fault> {
     for seat in seats.iter_mut() {
         claims(rt, alloc, table, seat)?;
     }
-    let analyst = seats.first_mut().ok_or("a seat")?;
-    is_full(rt, alloc, table, analyst, reckoned, tried)
+    Ok(())
 }
 
 // The seat claims until it has 1,024 calls.
@@ -85,17 +122,52 @@ fn is_full<N: Name, R: Wait + Abort>(
     reckoned: Reckoned<N>,
     tried: Tried<N>,
 ) -> Result<(), Fail> {
+    refuses_verdict(rt, alloc, table, seat, reckoned, 0)?;
+    refuses_rank(rt, alloc, table, seat, tried, 1)?;
+    refuses_turn(rt, alloc, table, seat);
+    let called = table.call(rt, alloc, seat, Plain::Claim).err();
+    assert!(rt; called == Some(Fault::Full) && seat.calls() == 1_024);
+    Ok(())
+}
+
+// A verdict on the look of this number comes back from a table that is full.
+pub(super) fn refuses_verdict<N: Name, R: Wait + Abort>(
+    rt: &R,
+    alloc: Global,
+    table: &Table<N>,
+    seat: &mut Seat<N>,
+    reckoned: Reckoned<N>,
+    number: u32,
+) -> Result<(), Fail> {
     let (reckoned, fault) = commit(table, rt, alloc, seat, reckoned)
         .err()
         .ok_or("a table that is full")?;
-    assert_eq!(rt;
-        (reckoned.look().receipt().number(), fault),
-        (0, Fault::Full)
-    );
+    assert!(rt; reckoned.look().receipt().number() == number && fault == Fault::Full);
+    Ok(())
+}
+
+// So does a rank test.
+pub(super) fn refuses_rank<N: Name, R: Wait + Abort>(
+    rt: &R,
+    alloc: Global,
+    table: &Table<N>,
+    seat: &mut Seat<N>,
+    tried: Tried<N>,
+    number: u32,
+) -> Result<(), Fail> {
     let (tried, fault) = commit_rank(table, rt, alloc, seat, tried)
         .err()
         .ok_or("a table that is full")?;
-    assert_eq!(rt; (tried.look().receipt().number(), fault), (1, Fault::Full));
+    assert!(rt; tried.look().receipt().number() == number && fault == Fault::Full);
+    Ok(())
+}
+
+fn refuses_turn<N: Name, R: Wait + Abort>(
+    rt: &R,
+    alloc: Global,
+    table: &Table<N>,
+    seat: &mut Seat<N>,
+) {
     let mut is_asked = false;
     let mut choose = |_: &Graph, _: &Divisor| {
         is_asked = true;
@@ -103,7 +175,4 @@ fn is_full<N: Name, R: Wait + Abort>(
     };
     let turned = table.turn(rt, alloc, seat, &mut choose).err();
     assert!(rt; turned == Some(Fault::Full) && !is_asked);
-    let called = table.call(rt, alloc, seat, Plain::Claim).err();
-    assert!(rt; called == Some(Fault::Full) && seat.calls() == 1_024);
-    Ok(())
 }

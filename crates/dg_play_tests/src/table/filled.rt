@@ -2,15 +2,15 @@
 
 use crate::openings::{Scene, on_a_table};
 use crate::strategy::choices::LendFirst;
+use crate::table::crowded::{refuses_rank, refuses_verdict, tried};
 use crate::table::settles::{look_at, settle};
 use crate::tables::{amounts, triangle};
-use dg_analyst::{commit, commit_rank, look, reckon, try_rank};
+use dg_analyst::{look, reckon};
 use dg_chips::{Divisor, Move};
 use dg_game::Plain;
 use dg_graph::Graph;
-use dg_log::Name;
+use dg_log::{Log, Name};
 use dg_observer::{Observer, Positions};
-use dg_rank::OpenGate;
 use dg_strategy::{Ended, Strategy, play};
 use dg_table::{Fault, Seat, Table};
 use std::alloc::Global;
@@ -43,14 +43,21 @@ pub(crate) fn fills<N: Name, R: Threads + Wait + Abort>(
 ) -> Result<(), Fail> {
     let mut seats = seats;
     is_played(rt, alloc, &table, seats.as_mut_slice())?;
-    let opening = *table.start().divisor();
-    let mut observer = Observer::<N, Positions<N>>::new(alloc, Positions::new(), opening);
-    assert_eq!(rt; observer.catch_up(table.log())?, 10_007);
+    let watched = watched(rt, alloc, &table)?;
     let audit = table.close(seats).ok().ok_or("an audit")?;
     assert!(rt; audit.entries == 10_007 && audit.calls.starts_with(&[10_006, 1]));
     assert!(rt; audit.position == amounts(&[-20_004, 10_002, 10_002])?);
-    assert!(rt; *observer.state() == audit.position);
+    assert!(rt; watched == audit.position);
     Ok(())
+}
+
+// The position that an observer finds.
+fn watched<N: Name>(rt: &impl Abort, alloc: Global, table: &Table<N>) -> Result<Divisor, Fail> {
+    let opening = *table.start().divisor();
+    let mut observer = Observer::<N, Positions<N>>::new(alloc, Positions::new(), opening);
+    let read = observer.catch_up(table.log())?;
+    assert!(rt; read == 10_007);
+    Ok(*observer.state())
 }
 
 // Two seats fill the table.
@@ -75,7 +82,7 @@ fn is_played<N: Name, R: Threads + Wait + Abort>(
 // The history as each seat found it at its last call: the second's is the beginning of the first's.
 fn found<N: Name>(rt: &impl Abort, first: &Seat<N>, second: &Seat<N>) {
     let (long, short) = (first.past(), second.past());
-    assert_eq!(rt; (long.len(), short.len()), (10_007, 10_004));
+    assert!(rt; long.len() == 10_007 && short.len() == 10_004);
     long.compare(short);
 }
 
@@ -90,7 +97,7 @@ fn goes_on<N: Name, R: Wait + Abort>(
     assert!(rt; matches!(&ended, Ended::Turns));
     table.call(rt, alloc, seat, LEND)?;
     table.turn(rt, alloc, seat, &mut |_: &Graph, _: &Divisor| None)?;
-    assert_eq!(rt; seat.calls(), 10_003);
+    assert!(rt; seat.calls() == 10_003);
     Ok(())
 }
 
@@ -102,12 +109,22 @@ fn hears_all<N: Name, R: Wait + Abort>(
     seat: &mut Seat<N>,
 ) -> Result<(), Fail> {
     for number in 0..10_003 {
-        let (receipt, entry) = table.log().read(number).ok_or("an entry")?;
-        assert_eq!(rt; (receipt.number(), entry.seat), (number, 1));
-        seat.learn(&receipt)?;
+        hears(rt, table.log(), seat, number)?;
     }
     let claimed = table.call(rt, alloc, seat, Plain::Claim)?;
-    assert_eq!(rt; (claimed.number(), seat.calls()), (10_003, 1));
+    assert!(rt; claimed.number() == 10_003 && seat.calls() == 1);
+    Ok(())
+}
+
+fn hears<N: Name>(
+    rt: &impl Abort,
+    log: &Log<N>,
+    seat: &mut Seat<N>,
+    number: u32,
+) -> Result<(), Fail> {
+    let (receipt, entry) = log.read(number).ok_or("an entry")?;
+    assert!(rt; receipt.number() == number && entry.seat == 1);
+    seat.learn(&receipt)?;
     Ok(())
 }
 
@@ -120,29 +137,41 @@ fn is_full<N: Name, R: Threads + Wait + Abort>(
     seat: &mut Seat<N>,
 ) -> Result<(), Fail> {
     let reckoned = reckon(look(table, rt, alloc, seat)?);
-    let tried = try_rank(rt, look(table, rt, alloc, seat)?, 0, 1, &OpenGate)
-        .ok()
-        .ok_or("a rank test")?;
+    let tried = tried(rt, alloc, table, seat)?;
+    refuses_finding(rt, alloc, table, seat)?;
+    refuses_verdict(rt, alloc, table, seat, reckoned, 10_004)?;
+    refuses_rank(rt, alloc, table, seat, tried, 10_005)?;
+    refuses_calls(rt, alloc, table, seat);
+    assert!(rt; seat.calls() == 10_006);
+    Ok(())
+}
+
+// The look fills the table.
+fn refuses_finding<N: Name, R: Wait + Abort>(
+    rt: &R,
+    alloc: Global,
+    table: &Table<N>,
+    seat: &mut Seat<N>,
+) -> Result<(), Fail> {
     let (taken, shown) = look_at(rt, alloc, table, seat)?;
     assert!(rt; shown.drift.size() == 3 && shown.drift.get(0) == 10_002);
-    let (_, fault) = commit(table, rt, alloc, seat, reckoned)
-        .err()
-        .ok_or("a table that is full")?;
-    assert_eq!(rt; fault, Fault::Full);
-    let (_, fault) = commit_rank(table, rt, alloc, seat, tried)
-        .err()
-        .ok_or("a table that is full")?;
-    assert_eq!(rt; fault, Fault::Full);
-    for fault in [
-        settle(rt, alloc, table, seat, &taken, &shown).err(),
-        table.call(rt, alloc, seat, LEND).err(),
-        table
-            .turn(rt, alloc, seat, &mut |_: &Graph, _: &Divisor| None)
-            .err(),
-        play(rt, alloc, table, seat, &Strategy::new(LendFirst), 1).err(),
-    ] {
-        assert_eq!(rt; fault, Some(Fault::Full));
-    }
-    assert_eq!(rt; seat.calls(), 10_006);
+    let fault = settle(rt, alloc, table, seat, &taken, &shown).err();
+    assert!(rt; fault == Some(Fault::Full));
     Ok(())
+}
+
+fn refuses_calls<N: Name, R: Wait + Abort>(
+    rt: &R,
+    alloc: Global,
+    table: &Table<N>,
+    seat: &mut Seat<N>,
+) {
+    let called = table.call(rt, alloc, seat, LEND).err();
+    assert!(rt; called == Some(Fault::Full));
+    let turned = table
+        .turn(rt, alloc, seat, &mut |_: &Graph, _: &Divisor| None)
+        .err();
+    assert!(rt; turned == Some(Fault::Full));
+    let played = play(rt, alloc, table, seat, &Strategy::new(LendFirst), 1).err();
+    assert!(rt; played == Some(Fault::Full));
 }

@@ -7,7 +7,7 @@ use crate::tables::{amounts, petersen, triangle};
 use dg_analyst::{commit, look, reckon};
 use dg_chips::{Divisor, Move, Start};
 use dg_game::{Entry, Game, Plain, Reply, Request};
-use dg_log::Name;
+use dg_log::{Log, Name};
 use dg_observer::{Observer, ObserverFault, Positions};
 use dg_strategy::{Strategy, greedy_settler, play, settle_out};
 use dg_table::{Audit, Seat, Table};
@@ -203,15 +203,40 @@ pub(crate) fn meet<N: Name + Send + Sync, R: Threads + Wait + Abort + Sync>(
         ),
         || read_a_hundred_times(alloc, shared),
     );
-    let mut observer = watched?;
-    observer.catch_up(table.log())?;
+    let (entries, position) = all_read(watched?, table.log())?;
     let start = *table.start();
     let audit = table.close(seats).ok().ok_or("an audit")?;
-    assert_eq!(rt; observer.count(), audit.entries);
-    assert!(rt; *observer.state() == audit.position);
+    assert!(rt; entries == audit.entries && position == audit.position);
+    is_told(rt, alloc, &start, &audit, meeting)
+}
+
+// How many entries the observer has read in the end, and the position that it finds.
+fn all_read<N: Name>(
+    observer: Observer<N, Positions<N>>,
+    log: &Log<N>,
+) -> Result<(u32, Divisor), ObserverFault> {
+    let mut observer = observer;
+    observer.catch_up(log)?;
+    Ok((observer.count(), *observer.state()))
+}
+
+// The history is that of a game, and leads to the end of the meeting.
+fn is_told<N: Name>(
+    rt: &impl Abort,
+    alloc: Global,
+    start: &Start,
+    audit: &Audit<N>,
+    meeting: &Meeting<'_>,
+) -> Result<(), Fail> {
     let history = audit.history(alloc)?;
-    let claims = is_replayed(rt, &start, &history, &audit)?;
-    is_ended(rt, claims, lent_before_a_join(&history), &audit, meeting)
+    is_replayed(rt, start, &history, audit)?;
+    is_ended(
+        rt,
+        claims_of(&history),
+        lent_before_a_join(&history),
+        audit,
+        meeting,
+    )
 }
 
 // Keeps the position while others play.
@@ -317,30 +342,44 @@ fn drawn_call(drawn: u64, size: u8) -> Plain {
     }
 }
 
-// Each reply is that of a game which makes the calls of the history in their order, and each finding is right. Gives how
-// many claims there are, and how many are won.
+// Each reply is that of a game which makes the calls of the history in their order, and each finding is right.
 fn is_replayed<N: Name>(
     rt: &impl Abort,
     start: &Start,
     history: &[Entry],
     audit: &Audit<N>,
-) -> Result<(u32, u32), Fail> {
+) -> Result<(), Fail> {
     let mut game = Game::new(start);
-    let mut claims = (0u32, 0u32);
     for (i, entry) in history.iter().enumerate() {
-        if game.entries() == 65_536 {
-            return Err(Fail::from("an entry too many"));
-        }
-        let right = match entry.request {
-            Request::Move(play) => game.act(Plain::Move(play)) == entry.reply,
-            Request::Gift(v, dollars) => game.act(Plain::Gift(v, dollars)) == entry.reply,
-            Request::Join(u, v) => game.act(Plain::Join(u, v)) == entry.reply,
-            Request::Look => game.act(Plain::Look) == entry.reply,
-            Request::Claim => game.act(Plain::Claim) == entry.reply,
-            Request::Judge(look) => is_right(&game, history, look as usize, &entry.reply),
-            Request::Rank(_, _) => false,
-        };
+        let right = is_next(&mut game, history, entry)?;
         assert!(rt; right, "entry {i}");
+    }
+    assert!(rt; *game.position() == audit.position && game.gifts() == audit.gifts);
+    assert!(rt; *game.graph() == audit.graph);
+    Ok(())
+}
+
+// Whether the game, which goes on so, answers as the entry does.
+fn is_next(game: &mut Game, history: &[Entry], entry: &Entry) -> Result<bool, Fail> {
+    if game.entries() == 65_536 {
+        return Err(Fail::from("an entry too many"));
+    }
+    let plain = match entry.request {
+        Request::Move(play) => Plain::Move(play),
+        Request::Gift(v, dollars) => Plain::Gift(v, dollars),
+        Request::Join(u, v) => Plain::Join(u, v),
+        Request::Look => Plain::Look,
+        Request::Claim => Plain::Claim,
+        Request::Judge(look) => return Ok(is_right(game, history, look as usize, &entry.reply)),
+        Request::Rank(_, _) => return Ok(false),
+    };
+    Ok(game.act(plain) == entry.reply)
+}
+
+// How many claims there are, and how many are won.
+fn claims_of(history: &[Entry]) -> (u32, u32) {
+    let mut claims = (0u32, 0u32);
+    for entry in history {
         if entry.request == Request::Claim {
             claims.0 = claims.0.wrapping_add(1);
         }
@@ -348,9 +387,7 @@ fn is_replayed<N: Name>(
             claims.1 = claims.1.wrapping_add(1);
         }
     }
-    assert!(rt; *game.position() == audit.position && game.gifts() == audit.gifts);
-    assert!(rt; *game.graph() == audit.graph);
-    Ok(claims)
+    claims
 }
 
 // Whether a finding on a look is stale just where a gift or a join was accepted since, and otherwise right where it is entered.
@@ -392,25 +429,29 @@ fn is_ended<N: Name>(
     audit: &Audit<N>,
     meeting: &Meeting<'_>,
 ) -> Result<(), Fail> {
-    let players = meeting.players.iter().cycle();
-    let counts = audit.calls.iter().take(usize::from(meeting.seats));
-    for (calls, player) in counts.zip(players) {
-        assert!(rt; player.2 == 0 || *calls == player.2);
-    }
+    have_played(rt, &audit.calls, meeting);
     match meeting.end {
-        End::At(gifts, position) => {
-            assert_eq!(rt; audit.gifts, gifts);
-            assert!(rt; audit.position == position);
-        }
-        End::Joined => {
-            assert_eq!(rt; audit.gifts, 1);
-            assert!(rt; audit.position == amounts(&[lent, 0, lent.wrapping_neg()])?);
-        }
+        End::At(gifts, position) => is_at(rt, audit, gifts, &position),
+        End::Joined => is_at(rt, audit, 1, &amounts(&[lent, 0, lent.wrapping_neg()])?),
         End::Settled(count) => {
-            assert_eq!(rt; claims, (count, count));
+            assert!(rt; claims.0 == count && claims.1 == count);
             assert!(rt; audit.position.is_effective());
         }
         End::Open => (),
     }
     Ok(())
+}
+
+// Each player has as many entries as it must have.
+fn have_played(rt: &impl Abort, calls: &[u64], meeting: &Meeting<'_>) {
+    let players = meeting.players.iter().cycle();
+    let counts = calls.iter().take(usize::from(meeting.seats));
+    for (calls, player) in counts.zip(players) {
+        assert!(rt; player.2 == 0 || *calls == player.2);
+    }
+}
+
+fn is_at<N: Name>(rt: &impl Abort, audit: &Audit<N>, gifts: u32, position: &Divisor) {
+    assert!(rt; audit.gifts == gifts);
+    assert!(rt; audit.position == *position);
 }

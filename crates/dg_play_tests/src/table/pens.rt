@@ -12,8 +12,7 @@ pub(crate) fn writes<N: Name>(rt: &impl Abort, alloc: Global, row: Row) -> Resul
     requires { row ≡ N.cells }
 {
     let (log, mut pen) = Log::<N>::new(row);
-    assert_eq!(rt; pen.len(), 0);
-    assert!(rt; !pen.stuck());
+    assert!(rt; pen.len() == 0 && !pen.stuck());
     let claim = Entry {
         seat: 1,
         request: Request::Claim,
@@ -26,8 +25,8 @@ pub(crate) fn writes<N: Name>(rt: &impl Abort, alloc: Global, row: Row) -> Resul
         .put(&log, Box::new(alloc, claim)?)
         .ok()
         .ok_or("an entry")?;
-    assert_eq!(rt; (pen.len(), receipt.number()), (1, 0));
-    assert!(rt; !pen.stuck());
+    assert!(rt; pen.len() == 1);
+    assert!(rt; receipt.number() == 0 && !pen.stuck());
     assert!(rt; *log.entry(&pen.receipt(0)) == claim);
     let digest = Digest::new().and(&receipt);
     assert!(rt; !digest.below(0));

@@ -5,7 +5,7 @@ use crate::tables::{amounts, triangle};
 use dg_chips::{Divisor, Move, Start};
 use dg_game::{Plain, Reply};
 use dg_log::{Log, LogFault, Name, Receipt, Row};
-use dg_table::{Fault, Seat, Table};
+use dg_table::{Audit, Fault, Seat, Table};
 use std::alloc::Global;
 use std::process::Abort;
 use std::sync::Wait;
@@ -82,12 +82,15 @@ pub(crate) fn calls_are_entries<N: Name, R: Wait + Abort>(
 ) -> Result<(), Fail> {
     let (table, mut seats) = is_closed_with_all(rt, alloc, table, seats)?;
     fill_the_row(rt, alloc, &table, seats.as_mut_slice(), calls.made)?;
-    let count = calls.made.len();
     let audit = table.close(seats).ok().ok_or("an audit")?;
-    assert_eq!(rt; (audit.entries as usize, audit.gifts), (count, calls.gifts));
-    assert!(rt; audit.position == calls.position && audit.calls.starts_with(calls.counts));
-    assert_eq!(rt; audit.history(alloc)?.len(), count);
+    are_told(rt, &audit, calls);
+    assert!(rt; audit.history(alloc)?.len() == calls.made.len());
     Ok(())
+}
+
+fn are_told<N: Name>(rt: &impl Abort, audit: &Audit<N>, calls: &Calls<'_>) {
+    assert!(rt; audit.entries as usize == calls.made.len() && audit.gifts == calls.gifts);
+    assert!(rt; audit.position == calls.position && audit.calls.starts_with(calls.counts));
 }
 
 // The last seat is told of each entry, and has no room for one more.
@@ -99,17 +102,31 @@ fn fill_the_row<N: Name, R: Wait + Abort>(
     made: &[(usize, Plain, Reply)],
 ) -> Result<(), Fail> {
     let log = table.log();
-    assert_eq!(rt; log.len() as usize, made.len());
-    for (i, (place, plain, reply)) in made.iter().enumerate() {
-        assert!(rt; log.read(i as u32).is_none());
-        let seat = seats.get_mut(*place).ok_or("a seat")?;
-        let receipt = table.call(rt, alloc, seat, *plain)?;
-        is_found(rt, log, &receipt, i as u32, seat.number(), reply)?;
-        seats.last_mut().ok_or("a last seat")?.learn(&receipt)?;
+    assert!(rt; log.len() as usize == made.len());
+    for (i, call) in made.iter().enumerate() {
+        is_made(rt, alloc, table, seats, i as u32, call)?;
     }
     let last = seats.last_mut().ok_or("a last seat")?;
     assert!(rt; table.call(rt, alloc, last, Plain::Claim).err() == Some(Fault::Full));
     assert!(rt; log.read(70_000).is_none());
+    Ok(())
+}
+
+// The call becomes the entry of this number.
+fn is_made<N: Name, R: Wait + Abort>(
+    rt: &R,
+    alloc: Global,
+    table: &Table<N>,
+    seats: &mut [Seat<N>],
+    number: u32,
+    call: &(usize, Plain, Reply),
+) -> Result<(), Fail> {
+    let log = table.log();
+    assert!(rt; log.read(number).is_none());
+    let seat = seats.get_mut(call.0).ok_or("a seat")?;
+    let receipt = table.call(rt, alloc, seat, call.1)?;
+    is_found(rt, log, &receipt, number, seat.number(), &call.2)?;
+    seats.last_mut().ok_or("a last seat")?.learn(&receipt)?;
     Ok(())
 }
 
@@ -122,7 +139,7 @@ fn is_found<N: Name>(
     seat: u8,
     reply: &Reply,
 ) -> Result<(), Fail> {
-    assert_eq!(rt; receipt.number(), number);
+    assert!(rt; receipt.number() == number);
     let (found, entry) = log.read(number).ok_or("an entry that was set")?;
     found.again().compare(receipt);
     assert!(rt; entry.seat == seat && entry.reply == *reply);
@@ -137,18 +154,46 @@ fn is_closed_with_all<N: Name>(
     table: Table<N>,
     seats: Vec<Seat<N>>,
 ) -> Result<(Table<N>, Vec<Seat<N>>), Fail> {
+    let count = seats.len();
+    let mut held = (is_open_without_all(rt, alloc, table)?, seats);
+    for _ in 0..count {
+        held = is_open_without_the_last(rt, held.0, held.1)?;
+    }
+    Ok(held)
+}
+
+fn is_open_without_all<N: Name>(
+    rt: &impl Abort,
+    alloc: Global,
+    table: Table<N>,
+) -> Result<Table<N>, Fail> {
     let fault = table.close(Vec::new(alloc)).err().ok_or("no seats")?;
     assert!(rt; fault.missing == 1 && fault.seats.is_empty());
-    let (mut table, mut seats) = (fault.table, seats);
-    for _ in 0..seats.len() {
-        let seat = seats.pop().ok_or("a seat")?;
-        let fault = table.close(seats).err().ok_or("a seat that is missing")?;
-        assert_eq!(rt; fault.missing, seat.number());
-        table = fault.table;
-        seats = fault.seats;
-        seats.insert(0, seat)?;
-    }
+    Ok(fault.table)
+}
+
+// The last seat becomes the first.
+fn is_open_without_the_last<N: Name>(
+    rt: &impl Abort,
+    table: Table<N>,
+    seats: Vec<Seat<N>>,
+) -> Result<(Table<N>, Vec<Seat<N>>), Fail> {
+    let mut seats = seats;
+    let last = seats.pop().ok_or("a seat")?;
+    let (table, mut seats) = is_open_without(rt, table, seats, last.number())?;
+    seats.insert(0, last)?;
     Ok((table, seats))
+}
+
+fn is_open_without<N: Name>(
+    rt: &impl Abort,
+    table: Table<N>,
+    seats: Vec<Seat<N>>,
+    missing: u8,
+) -> Result<(Table<N>, Vec<Seat<N>>), Fail> {
+    let fault = table.close(seats).err().ok_or("a seat that is missing")?;
+    assert!(rt; fault.missing == missing);
+    Ok((fault.table, fault.seats))
 }
 
 #[test]

@@ -24,11 +24,17 @@ pub(crate) fn settles<N: Name, R: Wait + Abort>(
     table.call(rt, alloc, second, Plain::Move(Move::Lend(0)))?;
     let shown = with_lending(&shown)?;
     let entered = settle(rt, alloc, table, first, &look, &shown)?;
-    let graph = table.start().graph();
-    assert!(rt;
-        table.log().entry(&entered).reply
-            == Reply::Verdict(winnable(graph, &[0, 0, 0], &[0, 0, 0])?)
-    );
+    is_winnable(rt, table, &entered)
+}
+
+// The entry is a verdict by which nothing is to be done.
+fn is_winnable<N: Name>(
+    rt: &impl Abort,
+    table: &Table<N>,
+    entered: &Receipt<N>,
+) -> Result<(), Fail> {
+    let verdict = winnable(table.start().graph(), &[0, 0, 0], &[0, 0, 0])?;
+    assert!(rt; table.log().entry(entered).reply == Reply::Verdict(verdict));
     Ok(())
 }
 

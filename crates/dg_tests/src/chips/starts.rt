@@ -2,7 +2,11 @@
 
 use dg_chips::{ChipFault, Divisor, Script, ScriptFault, Start, StartFault};
 use dg_graph::Graph;
+use std::process::Abort;
 use std::test::Fail;
+
+/// The edges of the triangle.
+const TRIANGLE: &[(u8, u8, u8)] = &[(0, 1, 1), (1, 2, 1), (0, 2, 1)];
 
 // Amounts for the triangle, and why they are refused.
 static AMOUNTS: [(&[i64], Option<ChipFault>); 7] = [
@@ -30,33 +34,49 @@ static ENTRIES: [(&[i64], Option<ScriptFault>); 6] = [
 
 #[test]
 fn what_a_graph_takes(rt: HostRuntime) -> Result<(), Fail> {
-    let pair = Graph::new(2, &[(0, 1, 1)])?;
-    let triangle = Graph::new(3, &[(0, 1, 1), (1, 2, 1), (0, 2, 1)])?;
+    let triangle = Graph::new(3, TRIANGLE)?;
     for (numbers, fault) in &AMOUNTS {
         assert!(rt; Divisor::new(&triangle, numbers).err() == *fault, "amounts");
     }
     for (numbers, fault) in &ENTRIES {
         assert!(rt; Script::new(&triangle, numbers).err() == *fault, "entries");
     }
+    Ok(())
+}
+
+#[test]
+fn which_starts_are_taken(rt: HostRuntime) -> Result<(), Fail> {
+    let triangle = Graph::new(3, TRIANGLE)?;
+    let pair = Graph::new(2, &[(0, 1, 1)])?;
     let divisor = Divisor::new(&triangle, &[5, -7, 1])?;
     let other = Divisor::new(&pair, &[5, -7])?;
-    let starts = [
-        (divisor, 2, None),
-        (divisor, 3, Some(StartFault::Vertex)),
-        (divisor, 255, Some(StartFault::Vertex)),
-        (other, 0, Some(StartFault::Length)),
-        (other, 9, Some(StartFault::Length)),
-    ];
-    for (amounts, q, fault) in starts {
-        assert!(rt; Start::new(triangle, amounts, q).err() == fault, "start");
-    }
+    starts(&rt, &triangle, divisor, 2, None);
+    starts(&rt, &triangle, divisor, 3, Some(StartFault::Vertex));
+    starts(&rt, &triangle, divisor, 255, Some(StartFault::Vertex));
+    starts(&rt, &triangle, other, 0, Some(StartFault::Length));
+    starts(&rt, &triangle, other, 9, Some(StartFault::Length));
+    Ok(())
+}
+
+fn starts(rt: &impl Abort, graph: &Graph, amounts: Divisor, q: u8, fault: Option<StartFault>) {
+    assert!(rt; Start::new(*graph, amounts, q).err() == fault, "start");
+}
+
+#[test]
+fn what_a_start_holds(rt: HostRuntime) -> Result<(), Fail> {
+    let triangle = Graph::new(3, TRIANGLE)?;
+    let divisor = Divisor::new(&triangle, &[5, -7, 1])?;
     let start = Start::new(triangle, divisor, 2)?;
-    assert_eq!(rt; (start.graph().size(), start.q()), (3, 2));
+    assert!(rt; start.graph().size() == 3 && start.q() == 2);
     assert!(rt; *start.divisor() == divisor, "divisor of the start");
+    Ok(())
+}
+
+#[test]
+fn what_a_script_holds(rt: HostRuntime) -> Result<(), Fail> {
+    let triangle = Graph::new(3, TRIANGLE)?;
     let script = Script::new(&triangle, &[3, -4, 5])?;
-    assert_eq!(rt;
-        (script.size(), script.get(0), script.get(1), script.get(2)),
-        (3, 3, -4, 5)
-    );
+    assert!(rt; script.size() == 3);
+    assert!(rt; script.get(0) == 3 && script.get(1) == -4 && script.get(2) == 5);
     Ok(())
 }

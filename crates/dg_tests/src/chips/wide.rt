@@ -2,28 +2,43 @@
 
 use dg_chips::{ChipFault, Divisor, Script, Wide};
 use dg_graph::Graph;
+use std::process::Abort;
 use std::test::Fail;
+
+/// The edges of the triangle.
+const TRIANGLE: &[(u8, u8, u8)] = &[(0, 1, 1), (1, 2, 1), (0, 2, 1)];
+
+// Numbers for the triangle, and why they are refused.
+static NUMBERS: [(&[i128], Option<ChipFault>); 5] = [
+    (&[0, 0], Some(ChipFault::Length)),
+    (&[0, 0, 0, 0], Some(ChipFault::Length)),
+    (&[], Some(ChipFault::Length)),
+    (&[1_000_001, -1_000_001, 0], None),
+    (&[i128::MIN, 0, i128::MAX], None),
+];
+
+#[test]
+fn which_wide_amounts_are_taken(rt: HostRuntime) -> Result<(), Fail> {
+    let triangle = Graph::new(3, TRIANGLE)?;
+    for (numbers, fault) in &NUMBERS {
+        assert!(rt; Wide::new(&triangle, numbers).err() == *fault, "wide");
+    }
+    Ok(())
+}
 
 #[test]
 fn what_wide_amounts_hold(rt: HostRuntime) -> Result<(), Fail> {
-    let triangle = Graph::new(3, &[(0, 1, 1), (1, 2, 1), (0, 2, 1)])?;
-    let cases: [(&[i128], Option<ChipFault>); 5] = [
-        (&[0, 0], Some(ChipFault::Length)),
-        (&[0, 0, 0, 0], Some(ChipFault::Length)),
-        (&[], Some(ChipFault::Length)),
-        (&[1_000_001, -1_000_001, 0], None),
-        (&[i128::MIN, 0, i128::MAX], None),
-    ];
-    for (numbers, fault) in cases {
-        assert!(rt; Wide::new(&triangle, numbers).err() == fault, "wide");
-    }
+    let triangle = Graph::new(3, TRIANGLE)?;
     let most = Wide::new(&triangle, &[i128::MIN, -7, i128::MAX])?;
-    assert_eq!(rt;
-        (most.size(), most.get(0), most.get(1), most.get(2)),
-        (3, i128::MIN, -7, i128::MAX)
-    );
-    assert!(rt; Wide::zero(&triangle) == Wide::new(&triangle, &[0, 0, 0])?);
+    assert!(rt; most.size() == 3);
+    assert!(rt; most.get(0) == i128::MIN && most.get(1) == -7 && most.get(2) == i128::MAX);
+    assert!(rt; are_held(&triangle, &Wide::zero(&triangle), &[0, 0, 0]));
     Ok(())
+}
+
+/// Whether these are the amounts.
+fn are_held(graph: &Graph, chips: &Wide, amounts: &[i128]) -> bool {
+    Wide::new(graph, amounts) == Ok(*chips)
 }
 
 // Amounts of the triangle, and what they are after vertices 0 and 1 have lent five times, with five more at each of these,
@@ -64,20 +79,47 @@ static AMOUNTS: [([i64; 3], [[i128; 3]; 5]); 3] = [
 
 #[test]
 fn what_wide_amounts_become(rt: HostRuntime) -> Result<(), Fail> {
-    let triangle = Graph::new(3, &[(0, 1, 1), (1, 2, 1), (0, 2, 1)])?;
-    let script = Script::new(&triangle, &[1, 0, -2])?;
-    let lost = Divisor::new(&triangle, &[-1_000_000, 2, 3])?;
+    let triangle = Graph::new(3, TRIANGLE)?;
     for (amounts, [fired, more, led, less, other]) in &AMOUNTS {
         let divisor = Divisor::new(&triangle, amounts)?;
-        let _amounts = divisor.size();
-        let chips = Wide::of(&divisor);
-        assert!(rt; chips.fired(&triangle, 3, 5) == Wide::new(&triangle, fired)?);
-        assert!(rt; chips.more(3, 5) == Wide::new(&triangle, more)?);
-        assert!(rt; chips.fired_by(&triangle, &script) == Wide::new(&triangle, led)?);
-        assert!(rt; chips.less(&lost) == Wide::new(&triangle, less)?);
-        assert!(rt; chips.with_amount(1, 9) == Wide::new(&triangle, other)?);
+        become_with_a_set(&rt, &triangle, &divisor, [fired, more]);
+        become_with_others(&rt, &triangle, &divisor, [led, less])?;
+        become_with_an_amount(&rt, &triangle, &divisor, other);
     }
     Ok(())
+}
+
+fn become_with_a_set(
+    rt: &impl Abort,
+    triangle: &Graph,
+    divisor: &Divisor,
+    [fired, more]: [&[i128; 3]; 2],
+) {
+    assert!(rt; divisor.size() == triangle.size());
+    let chips = Wide::of(divisor);
+    assert!(rt; are_held(triangle, &chips.fired(triangle, 3, 5), fired));
+    assert!(rt; are_held(triangle, &chips.more(3, 5), more));
+}
+
+fn become_with_others(
+    rt: &impl Abort,
+    triangle: &Graph,
+    divisor: &Divisor,
+    [led, less]: [&[i128; 3]; 2],
+) -> Result<(), Fail> {
+    let script = Script::new(triangle, &[1, 0, -2])?;
+    let lost = Divisor::new(triangle, &[-1_000_000, 2, 3])?;
+    assert!(rt; divisor.size() == triangle.size());
+    let chips = Wide::of(divisor);
+    assert!(rt; are_held(triangle, &chips.fired_by(triangle, &script), led));
+    assert!(rt; are_held(triangle, &chips.less(&lost), less));
+    Ok(())
+}
+
+fn become_with_an_amount(rt: &impl Abort, triangle: &Graph, divisor: &Divisor, other: &[i128; 3]) {
+    assert!(rt; divisor.size() == 3);
+    let chips = Wide::of(divisor).with_amount(1, 9);
+    assert!(rt; are_held(triangle, &chips, other));
 }
 
 /// Scripts on the triangle, and what each vertex gets by them: the sums of the first fit into 32 bits, those of the others need more.
@@ -102,11 +144,11 @@ const LARGE: [([i64; 3], [i128; 3]); 4] = [
 
 #[test]
 fn large_scripts_fire_exactly(rt: HostRuntime) -> Result<(), Fail> {
-    let triangle = Graph::new(3, &[(0, 1, 1), (1, 2, 1), (0, 2, 1)])?;
+    let triangle = Graph::new(3, TRIANGLE)?;
     for (entries, gains) in &LARGE {
         let script = Script::new(&triangle, entries)?;
         let led = Wide::zero(&triangle).fired_by(&triangle, &script);
-        assert!(rt; led == Wide::new(&triangle, gains)?);
+        assert!(rt; are_held(&triangle, &led, gains));
     }
     Ok(())
 }

@@ -1,6 +1,7 @@
 //! Sets of vertices, and the edges that lead out of them and into them.
 
 use dg_graph::{Graph, complement, contains, is_within, with_vertex};
+use std::process::Abort;
 use std::test::Fail;
 
 /// A set of the square's vertices, or past them, and a vertex: whether it is in the set, the set with it, the vertices that
@@ -21,23 +22,27 @@ static CASES: [Case; 7] = [
 #[test]
 fn sets_of_the_square(rt: HostRuntime) -> Result<(), Fail> {
     let square = Graph::new(4, &[(0, 1, 1), (1, 2, 1), (2, 3, 1), (0, 3, 2)])?;
-    for (set, v, holds, more, rest, within, out, into) in CASES {
-        assert!(rt; v < square.size());
-        assert_eq!(rt;
-            (contains(set, v), with_vertex(set, v)),
-            (holds, more),
-            "{set} {v}"
-        );
-        assert_eq!(rt;
-            (complement(4, set), is_within(4, set)),
-            (rest, within),
-            "{set}"
-        );
-        assert_eq!(rt;
-            (square.edges_out(set, v), square.edges_into(set, v)),
-            (out, into),
-            "{set} {v}"
-        );
+    for case in &CASES {
+        is_told(&rt, case);
+        has_edges(&rt, &square, case);
     }
     Ok(())
+}
+
+fn is_told(rt: &impl Abort, case: &Case) {
+    let (set, v, holds, more, rest, within, _, _) = *case;
+    assert!(rt; v < 16);
+    assert!(rt; contains(set, v) == holds, "{set} {v}");
+    assert!(rt; with_vertex(set, v) == more, "{set} {v}");
+    assert!(rt;
+        complement(4, set) == rest && is_within(4, set) == within,
+        "{set}"
+    );
+}
+
+fn has_edges(rt: &impl Abort, square: &Graph, case: &Case) {
+    let (set, v, _, _, _, _, out, into) = *case;
+    assert!(rt; v < square.size());
+    assert!(rt; square.edges_out(set, v) == out, "{set} {v}");
+    assert!(rt; square.edges_into(set, v) == into, "{set} {v}");
 }

@@ -3,11 +3,12 @@
 ghost use Rattle.std.specs.Prelude.{◌≡◌};
 
 use dg_chips::{Script, Wide};
-use dg_graph::Graph;
+use dg_graph::{Graph, GraphFault};
 use dg_reduce::{
     Aim, Certified, Reduced, certified_by, guess, is_solvent_off, is_within_start,
     order_if_reduced, reduce_certified, reduce_wide,
 };
+use std::process::Abort;
 use std::test::Fail;
 
 /// Edges, q, amounts, the reduced amounts, the script that leads to them, and guesses.
@@ -180,26 +181,49 @@ fn certified_beside(
     Some(certified_by(graph, q, chips, script, &known))
 }
 
+/// The graph, the amounts and the reduction of a case.
+fn values_of(case: &Case) -> Result<(Graph, Wide, Reduced), Fail> {
+    let (items, _, amounts, chips, script, _) = case;
+    let graph = Graph::new(amounts.len(), items)?;
+    let start = Wide::new(&graph, amounts)?;
+    let divisor = Wide::new(&graph, chips)?;
+    let script = Script::new(&graph, script)?;
+    Ok((graph, start, Reduced { divisor, script }))
+}
+
+/// Whether what was found is the reduction that is wanted, and the order that in which its amounts burn.
+fn is_wanted(graph: &Graph, q: usize, found: &Certified, wanted: &Reduced) -> bool {
+    found.reduced == *wanted
+        && wanted.divisor.size() == graph.size()
+        && q < graph.size()
+        && order_if_reduced(graph, q, &wanted.divisor) == Some(found.order)
+}
+
 #[test]
 fn wrong_guesses(rt: HostRuntime) -> Result<(), Fail> {
-    for (items, q, amounts, chips, script, guesses) in CASES {
-        let graph = Graph::new(amounts.len(), items)?;
-        let start = Wide::new(&graph, amounts)?;
-        let divisor = Wide::new(&graph, chips)?;
-        let script = Script::new(&graph, script)?;
-        assert!(rt; q < graph.size());
-        let order = order_if_reduced(&graph, q, &divisor);
-        assert!(rt; order.is_some(), "{chips:?}");
-        let wanted = Reduced { divisor, script };
-        for guess in guesses {
-            let guessed = Script::new(&graph, guess)?;
-            let Some(found) = certified_after(&graph, q, &start, &guessed) else {
-                panic!(rt; "{guess:?}");
-            };
-            assert!(rt; found.reduced == wanted, "{guess:?}");
-            assert!(rt; Some(found.order) == order, "{guess:?}");
+    for case in &CASES {
+        let (graph, start, wanted) = values_of(case)?;
+        for guess in &case.5 {
+            is_found_after(&rt, &graph, case.1, &start, guess, &wanted)?;
         }
     }
+    Ok(())
+}
+
+fn is_found_after(
+    rt: &impl Abort,
+    graph: &Graph,
+    q: usize,
+    start: &Wide,
+    guess: &[i64],
+    wanted: &Reduced,
+) -> Result<(), Fail> {
+    let guessed = Script::new(graph, guess)?;
+    assert!(rt; start.size() == graph.size());
+    let Some(found) = certified_after(graph, q, start, &guessed) else {
+        panic!(rt; "{guess:?}");
+    };
+    assert!(rt; is_wanted(graph, q, &found, wanted), "{guess:?}");
     Ok(())
 }
 
@@ -207,59 +231,84 @@ fn wrong_guesses(rt: HostRuntime) -> Result<(), Fail> {
 // is among them. Triangle from 2, by hand: with a dollar less at 0, what is left off q is 1 0, so that 1 burns before 0.
 #[test]
 fn burnings_of_others(rt: HostRuntime) -> Result<(), Fail> {
-    for (items, q, amounts, chips, script, _) in CASES {
-        let graph = Graph::new(amounts.len(), items)?;
-        let start = Wide::new(&graph, amounts)?;
-        let divisor = Wide::new(&graph, chips)?;
-        let script = Script::new(&graph, script)?;
-        assert!(rt; q < graph.size());
-        let order = order_if_reduced(&graph, q, &divisor);
+    for case in &CASES {
+        let (graph, start, wanted) = values_of(case)?;
         for v in 0..graph.size() {
-            let other = start.with_amount(v, start.get(v).wrapping_sub(1));
-            let Some(found) = certified_beside(&graph, q, &start, &script, &other) else {
-                panic!(rt; "{amounts:?} but at {v}");
-            };
-            assert!(rt; found.reduced == Reduced { divisor, script }, "at {v}");
-            assert!(rt; Some(found.order) == order, "at {v}");
+            is_found_beside(&rt, &graph, case.1, &start, v, &wanted);
         }
     }
     Ok(())
 }
 
-// What a guess leads to is the reduced divisor itself: here, and wherever else it was tried. One amount off the guess's
-// path, and it is not.
-#[test]
-fn guesses_are_right(rt: HostRuntime) -> Result<(), Fail> {
+fn is_found_beside(
+    rt: &impl Abort,
+    graph: &Graph,
+    q: usize,
+    start: &Wide,
+    v: usize,
+    wanted: &Reduced,
+) {
+    let size = graph.size();
+    assert!(rt; v < size && start.size() == size && wanted.script.size() == size);
+    let other = start.with_amount(v, start.get(v).wrapping_sub(1));
+    let Some(found) = certified_beside(graph, q, start, &wanted.script, &other) else {
+        panic!(rt; "{q} but at {v}");
+    };
+    assert!(rt; is_wanted(graph, q, &found, wanted), "{q} but at {v}");
+}
+
+/// The path of sixteen vertices.
+fn long_path() -> Result<Graph, GraphFault> {
     let mut items = [(0, 0, 1); 15];
     for v in 0..15u8 {
         items[usize::from(v)] = (v, v + 1, 1);
     }
-    let path = Graph::new(16, &items)?;
-    let cases: [(usize, &[i128]); 5] = [
-        (0, &[0; 16]),
-        (0, &[1_000_000; 16]),
-        (15, &[-2_000_000; 16]),
-        (7, &[1_999_999; 16]),
-        (
-            3,
-            &[
-                -1_000_000, 900_000, -1, 0, 8, 2_000_000, -65, 70_000, -7, 0, 0, -999_999, 5, 5,
-                123_456, -1_000_000,
-            ],
-        ),
-    ];
-    for (q, amounts) in cases {
+    Graph::new(16, &items)
+}
+
+// A vertex of the path, and amounts.
+static RIGHT: [(usize, [i128; 16]); 5] = [
+    (0, [0; 16]),
+    (0, [1_000_000; 16]),
+    (15, [-2_000_000; 16]),
+    (7, [1_999_999; 16]),
+    (
+        3,
+        [
+            -1_000_000, 900_000, -1, 0, 8, 2_000_000, -65, 70_000, -7, 0, 0, -999_999, 5, 5,
+            123_456, -1_000_000,
+        ],
+    ),
+];
+
+// What a guess leads to is the reduced divisor itself: here, and wherever else it was tried. One amount off the guess's
+// path, and it is not.
+#[test]
+fn guesses_are_right(rt: HostRuntime) -> Result<(), Fail> {
+    let path = long_path()?;
+    for (q, amounts) in &RIGHT {
         let chips = Wide::new(&path, amounts)?;
-        assert!(rt; q < path.size() && is_within_start(&chips));
-        let script = guess(&path, &Aim::new(&path, q), q, &chips).script;
-        let left = chips.fired_by(&path, &script);
-        assert!(rt; order_if_reduced(&path, q, &left).is_some(), "for {q}");
-        assert!(rt; left.get(3) < 1 || q == 3);
-        let other = left.with_amount(if q == 3 { 5 } else { 3 }, 2);
-        assert!(rt; order_if_reduced(&path, q, &other).is_none(), "for {q}");
-        assert!(rt; is_solvent_off(&path, q, &other));
+        is_guessed(&rt, &path, *q, &chips);
     }
     Ok(())
+}
+
+fn is_guessed(rt: &impl Abort, path: &Graph, q: usize, chips: &Wide) {
+    assert!(rt; q < path.size() && chips.size() == path.size());
+    assert!(rt; is_within_start(chips));
+    let script = guess(path, &Aim::new(path, q), q, chips).script;
+    let left = chips.fired_by(path, &script);
+    assert!(rt; order_if_reduced(path, q, &left).is_some(), "for {q}");
+    is_alone(rt, path, q, &left);
+}
+
+// With one amount changed, nobody off q owes, and not all vertices burn.
+fn is_alone(rt: &impl Abort, path: &Graph, q: usize, left: &Wide) {
+    assert!(rt; path.size() == 16 && left.size() == 16 && q < 16);
+    assert!(rt; left.get(3) < 1 || q == 3);
+    let other = left.with_amount(if q == 3 { 5 } else { 3 }, 2);
+    assert!(rt; order_if_reduced(path, q, &other).is_none(), "for {q}");
+    assert!(rt; is_solvent_off(path, q, &other));
 }
 
 // An aim of another graph or vertex makes bad guesses, and changes no answer.
@@ -267,18 +316,19 @@ fn guesses_are_right(rt: HostRuntime) -> Result<(), Fail> {
 fn aims_of_others(rt: HostRuntime) -> Result<(), Fail> {
     let square = Graph::new(4, SQUARE)?;
     let path = Graph::new(4, PATH)?;
-    let chips = Wide::new(&square, &[-300, 100, 90, 80])?;
+    serves(&rt, &square, &Aim::new(&square, 0))?;
+    serves(&rt, &square, &Aim::new(&square, 2))?;
+    serves(&rt, &square, &Aim::new(&path, 3))
+}
+
+fn serves(rt: &impl Abort, square: &Graph, aim: &Aim) -> Result<(), Fail> {
+    let chips = Wide::new(square, &[-300, 100, 90, 80])?;
+    let _size = square.size();
     assert!(rt; is_within_start(&chips));
-    let wanted = reduce_wide(&square, 0, &chips);
-    assert!(rt; wanted.divisor == Wide::new(&square, &[-30, 0, 0, 0])?);
-    for aim in [
-        Aim::new(&square, 0),
-        Aim::new(&square, 2),
-        Aim::new(&path, 3),
-    ] {
-        let found = reduce_certified(&square, &aim, 0, &chips);
-        assert!(rt; found.reduced == wanted);
-        assert!(rt; found.order.starts_with(&[0, 1, 2, 3]));
-    }
+    let wanted = reduce_wide(square, 0, &chips);
+    assert!(rt; Wide::new(square, &[-30, 0, 0, 0]) == Ok(wanted.divisor));
+    let found = reduce_certified(square, aim, 0, &chips);
+    assert!(rt; found.reduced == wanted);
+    assert!(rt; found.order.starts_with(&[0, 1, 2, 3]));
     Ok(())
 }

@@ -8,9 +8,10 @@ use dg_burn::held_at;
 use dg_chips::{Script, Wide};
 use dg_graph::Graph;
 use dg_reduce::{
-    Aim, Guessed, guess, is_within_start, order_if_reduced, reduce_after, reduce_by_levels,
-    reduce_certified,
+    Aim, Burning, Certified, Reduced, guess, is_within_start, order_if_reduced, reduce_after,
+    reduce_by_levels, reduce_certified,
 };
+use std::process::Abort;
 use std::test::Fail;
 
 /// Numbers that look random.
@@ -79,45 +80,68 @@ fn thin_edges(heavy: u8, is_one_part: bool, u: u8, v: u8) -> u8
     }
 }
 
+/// How many edges a random graph has between two vertices, of which u is the lesser, beside those of a tree.
+fn edges_between(dice: &mut Dice, shape: Shape, size: u8, u: u8, v: u8) -> u8
+    requires some { 1 ≤ size }
+    requires order { u ≤ v }
+{
+    let half = size / 2 + 1;
+    let across = u < half && v >= half;
+    match shape {
+        Shape::Tree | Shape::Light => 0,
+        Shape::Heavy => 1 + dice.byte((60 / size).max(1)),
+        Shape::Bridge if across => u8::from(u == 0 && v == half),
+        Shape::Bridge => 1 + dice.byte((120 / size).clamp(1, 60)),
+        Shape::Tail => thin_edges(8, v < 8, u, v),
+        Shape::Barbell => thin_edges(8, u / 8 == v / 8, u, v),
+        Shape::Path => thin_edges(60, u / 2 == v / 2, u, v),
+        Shape::Triangles => thin_edges(25, u / 3 == v / 3, u, v),
+    }
+}
+
+/// The edges of a graph.
+#[derive(Drop)]
+struct Items {
+    items: [(u8, u8, u8); 152],
+    count: usize,
+}
+
+impl Items {
+    /// Adds edges between two vertices, as long as there is room.
+    fn add(&mut self, u: u8, v: u8, edges: u8) {
+        if self.count < 152 {
+            self.items[self.count] = (u, v, edges);
+            self.count += 1;
+        }
+    }
+}
+
 /// A random connected graph; none where some vertex has got too many edges.
 fn graph_of(dice: &mut Dice, shape: Shape, size: u8) -> Option<Graph>
     requires some { 1 ≤ size }
     requires few { size ≤ 16 }
 {
-    let mut items = [(0, 0, 1); 152];
-    let mut count = 0;
-    let half = size / 2 + 1;
-    let single = (60 / size).max(1);
-    let double = (120 / size).clamp(1, 60);
+    let mut items = Items {
+        items: [(0, 0, 1); 152],
+        count: 0,
+    };
     for v in 1..size {
         for u in 0..v {
-            let across = u < half && v >= half;
-            let edges = match shape {
-                Shape::Tree | Shape::Light => 0,
-                Shape::Heavy => 1 + dice.byte(single),
-                Shape::Bridge if across => u8::from(u == 0 && v == half),
-                Shape::Bridge => 1 + dice.byte(double),
-                Shape::Tail => thin_edges(8, v < 8, u, v),
-                Shape::Barbell => thin_edges(8, u / 8 == v / 8, u, v),
-                Shape::Path => thin_edges(60, u / 2 == v / 2, u, v),
-                Shape::Triangles => thin_edges(25, u / 3 == v / 3, u, v),
-            };
-            if edges > 0 && count < 152 {
-                items[count] = (u, v, edges);
-                count += 1;
+            let edges = edges_between(dice, shape, size, u, v);
+            if edges > 0 {
+                items.add(u, v, edges);
             }
         }
-        if matches!(shape, Shape::Tree | Shape::Light) && count < 152 {
-            items[count] = (dice.byte(v), v, 1);
-            count += 1;
+        if matches!(shape, Shape::Tree | Shape::Light) {
+            items.add(dice.byte(v), v, 1);
         }
         let u = dice.byte(size);
-        if matches!(shape, Shape::Light) && u != v && count < 152 {
-            items[count] = (u, v, 1);
-            count += 1;
+        if matches!(shape, Shape::Light) && u != v {
+            items.add(u, v, 1);
         }
     }
-    Graph::new(usize::from(size), &items[..count.min(152)]).ok()
+    let count = items.count.min(152);
+    Graph::new(usize::from(size), &items.items[..count]).ok()
 }
 
 /// A number of lendings near to another.
@@ -151,9 +175,57 @@ fn is_same_off(q: usize, held: &[u8; 16], other: &[u8; 16]) -> bool {
     true
 }
 
-/// Whether a random reduction is the same with a guess and by levels, which begin with a blunt script where amounts are
-/// large, and are left out where they take too long; and whether the guess was right, and its burning was that of the reduced
-/// amounts.
+/// Random amounts up to some limit.
+fn amounts_of(dice: &mut Dice, size: usize, most: u64) -> [i128; 16]
+    requires size { size ≤ 16 }
+    requires most { most ≤ 1000000 }
+{
+    let mut amounts = [0; 16];
+    for v in 0..size {
+        amounts[v] = dice.amount(most);
+    }
+    amounts
+}
+
+/// The reduction by levels of amounts that are within the range, which begins with a blunt script where they are large.
+fn by_levels(graph: &Graph, q: usize, chips: &Wide, most: u64, script: &Script) -> Option<Reduced>
+    requires size { chips.now.size ≡ graph.now.size }
+    requires vertex { q < graph.now.size }
+    requires script { script.now.size ≡ graph.now.size }
+{
+    if !is_within_start(chips) {
+        return None;
+    }
+    Some(if most <= 10 {
+        reduce_by_levels(graph, q, chips)
+    } else {
+        reduce_after(graph, q, chips, &blunt(graph, q, script))
+    })
+}
+
+/// Whether what was found is the reduction that is wanted, and the order that in which its amounts burn.
+fn is_wanted(graph: &Graph, q: usize, found: &Certified, wanted: &Reduced) -> bool
+    requires { q < graph.now.size }
+{
+    found.reduced == *wanted
+        && wanted.divisor.size() == graph.size()
+        && order_if_reduced(graph, q, &wanted.divisor) == Some(found.order)
+}
+
+/// Whether a guess has led to reduced amounts, and its burning is that of these.
+fn is_right(graph: &Graph, q: usize, left: &Wide, burning: &Option<Burning>) -> bool
+    requires size { left.now.size ≡ graph.now.size }
+    requires vertex { q < graph.now.size }
+{
+    let known = match burning {
+        Some(burning) => is_same_off(q, &burning.held, &held_at(left)),
+        None => false,
+    };
+    known && order_if_reduced(graph, q, left).is_some()
+}
+
+/// Whether a random reduction is the same with a guess and by levels, which are left out where they take too long; and
+/// whether the guess was right.
 fn agrees(
     dice: &mut Dice,
     graph: &Graph,
@@ -165,75 +237,79 @@ fn agrees(
     requires most { most ≤ 1000000 }
 {
     let size = graph.size();
-    let mut amounts = [0; 16];
-    for v in 0..size {
-        amounts[v] = dice.amount(most);
-    }
+    let amounts = amounts_of(dice, size, most);
     let chips = Wide::new(graph, &amounts[..size]).ok()?;
     if !is_within_start(&chips) {
         return None;
     }
     let aim = Aim::new(graph, q);
     let found = reduce_certified(graph, &aim, q, &chips);
-    let Guessed { script, burning } = guess(graph, &aim, q, &chips);
-    let wanted = if !has_levels {
-        found.reduced
-    } else if most <= 10 {
-        reduce_by_levels(graph, q, &chips)
+    let guessed = guess(graph, &aim, q, &chips);
+    let wanted = if has_levels {
+        by_levels(graph, q, &chips, most, &guessed.script)?
     } else {
-        reduce_after(graph, q, &chips, &blunt(graph, q, &script))
+        found.reduced
     };
-    let order = order_if_reduced(graph, q, &wanted.divisor);
-    let left = chips.fired_by(graph, &script);
-    let known = match burning {
-        Some(burning) => is_same_off(q, &burning.held, &held_at(&left)),
-        None => false,
-    };
+    let left = chips.fired_by(graph, &guessed.script);
     Some((
-        found.reduced == wanted && order == Some(found.order),
-        known && order_if_reduced(graph, q, &left).is_some(),
+        is_wanted(graph, q, &found, &wanted),
+        is_right(graph, q, &left, &guessed.burning),
     ))
 }
 
+/// How many graphs were tried, and how many guesses were wrong.
+#[derive(Drop)]
+struct Tally {
+    graphs: u32,
+    wrong: u32,
+}
+
+static SHAPES: [Shape; 8] = [
+    Shape::Tree,
+    Shape::Light,
+    Shape::Heavy,
+    Shape::Bridge,
+    Shape::Tail,
+    Shape::Barbell,
+    Shape::Path,
+    Shape::Triangles,
+];
+
 #[test]
 fn as_by_levels(rt: HostRuntime) -> Result<(), Fail> {
-    let shapes = [
-        Shape::Tree,
-        Shape::Light,
-        Shape::Heavy,
-        Shape::Bridge,
-        Shape::Tail,
-        Shape::Barbell,
-        Shape::Path,
-        Shape::Triangles,
-    ];
-    let limits = [3, 10, 1000, 1_000_000];
     let mut dice = Dice { state: 1 };
-    let mut graphs = 0u32;
-    let mut wrong = 0u32;
+    let mut tally = Tally {
+        graphs: 0,
+        wrong: 0,
+    };
     for _ in 0..800 {
-        for shape in shapes {
-            for most in limits {
-                let size = 1 + dice.byte(16);
-                if let Some(graph) = graph_of(&mut dice, shape, size) {
-                    let q = usize::from(dice.byte(size));
-                    assert!(rt; q < graph.size() && most <= 1_000_000);
-                    let has_levels = matches!(
-                        shape,
-                        Shape::Tree | Shape::Light | Shape::Heavy | Shape::Bridge
-                    );
-                    let Some((same, right)) = agrees(&mut dice, &graph, q, most, has_levels) else {
-                        panic!(rt; "out of range");
-                    };
-                    assert!(rt; same, "graph {graphs} with {most}");
-                    graphs = graphs.wrapping_add(1);
-                    wrong = wrong.wrapping_add(u32::from(!right));
-                }
+        for shape in &SHAPES {
+            for most in [3, 10, 1000, 1_000_000] {
+                is_by_levels(&rt, &mut dice, &mut tally, *shape, most);
             }
         }
     }
-    assert!(rt; graphs > 20_000, "{graphs} graphs");
+    assert!(rt; tally.graphs > 20_000, "{} graphs", tally.graphs);
     // None of these 24,000 guesses is wrong; nothing promises that.
-    assert!(rt; wrong < 24, "{wrong} wrong guesses");
+    assert!(rt; tally.wrong < 24, "{} wrong guesses", tally.wrong);
     Ok(())
+}
+
+fn is_by_levels(rt: &impl Abort, dice: &mut Dice, tally: &mut Tally, shape: Shape, most: u64) {
+    let size = 1 + dice.byte(16);
+    let Some(graph) = graph_of(dice, shape, size) else {
+        return;
+    };
+    let q = usize::from(dice.byte(size));
+    assert!(rt; q < graph.size() && most <= 1_000_000);
+    let has_levels = matches!(
+        shape,
+        Shape::Tree | Shape::Light | Shape::Heavy | Shape::Bridge
+    );
+    let Some((same, right)) = agrees(dice, &graph, q, most, has_levels) else {
+        panic!(rt; "out of range");
+    };
+    assert!(rt; same, "graph {} with {most}", tally.graphs);
+    tally.graphs = tally.graphs.wrapping_add(1);
+    tally.wrong = tally.wrong.wrapping_add(u32::from(!right));
 }
