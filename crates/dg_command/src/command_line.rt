@@ -71,13 +71,23 @@ fn command_of<'a>(alloc: Global, words: &'a [String]) -> Result<Asked<'a>, clap:
     let matches = dollar(alloc)?.try_get_matches_from(words)?;
     match command_in(alloc, &matches) {
         Ok(asked) => Ok(asked),
-        Err(Refusal::Command) => {
-            Err(dollar(alloc)?.error(ErrorKind::MissingSubcommand, "a command is missing")?)
+        Err(refusal) => Err(error_of(alloc, matches.subcommand_name(), refusal)?),
+    }
+}
+
+/// What is said of a refusal, of the arguments of that command where it names one.
+fn error_of(
+    alloc: Global,
+    name: Option<&str>,
+    refusal: Refusal<'_>,
+) -> Result<clap::Error, AllocError> {
+    match refusal {
+        Refusal::Command => {
+            dollar(alloc)?.error(ErrorKind::MissingSubcommand, "a command is missing")
         }
-        Err(Refusal::Memory) => Err(clap::Error::from(AllocError)),
-        Err(Refusal::Number(argument, word)) => {
-            let name = matches.subcommand_name().unwrap_or("");
-            Err(number_refused(alloc, name, argument, word)?)
+        Refusal::Memory => Ok(clap::Error::from(AllocError)),
+        Refusal::Number(argument, word) => {
+            number_refused(alloc, name.unwrap_or(""), argument, word)
         }
     }
 }
@@ -100,14 +110,22 @@ fn number_refused(
 /// The command that takes a number, as its usage shows it; any other name stands for the whole program.
 fn shown_command<'a>(alloc: Global, name: &str) -> Result<Command<'a>, AllocError> {
     match name {
-        "judge" => judge(alloc)?.bin_name("dollar judge"),
-        "rank" => rank(alloc)?.bin_name("dollar rank"),
-        "rr" => riemann_roch(alloc)?.bin_name("dollar rr"),
-        "greedy" => greedy(alloc)?.bin_name("dollar greedy"),
-        "serve" => serve(alloc)?.bin_name("dollar serve"),
-        "party" => party(alloc)?.bin_name("dollar party"),
+        "judge" => shown_as("dollar judge", judge(alloc)),
+        "rank" => shown_as("dollar rank", rank(alloc)),
+        "rr" => shown_as("dollar rr", riemann_roch(alloc)),
+        "greedy" => shown_as("dollar greedy", greedy(alloc)),
+        "serve" => shown_as("dollar serve", serve(alloc)),
+        "party" => shown_as("dollar party", party(alloc)),
         _ => dollar(alloc),
     }
+}
+
+/// The command as its usage shows it, where it could be made.
+fn shown_as<'a>(
+    name: &'static str,
+    command: Result<Command<'a>, AllocError>,
+) -> Result<Command<'a>, AllocError> {
+    command?.bin_name(name)
 }
 
 /// An argument that is a whole number of some range.
@@ -316,77 +334,67 @@ fn dollar<'a>(alloc: Global) -> Result<Command<'a>, AllocError> {
 
 /// The command with those below it that answer what is so of a table.
 fn with_answers<'a>(alloc: Global, command: Command<'a>) -> Result<Command<'a>, AllocError> {
-    command
-        .subcommand(judge(alloc)?)?
-        .subcommand(rank(alloc)?)?
-        .subcommand(riemann_roch(alloc)?)
+    let command = with_command(command, judge(alloc))?;
+    let command = with_command(command, rank(alloc))?;
+    with_command(command, riemann_roch(alloc))
 }
 
 /// The command with those below it that play a game on a table.
 fn with_games<'a>(alloc: Global, command: Command<'a>) -> Result<Command<'a>, AllocError> {
-    command
-        .subcommand(greedy(alloc)?)?
-        .subcommand(rehearse(alloc)?)?
-        .subcommand(serve(alloc)?)?
-        .subcommand(party(alloc)?)
+    let command = with_command(command, greedy(alloc))?;
+    let command = with_command(command, rehearse(alloc))?;
+    let command = with_command(command, serve(alloc))?;
+    with_command(command, party(alloc))
+}
+
+/// The command with one below it, where that could be made.
+fn with_command<'a>(
+    command: Command<'a>,
+    below: Result<Command<'a>, AllocError>,
+) -> Result<Command<'a>, AllocError> {
+    command.subcommand(below?)
 }
 
 fn judge<'a>(alloc: Global) -> Result<Command<'a>, AllocError> {
-    Command::new(alloc, "judge")
+    let command = Command::new(alloc, "judge")
         .about("Tells whether a table is winnable, and prints what shows it")
         .after_help(JUDGE_MORE)
-        .arg(table_file(alloc))?
-        .arg(lines(alloc))?
-        .arg(line_workers(alloc)?)
+        .arg(table_file(alloc))?;
+    with_lines(alloc, command)
 }
 
 fn rank<'a>(alloc: Global) -> Result<Command<'a>, AllocError> {
-    let degree = Arg::new(alloc, "degree")
-        .value_name("K")
-        .required(true)
-        .allow_negative_numbers(true)
-        .help(DEGREE_HELP);
     Command::new(alloc, "rank")
         .about("Tests whether a table stays winnable wherever K dollars are lost")
         .after_help(RANK_MORE)
         .arg(table_file(alloc))?
         .arg(lines(alloc))?
-        .arg(degree)?
+        .arg(degree(alloc))?
         .arg(workers(alloc).help(RANK_WORKERS_HELP))
 }
 
 fn riemann_roch<'a>(alloc: Global) -> Result<Command<'a>, AllocError> {
-    Command::new(alloc, "rr")
+    let command = Command::new(alloc, "rr")
         .about("Prints the four numbers of Riemann-Roch for a table")
         .after_help(RIEMANN_ROCH_MORE)
-        .arg(table_file(alloc))?
-        .arg(lines(alloc))?
-        .arg(line_workers(alloc)?)
+        .arg(table_file(alloc))?;
+    with_lines(alloc, command)
 }
 
 fn greedy<'a>(alloc: Global) -> Result<Command<'a>, AllocError> {
-    let turns = Arg::new(alloc, "turns")
-        .value_name("TURNS")
-        .required(true)
-        .allow_negative_numbers(true)
-        .help(TURNS_HELP);
     Command::new(alloc, "greedy")
         .about("Lets the first vertex in debt borrow, until nobody is in debt")
         .after_help(GREEDY_MORE)
         .arg(table_file(alloc))?
-        .arg(turns)
+        .arg(turns(alloc))
 }
 
 fn rehearse<'a>(alloc: Global) -> Result<Command<'a>, AllocError> {
-    let steps = Arg::new(alloc, "steps")
-        .value_name("STEPS")
-        .required(true)
-        .help(STEPS_HELP);
     Command::new(alloc, "rehearse")
         .about("Plays a list of steps on a table, and prints what came of each")
         .after_help(REHEARSE_MORE)
         .arg(table_file(alloc))?
-        .arg(steps)
+        .arg(steps(alloc))
 }
 
 fn serve<'a>(alloc: Global) -> Result<Command<'a>, AllocError> {
@@ -400,17 +408,48 @@ fn serve<'a>(alloc: Global) -> Result<Command<'a>, AllocError> {
 }
 
 fn party<'a>(alloc: Global) -> Result<Command<'a>, AllocError> {
-    let scripts = Arg::new(alloc, "script")
-        .value_name("SCRIPT")
-        .required(true)
-        .num_args(1..)
-        .help(SCRIPT_HELP);
     Command::new(alloc, "party")
         .about("Plays scripts side by side on one table, and prints what came of it")
         .after_help(PARTY_MORE)
         .arg(table_file(alloc))?
-        .arg(scripts)?
+        .arg(scripts(alloc))?
         .arg(capacity(alloc))
+}
+
+/// The command with the arguments of those that read a table on each line.
+fn with_lines<'a>(alloc: Global, command: Command<'a>) -> Result<Command<'a>, AllocError> {
+    command.arg(lines(alloc))?.arg(line_workers(alloc)?)
+}
+
+fn degree<'a>(alloc: Global) -> Arg<'a> {
+    Arg::new(alloc, "degree")
+        .value_name("K")
+        .required(true)
+        .allow_negative_numbers(true)
+        .help(DEGREE_HELP)
+}
+
+fn turns<'a>(alloc: Global) -> Arg<'a> {
+    Arg::new(alloc, "turns")
+        .value_name("TURNS")
+        .required(true)
+        .allow_negative_numbers(true)
+        .help(TURNS_HELP)
+}
+
+fn steps<'a>(alloc: Global) -> Arg<'a> {
+    Arg::new(alloc, "steps")
+        .value_name("STEPS")
+        .required(true)
+        .help(STEPS_HELP)
+}
+
+fn scripts<'a>(alloc: Global) -> Arg<'a> {
+    Arg::new(alloc, "script")
+        .value_name("SCRIPT")
+        .required(true)
+        .num_args(1..)
+        .help(SCRIPT_HELP)
 }
 
 fn workers<'a>(alloc: Global) -> Arg<'a> {

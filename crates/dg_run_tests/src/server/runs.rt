@@ -1,6 +1,7 @@
 //! Runs over files in memory, and tables that several of them are played on.
 
 use crate::server::asked::{Command, asked};
+use dg_asked::Asked;
 use dg_server::{perform, report};
 use dg_sources::Shelf;
 use dg_streams::Output;
@@ -39,19 +40,27 @@ pub(super) fn all_run<R>(rt: &R, runs: &[Run<'_>]) -> Result<(), Fail>
 where
     R: Files + AllocGlobal + Threads + Wait + Abort + Sync,
 {
-    for (table, command, input, printed, told, status) in runs {
-        let (output, faults, got) = left_by(rt, *table, *command, *input)?;
-        assert!(rt; got == *status, "{table:.300}, {input:.300}: the status");
-        assert!(rt;
-            output.as_slice() == printed.as_bytes(),
-            "{table:.300}, {input:.300}: the output"
-        );
-        assert!(rt;
-            faults.as_slice() == told.as_bytes(),
-            "{table:.300}, {input:.300}: the fault"
-        );
+    for run in runs {
+        comes_out(rt, run)?;
     }
     Ok(())
+}
+
+fn comes_out<R>(rt: &R, run: &Run<'_>) -> Result<(), Fail>
+where
+    R: Files + AllocGlobal + Threads + Wait + Abort + Sync,
+{
+    let (table, command, input, printed, told, status) = *run;
+    let (output, faults, got) = left_by(rt, table, command, input)?;
+    assert!(rt; got == status, "{table:.300}, {input:.300}: the status");
+    is_text(rt, output.as_slice(), printed, "the output");
+    is_text(rt, faults.as_slice(), told, "the fault");
+    Ok(())
+}
+
+// Whether the bytes of this part of what a run leaves are the text.
+fn is_text(rt: &impl Abort, bytes: &[u8], text: &str, part: &str) {
+    assert!(rt; bytes == text.as_bytes(), "{part} is not {text:.300}");
 }
 
 // What a run prints, what it says of a fault, and its status.
@@ -64,17 +73,22 @@ fn left_by<R>(
 where
     R: Files + AllocGlobal + Threads + Wait + Sync,
 {
-    let alloc = rt.alloc();
-    let asked = asked(alloc, command)?;
-    let files = all_files(alloc, table, input)?;
+    let files = all_files(rt.alloc(), table, input)?;
     let shelf = Shelf { files: &files };
-    let mut output = Output::new(Vec::new(alloc));
-    let mut faults = Vec::new(alloc);
-    let status = match perform(rt, asked, &shelf, input.as_bytes(), &mut output) {
+    Ok(performed(rt, asked(rt.alloc(), command)?, &shelf, input))
+}
+
+fn performed<R>(rt: &R, asked: Asked<'_>, shelf: &Shelf<'_>, input: &str) -> (Vec<u8>, Vec<u8>, u8)
+where
+    R: Files + AllocGlobal + Threads + Wait + Sync,
+{
+    let mut output = Output::new(Vec::new(rt.alloc()));
+    let mut faults = Vec::new(rt.alloc());
+    let status = match perform(rt, asked, shelf, input.as_bytes(), &mut output) {
         Ok(()) => 0,
         Err(fault) => report(&fault, &mut faults),
     };
-    Ok((output.into_inner(), faults, status))
+    (output.into_inner(), faults, status)
 }
 
 // The scripts, the table and the steps.
