@@ -203,7 +203,7 @@ fn by_levels(graph: &Graph, q: usize, chips: &Wide, most: u64, script: &Script) 
     })
 }
 
-/// Whether what was found is the reduction that is wanted, and the order that in which its amounts burn.
+/// Whether what was found is the reduction that is wanted, and the order the one in which its amounts burn.
 fn is_wanted(graph: &Graph, q: usize, found: &Certified, wanted: &Reduced) -> bool
     requires { q < graph.now.size }
 {
