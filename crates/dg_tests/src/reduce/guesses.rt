@@ -192,7 +192,7 @@ fn values_of(case: &Case) -> Result<(Graph, Wide, Reduced), Fail> {
 }
 
 /// Whether what was found is the reduction that is wanted, and the order the one in which its amounts burn.
-fn is_wanted(graph: &Graph, q: usize, found: &Certified, wanted: &Reduced) -> bool {
+pub(super) fn is_wanted(graph: &Graph, q: usize, found: &Certified, wanted: &Reduced) -> bool {
     found.reduced == *wanted
         && wanted.divisor.size() == graph.size()
         && q < graph.size()

@@ -4,11 +4,12 @@ ghost use Rattle.std.specs.Prelude.{◌≡◌, ◌<◌, ◌≤◌, pos};
 ghost use Rattle.std.specs.Int.RustNames.{unsigned_abs};
 ghost use Rattle.dg_chips.specs.Vector.{at};
 
+use crate::reduce::guesses::is_wanted;
 use dg_burn::held_at;
 use dg_chips::{Script, Wide};
 use dg_graph::Graph;
 use dg_reduce::{
-    Aim, Burning, Certified, Reduced, guess, is_within_start, order_if_reduced, reduce_after,
+    Aim, Burning, Reduced, guess, is_within_start, order_if_reduced, reduce_after,
     reduce_by_levels, reduce_certified,
 };
 use std::process::Abort;
@@ -201,15 +202,6 @@ fn by_levels(graph: &Graph, q: usize, chips: &Wide, most: u64, script: &Script) 
     } else {
         reduce_after(graph, q, chips, &blunt(graph, q, script))
     })
-}
-
-/// Whether what was found is the reduction that is wanted, and the order the one in which its amounts burn.
-fn is_wanted(graph: &Graph, q: usize, found: &Certified, wanted: &Reduced) -> bool
-    requires { q < graph.now.size }
-{
-    found.reduced == *wanted
-        && wanted.divisor.size() == graph.size()
-        && order_if_reduced(graph, q, &wanted.divisor) == Some(found.order)
 }
 
 /// Whether a guess has led to reduced amounts, and its burning is that of these.
