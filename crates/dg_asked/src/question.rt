@@ -3,7 +3,7 @@ ghost use Rattle.std.specs.Prelude.{◌≤◌};
 ghost use Rattle.dg_asked.specs.declared.limits.TheConstants.{MAX_WORKERS};
 
 /// What is asked of each table of a sweep.
-#[derive(Clone, Copy, Debug, PartialEq, Eq)]
+#[derive(Clone, Copy)]
 pub enum Question {
     /// Whether its position can be won, and how.
     Judge,

@@ -8,7 +8,7 @@ use std::thread;
 use std::thread::{Promise, Threads};
 
 /// No thread could be started.
-#[derive(Clone, Copy, Debug, PartialEq, Eq)]
+#[derive(Clone, Copy)]
 pub struct NotStarted;
 
 /// Calls f in a new thread and g in this one, and returns once both did.

@@ -15,7 +15,7 @@ use dg_chips::Wide;
 use dg_graph::{Graph, MAX_VERTICES};
 
 /// What burning from a vertex comes to.
-#[derive(Clone, Copy, Debug, PartialEq, Eq)]
+#[derive(Clone, Copy, PartialEq, Eq)]
 pub struct Burnt {
     /// The vertices in the order in which they burn, then zeros.
     pub order: [u8; 16],

@@ -18,7 +18,7 @@ use std::marker::Model;
 
 /// How often each vertex has lent by some moves together, from -100,000,000,000,000 to 100,000,000,000,000; a negative
 /// number is so many borrowings.
-#[derive(Clone, Copy, PartialEq, Eq)]
+#[derive(Clone, Copy)]
 pub struct Drift {
     size: usize,
     entries: [i64; 16],

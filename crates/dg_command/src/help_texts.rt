@@ -1,7 +1,7 @@
 //! What `dollar --help` and the help of each command say. Every command that is shown there with a `$` before it is run
-//! by `docs/check`, on the table and the files that are shown, and its answer compared with what stands below it.
+//! by `tests/pages/check`, on the table and the files that are shown, and its answer compared with what stands below it.
 
-/// The program's version, and the toolchain that it is proved with, which `completions/check` compares with the one at
+/// The program's version, and the toolchain that it is proved with, which `tools/completion/check` compares with the one at
 /// hand.
 pub(crate) const VERSION: &str = "1.0.0\nproved with rattle-kit-13f, logic dac8208d650f15bf";
 

@@ -1,8 +1,4 @@
 -- Reading.
-mod NamesLaws
-mod Writing
-mod Labelling
-mod Naming
 mod NamesRead
 mod Listing
 -- Files have one meaning.

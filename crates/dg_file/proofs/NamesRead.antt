@@ -2,21 +2,21 @@
 --   the_text t          the bytes of a text
 --   texts vertices      the bytes of all
 --   text_at vertices v  the text of a vertex
---   added-more          one more name, where it is new
+--   names-more          one more name
+--   old-seen            a name stood before just if its text is not the first
 --   names-all           the names of all vertices
 --   names-few           before the last vertex there is room for a name
 --   name-fault          a text that is no name
---   twice-fault         a name that is not new
-use Rattle.std.proofs.Common.{◌≡◌, ℕ, ◌+◌, ◌<◌, ◌≤◌, true, false, cond, List, [], ◌∷◌, ◌++◌, length, get_or, take, map, Some, Bor, option_map, sym, ap, ◌∙◌, arith}
-use Rattle.std.specs.Prelude.{slice_get}
-use Rattle.std.proofs.lemmas.Bool.{not-false}
+--   twice-fault         a name that stood before
+--   has-texts           a text is among texts just if its bytes are among theirs
+use Rattle.std.proofs.Common.{◌≡◌, ℕ, ◌+◌, ◌<◌, ◌≤◌, Bool, true, false, not, ◌||◌, refl, List, [], ◌∷◌, ◌++◌, length, get_or, take, map, Some, Bor, option_map, sym, ap, ◌∙◌, arith}
+use Rattle.std.specs.Prelude.{slice_get, bytes_eq}
+use Rattle.std.specs.List.{list_any}
 use Rattle.std.proofs.lemmas.List.{length-map, length-take, take-map, take_all, map_more}
 use Rattle.std.proofs.lemmas.Option.{slice_get-map, slice_get-get_or}
 use Rattle.dg_graph.specs.Faults.{IsSize}
-use Rattle.dg_file.specs.Names.{IsName, has, is_new, added}
-use Rattle.dg_file.specs.TableFiles.{AreNames}
+use Rattle.dg_names.specs.Names.{IsName, AreNames, has}
 use Rattle.dg_file.specs.FileFaults.{IsNameFault, IsTwiceFault}
-use Rattle.dg_file.proofs.NamesLaws.{is_new-named}
 
 abbrev pub the_text : Bor (List ℕ) → List ℕ
 the_text t = t.now
@@ -35,14 +35,10 @@ module _ (vertices : List (Bor (List ℕ))) (v : ℕ) (names : List (List ℕ)) 
   text-there : slice_get (texts vertices) v ≡ Some (text_at vertices v)
   text-there = slice_get-map the_text vertices v ∙ ap (option_map the_text) (slice_get-get_or vertices v none below)
 
-  names-more : names ++ text_at vertices v ∷ [] ≡ take (v + 1) (texts vertices)
+  pub names-more : names ++ text_at vertices v ∷ [] ≡ take (v + 1) (texts vertices)
   names-more =
       ap (λ front. front ++ text_at vertices v ∷ []) (so_far ∙ take-map the_text v vertices)
       ∙ sym (take-map the_text (v + 1) vertices ∙ map_more the_text vertices v none below)
-
-  pub added-more : is_new names (text_at vertices v) ≡ true
-      → added names (text_at vertices v) ≡ take (v + 1) (texts vertices)
-  added-more new = ap (λ is. cond is (names ++ text_at vertices v ∷ []) names) new ∙ names-more
 
   pub names-few : length vertices ≤ 16 → length names < 16
   names-few few = rw so_far (omega (arith, length-take v (texts vertices)))
@@ -56,14 +52,23 @@ module _ (vertices : List (Bor (List ℕ))) (v : ℕ) (names : List (List ℕ)) 
   }
 
   pub twice-fault : IsSize (length vertices) → AreNames names → IsName (text_at vertices v)
-      → is_new names (text_at vertices v) ≡ false → IsTwiceFault (texts vertices) v
-  twice-fault size are is old =
-      let stood = not-false (has names (text_at vertices v)) (sym (is_new-named names (text_at vertices v) is) ∙ old) in
-      record {
-        size = rw length-map size;
-        before = rw so_far at are;
-        refused = (text_at vertices v, text-there, (is, rw so_far at stood));
-      }
+      → has names (text_at vertices v) ≡ true → IsTwiceFault (texts vertices) v
+  twice-fault size are is stood = record {
+    size = rw length-map size;
+    before = rw so_far at are;
+    refused = (text_at vertices v, text-there, (is, rw so_far at stood));
+  }
+
+-- whether a text is among those that were seen
+pub has-texts : (seen : List (Bor (List ℕ))) (name : List ℕ)
+    → list_any (λ each. bytes_eq name each.now) seen ≡ has (texts seen) name
+has-texts [] name = refl
+has-texts (each ∷ seen) name = ap (λ found. bytes_eq name each.now || found) (has-texts seen name)
+
+pub old-seen : (first : Bool) (seen : List (Bor (List ℕ))) (names : List (List ℕ)) (name : List ℕ)
+    → first ≡ not (has (texts seen) name) → texts seen ≡ names → has names name ≡ not first
+old-seen first seen names name is kept =
+    rw (← kept, is) (elim (has (texts seen) name) as (λ t. t ≡ not (not t)) [ true ↦ refl | false ↦ refl ])
 
 pub names-all : (vertices : List (Bor (List ℕ))) (v : ℕ) (names : List (List ℕ)) → length vertices ≤ v
     → names ≡ take v (texts vertices) → names ≡ texts vertices

@@ -14,7 +14,8 @@ use Rattle.dg_chips.specs.DivisorFaults.{IsFirstChipFault}
 use Rattle.dg_chips.specs.declared.divisor.ChipFault.{ChipFault}
 use Rattle.dg_chips.specs.declared.divisor.ChipFault.TheVariants.{Length, Range}
 use Rattle.dg_file.specs.Content.{Content}
-use Rattle.dg_file.specs.TableFiles.{AreNames, items_of, IsTable}
+use Rattle.dg_names.specs.Names.{AreNames}
+use Rattle.dg_file.specs.TableFiles.{items_of, IsTable}
 use Rattle.dg_file.specs.FileFaults.{IsGraphFault, IsNameFault, IsTwiceFault, GivesGraph, GivesDivisor, RefusesTable}
 use Rattle.dg_file.specs.declared.fault.FileFault.{FileFault}
 use Rattle.dg_file.specs.declared.fault.FileFault.TheVariants.{Json, Shape as OfShape, Graph, Name, Twice, Chip, NoQ, OutOfMemory}

@@ -4,6 +4,7 @@
 --   shape_fault_for fault    == the same as a fault of the file
 --   name_fault_for fault     == the same as a fault of the file
 --   RefusesShape value fault == that is the fault of the value's shape
+--   RefusesValue value fault == that is the fault of the value's shape, or of the content that it says
 --   RefusesNames names fault == the number of names is at fault, or else that is the first name at
 --                               fault
 use Rattle.std.specs.Prelude.{ℕ, List, length, ⊤}
@@ -11,8 +12,8 @@ use Rattle.serde_json.specs.Data.{Data}
 use Rattle.serde_json.specs.View.{view}
 use Rattle.dg_graph.specs.Faults.{IsSize}
 use Rattle.dg_graph.specs.declared.fault.GraphFault.TheVariants.{Size}
-use Rattle.dg_file.specs.Content.{Parts}
-use Rattle.dg_file.specs.FileFaults.{IsShapeFault, IsNameFault, IsTwiceFault}
+use Rattle.dg_file.specs.Content.{Parts, Content, IsContent}
+use Rattle.dg_file.specs.FileFaults.{IsShapeFault, IsNameFault, IsTwiceFault, RefusesTable}
 use Rattle.dg_file.specs.declared.fault.FileFault.{FileFault}
 use Rattle.dg_file.specs.declared.fault.FileFault.TheVariants as file
 use Rattle.dg_file.specs.declared.shape.Members.{Members}
@@ -48,3 +49,10 @@ RefusesNames names name.Number = ¬ IsSize (length names)
 RefusesNames names (name.Name v) = IsNameFault names v
 RefusesNames names (name.Twice v) = IsTwiceFault names v
 RefusesNames names name.OutOfMemory = ⊤
+
+abbrev pub RefusesValue : Data → FileFault → Type 0
+RefusesValue value file.Json = ⊥
+RefusesValue value (file.Shape part) = IsShapeFault value part
+RefusesValue value file.OutOfMemory = ⊤
+RefusesValue value fault =
+    (content : Content) × IsContent value content × RefusesTable content fault

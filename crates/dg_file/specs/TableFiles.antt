@@ -1,5 +1,4 @@
 -- What a table file describes: the start of a game, and the names of its vertices.
---   AreNames names                 == each is a name, and no two are the same
 --   vertex_of names name           == the vertex of that name, or the number of vertices, which is
 --                                     none of them
 --   item_of names edge             == the edge as an item of a graph
@@ -7,18 +6,13 @@
 --   IsTable content o names        == the content describes the opening o with these names
 --   IsTableFile bytes o names      == the bytes are a table file, and describe the opening o with
 --                                     these names
-use Rattle.std.specs.Prelude.{◌≡◌, ℕ, List, length, map, Some, All, bytes_eq, unwrap_or}
-use Rattle.std.specs.List.{IsDistinct}
+use Rattle.std.specs.Prelude.{◌≡◌, ℕ, List, length, map, Some, unwrap_or}
 use Rattle.serde_json.specs.Data.{Data}
 use Rattle.dg_graph.specs.Items.{Item, IsGiven}
 use Rattle.dg_chips.specs.Opening.{Opening}
 use Rattle.dg_chips.specs.Vector.{HoldsNumbers, IsDivisor}
 use Rattle.dg_file.specs.Content.{Edge, Content, Reads, IsContent}
-use Rattle.dg_file.specs.Names.{IsName, place_of}
-
-pub record AreNames (names : List (List ℕ)) : Type 0 where
-  pub each : All IsName names
-  pub different : IsDistinct bytes_eq names
+use Rattle.dg_names.specs.Names.{AreNames, place_of}
 
 abbrev pub vertex_of : List (List ℕ) → List ℕ → ℕ
 vertex_of names name = unwrap_or (place_of names name) (length names)

@@ -70,7 +70,7 @@ pub fn value_of(alloc: Global, bytes: &[u8]) -> Result<Option<Value>, AllocError
 }
 
 /// Why a JSON value says nothing as a table file.
-#[derive(Clone, Copy, Debug, PartialEq, Eq)]
+#[derive(Clone, Copy)]
 pub enum ShapeFault {
     /// A part of it has another shape than it should.
     Shape(Shape),

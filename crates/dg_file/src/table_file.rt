@@ -1,14 +1,19 @@
 //! Table files: the start of a game, and the names of its vertices.
-ghost use Rattle.std.specs.Prelude.{◌≡◌, length, map, IfOk, IfErr};
-ghost use Rattle.dg_file.specs.TableFiles.{AreNames, IsTable, IsTableFile, vertex_of, items_of};
+ghost use Rattle.std.specs.Prelude.{◌≡◌, ◌++◌, ◌∷◌, [], length, map, not, true, IfOk, IfErr};
+ghost use Rattle.dg_names.specs.Names.{AreNames, has};
+ghost use Rattle.dg_file.specs.TableFiles.{IsTable, IsTableFile, vertex_of, items_of};
 ghost use Rattle.dg_file.specs.FileFaults.{RefusesTable, RefusesFile};
-ghost use Rattle.dg_file.specs.Reading.{RefusesNames};
+ghost use Rattle.dg_file.specs.Reading.{RefusesNames, RefusesValue};
+ghost use Rattle.dg_file.specs.Content.{Content, IsContent};
+ghost use Rattle.serde_json.specs.View.{view};
 
 use crate::fault::FileFault;
-use crate::names::{Names, is_name};
 use crate::shape::{Content, content_of, value_of};
 use dg_chips::{Divisor, Start};
 use dg_graph::{Graph, GraphFault, MAX_VERTICES};
+use dg_names::{Names, is_name};
+use indexmap::IndexSet;
+use serde_json::Value;
 use std::alloc::{AllocError, Global};
 
 /// What a table file describes: the start of a game, and a name for each vertex of its graph.
@@ -46,7 +51,16 @@ pub fn read_table(alloc: Global, bytes: &[u8]) -> Result<TableFile, FileFault>
     ensures refused { IfErr result (RefusesFile bytes.now) }
 {
     let value = value_of(alloc, bytes)?.ok_or(FileFault::Json)?;
-    let content = content_of(alloc, &value)?;
+    table_of(alloc, &value)
+}
+
+/// The table that a value of JSON describes.
+fn table_of(alloc: Global, value: &Value) -> Result<TableFile, FileFault>
+    ensures table { IfOk result (λ table. (content : Content) × IsContent (view value.now) content
+        × IsTable content table.start table.names) }
+    ensures refused { IfErr result (RefusesValue (view value.now)) }
+{
+    let content = content_of(alloc, value)?;
     let names = names_of(alloc, content.vertices.as_slice())?;
     let items = items_of(alloc, &content, &names)?;
     let start = start_of(&content, &names, items.as_slice())?;
@@ -54,7 +68,7 @@ pub fn read_table(alloc: Global, bytes: &[u8]) -> Result<TableFile, FileFault>
 }
 
 /// Why texts do not name the vertices of a table.
-#[derive(Clone, Copy, Debug, PartialEq, Eq)]
+#[derive(Clone, Copy)]
 enum NameFault {
     /// There are none, or more than there may be vertices.
     Number,
@@ -101,15 +115,27 @@ fn names_of(alloc: Global, vertices: &[&str]) -> Result<Names, NameFault>
         return Err(NameFault::Number);
     }
     let mut names = Names::new(alloc);
+    let mut seen = IndexSet::new(alloc);
     for (v, vertex) in vertices.iter().enumerate() {
-        if !names.add(alloc, vertex)? {
-            if is_name(vertex.as_bytes()) {
-                return Err(NameFault::Twice(v));
-            }
+        if !is_name(vertex.as_bytes()) {
             return Err(NameFault::Name(v));
         }
+        if !is_first(&mut seen, vertex)? {
+            return Err(NameFault::Twice(v));
+        }
+        names.push(alloc, vertex)?;
     }
     Ok(names)
+}
+
+/// Keeps a text that was not seen before, and says whether it was not.
+fn is_first<'a>(seen: &mut IndexSet<&'a str>, text: &'a str) -> Result<bool, AllocError>
+    ensures first { IfOk result (λ first. first ≡ not (has (map (λ each. each.now) seen.old.keys) text.now)) }
+    ensures kept { IfOk result (λ first. first ≡ true
+        → map (λ each. each.now) seen.new.keys ≡ map (λ each. each.now) seen.old.keys ++ text.now ∷ []) }
+{
+    let first = seen.insert(text)?;
+    Ok(first)
 }
 
 /// The edges as items of a graph.

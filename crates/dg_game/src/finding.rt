@@ -10,7 +10,7 @@ use dg_reduce::Aim;
 use dg_verdict::{Verdict, judge_aimed};
 
 /// What was reckoned on a look.
-#[derive(Clone, Copy, PartialEq, Eq)]
+#[derive(Clone, Copy)]
 pub enum Finding {
     /// Whether the position is winnable, with what shows it.
     Judged(Verdict),

@@ -32,7 +32,7 @@ use Rattle.std.proofs.lemmas.Map.Keys.{IsDistinct-push, apart_from_distinct}
 use Rattle.std.proofs.lemmas.Nat.Bits.{bit_at_lowest, bit_at-suc, bit_at-zero, bit_at-lt, same_from_bits}
 use Rattle.std.proofs.lemmas.Slice.Eq.{bytes_eq-Decides}
 use Rattle.dg_graph.specs.Sets.{in_set}
-use Rattle.dg_file.specs.Names.{has, place_of, name_at}
+use Rattle.dg_names.specs.Names.{has, place_of, name_at}
 use Rattle.dg_lines.specs.declared.keyword.Double.{Double}
 use Rattle.dg_lines.specs.declared.keyword.Double.TheVariants.{Gift, Join}
 use Rattle.dg_lines.specs.Keywords.{double}

@@ -1,16 +1,14 @@
 -- The decimals of whole numbers with a sign: what is none, and whether a text is that of a number within limits.
---   no_utf8, no_number, no_decimal   a text that is not read is the decimal of no number of 64 bits
 --   fits_within, within_fits   numbers within the limits of 64 bits fit, and no others
 --   large_entry      the decimal of a number past the limit is not that of an entry of a script
 --   other_degree     that of a number that is no degree is not that of a degree
 --   number_or        a text is the decimal of a number within limits, or is not
 --   degree_or        so of a degree
-use Rattle.std.proofs.Common.{◌<◌, ◌^◌, ◌-◌, ◌⊎◌, inl, inr, unsigned_abs, ◌≡◌, ℕ, suc, ◌==◌, ℤ, pos, negsuc, neg_ℤ, List, [], ◌∷◌, Result, Ok, Err, Bool, true, false, refl, ap, sym, ◌∙◌, subst, arith, decimal, FitsSigned, w64, to_z, of_z, to_z-of_z}
-use Rattle.std.specs.Prelude.{bytes_eq, IsUtf8}
+use Rattle.std.proofs.Common.{◌<◌, ◌^◌, ◌-◌, ◌⊎◌, inl, inr, unsigned_abs, ◌≡◌, ℕ, suc, ◌==◌, ℤ, pos, negsuc, neg_ℤ, List, [], ◌∷◌, Bool, true, false, refl, ap, sym, ◌∙◌, subst, arith, decimal, FitsSigned, w64}
+use Rattle.std.specs.Prelude.{bytes_eq}
 use Rattle.std.specs.Fmt.{signed_decimal}
-use Rattle.std.specs.Str.Parse.{ParsesSigned, IsNumeral, digits_value, signed_digits_value}
-use Rattle.std.proofs.lemmas.Fmt.{IsAscii-signed, parse-signed_decimal, decimal_is_IsNumeral}
-use Rattle.std.proofs.lemmas.Str.{IsUtf8-from_ascii}
+use Rattle.std.specs.Str.Parse.{IsNumeral, digits_value, signed_digits_value}
+use Rattle.std.proofs.lemmas.Fmt.{decimal_is_IsNumeral}
 use Rattle.std.proofs.lemmas.Str.Parse.{digit_from_value}
 use Rattle.std.proofs.lemmas.Slice.Eq.{bytes_eq-Decides}
 use Rattle.std.proofs.lemmas.Bool.Decides.{nat_tests}
@@ -21,29 +19,6 @@ use Rattle.std.specs.Int.Signed.{◌≤ℤ◌, clash_ℤ}
 use Rattle.dg_chips.specs.declared.limits.TheConstants.{MAX_ENTRY}
 use Rattle.dg_lines.specs.CommandWords.{IsNumberWithin}
 use Rattle.dg_lines.proofs.Decided.{IsDecided}
-
-pub no_utf8 : (text : List ℕ) → (IsUtf8 text → ⊥) → (z : ℤ) → FitsSigned w64 z → text ≡ signed_decimal z → ⊥
-no_utf8 text never z fits e =
-    never (subst IsUtf8 (sym e) (IsUtf8-from_ascii (signed_decimal z) (IsAscii-signed z fits.sfits)))
-
-pub no_number : {E : Type 0} (written text : List ℕ) (fault : E) → written ≡ text
-    → ParsesSigned w64 10 written (Err fault) → (z : ℤ) → FitsSigned w64 z → text ≡ signed_decimal z → ⊥
-no_number {E} written text fault same_text parses z fits e =
-    let same : ◌≡◌ {A = Result ℤ E} (Err fault) (Ok z) =
-    parse-signed_decimal w64 z written (Err fault) fits fits.sfits (same_text ∙ e) parses in
-    cc
-
-pub no_decimal : {E : Type 0} (written text shown : List ℕ) (number : ℤ) (read : Result ℤ E)
-    → written ≡ text → ParsesSigned w64 10 written read → read ≡ Ok number
-    → shown ≡ signed_decimal (to_z w64 (of_z w64 number)) → false ≡ bytes_eq shown text
-    → (z : ℤ) → FitsSigned w64 z → text ≡ signed_decimal z → ⊥
-no_decimal {E} written text shown number read same_text parses is shows differs z fits e =
-    let same : read ≡ Ok z = parse-signed_decimal w64 z written read fits fits.sfits (same_text ∙ e) parses in
-    let number_is : number ≡ z = cc in
-    let equal : bytes_eq shown text ≡ true =
-    (bytes_eq-Decides shown text).1
-    (shows ∙ ap (λ n. signed_decimal (to_z w64 (of_z w64 n))) number_is ∙ ap signed_decimal (to_z-of_z fits) ∙ sym e) in
-    cc
 
 value_of_digits : (digits : List ℕ) → IsNumeral 10 digits → signed_digits_value 10 digits ≡ pos (digits_value 10 digits)
 value_of_digits [] numeral = absurd (omega (arith, numeral.0))

@@ -24,7 +24,7 @@ use Rattle.std.proofs.lemmas.List.Elements.{All-nil, All-cons, All-head, All-tai
 use Rattle.dg_graph.specs.Sets.{in_set}
 use Rattle.dg_chips.specs.Vector.{Vector, IsScript, HoldsNumbers}
 use Rattle.dg_chips.specs.declared.limits.TheConstants.{MAX_ENTRY}
-use Rattle.dg_file.specs.Names.{has, place_of, name_at}
+use Rattle.dg_names.specs.Names.{has, place_of, name_at}
 use Rattle.dg_lines.specs.Cuts.{after}
 use Rattle.dg_lines.specs.CommandWords.{IsNumberWithin, AreGiven, name_part, number_part}
 use Rattle.dg_lines.specs.Commands.{number_given, IsScriptOf}

@@ -25,7 +25,7 @@ use Rattle.std.specs.Prelude.{◌≡◌, ◌≢◌, ℕ, ◌-◌, ◌^◌, ℤ, 
 use Rattle.std.specs.Fmt.{signed_decimal}
 use Rattle.std.specs.List.{IsDistinct, filter}
 use Rattle.dg_chips.specs.declared.limits.TheConstants.{MAX_ENTRY}
-use Rattle.dg_file.specs.Names.{has}
+use Rattle.dg_names.specs.Names.{has}
 use Rattle.dg_lines.specs.Cuts.{before, after, items}
 
 abbrev pub command_words : List (List ℕ × ℕ)

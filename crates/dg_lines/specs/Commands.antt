@@ -26,7 +26,7 @@ use Rattle.dg_chips.specs.declared.moves.Move.TheVariants.{Lend, Borrow, Fire, S
 use Rattle.dg_game.specs.declared.step.Command.{Command}
 use Rattle.dg_game.specs.declared.step.Command.TheVariants.{Call, Commit, Rank}
 use Rattle.dg_game.specs.declared.entry.Plain.TheVariants.{Move as Play, Gift, Join, Look, Claim}
-use Rattle.dg_file.specs.Names.{has, place_of, name_at}
+use Rattle.dg_names.specs.Names.{has, place_of, name_at}
 use Rattle.dg_lines.specs.Cuts.{words, items}
 use Rattle.dg_lines.specs.CommandWords.{IsWellFormed, name_part, number_part, AreGiven}
 

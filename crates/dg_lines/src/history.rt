@@ -3,8 +3,8 @@ ghost use Rattle.std.specs.Prelude.{◌≡◌, IfOk};
 ghost use Rattle.dg_lines.specs.Texts.{AllHaveNames, history_text};
 
 use crate::text::push_entry;
-use dg_file::Names;
 use dg_game::Entry;
+use dg_names::Names;
 use std::alloc::{AllocError, Allocator};
 
 /// The lines of the entries of a history, numbered from 0 on.

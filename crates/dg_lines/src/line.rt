@@ -10,11 +10,12 @@ ghost use Rattle.dg_lines.specs.Keywords.{alone, single, double, AreWords};
 
 use crate::cuts::cut;
 use crate::keyword::{Alone, Double, Keyword, Single, keyword_of};
-use crate::number::{degree, entry, integer, seat};
+use crate::number::{degree, entry, seat};
 use dg_chips::{Move, Script};
-use dg_file::Names;
 use dg_game::{Command, Plain, Step};
 use dg_graph::{contains, with_vertex};
+use dg_names::Names;
+use dg_numbers::integer;
 use thiserror::Error;
 
 /// Why a line is refused.

@@ -1,7 +1,6 @@
 //! Numbers in texts.
-ghost use Rattle.std.specs.Prelude.{◌≡◌, ◌≢◌, ℕ, ◌≤◌, ◌<◌, ◌+◌, ◌/◌, ◌%◌, ◌^◌, ◌-◌, ℤ, pos, neg_ℤ, FitsSigned, MatchOption, decimal};
+ghost use Rattle.std.specs.Prelude.{◌≡◌, ◌≢◌, ℕ, ◌≤◌, ◌<◌, ◌+◌, ◌/◌, ◌%◌, ◌^◌, ◌-◌, pos, neg_ℤ, MatchOption, decimal};
 ghost use Rattle.std.specs.Fmt.{signed_decimal};
-ghost use Rattle.std.specs.Int.{w64};
 ghost use Rattle.std.specs.Int.RustNames.{unsigned_abs};
 ghost use Rattle.dg_chips.specs.declared.limits.TheConstants.{MAX_ENTRY};
 ghost use Rattle.dg_game.specs.declared.entry.TheConstants.{MAX_SEATS};
@@ -9,27 +8,7 @@ ghost use Rattle.dg_lines.specs.CommandWords.{IsNumberWithin};
 
 use dg_chips::MAX_ENTRY;
 use dg_game::MAX_SEATS;
-use itoa::Buffer;
-use std::str;
-
-/// The whole number from -2^63 to 2^63 - 1 whose decimal the text is. A decimal has no plus and no leading zero.
-pub fn integer(text: &[u8]) -> Option<i64>
-    ensures { MatchOption result
-        ((z : ℤ) → FitsSigned w64 z → text.now ≢ signed_decimal z)
-        (λ z. text.now ≡ signed_decimal z) }
-{
-    let Ok(written) = str::from_utf8(text) else {
-        return None;
-    };
-    let Ok(whole) = written.parse::<i64>() else {
-        return None;
-    };
-    if Buffer::new().format(whole).as_bytes() == text {
-        Some(whole)
-    } else {
-        None
-    }
-}
+use dg_numbers::integer;
 
 /// The entry of a script, within 1,000,000,000, whose decimal the text is.
 pub fn entry(text: &[u8]) -> Option<i64>

@@ -1,2 +1,3 @@
 -- The lemmas that the proofs cite.
 mod NoDecimals
+mod NoIntegers

@@ -3,4 +3,4 @@
 
 mod decimals;
 
-pub use decimals::natural;
+pub use decimals::{integer, natural};

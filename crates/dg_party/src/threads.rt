@@ -4,8 +4,8 @@ ghost use Rattle.dg_party.specs.Sessions.{IsSessionOver, AreSessions, HaveBegun,
 
 use crate::fault::PartyFault;
 use dg_beside::{NotStarted, beside};
-use dg_file::Names;
 use dg_log::Name;
+use dg_names::Names;
 use dg_rank::Gate;
 use dg_session::{SessionEnd, serve_unheard};
 use dg_streams::Input;

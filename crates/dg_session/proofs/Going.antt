@@ -5,7 +5,6 @@
 --   goes_line     a part that ends a line, which is answered
 --   goes_more     some bytes after others
 --   halts_part, halts_line       the session ends at a part that is not taken, and at a line that is refused
---   halts_after   it halts after some bytes
 --   last_none, last_one, last_halts   what is pending as the last line: none, one that is answered, and one that is
 --       refused
 use Rattle.std.proofs.Common.{◌≡◌, ◌≢◌, ℕ, ◌+◌, ◌<◌, ◌≤◌, inl, inr, List, [], ◌∷◌, ◌++◌, length, take, drop, refl, sym, ap, subst, ◌∙◌, arith, append_assoc, append-nil, length-append, take-append-drop}
@@ -80,10 +79,6 @@ goes_more {t} {old} {mid} {new} {b} {c} {rest} {text} {more} g h = record {
   answered = answers_more t old.who mid.who new.who g.ls h.ls text more g.answered h.answered;
   ready = h.ready;
 }
-
-pub halts_after : {t : Setup} {E : Type 0} {old mid : SoFar} {b c text more : List ℕ} {z : Speakers} {end : SessionEnd}
-    → Goes t old b [] mid text → Halts t E mid c z more end → Halts t E old (b ++ c) z (text ++ more) end
-halts_after g h = record { rest = h.rest; at = h.at; goes = goes_more g h.goes; fails = h.fails }
 
 module _ {t : Setup} {old at : SoFar} {bytes rest text : List ℕ} (g : Goes t old bytes rest at text) where
   pub goes_part : (part p : List ℕ) → rest ≡ part → p ≡ at.pending ++ part → HasNoNewline part

@@ -1,11 +1,11 @@
 -- Lines of the seats that they are for.
 --   seat_past     a line that begins with a seat that is too large is for none
---   spoken, unspoken   a line that its seat hears, and one that is for none
+--   spoken        a line that its seat hears
 --   IsLineEnd, ends_by   a line ends a session for what the table, the memory or a thread refused
 --   sizes_kept    a line leaves as many seats, and as many looks
 --   numbers       the numbers of the seats
 --   numbers_said, numbers_left   a line leaves each seat its number
-use Rattle.std.proofs.Common.{◌≡◌, ℕ, zero, suc, ◌+◌, ◌<◌, ◌≤◌, inl, inr, List, [], ◌∷◌, length, length-set, map, Option, Some, Result, Ok, Err, refl, sym, ap, ◌∙◌, arith, codes, slice_get}
+use Rattle.std.proofs.Common.{◌≡◌, ℕ, zero, suc, ◌+◌, ◌<◌, ◌≤◌, inl, inr, List, [], ◌∷◌, length, length-set, map, Option, Some, Result, Ok, Err, refl, sym, ap, ◌∙◌, arith, slice_get}
 use Rattle.std.specs.Prelude.{⊤}
 use Rattle.std.specs.List.{slice_set, slice_index_or}
 use Rattle.std.proofs.lemmas.List.{map-set}
@@ -16,7 +16,7 @@ use Rattle.dg_lines.proofs.Stepping.{seated_parts}
 use Rattle.dg_session.specs.Refusing.{RefusesLine}
 use Rattle.dg_session.specs.Setup.{Setup}
 use Rattle.dg_session.specs.Speakers.{Speakers, speakers, kept_number, IsFor, IsForNone, Becomes, AnswersLineOf, RefusesLineOf}
-use Rattle.dg_session.specs.SoFar.{Tells, Hears, Handles}
+use Rattle.dg_session.specs.SoFar.{Hears, Handles}
 use Rattle.dg_session.specs.declared.addressing.Addressing.TheVariants.{BySeat}
 use Rattle.dg_session.specs.declared.ends.SessionEnd.{SessionEnd}
 use Rattle.dg_session.specs.declared.ends.SessionEnd.TheVariants.{Table, Memory, Spawn}
@@ -115,17 +115,6 @@ spoken {result = Err end} xs ks i d y e l for low size h = record {
   );
   unsaid = h.unsaid;
 }
-
-pub unspoken : {B : Type 0} {t : Setup} {line : List ℕ} {old new : Option (List ℕ)} {s : Speakers} {result : Result B SessionEnd}
-    → IsForNone t.how (length s.seats) line → Tells (codes "bad seat\n") old new result
-    → Handles t line (record { who = s; said = old }) (record { who = s; said = new }) result
-unspoken {result = Ok b} none told =
-    record {
-      done = record { text = codes "bad seat\n"; holds = inl (none, refl, refl); said = told };
-      refused = tt;
-      unsaid = tt;
-    }
-unspoken {result = Err end} none told = record { done = tt; refused = inl (told.0, refl); unsaid = told.1 }
 
 -- a line that is refused ends a session for what the table, the memory or a thread refused
 pub ends_by : (t : Setup) (s z : Speakers) (line : List ℕ) (end : SessionEnd) → RefusesLineOf t s line z end

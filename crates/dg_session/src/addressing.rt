@@ -5,7 +5,7 @@ ghost use Rattle.dg_session.specs.Speakers.{IsFor, IsForNone};
 use dg_lines::split_seat;
 
 /// How the lines of a session name the seat that makes their calls.
-#[derive(Clone, Copy, Debug, PartialEq, Eq)]
+#[derive(Clone, Copy)]
 pub enum Addressing {
     /// They do not: each line is a command of the first seat.
     OneSeat,

@@ -9,8 +9,8 @@ use crate::addressing::Addressing;
 use crate::answering::{Said, Shared};
 use crate::ends::{READ_SIZE, SessionEnd};
 use crate::taking::{Progress, take_bytes, take_end};
-use dg_file::Names;
 use dg_log::Name;
+use dg_names::Names;
 use dg_streams::{Input, Output};
 use dg_table::{Seat, Table};
 use std::alloc::Global;
@@ -46,7 +46,7 @@ pub fn serve<N: Name, R: Threads + Wait, I: Read, O: Write>(
     ensures read { result ≡ Err SessionEnd.Read → reader.new.has_failed ≡ true }
     ensures write { result ≡ Err SessionEnd.Write → writer.new.has_failed ≡ true }
 {
-    match serve_seats(
+    serve_seats(
         rt,
         alloc,
         table,
@@ -56,10 +56,7 @@ pub fn serve<N: Name, R: Threads + Wait, I: Read, O: Write>(
         writer,
         workers,
         Addressing::OneSeat,
-    ) {
-        Ok(count) => Ok(count),
-        Err(end) => Err(end),
-    }
+    )
 }
 
 /// The same for some seats: where the lines name seats, each line is that of the seat at its place, from 1, and each seat keeps

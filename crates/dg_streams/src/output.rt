@@ -24,7 +24,7 @@ impl<O: Write> Model for Output<O> {
 }
 
 /// That a writer failed, or took no byte.
-#[derive(Clone, Copy, Debug, PartialEq, Eq)]
+#[derive(Clone, Copy)]
 pub struct WriteFailed;
 
 impl<O: Write> Output<O> {

@@ -9,7 +9,6 @@
 --   sweep_ends       it ends where its input does
 --   sweep_unsaid     it ends before it reads, for want of memory
 --   sweep_halts, sweep_halts_last   it ends early in what was read, or at the last line
---   no_read_end      what halts is no failed read
 use Rattle.std.proofs.Common.{◌≡◌, ◌≢◌, ℕ, ◌≤◌, inl, List, [], ◌∷◌, ◌++◌, length, take, Option, Result, Ok, Err, sym, subst, arith, append-nil}
 use Rattle.std.proofs.lemmas.List.Elements.{All-nil}
 use Rattle.std.specs.Io.KnownBytes.{Appends, Consumes, Keeps, IsAtEnd}
@@ -168,13 +167,3 @@ module _ {question : Question} {input rest old mid : Option (List ℕ)} {pending
       over_last (Err Write) passed.0 read over passed.1 (front new passed.0 passed.2) tt
   sweep_halts_last {new = new} Memory read over passed = unwritten Memory [] read (grown new [] passed) tt
   sweep_halts_last {new = new} Spawn read over passed = unwritten Spawn [] read (grown new [] passed) tt
-
-pub no_read_end : (T : List ℕ → Type 0) (mid new : Option (List ℕ)) (end : SweepEnd) → Passes T mid new (Err end)
-    → end ≡ Read → ⊥
-no_read_end T mid new end passed e = subst (λ other. Passes T mid new (Err other)) e passed
-
-abbrev pub over : SweepEnd → Result (Unit {0}) SweepEnd
-over end = Err end
-
-pub inner_end : (a b : SweepEnd) → over a ≡ over b → a ≡ b
-inner_end a b e = cc

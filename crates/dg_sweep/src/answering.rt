@@ -9,9 +9,10 @@ use crate::ends::MAX_LINE;
 use crate::fault_words::push_fault;
 use crate::ranking::{push_rank, push_ranks};
 use dg_asked::Question;
-use dg_file::{FileFault, Names, TableFile, read_table};
+use dg_file::{FileFault, TableFile, read_table};
 use dg_game::Reply;
 use dg_lines::push_reply;
+use dg_names::Names;
 use dg_verdict::judge;
 use std::alloc::{AllocError, Global};
 

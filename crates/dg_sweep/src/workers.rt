@@ -34,7 +34,7 @@ impl<'a, R> Drop for Room<'a, R> {
 }
 
 /// Why lines are not answered.
-#[derive(Clone, Copy, Debug, PartialEq, Eq)]
+#[derive(Clone, Copy)]
 pub(crate) enum BatchFault {
     /// Memory was refused.
     Memory,

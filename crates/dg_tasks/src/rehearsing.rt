@@ -6,9 +6,10 @@ ghost use Rattle.dg_tasks.specs.Rehearsals.{IsPrinted, MayGoOn, GoesOn};
 ghost use Rattle.dg_tasks.specs.Refusals.{RefusesSchedule};
 
 use crate::fault::TaskFault;
-use dg_file::{Names, TableFile};
+use dg_file::TableFile;
 use dg_game::{Command, Plain, Step};
 use dg_lines::{Lines, parse_step, push_entry, push_outcome};
+use dg_names::Names;
 use dg_rehearsal::{Rehearsal, RehearseFault};
 use std::alloc::Global;
 

@@ -4,10 +4,10 @@ ghost use Rattle.dg_lines.specs.Texts.{HasNames, AllHaveNames};
 ghost use Rattle.dg_totals.specs.Printed.{seat_entry_text, entries_text, seat_text, calls_text, totals_text};
 
 use dg_chips::Divisor;
-use dg_file::Names;
 use dg_game::Entry;
 use dg_lines::{push_amounts, push_reply};
 use dg_log::Name;
+use dg_names::Names;
 use dg_table::Audit;
 use itoa::Buffer;
 use std::alloc::{AllocError, Global};

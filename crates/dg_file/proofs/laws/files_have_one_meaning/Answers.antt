@@ -2,7 +2,7 @@
 use Rattle.std.proofs.Common.{◌≡◌, ℕ, List, length, sym, ap, ◌∙◌}
 use Rattle.dg_chips.specs.Opening.{Opening}
 use Rattle.dg_file.specs.Content.{Content}
-use Rattle.dg_file.specs.Names.{place_of}
+use Rattle.dg_names.specs.Names.{place_of}
 use Rattle.dg_file.specs.TableFiles.{IsTable, IsTableFile}
 use Rattle.dg_file.specs.FileLaws.{AreSameOpenings}
 use Rattle.dg_file.proofs.OneContent.{found-once, same-value, same-content}

@@ -1,7 +1,7 @@
 use Rattle.std.proofs.Common.{◌≡◌, take}
-use Rattle.dg_file.specs.TableFiles.{AreNames}
+use Rattle.dg_names.specs.Names.{AreNames}
 use Rattle.dg_file.proofs.NamesRead.{texts}
 use Rattle.dg_file.proofs.table_file.names_of.Given as goal
 
 abbrev pub invariant-loop-v : goal.invariant-loop-v
-invariant-loop-v l = record { so_far : l.names ≡ take l.v (texts l.vertices); are : AreNames l.names }
+invariant-loop-v l = record { so_far : l.names ≡ take l.v (texts l.vertices); are : AreNames l.names; kept : texts l.seen.keys ≡ l.names }

@@ -1,0 +1,4 @@
+-- Names of vertices.
+pub mod Names
+-- What serves the writing alone.
+pub mod Labels

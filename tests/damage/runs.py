@@ -1,0 +1,100 @@
+"""Runs of the program, and the count of what has held."""
+import collections, os, resource, signal, subprocess, sys, tempfile
+
+HERE = os.path.dirname(os.path.abspath(__file__))
+EXAMPLES = os.path.join(HERE, "..", "..", "examples")
+sys.dont_write_bytecode = True
+sys.path.insert(0, EXAMPLES)
+
+TRIANGLE = b'{"vertices":["a","b","c"],"edges":[["a","b",1],["b","c",1],["a","c",1]],"amounts":[2,-1,-1],"q":"a"}'
+WON = b"winnable by a=0 b=-1 c=-1 to a=0 b=0 c=0\n"
+PATIENCE = 60
+
+# How a run ended, what it printed, and what it said on standard error, as far as that was read. A status below 0 is the signal
+# that ended it.
+Run = collections.namedtuple("Run", "status output faults")
+
+
+def refused(text, status, output=b""):
+    """The run that ends with this fault."""
+    return Run(status, output, b"dollar: " + text + b"\n")
+
+
+class Checks:
+    """The program, a folder for files, and the count of what has held."""
+
+    def __init__(self, program, folder):
+        self.program, self.folder = program, folder
+        self.passed = self.failed = 0
+
+    def same(self, what, expected, got):
+        """Counts a comparison, and says where it fails."""
+        if expected == got:
+            self.passed += 1
+        else:
+            self.failed += 1
+            print("%s\n  expected: %.300r\n  found:    %.300r" % (what, expected, got))
+
+    def holds(self, what, fine, told=""):
+        self.same(what, (True, ""), (bool(fine), "" if fine else told))
+
+    def put(self, name, data):
+        """The path of a file with these bytes."""
+        path = os.path.join(self.folder, name)
+        with open(path, "wb") as file:
+            file.write(data)
+        return path
+
+    def start(self, *words, before=None, **streams):
+        """Starts the program; `before` is called in its process first. Signals do what they do by default."""
+        def prepare():
+            for number in (signal.SIGINT, signal.SIGTERM, signal.SIGPIPE):
+                signal.signal(number, signal.SIG_DFL)
+            if before:
+                before()
+        given = dict(stdin=subprocess.DEVNULL, stdout=subprocess.PIPE, stderr=subprocess.PIPE)
+        return subprocess.Popen([self.program, *words], preexec_fn=prepare, **{**given, **streams})
+
+    def run(self, *words, typed=None, before=None, **streams):
+        if typed is not None:
+            streams["stdin"] = subprocess.PIPE
+        child = self.start(*words, before=before, **streams)
+        try:
+            output, faults = child.communicate(typed, timeout=PATIENCE)
+        except subprocess.TimeoutExpired:
+            child.kill()
+            child.communicate()
+            return Run("no end within %d s" % PATIENCE, b"", b"")
+        return Run(child.returncode, output or b"", faults or b"")
+
+    def brief(self, *words):
+        """The same for runs that print little and take no input, of which there are thousands."""
+        (output, out), (faults, err) = os.pipe(), os.pipe()
+        child = os.posix_spawn(self.program, [self.program, *words], os.environ, file_actions=[
+            (os.POSIX_SPAWN_OPEN, 0, os.devnull, os.O_RDONLY, 0), (os.POSIX_SPAWN_DUP2, out, 1), (os.POSIX_SPAWN_DUP2, err, 2)])
+        os.close(out)
+        os.close(err)
+        status = os.waitstatus_to_exitcode(os.waitpid(child, 0)[1])
+        with open(output, "rb") as printed, open(faults, "rb") as said:
+            return Run(status, printed.read(), said.read())
+
+    def peak(self, *words):
+        """How a run ended, and the most memory that it had, in bytes."""
+        with tempfile.TemporaryFile() as output, tempfile.TemporaryFile() as faults:
+            child = self.start(*words, stdout=output, stderr=faults)
+            _, status, used = os.wait4(child.pid, 0)
+            child.returncode = os.waitstatus_to_exitcode(status)
+            output.seek(0)
+            faults.seek(0)
+            return Run(child.returncode, output.read(), faults.read()), used.ru_maxrss * 1024
+
+    def needs(self, *words, most=1 << 28):
+        """The least address space, within 64 KiB, in which the run ends as it does with room for all."""
+        wanted, least = self.run(*words), 0
+        while most - least > 1 << 16:
+            middle = (least + most) // 2
+            if self.run(*words, before=lambda: resource.setrlimit(resource.RLIMIT_AS, (middle, middle))) == wanted:
+                most = middle
+            else:
+                least = middle
+        return most
