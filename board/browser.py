@@ -1,4 +1,4 @@
-"""Drives Chromium without a window, through the two pipes that it takes commands and gives answers by. For check-replay."""
+"""Drives Chromium without a window, through the two pipes that it takes commands and gives answers by. For the tests of the pages."""
 import base64, fcntl, json, os, pathlib, select, shutil, subprocess, tempfile, time
 
 NAMES = "chromium", "chromium-browser", "google-chrome", "chrome"
@@ -28,7 +28,7 @@ class Browser:
             os.dup2(writing, 4)
 
         words = [self.program, "--headless", "--remote-debugging-pipe", "--disable-gpu", "--no-first-run", "--hide-scrollbars",
-                 "--disable-background-networking", "--disable-component-update", "--disable-sync", "--host-resolver-rules=MAP * ~NOTFOUND",
+                 "--disable-background-networking", "--disable-component-update", "--disable-sync", "--host-resolver-rules=MAP * ~NOTFOUND, EXCLUDE 127.0.0.1",
                  "--user-data-dir=" + self.folder, *(["--no-sandbox"] if os.geteuid() == 0 else [])]
         self.child = subprocess.Popen(words, stdin=subprocess.DEVNULL, stdout=subprocess.DEVNULL, stderr=subprocess.DEVNULL,
                                       close_fds=False, preexec_fn=hand_over)

@@ -1,0 +1,236 @@
+"""A small web server for the pages: it answers those who know a secret, and holds against those who don't.
+
+Each connection brings one request and gets one answer. Whoever is slow, sends too much or sends nonsense is dropped. When there
+are too many connections, the oldest of those that have not shown the secret makes room. Whatever is asked without the secret, from
+another origin or for another host is answered alike: there is nothing here."""
+import asyncio, hmac, ipaddress, json, re, secrets
+
+MOST_HEAD, MOST_HEADERS, MOST_CONNECTIONS = 8192, 64, 300
+TO_ASK, TO_SEND, TO_TAKE = 5.0, 20.0, 20.0
+TOKEN = re.compile(r"[A-Za-z0-9!#$%&'*+.^_`|~-]{1,64}\Z")
+TARGET = re.compile(r"(GET|POST) (/[A-Za-z0-9/._~?=&-]*) HTTP/1\.[01]\Z")
+POLICY = ("default-src 'none'; script-src 'self'; style-src 'self'; img-src 'self' data:; connect-src 'self'; "
+          "base-uri 'none'; form-action 'none'; frame-ancestors 'none'")
+ALWAYS = {
+    "Content-Security-Policy": POLICY, "X-Content-Type-Options": "nosniff", "X-Frame-Options": "DENY",
+    "Referrer-Policy": "no-referrer", "Cross-Origin-Resource-Policy": "same-origin", "Cross-Origin-Opener-Policy": "same-origin",
+    "Cache-Control": "no-store", "Connection": "close",
+}
+REASONS = {200: "OK", 400: "Bad Request", 404: "Not Found", 409: "Conflict", 413: "Content Too Large", 429: "Too Many Requests",
+           503: "Service Unavailable"}
+
+
+def new_secret():
+    """A secret of 128 bits, as it stands in an address."""
+    return secrets.token_hex(16)
+
+
+def same(given, secret):
+    """Whether a text is the secret, in a time that does not tell how much of it is right."""
+    return hmac.compare_digest(given.encode(), secret.encode())
+
+
+class Refused(Exception):
+    """A request that gets a status and words in place of what it asked."""
+
+    def __init__(self, status, words="there is nothing here"):
+        super().__init__(status, words)
+        self.status, self.words = status, words
+
+
+NOTHING = Refused(404)
+
+
+class Request:
+    """What was asked: the method, the parts of the path, what stands after `?`, and a way to read the body."""
+
+    def __init__(self, method, target, headers, reader, known):
+        path, _, query = target.partition("?")
+        self.method, self.parts, self.headers, self.reader = method, path.split("/")[1:], headers, reader
+        # To be called once the request has shown the secret.
+        self.known = known
+        self.query = dict(pair.partition("=")[::2] for pair in query.split("&") if pair)
+
+    async def json(self, most):
+        """The body, an object of JSON with at most so many bytes."""
+        length = self.headers.get("content-length", "")
+        if not re.match(r"[0-9]{1,9}\Z", length):
+            raise Refused(400, "the length of the request is missing")
+        if int(length) > most:
+            raise Refused(413, "the request is too long")
+        if self.headers.get("content-type", "").partition(";")[0].strip().lower() != "application/json":
+            raise Refused(400, "the request is no JSON")
+        data = await asyncio.wait_for(self.reader.readexactly(int(length)), TO_SEND)
+        try:
+            given = json.loads(data.decode())
+        except (ValueError, RecursionError):
+            raise Refused(400, "the request is no JSON") from None
+        if not isinstance(given, dict):
+            raise Refused(400, "the request is no object")
+        return given
+
+
+def text_in(given, name, most):
+    """A text of a request, of at most so many letters. Raises Refused where there is none."""
+    text = given.get(name)
+    if not isinstance(text, str) or len(text) > most:
+        raise Refused(400, "'%s' is no text of at most %d letters" % (name, most))
+    try:
+        text.encode()
+    except UnicodeEncodeError:
+        raise Refused(400, "'%s' has letters that are none" % name) from None
+    return text
+
+
+class Server:
+    """Serves on an address and a port, 0 for any that is free. `answer` is asked for each request of this host and origin, and
+    gives a status, a kind of content and bytes, or an iterator over bytes that come by and by."""
+
+    def __init__(self, answer, address, port=0, names=()):
+        self.answer, self.address, self.port, self.names = answer, address, port, {name.lower() for name in names}
+        self.waiting, self.tasks, self.listener = {}, set(), None
+
+    async def start(self):
+        self.listener = await asyncio.start_server(self.serve, self.address, self.port, limit=MOST_HEAD, backlog=256)
+        self.port = self.listener.sockets[0].getsockname()[1]
+
+    async def stop(self):
+        self.listener.close()
+        for task in list(self.tasks):
+            task.cancel()
+        await asyncio.gather(*self.tasks, return_exceptions=True)
+
+    async def serve(self, reader, writer):
+        """One connection, from its request to its end."""
+        task = asyncio.current_task()
+        self.tasks.add(task)
+        self.waiting[task] = writer
+        writer.transport.set_write_buffer_limits(high=0)
+        self.make_room()
+        try:
+            await self.exchange(task, reader, writer)
+        except (asyncio.TimeoutError, asyncio.IncompleteReadError, asyncio.CancelledError, OSError):
+            pass
+        finally:
+            self.waiting.pop(task, None)
+            self.tasks.discard(task)
+            if writer.transport.get_write_buffer_size():
+                writer.transport.abort()
+            writer.close()
+
+    def make_room(self):
+        """Drops the oldest connection that has not shown the secret if there are too many."""
+        if len(self.tasks) > MOST_CONNECTIONS:
+            oldest = next(iter(self.waiting))
+            self.waiting.pop(oldest).transport.abort()
+            oldest.cancel()
+
+    async def exchange(self, task, reader, writer):
+        try:
+            request = await asyncio.wait_for(self.request(reader, writer, lambda: self.waiting.pop(task, None)), TO_ASK)
+            status, kind, content = await self.answer(request)
+        except asyncio.LimitOverrunError:
+            status, kind, content = 404, "text/plain", NOTHING.words.encode()
+        except Refused as refused:
+            status, kind, content = refused.status, "text/plain", refused.words.encode()
+        long = isinstance(content, bytes)
+        writer.write(head(status, kind, len(content) if long else None))
+        if long:
+            writer.write(content)
+            await drained(writer)
+        else:
+            gone = asyncio.ensure_future(reader.read(1))
+            try:
+                await self.stream(content, writer, gone)
+            finally:
+                gone.cancel()
+        await self.end(reader, writer)
+
+    async def end(self, reader, writer):
+        """Ends the answer, and lets go of what the other side still sends, so that it may read the answer."""
+        if writer.can_write_eof():
+            writer.write_eof()
+        await asyncio.wait_for(self.swallow(reader), 1.0)
+
+    async def swallow(self, reader):
+        left = 1 << 20
+        while left > 0:
+            got = await reader.read(MOST_HEAD)
+            if not got:
+                return
+            left -= len(got)
+
+    async def stream(self, content, writer, gone):
+        """Writes the pieces that come by and by, until the other side has gone."""
+        async for piece in content:
+            if gone.done():
+                return
+            writer.write(piece)
+            await drained(writer)
+
+    async def request(self, reader, writer, known):
+        """The request of a connection. Raises Refused where it is none for this host from this origin."""
+        data = await reader.readuntil(b"\r\n\r\n")
+        try:
+            first, *lines = data[:-4].decode("ascii").split("\r\n")
+        except UnicodeDecodeError:
+            raise NOTHING from None
+        target = TARGET.match(first)
+        headers = headers_of(lines)
+        if not target or "transfer-encoding" in headers or not self.is_here(headers.get("host"), writer):
+            raise NOTHING
+        method = target.group(1)
+        origin = headers.get("origin")
+        if (method == "POST" and origin is None) or origin not in (None, "http://" + headers["host"]):
+            raise NOTHING
+        if headers.get("sec-fetch-site", "none") not in ("none", "same-origin") and headers.get("sec-fetch-dest") != "document":
+            raise NOTHING
+        return Request(method, target.group(2), headers, reader, known)
+
+    def is_here(self, host, writer):
+        """Whether a Host names this server: by the address that was called, or by a name that was given to it."""
+        name, colon, port = (host or "").lower().rpartition(":")
+        if not colon or port != str(self.port):
+            return False
+        called = ipaddress.ip_address(writer.get_extra_info("sockname")[0].partition("%")[0])
+        if name in self.names or (name == "localhost" and called.is_loopback):
+            return True
+        try:
+            return ipaddress.ip_address(name.strip("[]")) == called
+        except ValueError:
+            return False
+
+
+def headers_of(lines):
+    """The headers by their names in small letters. Raises Refused where a line is none, or one that counts comes twice."""
+    if len(lines) > MOST_HEADERS:
+        raise NOTHING
+    headers = {}
+    for line in lines:
+        name, colon, value = line.partition(":")
+        if not colon or not TOKEN.match(name) or name.lower() in headers or any(ord(letter) < 32 and letter != "\t" for letter in value):
+            raise NOTHING
+        headers[name.lower()] = value.strip(" \t")
+    return headers
+
+
+def head(status, kind, length):
+    """The head of an answer; without a length it goes on until the connection ends."""
+    lines = ["HTTP/1.1 %d %s" % (status, REASONS[status]), "Content-Type: %s; charset=utf-8" % kind]
+    lines += ["%s: %s" % pair for pair in ALWAYS.items()]
+    lines += [] if length is None else ["Content-Length: %d" % length]
+    return ("\r\n".join(lines) + "\r\n\r\n").encode()
+
+
+async def drained(writer):
+    """Waits until the other side has taken what was written, and drops it if that takes too long."""
+    try:
+        await asyncio.wait_for(writer.drain(), TO_TAKE)
+    except asyncio.TimeoutError:
+        writer.transport.abort()
+        raise
+
+
+def as_json(thing, status=200):
+    """An answer of JSON."""
+    return status, "application/json", json.dumps(thing).encode()
