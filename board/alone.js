@@ -3,7 +3,7 @@
 /* Playing alone: the page keeps the table and the steps, and the program answers each question of it. */
 
 const LOTS = 64;
-let table, name, examples, viewer, hands, questions, editor;
+let table, fileName, examples, viewer, hands, questions, editor;
 let turn = Promise.resolve();
 
 async function post(path, thing) {
@@ -55,20 +55,20 @@ async function playNow(line) {
 
 /* Another table. What the program refuses is told, and nothing changes. */
 
-async function open(text, title, layout) {
+async function openTable(text, file, layout) {
   const said = await ask({ command: "layout", table: text });
   if (said.status !== 0) return said.err;
   if (viewer.game.length && !(await sure(`The ${viewer.game.length} steps of this game go with its table. Shall they go?`))) return null;
-  [table, name] = [text, title];
+  [table, fileName] = [text, file];
   begin(layout || layoutOf(said.layout));
   return null;
 }
 
 function begin(layout) {
   const game = new Game(JSON.parse(table));
-  element("title").textContent = document.title = `The dollar game: ${name}`;
+  element("title").textContent = document.title = `The dollar game: ${fileName}`;
   if (viewer) {
-    hands.clear();
+    hands.forget();
     hands.names(game.names);
     questions.clear();
     viewer.reset(game, 0, layout);
@@ -76,7 +76,7 @@ function begin(layout) {
     viewer = new Viewer(game, layout, { hands: true });
     hands = new Hands(viewer, play);
     questions = new Questions(viewer, ask, play);
-    editor = new Editor(viewer, hands, (text, places) => open(text, name, places), (text) => ask({ command: "layout", table: text }).then(found));
+    editor = new Editor(viewer, hands, (text, places) => openTable(text, fileName, places), (text) => ask({ command: "layout", table: text }).then(found));
     viewer.filled(0);
     viewer.afterShow = () => questions.clear();
   }
@@ -87,7 +87,7 @@ const found = (said) => (said.layout ? { ...said, layout: layoutOf(said.layout) 
 async function openFile(file) {
   if (!file) return;
   if (file.size > 1 << 20) return hands.tell(faultWords("file too long"), "dollar: file too long");
-  told(await open(await file.text(), file.name));
+  told(await openTable(await file.text(), file.name));
 }
 
 function told(fault) {
@@ -103,7 +103,7 @@ async function drawLots(degree, kind) {
   if (said.status !== 0) return told(said.err);
   const at = linesOf(said.out).findIndex((line) => (kind ? line.startsWith(`${kind} `) : /^(un)?winnable /.test(line)));
   if (at < 0) return hands.tell(`Of ${LOTS} that were drawn none ${kind === "winnable" ? "can" : kind ? "can't" : "is a table that can"} be won.`);
-  told(await open(`${JSON.stringify(tables[at], null, 1)}\n`, name, viewer.board.layout));
+  told(await openTable(`${JSON.stringify(tables[at], null, 1)}\n`, fileName, viewer.board.layout));
   return null;
 }
 
@@ -138,7 +138,7 @@ function picture() {
 }
 
 async function takePage() {
-  const said = await ask({ command: "replay", table, steps: stepsText(viewer.game.length), name });
+  const said = await ask({ command: "replay", table, steps: stepsText(viewer.game.length), name: fileName });
   if (said.status === 0) save("game.html", said.page, "text/html");
   else told(said.err);
 }
@@ -159,7 +159,7 @@ function bindTables() {
   element("example").addEventListener("change", async (event) => {
     const file = event.target.value;
     event.target.value = "";
-    if (file) told(await open(examples[file], file));
+    if (file) told(await openTable(examples[file], file));
   });
   element("open").addEventListener("change", async (event) => {
     await openFile(event.target.files[0]);
@@ -179,7 +179,7 @@ function bindTables() {
 
 async function start() {
   const given = await (await fetch("start")).json();
-  ({ table, name, examples } = given);
+  ({ table, examples, name: fileName } = given);
   element("seat").replaceChildren(...Array.from({ length: 64 }, (_, i) => new Option(i + 1, i + 1)));
   begin(layoutOf(given.layout));
   bindTaking();

@@ -113,7 +113,7 @@ class Hands {
       else if (event.key === "Enter") this.play(`${event.shiftKey ? "borrow" : "lend"} ${name}`);
       else if (event.key === " ") this.choose(name);
       else if (event.key === "j") this.join(name);
-      else if (event.key === "Escape") this.clear();
+      else if (event.key === "Escape") this.escape();
       else return;
       event.preventDefault();
     });
@@ -141,10 +141,15 @@ class Hands {
     }
   }
 
-  clear() {
+  /* Forgets what was chosen and begun. */
+  forget() {
     this.joining = null;
     this.unchoose();
     this.tell("");
+  }
+
+  escape() {
+    this.forget();
     this.viewer.rest();
   }
 

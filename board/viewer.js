@@ -60,7 +60,6 @@ class Viewer {
     this.stop();
     this.game = game;
     if (layout) this.board.layout = layout;
-    this.board.burnt = [];
     this.filled(index);
   }
 
@@ -90,6 +89,7 @@ class Viewer {
     const next = Math.min(Math.max(index, 0), this.game.length), { states, steps, replies } = this.game;
     const moving = next === this.now + 1 && replies[next - 1].kind === "moved" && !still.matches;
     this.now = next;
+    this.board.burnt = [];
     this.showText();
     this.showVerdict();
     this.showPlace();
