@@ -3,7 +3,7 @@
 Each connection brings one request and gets one answer. Whoever is slow, sends too much or sends nonsense is dropped. When there
 are too many connections, the oldest of those that have not shown the secret makes room. Whatever is asked without the secret, from
 another origin or for another host is answered alike: there is nothing here."""
-import asyncio, hmac, ipaddress, json, re, secrets
+import asyncio, hmac, ipaddress, json, re, secrets, socket
 
 MOST_HEAD, MOST_HEADERS, MOST_CONNECTIONS = 8192, 64, 300
 TO_ASK, TO_SEND, TO_TAKE = 5.0, 20.0, 20.0
@@ -20,14 +20,31 @@ REASONS = {200: "OK", 400: "Bad Request", 404: "Not Found", 409: "Conflict", 413
            503: "Service Unavailable"}
 
 
+LETTERS, LONG = "abcdefghijkmnpqrstuvwxyz23456789", 26
+
+
 def new_secret():
-    """A secret of 128 bits, as it stands in an address."""
-    return secrets.token_hex(16)
+    """A secret of 130 bits, as it stands in an address: in groups of letters and digits that are not easily taken for others."""
+    letters = "".join(secrets.choice(LETTERS) for _ in range(LONG))
+    return "-".join(letters[i:i + 4] for i in range(0, LONG, 4))
 
 
 def same(given, secret):
-    """Whether a text is the secret, in a time that does not tell how much of it is right."""
-    return hmac.compare_digest(given.encode(), secret.encode())
+    """Whether a text is the secret, in a time that does not tell how much of it is right. Capitals and dashes don't count."""
+    return hmac.compare_digest(given.replace("-", "").lower().encode(), secret.replace("-", "").encode())
+
+
+def address_of(host):
+    """The address at which others find a server that listens on a host: on 0.0.0.0 that of this machine in its network."""
+    if host not in ("0.0.0.0", "::"):
+        return host
+    with socket.socket(socket.AF_INET6 if host == "::" else socket.AF_INET, socket.SOCK_DGRAM) as probe:
+        try:
+            # No packet is sent: this only asks the system which of its addresses it would send from.
+            probe.connect(("2001:db8::1" if host == "::" else "192.0.2.1", 9))
+            return probe.getsockname()[0]
+        except OSError:
+            return "::1" if host == "::" else "127.0.0.1"
 
 
 class Refused(Exception):
@@ -84,7 +101,8 @@ def text_in(given, name, most):
 
 class Server:
     """Serves on an address and a port, 0 for any that is free. `answer` is asked for each request of this host and origin, and
-    gives a status, a kind of content and bytes, or an iterator over bytes that come by and by."""
+    gives a status, a kind of content, and bytes, or a function: that gets a future, which is done when the other side has gone, and
+    gives an iterator over bytes that come by and by."""
 
     def __init__(self, answer, address, port=0, names=()):
         self.answer, self.address, self.port, self.names = answer, address, port, {name.lower() for name in names}
@@ -133,17 +151,21 @@ class Server:
             status, kind, content = 404, "text/plain", NOTHING.words.encode()
         except Refused as refused:
             status, kind, content = refused.status, "text/plain", refused.words.encode()
-        long = isinstance(content, bytes)
-        writer.write(head(status, kind, len(content) if long else None))
-        if long:
+        whole = isinstance(content, bytes)
+        writer.write(head(status, kind, len(content) if whole else None))
+        if whole:
             writer.write(content)
             await drained(writer)
         else:
             gone = asyncio.ensure_future(reader.read(1))
+            pieces = content(gone)
             try:
-                await self.stream(content, writer, gone)
+                async for piece in pieces:
+                    writer.write(piece)
+                    await drained(writer)
             finally:
                 gone.cancel()
+                await pieces.aclose()
         await self.end(reader, writer)
 
     async def end(self, reader, writer):
@@ -159,14 +181,6 @@ class Server:
             if not got:
                 return
             left -= len(got)
-
-    async def stream(self, content, writer, gone):
-        """Writes the pieces that come by and by, until the other side has gone."""
-        async for piece in content:
-            if gone.done():
-                return
-            writer.write(piece)
-            await drained(writer)
 
     async def request(self, reader, writer, known):
         """The request of a connection. Raises Refused where it is none for this host from this origin."""

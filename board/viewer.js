@@ -72,6 +72,23 @@ class Viewer {
     element("flawed").textContent = flawed ? `${flawed} of its lines differ from what the program prints` : "";
   }
 
+  /* Shows a game that has grown: at its last step, if it is followed, and else where it was. */
+  grown(follows) {
+    const { length } = this.game, [low, high] = this.listed, list = document.querySelector("#whole ol");
+    element("slider").max = length;
+    if (length - low <= LISTED) {
+      for (let index = high; index < length; index++) this.item(index, list);
+      this.listed = [low, length];
+    } else if (follows) {
+      this.list(length - LISTED / 2);
+    } else {
+      element("later").hidden = false;
+    }
+    this.fillMarks();
+    if (follows) this.show(length);
+    else this.showPlace();
+  }
+
   says(index) {
     if (index === 0) return new Map();
     const { word, given, script } = this.game.steps[index - 1], reply = this.game.replies[index - 1];
@@ -141,6 +158,7 @@ class Viewer {
     slider.setAttribute("aria-valuetext", `${element("place").textContent}. ${element("step").textContent}`);
     for (const id of ["first", "back"]) element(id).disabled = index === 0;
     for (const id of ["on", "last"]) element(id).disabled = index === this.game.length;
+    if (index) element("place").textContent = `Step ${index} of ${this.game.length}`;
     const [low, high] = this.listed;
     if ((low > 0 && index <= low) || index > high) this.list(index - LISTED / 2);
     this.point();
