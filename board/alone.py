@@ -5,7 +5,7 @@ from board import EXAMPLES, layout, table_of, text_of
 from pages import asset, assembled
 from program import PATIENCE, Fault, program, spoken
 from replay import page
-from server import NOTHING, Refused, as_json, same, text_in
+from server import Nothing, Refused, as_json, same, text_in
 
 MOST_TABLE, MOST_STEPS, MOST_BODY, MOST_TABLES = 1 << 20, 1 << 25, 1 << 26, 1 << 22
 AT_ONCE = 3
@@ -31,7 +31,7 @@ class Alone:
     async def answer(self, request):
         """What the server says to a request."""
         if not same(request.parts[0], self.secret) or len(request.parts) != 2:
-            raise NOTHING
+            raise Nothing
         request.known()
         asked = request.method, request.parts[1]
         if asked == ("GET", ""):
@@ -43,7 +43,7 @@ class Alone:
                 return as_json(await self.asked(await request.json(MOST_BODY)))
         if request.method == "GET" and request.parts[1] in ASSETS:
             return asset(request.parts[1])
-        raise NOTHING
+        raise Nothing
 
     def start(self):
         """What the page begins with."""

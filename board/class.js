@@ -4,6 +4,7 @@
 
 const KEPT = `dollar ${location.pathname}`;
 let given, viewer, hands, source, me = null, state = null, waiting = [], frame = null;
+const entries = new Map();
 
 async function post(path, thing) {
   try {
@@ -82,6 +83,10 @@ function listen(path) {
     later();
   });
   source.addEventListener("freed", () => stand("Your seat was freed. You may take another."));
+  source.addEventListener("asleep", () => {
+    source.close();
+    notice("This seat is open in more pages than may be. This page sees nothing new until it is loaded again.");
+  });
   source.addEventListener("open", () => later());
   source.addEventListener("error", () => {
     if (source.readyState !== EventSource.CLOSED) notice("There is no connection to the game. The page tries again.");
@@ -103,8 +108,8 @@ async function seek() {
   return null;
 }
 
-function taken(from, entries) {
-  entries.forEach((entry, i) => {
+function taken(from, come) {
+  come.forEach((entry, i) => {
     if (from + i === viewer.game.length + waiting.length) waiting.push(entry);
   });
   later();
@@ -119,7 +124,10 @@ function later() {
 function drawn() {
   frame = null;
   const { game } = viewer, follows = viewer.now === game.length;
-  for (const [seat, line, answer] of waiting) game.add(`${seat} ${line}`, answer);
+  for (const [seat, line, answer] of waiting) {
+    game.add(`${seat} ${line}`, answer);
+    entries.set(String(seat), (entries.get(String(seat)) || 0) + 1);
+  }
   const grown = waiting.length > 0;
   waiting = [];
   if (grown) viewer.grown(follows);
@@ -134,10 +142,10 @@ function told() {
   else if (pages > 1) notice(`This seat is open in ${pages} pages. All of them play for it.`);
   else notice("");
   const list = element("names"), old = list.textContent;
-  const rows = Object.entries(names).map(([seat, { name, here, played }]) => {
+  const rows = Object.entries(names).map(([seat, { name, here }]) => {
     const item = made("li", "", here ? "" : "away");
     item.value = seat;
-    item.append(made("b", name), ` ${played} played${here ? "" : ", away"} `);
+    item.append(made("b", name), ` ${entries.get(seat) || 0} played${here ? "" : ", away"} `);
     if (me && Number(seat) === me.seat) item.append("(you) ");
     if (given.role === "teacher") item.append(freeing(seat, name));
     return item;

@@ -6,7 +6,7 @@ from board import layout, table_of
 from pages import asset, assembled
 from program import PATIENCE, Fault, printed, program, spoken
 from replay import page
-from server import NOTHING, Refused, as_json, new_secret, same, text_in
+from server import Nothing, Refused, as_json, new_secret, same, text_in
 
 MOST_BODY, MOST_LINE, MOST_NAME, MOST_SEATS = 1 << 14, 1024, 24, 64
 # A seat may play so many lines at once, and then so many in a second; so many of its lines wait, and so many pages are open on it.
@@ -38,7 +38,8 @@ class Seat:
 
 def clean(name):
     """A name as it is shown: what can be printed of it, on one line."""
-    return "".join(letter for letter in " ".join(name.split()) if letter.isprintable())[:MOST_NAME].strip()
+    shown = "".join(letter if letter.isprintable() else " " if letter.isspace() else "" for letter in name)
+    return " ".join(shown.split())[:MOST_NAME].strip()
 
 
 class Game:
@@ -143,7 +144,7 @@ class Classroom:
         """What the server says to a request."""
         teaches = same(request.parts[0], self.teacher)
         if not (teaches or same(request.parts[0], self.secret)) or len(request.parts) != 2:
-            raise NOTHING
+            raise Nothing
         request.known()
         asked = request.parts[1]
         if request.method == "GET":
@@ -156,7 +157,7 @@ class Classroom:
             return 200, "text/html", self.page
         if asked in ASSETS:
             return asset(asked)
-        raise NOTHING
+        raise Nothing
 
     def begin(self, role):
         return {"role": role, "name": self.name, "table": self.text, "layout": self.layout, "seats": self.seats}
@@ -165,15 +166,16 @@ class Classroom:
         if asked == "start":
             return as_json(self.begin("pupil"))
         if asked == "events":
-            seat = self.seat_of(request.query.get("key", ""))
-            return 200, "text/event-stream", lambda gone: self.events(gone, begin_at(request), seat)
+            seat, number = self.seat_of(request.query.get("key", "")), begin_at(request)
+            return 200, "text/event-stream", lambda gone: self.events(gone, number, seat)
         return self.common_page(asked)
 
     def teachers_page(self, asked, request):
         if asked == "start":
             return as_json({**self.begin("teacher"), "address": self.address, "code": code_of(self.address)})
         if asked == "events":
-            return 200, "text/event-stream", lambda gone: self.events(gone, begin_at(request), None)
+            number = begin_at(request)
+            return 200, "text/event-stream", lambda gone: self.events(gone, number, None)
         if asked in FILES:
             return 200, FILES[asked], self.file(asked).encode()
         return self.common_page(asked)
@@ -184,7 +186,7 @@ class Classroom:
         """The seat of a key."""
         found = next((seat for seat in self.taken.values() if same(key, seat.key)), None)
         if found is None:
-            raise NOTHING
+            raise Nothing
         found.seen = time.monotonic()
         return found
 
@@ -193,7 +195,7 @@ class Classroom:
             return self.join(clean(text_in(given, "name", 200)))
         if asked == "line":
             return await self.line(self.seat_of(text_in(given, "key", 64)), text_in(given, "line", MOST_BODY))
-        raise NOTHING
+        raise Nothing
 
     def join(self, name):
         """Gives a free seat: of those the one that was used least, so that nobody finds the look of another on it."""
@@ -252,7 +254,7 @@ class Classroom:
         elif asked == "replay":
             return await self.replay()
         else:
-            raise NOTHING
+            raise Nothing
         self.changed()
         return as_json({})
 
@@ -260,8 +262,8 @@ class Classroom:
         seat = self.taken.pop(number, None) if isinstance(number, int) else None
         if seat is None:
             raise Refused(409, "Nobody has this seat.")
-        for told in seat.pages:
-            told.cancel()
+        for ended in seat.pages:
+            end_with(ended, "freed")
         self.changed()
         return as_json({})
 
@@ -294,20 +296,21 @@ class Classroom:
 
     def state(self, seat):
         """Who is there, and whether the game goes on, for a page of a seat or of the teacher."""
-        names = {each.number: {"name": each.name, "here": len(each.pages), "played": each.played} for each in self.taken.values()}
+        names = {each.number: {"name": each.name, "here": len(each.pages)} for each in self.taken.values()}
         return {"names": names, "paused": self.paused, "end": self.game.end, "you": seat and seat.number}
 
     async def events(self, gone, number, seat):
-        """The entries from a number on, and the state, as they come, until the page has gone or its seat was freed."""
-        freed = asyncio.get_running_loop().create_future()
+        """The entries from a number on, and the state, as they come, until the page has gone, or its seat was freed or is open in
+        too many other pages."""
+        ended = asyncio.get_running_loop().create_future()
         if seat:
-            seat.pages.append(freed)
+            seat.pages.append(ended)
             for old in seat.pages[:-MOST_PAGES]:
-                old.cancel()
+                end_with(old, "asleep")
             self.changed()
         seen = -1
         try:
-            while not gone.done() and not freed.done():
+            while not gone.done() and not ended.done():
                 news = self.news
                 if seen != self.changes:
                     seen = self.changes
@@ -317,23 +320,29 @@ class Classroom:
                     number += len(entries)
                     yield event("entries", [number - len(entries), entries], number)
                 elif seen == self.changes and number >= len(self.game.entries):
-                    done, _ = await asyncio.wait({news, gone, freed}, timeout=HEARTBEAT, return_when=asyncio.FIRST_COMPLETED)
+                    done, _ = await asyncio.wait({news, gone, ended}, timeout=HEARTBEAT, return_when=asyncio.FIRST_COMPLETED)
                     if not done:
                         yield KEEP_OPEN
-            if freed.done() and not gone.done():
-                yield event("freed", {})
+            if ended.done() and not gone.done():
+                yield event(ended.result(), {})
         finally:
             if seat:
-                seat.pages.remove(freed)
+                seat.pages.remove(ended)
                 seat.seen = time.monotonic()
                 self.changed()
+
+
+def end_with(page, word):
+    """Ends the events of a page with a word, once."""
+    if not page.done():
+        page.set_result(word)
 
 
 def begin_at(request):
     """The number of the first entry that a page wants: after a break the one after the last that it had."""
     number = request.headers.get("last-event-id") or request.query.get("from", "0")
     if not re.match(r"[0-9]{1,6}\Z", number):
-        raise NOTHING
+        raise Nothing
     return int(number)
 
 

@@ -6,7 +6,7 @@ another origin or for another host is answered alike: there is nothing here."""
 import asyncio, hmac, ipaddress, json, re, secrets, socket
 
 MOST_HEAD, MOST_HEADERS, MOST_CONNECTIONS = 8192, 64, 300
-TO_ASK, TO_SEND, TO_TAKE = 5.0, 20.0, 20.0
+TO_ASK, TO_SEND, TO_TAKE = 5.0, 8.0, 20.0
 TOKEN = re.compile(r"[A-Za-z0-9!#$%&'*+.^_`|~-]{1,64}\Z")
 TARGET = re.compile(r"(GET|POST) (/[A-Za-z0-9/._~?=&-]*) HTTP/1\.[01]\Z")
 POLICY = ("default-src 'none'; script-src 'self'; style-src 'self'; img-src 'self' data:; connect-src 'self'; "
@@ -50,12 +50,16 @@ def address_of(host):
 class Refused(Exception):
     """A request that gets a status and words in place of what it asked."""
 
-    def __init__(self, status, words="there is nothing here"):
+    def __init__(self, status, words):
         super().__init__(status, words)
         self.status, self.words = status, words
 
 
-NOTHING = Refused(404)
+class Nothing(Refused):
+    """What all get who must not learn more."""
+
+    def __init__(self):
+        super().__init__(404, "there is nothing here")
 
 
 class Request:
@@ -148,7 +152,7 @@ class Server:
             request = await asyncio.wait_for(self.request(reader, writer, lambda: self.waiting.pop(task, None)), TO_ASK)
             status, kind, content = await self.answer(request)
         except asyncio.LimitOverrunError:
-            status, kind, content = 404, "text/plain", NOTHING.words.encode()
+            status, kind, content = 404, "text/plain", Nothing().words.encode()
         except Refused as refused:
             status, kind, content = refused.status, "text/plain", refused.words.encode()
         whole = isinstance(content, bytes)
@@ -188,17 +192,17 @@ class Server:
         try:
             first, *lines = data[:-4].decode("ascii").split("\r\n")
         except UnicodeDecodeError:
-            raise NOTHING from None
+            raise Nothing from None
         target = TARGET.match(first)
         headers = headers_of(lines)
         if not target or "transfer-encoding" in headers or not self.is_here(headers.get("host"), writer):
-            raise NOTHING
+            raise Nothing
         method = target.group(1)
         origin = headers.get("origin")
         if (method == "POST" and origin is None) or origin not in (None, "http://" + headers["host"]):
-            raise NOTHING
+            raise Nothing
         if headers.get("sec-fetch-site", "none") not in ("none", "same-origin") and headers.get("sec-fetch-dest") != "document":
-            raise NOTHING
+            raise Nothing
         return Request(method, target.group(2), headers, reader, known)
 
     def is_here(self, host, writer):
@@ -218,12 +222,12 @@ class Server:
 def headers_of(lines):
     """The headers by their names in small letters. Raises Refused where a line is none, or one that counts comes twice."""
     if len(lines) > MOST_HEADERS:
-        raise NOTHING
+        raise Nothing
     headers = {}
     for line in lines:
         name, colon, value = line.partition(":")
         if not colon or not TOKEN.match(name) or name.lower() in headers or any(ord(letter) < 32 and letter != "\t" for letter in value):
-            raise NOTHING
+            raise Nothing
         headers[name.lower()] = value.strip(" \t")
     return headers
 
