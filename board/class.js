@@ -2,8 +2,9 @@
 
 /* The table of a class: a click is a line, and the board shows what came back. All pages see each entry as it comes. */
 
+const SOON = 16;
 const KEPT = `dollar ${location.pathname}`;
-let given, viewer, hands, source, me = null, state = null, waiting = [], frame = null;
+let given, viewer, hands, source, me = null, state = null, waiting = [], frame = null, took = 0;
 const entries = new Map();
 
 async function post(path, thing) {
@@ -115,15 +116,15 @@ function taken(from, come) {
   later();
 }
 
-/* Entries are drawn once for each picture of the screen, however many came. */
+/* Entries are drawn together, however many came; a browser that is slow to draw draws seldom. */
 
 function later() {
-  if (frame === null) frame = setTimeout(drawn, 16);
+  if (frame === null) frame = setTimeout(drawn, Math.max(SOON, 4 * took));
 }
 
 function drawn() {
   frame = null;
-  const { game } = viewer, follows = viewer.now === game.length;
+  const { game } = viewer, start = performance.now(), follows = viewer.now === game.length;
   for (const [seat, line, answer] of waiting) {
     game.add(`${seat} ${line}`, answer);
     entries.set(String(seat), (entries.get(String(seat)) || 0) + 1);
@@ -132,7 +133,7 @@ function drawn() {
   waiting = [];
   if (grown) viewer.grown(follows);
   if (state) told();
-  else if (grown) viewer.showText();
+  took = performance.now() - start;
 }
 
 function told() {

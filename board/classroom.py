@@ -128,7 +128,7 @@ class Classroom:
     def last_words(self):
         """What is to be said before the game is lost."""
         lost = len(self.game.entries) - self.saved
-        return "%d entries were not taken along from the teacher's page. Once more ends it, and drops them." % lost if lost else ""
+        return "Entries that were not taken along from the teacher's page: %d. Once more ends the game, and drops them." % lost if lost else ""
 
     def changed(self):
         """Tells all pages that there is something new."""

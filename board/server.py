@@ -20,6 +20,7 @@ REASONS = {200: "OK", 400: "Bad Request", 404: "Not Found", 409: "Conflict", 413
            503: "Service Unavailable"}
 
 
+ANY = "0.0.0.0", "::"
 LETTERS, LONG = "abcdefghijkmnpqrstuvwxyz23456789", 26
 
 
@@ -36,7 +37,7 @@ def same(given, secret):
 
 def address_of(host):
     """The address at which others find a server that listens on a host: on 0.0.0.0 that of this machine in its network."""
-    if host not in ("0.0.0.0", "::"):
+    if host not in ANY:
         return host
     with socket.socket(socket.AF_INET6 if host == "::" else socket.AF_INET, socket.SOCK_DGRAM) as probe:
         try:

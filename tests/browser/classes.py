@@ -45,18 +45,15 @@ def in_order(pupil, steps, history):
     return kept == list(zip(own, told))
 
 
-def attend(pupil, draw):
-    for _ in range(LINES):
-        pupil.play(line_of(draw))
-
-
-def of_many(folder):
-    """Thirty pupils play three thousand lines at once."""
+def of_many(folder, pages=()):
+    """Thirty pupils play three thousand lines at once, some of them on pages: for each of these there is a function that gives its
+    pupil for an address."""
     with played(table_file(folder), "--seats", str(PUPILS)) as (_, (pupils, teacher)):
-        room = [Pupil(pupils, "pupil %d" % number) for number in range(PUPILS)]
+        room = [page(pupils) for page in pages] + [Pupil(pupils, "pupil %d" % number) for number in range(PUPILS - len(pages))]
         equal(sorted(pupil.seat for pupil in room), list(range(1, PUPILS + 1)), "the seats")
         equal(Place(pupils).post("join", {"name": "late"}), (409, "All 30 seats are taken. The teacher can free one."), "a seat too many")
-        threads = [threading.Thread(target=attend, args=(pupil, random.Random(pupil.seat))) for pupil in room]
+        threads = [threading.Thread(target=pupil.attend, args=([line_of(draw) for _ in range(LINES)],))
+                   for pupil in room for draw in [random.Random(pupil.seat)]]
         for thread in threads:
             thread.start()
         for thread in threads:
@@ -68,7 +65,7 @@ def of_many(folder):
         for pupil in room:
             expect(in_order(pupil, steps, history), "the lines of seat %d are not in its order" % pupil.seat)
             expect(pupil.until(lambda pupil: len(pupil.entries) >= len(history)), "seat %d is not told all" % pupil.seat)
-            equal([("%d %s" % (seat, line), answer) for seat, line, answer in pupil.entries], list(zip(steps, history)),
+            equal([("%s %s" % (seat, line), answer) for seat, line, answer in pupil.entries], list(zip(steps, history)),
                   "what seat %d is told" % pupil.seat)
             pupil.leave()
 
@@ -286,13 +283,27 @@ def with_clicks(folder):
             pupil.leave()
 
 
-def all_of(folder):
-    """All tests of the table of a class that need no browser."""
-    for part in of_many, with_strangers, with_commands, with_deaths, with_full_history, with_floods, with_clicks:
+def with_network(folder):
+    """With --host the table is open to other machines, by the address of this one and by no other name."""
+    with played(table_file(folder), "--seats", "2", "--host", "0.0.0.0") as (_, (pupils, teacher)):
+        place = Place(pupils)
+        equal(place.get("start")[0], 200, "the address that is printed")
+        port = place.port
+        equal([place.get("start", headers={"Host": host % port})[0] for host in ("localhost:%d", "evil.example:%d", "0.0.0.0:%d", "192.0.2.1:%d")],
+              [200 if place.host == "127.0.0.1" else 404, 404, 404, 404], "other names")
+        near = Place("http://127.0.0.1:%d%s" % (port, place.path))
+        equal(near.get("start")[0], 200, "the same on loopback")
+        equal(near.get("start", headers={"Host": "%s:%d" % (place.host, port)})[0], 200 if place.host == "127.0.0.1" else 404, "another address of it")
+        equal(Pupil(pupils, "ann", events=False).play("claim")[1], "0 not won", "a line from the network")
+
+
+def all_of(folder, pages=()):
+    """All tests of the table of a class; the first with pages in a browser, if there are any."""
+    for part in (lambda folder: of_many(folder, pages)), with_network, with_strangers, with_commands, with_deaths, with_full_history, with_floods, with_clicks:
         start = time.monotonic()
         part(folder)
         if os.environ.get("TOLD"):
-            print("%s: %.1f s" % (part.__name__, time.monotonic() - start), flush=True)
+            print("%s: %.1f s" % (part.__name__.replace("<lambda>", "of_many"), time.monotonic() - start), flush=True)
 
 
 if __name__ == "__main__":

@@ -1,11 +1,11 @@
 """Damaged requests: sizes, encodings, heads, halves and silence. Each is answered or dropped in its time, while another plays on."""
-import asyncio, json, os, random, sys, threading, time
+import asyncio, json, os, random, socket, sys, threading, time
 
 from classes import memory_of, table_file, taken
 from common import EXAMPLES, asked, equal, expect, played, text_of, written
 from visitors import Place, Pupil
 
-REQUESTS, TOGETHER, SEED = 2000, 250, 20260
+REQUESTS, TOGETHER, SEED, SILENT = 2000, 250, 20260, 700
 # A head has 5 seconds, a body 8, and a second goes by at the end.
 LATEST = 12.0
 MOST_MEMORY = 120_000
@@ -136,6 +136,34 @@ def of_many(folder):
         bob.leave()
 
 
+def of_silence(folder):
+    """More connections that say nothing than the server keeps: the oldest make room, and who plays is answered."""
+    with played(table_file(folder), "--seats", "2") as (child, (pupils, teacher)):
+        ann, links, waits = Pupil(pupils, "ann"), [], []
+        for number in range(SILENT):
+            links.append(socket.create_connection((ann.place.host, ann.place.port), LATEST))
+            if number % 20 == 0:
+                start = time.monotonic()
+                equal(ann.play("gift ann 1")[0], 200, "who plays among %d silent connections" % number)
+                waits.append(time.monotonic() - start)
+        expect(max(waits) < 2.0, "who plays among silent connections waited %.2f s" % max(waits))
+        start = time.monotonic()
+        expect(all(ended(link) for link in links), "a silent connection is not dropped")
+        expect(time.monotonic() - start < LATEST, "silent connections are dropped after %.1f s" % (time.monotonic() - start))
+        ann.leave()
+
+
+def ended(link):
+    """Waits for the other side to end a connection."""
+    with link:
+        try:
+            return link.recv(1) == b""
+        except socket.timeout:
+            return False
+        except OSError:
+            return True
+
+
 def of_alone(folder):
     """The server of one player: nobody gets in without the secret, and what the page asks goes to the program as it is."""
     with played(os.path.join(EXAMPLES, "triangle.json")) as (child, (address,)):
@@ -205,7 +233,7 @@ def of_command_line(folder):
     ann = Pupil(pupils, "ann", events=False)
     ann.play("look")
     child.send_signal(signal.SIGINT)
-    equal(child.stdout.readline(), "1 entries were not taken along from the teacher's page. Once more ends it, and drops them.\n", "Ctrl-C in a game")
+    equal(child.stdout.readline(), "Entries that were not taken along from the teacher's page: 1. Once more ends the game, and drops them.\n", "Ctrl-C in a game")
     equal(ann.play("commit")[0], 200, "the game after the first Ctrl-C")
     child.send_signal(signal.SIGINT)
     expect(child.wait(20) == 0 and child.stderr.read() == "", "the second Ctrl-C does not end it")
@@ -213,7 +241,7 @@ def of_command_line(folder):
 
 def all_of(folder):
     """All tests of requests that no page makes."""
-    for part in of_alone, of_command_line, of_many:
+    for part in of_alone, of_silence, of_many:
         start = time.monotonic()
         part(folder)
         if os.environ.get("TOLD"):
@@ -224,6 +252,7 @@ if __name__ == "__main__":
     import tempfile
     from common import results
     with tempfile.TemporaryDirectory() as place_:
+        of_command_line(place_)
         all_of(place_)
     print("%d passed, %d failed" % (sum(results), len(results) - sum(results)))
     sys.exit(not all(results))

@@ -88,6 +88,11 @@ class Pupil:
         self.lines.append((line, status, answer))
         return status, answer
 
+    def attend(self, lines):
+        """Plays lines, one after the other."""
+        for line in lines:
+            self.play(line)
+
     def until(self, wanted):
         """Waits until something is so, and says whether it came to be."""
         end = time.monotonic() + PATIENCE
