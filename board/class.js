@@ -4,8 +4,8 @@
 
 const SOON = 16;
 const KEPT = `dollar ${location.pathname}`;
-let given, viewer, hands, source, me = null, state = null, waiting = [], frame = null, took = 0;
-const entries = new Map();
+let given, viewer, hands, source, me = null, state = null, waiting = [], frame = null, took = 0, stopped = false;
+const entries = new Map(), players = [];
 
 async function post(path, thing) {
   try {
@@ -22,11 +22,6 @@ function sure(words) {
   box.returnValue = "no";
   box.showModal();
   return new Promise((done) => box.addEventListener("close", () => done(box.returnValue === "yes"), { once: true }));
-}
-
-function nameOf(seat) {
-  const found = state && state.names[seat];
-  return found ? found.name : `Seat ${seat}`;
 }
 
 /* A seat of one's own, which is kept over a reload. */
@@ -125,8 +120,9 @@ function later() {
 function drawn() {
   frame = null;
   const { game } = viewer, start = performance.now(), follows = viewer.now === game.length;
-  for (const [seat, line, answer] of waiting) {
+  for (const [seat, line, answer, name] of waiting) {
     game.add(`${seat} ${line}`, answer);
+    players.push(name);
     entries.set(String(seat), (entries.get(String(seat)) || 0) + 1);
   }
   const grown = waiting.length > 0;
@@ -138,6 +134,8 @@ function drawn() {
 
 function told() {
   const { end, paused, names } = state, pages = me && names[me.seat] ? names[me.seat].here : 1;
+  if (stopped && !paused && hands) hands.tell("");
+  stopped = paused;
   if (end) notice(endWords(end));
   else if (paused) notice("The teacher has stopped the game for a while.");
   else if (pages > 1) notice(`This seat is open in ${pages} pages. All of them play for it.`);
@@ -245,7 +243,7 @@ async function start() {
   const teaches = given.role === "teacher", game = new Game(JSON.parse(given.table));
   element("title").textContent = document.title = `The dollar game: ${given.name}`;
   element("seats").hidden = true;
-  viewer = new Viewer(game, layoutOf(given.layout), { hands: !teaches, who: nameOf });
+  viewer = new Viewer(game, layoutOf(given.layout), { hands: !teaches, who: (seat, index) => players[index - 1] });
   viewer.filled(0);
   hands = teaches ? null : new Hands(viewer, play);
   if (teaches) return teach();

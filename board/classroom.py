@@ -43,7 +43,7 @@ def clean(name):
 
 
 class Game:
-    """The program at one end of a pipe, and what it has answered: the entries, each a seat, a line and an answer."""
+    """The program at one end of a pipe, and what it has answered: the entries, each a seat, a line, an answer and who sat there."""
 
     def __init__(self, place, seats):
         self.place, self.seats, self.entries = place, seats, []
@@ -57,7 +57,7 @@ class Game:
                 stdin=asyncio.subprocess.PIPE, stdout=asyncio.subprocess.PIPE, stderr=asyncio.subprocess.PIPE,
                 start_new_session=True)
             self.end = None
-            for seat, line, answer in self.entries:
+            for seat, line, answer, _ in self.entries:
                 if await self.answer("%d %s" % (seat, line)) != answer:
                     self.child.kill()
                     break
@@ -83,14 +83,14 @@ class Game:
             return None
         return answer[:-1].decode() if answer.endswith(b"\n") else None
 
-    async def ask(self, seat, line):
+    async def ask(self, seat, line, name):
         """The answer to a line of a seat, which is kept if it is an entry; None if the game ended instead."""
         async with self.turn:
             if self.end:
                 return None
             answer = await self.answer("%d %s" % (seat, line))
             if answer is not None and answer[:1].isdigit():
-                self.entries.append((seat, line, answer))
+                self.entries.append((seat, line, answer, name))
             return answer
 
     async def close(self):
@@ -232,7 +232,7 @@ class Classroom:
 
     async def play(self, seat, line):
         """Has the program answer a line; the pages are told of an entry, also if who asked has gone meanwhile."""
-        answer = await self.game.ask(seat.number, line)
+        answer = await self.game.ask(seat.number, line, seat.name)
         if answer is not None and answer[:1].isdigit():
             seat.played += 1
             self.used[seat.number] += 1
@@ -289,8 +289,8 @@ class Classroom:
             return self.text
         self.saved = len(self.game.entries)
         if name == "steps.txt":
-            return "".join("%d %s\n" % (seat, line) for seat, line, _ in self.game.entries)
-        return "".join("%s\n" % answer for _, _, answer in self.game.entries)
+            return "".join("%d %s\n" % (seat, line) for seat, line, _, _ in self.game.entries)
+        return "".join("%s\n" % answer for _, _, answer, _ in self.game.entries)
 
     # What all see.
 

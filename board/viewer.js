@@ -24,7 +24,7 @@ function tableRow(parent, cells, tag = "td") {
 }
 
 class Viewer {
-  /* `flaws` has for steps whose printed line is another than the program's what the program prints; `who` says whose a seat is. */
+  /* `flaws` has for steps whose printed line is another than the program's what the program prints; `who` says of a step who played it. */
   constructor(game, layout, { hands = false, flaws = {}, who = (seat) => `Seat ${seat}` } = {}) {
     Object.assign(this, { game, flaws, who, now: 0, timer: null, listed: [0, 0], afterShow: () => {} });
     this.board = new Board(document.querySelector("#board svg"), hands);
@@ -126,7 +126,7 @@ class Viewer {
     const index = this.now, { game } = this, step = game.steps[index - 1], reply = game.replies[index - 1], state = game.states[index];
     const flaw = this.flaws[index];
     element("place").textContent = index ? `Step ${index} of ${game.length}` : `The start, before ${game.length} steps`;
-    element("step").textContent = index ? `${this.who(step.seat)}: ${commandWords(step)}` : "The table as its file has it";
+    element("step").textContent = index ? `${this.who(step.seat, index)}: ${commandWords(step)}` : "The table as its file has it";
     element("moves").textContent = index && reply.kind === "moved" ? flowWords(state.edges, step.script) : "";
     element("answer").textContent = index ? replyWords(reply, state.amounts, game.table.q) : debtWords(state.amounts);
     element("asked").textContent = index ? step.line : "";

@@ -145,7 +145,7 @@ def with_commands(ann, bob, desk, child, room, folder):
     ann.browser.until("document.getElementById('refused').textContent.includes('was not played')")
     desk.until("document.getElementById('pause').textContent === 'Let the game go on'")
     desk.click("#pause")
-    ann.browser.until("document.getElementById('notice').hidden")
+    ann.browser.until("document.getElementById('notice').hidden && document.getElementById('refused').hidden")
     os.kill(program_of(child), signal.SIGKILL)
     for page in ann, bob:
         page.told("The program has ended: it was killed.")
@@ -164,6 +164,9 @@ def with_commands(ann, bob, desk, child, room, folder):
     steps, history = taken(room, folder)
     listed = ann.value("[...document.querySelectorAll('#whole li')].map((at) => [...at.querySelectorAll('code')].map((c) => c.textContent))")
     equal(listed, [list(pair) for pair in zip(steps, history)], "the history on a pupil's page")
+    ann.value("viewer.go(1)")
+    expect(ann.text("#step").startswith("Zo\u00eb: cyd lends"), "whose the first step was: %s" % ann.text("#step"))
+    ann.browser.press("End")
 
 
 def until_saved(place):

@@ -38,7 +38,7 @@ class Pupil:
     """Somebody with a seat, and the events that come to his page."""
 
     def __init__(self, address, name, events=True):
-        self.place, self.name, self.entries, self.states, self.lines = Place(address), name, [], [], []
+        self.place, self.name, self.entries, self.states, self.lines, self.players = Place(address), name, [], [], [], []
         status, got = self.place.post("join", {"name": name})
         if status != 200:
             raise ValueError(got)
@@ -71,7 +71,8 @@ class Pupil:
         if kind == "entries":
             start, entries = thing
             assert start == len(self.entries), "entries from %d after %d" % (start, len(self.entries))
-            self.entries += entries
+            self.entries += [entry[:3] for entry in entries]
+            self.players += [entry[3] for entry in entries]
         elif kind == "state":
             self.states.append(thing)
         else:
