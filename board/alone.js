@@ -41,7 +41,7 @@ async function playNow(line) {
   if (line.includes("\n")) return hands.tell("A line has no newline in it.");
   if (now < game.length && !(await sure(`Going on from here drops the ${game.length - now} steps that follow. Shall they go?`))) return null;
   const step = `${element("seat").value} ${line}`;
-  const said = await ask({ command: "rehearse", table, steps: `${stepsText(now)}${step}\n` });
+  const said = await hands.patient(ask({ command: "rehearse", table, steps: `${stepsText(now)}${step}\n` }));
   if (said.status !== 0) return hands.tell(faultWords(said.err), `dollar: ${said.err}`);
   const printed = linesOf(said.out);
   game.cut(now);

@@ -7,7 +7,7 @@ from program import PATIENCE, Fault, program, spoken
 from replay import page
 from server import Nothing, Refused, as_json, same, text_in
 
-MOST_TABLE, MOST_STEPS, MOST_BODY, MOST_TABLES = 1 << 20, 1 << 25, 1 << 26, 1 << 22
+MOST_TABLE, MOST_STEPS, MOST_BODY, MOST_TABLES = 1 << 21, 1 << 21, 1 << 24, 1 << 21
 AT_ONCE = 3
 ASSETS = "page.css", "words.js", "board.js", "viewer.js", "hand.js", "ask.js", "edit.js", "alone.js"
 # Room for these is left in the circles.
@@ -95,8 +95,12 @@ async def run(command, *texts, flags=(), words=()):
             files.append(os.path.join(folder, str(number)))
             with open(files[-1], "w", encoding="utf-8", newline="") as file:
                 file.write(text)
-        child = await asyncio.create_subprocess_exec(program(), command, *flags, "--", *files, *words, stdin=asyncio.subprocess.DEVNULL,
-                                                     stdout=asyncio.subprocess.PIPE, stderr=asyncio.subprocess.PIPE)
+        try:
+            child = await asyncio.create_subprocess_exec(
+                program(), command, *flags, "--", *files, *words, stdin=asyncio.subprocess.DEVNULL,
+                stdout=asyncio.subprocess.PIPE, stderr=asyncio.subprocess.PIPE)
+        except OSError as error:
+            return {"status": None, "out": "", "err": "the program can't be started: %s" % error}
         try:
             out, err = await asyncio.wait_for(child.communicate(), PATIENCE)
         except asyncio.TimeoutError:

@@ -93,7 +93,7 @@ class Questions {
     const table = JSON.stringify({ ...JSON.parse(this.table), amounts: [...reduced.values()] });
     const state = { edges, added: new Map(), amounts: reduced }, asked = this.reply;
     element("show-fire").hidden = true;
-    this.burn(state, [q], `${q} burns: it owes, and has nobody who could help unless another is a giver.`);
+    this.burn(state, [q], `${q} burns: it owes, and a giver gets nothing. So it is no giver.`);
     for (let burnt = [q]; burnt.length < game.names.length;) {
       const left = game.names.filter((name) => !burnt.includes(name));
       const said = await this.ask({ command: "rehearse", table, steps: `1 fire ${left.join(",")}\n` });
@@ -104,7 +104,7 @@ class Questions {
       burnt = [...burnt, next];
       if (!still.matches) await new Promise((done) => setTimeout(done, 700));
       if (this.reply !== asked) return;
-      const who = left.length === 1 ? `If ${next} lent` : `If ${listed(left)} lent at once`;
+      const who = left.length === 1 ? `if ${next} lent` : `if ${listed(left)} lent at once`;
       this.burn(state, burnt, `${next} burns: ${who}, ${next} would owe ${-after.get(next)}. So it is no giver.`);
     }
     this.line("All burn: there are no givers, and nobody can help.");

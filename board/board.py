@@ -86,6 +86,11 @@ def layout(table, amounts, own=None):
     }
 
 
+def shown_name(place):
+    """The name of a file, as it is shown; for bytes that are no letters there is a sign."""
+    return os.fsencode(os.path.basename(place)).decode(errors="replace")
+
+
 def table_of(text):
     """The table of a text that the program has taken for one."""
     return json.loads(text)

@@ -3,7 +3,7 @@
 /* The table of a class: a click is a line, and the board shows what came back. All pages see each entry as it comes. */
 
 const SOON = 16;
-const KEPT = `dollar ${location.pathname}`;
+const KEPT = `dollar ${location.pathname.replaceAll("-", "").toLowerCase()}`;
 let given, viewer, hands, source, me = null, state = null, waiting = [], frame = null, took = 0, stopped = false;
 const entries = new Map(), players = [];
 
@@ -174,7 +174,7 @@ function notice(words) {
 
 async function play(line) {
   if (!me) return hands.tell("Take a seat first.");
-  const got = await post("line", { key: me.key, line });
+  const got = await hands.patient(post("line", { key: me.key, line }));
   if (got.status === 404) return seek();
   if (got.refused) return hands.tell(got.refused);
   const bad = got.answer.startsWith("bad ");

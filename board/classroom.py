@@ -145,12 +145,13 @@ class Classroom:
         teaches = same(request.parts[0], self.teacher)
         if not (teaches or same(request.parts[0], self.secret)) or len(request.parts) != 2:
             raise Nothing
-        request.known()
         asked = request.parts[1]
+        if teaches:
+            request.known()
         if request.method == "GET":
             return self.teachers_page(asked, request) if teaches else self.pupils_page(asked, request)
         given = await request.json(MOST_BODY)
-        return await (self.teachers(asked, given) if teaches else self.pupils(asked, given))
+        return await (self.teachers(asked, given) if teaches else self.pupils(asked, given, request))
 
     def common_page(self, asked):
         if asked == "":
@@ -167,6 +168,7 @@ class Classroom:
             return as_json(self.begin("pupil"))
         if asked == "events":
             seat, number = self.seat_of(request.query.get("key", "")), begin_at(request)
+            request.known()
             return 200, "text/event-stream", lambda gone: self.events(gone, number, seat)
         return self.common_page(asked)
 
@@ -190,11 +192,11 @@ class Classroom:
         found.seen = time.monotonic()
         return found
 
-    async def pupils(self, asked, given):
+    async def pupils(self, asked, given, request):
         if asked == "join":
             return self.join(clean(text_in(given, "name", 200)))
         if asked == "line":
-            return await self.line(self.seat_of(text_in(given, "key", 64)), text_in(given, "line", MOST_BODY))
+            return await self.line(self.seat_of(text_in(given, "key", 64)), text_in(given, "line", MOST_BODY), request)
         raise Nothing
 
     def join(self, name):
@@ -211,7 +213,7 @@ class Classroom:
         self.changed()
         return as_json({"seat": number, "key": self.taken[number].key, "name": self.taken[number].name})
 
-    async def line(self, seat, line):
+    async def line(self, seat, line, request):
         """Plays a line of a seat, and gives the answer."""
         if "\n" in line:
             raise Refused(400, "A line has no newline in it. This one was not played.")
@@ -221,6 +223,7 @@ class Classroom:
             raise Refused(409, "The teacher has stopped the game for a while. This line was not played.")
         if not seat.takes():
             raise Refused(429, "That is too fast. This line was not played; wait a moment.")
+        request.known()
         seat.waiting += 1
         try:
             answer = await asyncio.shield(self.play(seat, line))
@@ -271,7 +274,10 @@ class Classroom:
         """Starts the program again, with all entries that there were."""
         if not self.game.end:
             raise Refused(409, "The game goes on.")
-        self.watching = await self.game.start(self.changed)
+        try:
+            self.watching = await self.game.start(self.changed)
+        except OSError as error:
+            raise Refused(503, "The program can't be started: %s." % error) from None
 
     async def replay(self):
         """The page that shows the game."""

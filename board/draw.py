@@ -15,7 +15,7 @@ which is what the variable DOLLAR names, or the script `dollar`."""
 import html, itertools, math, os, re, sys
 
 sys.dont_write_bytecode = True
-from board import (AMOUNT_AT, NAME_AT, ROOT, STRANDS, amount_size, fitted, name_size, places_for, radius, span, table_of, text_of,
+from board import (AMOUNT_AT, NAME_AT, ROOT, STRANDS, amount_size, fitted, name_size, places_for, radius, shown_name, span, table_of, text_of,
                    width)
 from dollar import burnt, edges, example, fired, joined
 from program import Fault, printed
@@ -283,7 +283,7 @@ def yours(place, own):
     table, (word, by, to) = table_of(text), re.fullmatch(r"(\w+) by (.*) to (.*)\n", verdict).groups()
     script, end = amounts_of(by), amounts_of(to)
     says = ["all burns, in this order;", "it can be won" if word == "winnable" else "it can't be won"]
-    places, name = places_for(table, own), os.path.basename(place)
+    places, name = places_for(table, own), shown_name(place)
     return "%s, %s by %s" % (name, word, by), [
         (table, places, held(table), [name, "" if any(script.values()) else "no vertex need lend"], (), None, script),
         (table, places, end, says, burnt(table, end))]

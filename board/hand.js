@@ -2,7 +2,7 @@
 
 /* What a hand does on the board and with the buttons, as lines of the program: a click on a is `lend a`. */
 
-const LONG_PRESS = 550, FAR_ENOUGH = 9;
+const LONG_PRESS = 550, FAR_ENOUGH = 9, PATIENT = 1000;
 
 class Hands {
   /* `play` is called with a line. */
@@ -174,6 +174,16 @@ class Hands {
       element(id).replaceChildren(...names.map((name) => new Option(name, name)));
     }
     if (names.length > 1) element("join-to").selectedIndex = 1;
+  }
+
+  /* What is promised, and a word if that takes its time. */
+  async patient(promise) {
+    const timer = setTimeout(() => this.tell("The answer is not there yet."), PATIENT);
+    try {
+      return await promise;
+    } finally {
+      clearTimeout(timer);
+    }
   }
 
   /* Says why a line was not taken, with the program's own words. */

@@ -13,7 +13,7 @@ needs Python 3 and nothing else."""
 import base64, hashlib, html, json, os, re, subprocess, sys
 
 sys.dont_write_bytecode = True
-from board import HERE, layout, table_of, text_of
+from board import HERE, layout, shown_name, table_of, text_of
 from program import Fault, printed
 
 SCRIPTS = "words.js", "board.js", "viewer.js", "replay.js"
@@ -87,13 +87,13 @@ def page(title, text, steps, lines, history=None, own=None):
 
 def page_of(words, places):
     """The page that the words of a command line ask for."""
-    name, own = os.path.basename(words[0]), None if places is None else text_of(places)
+    name, own = shown_name(words[0]), None if places is None else text_of(places)
     text = checked(text_of(words[0]))
     if words[1] == "--greedy":
         return page("%s, greedy" % name, text, *greedy_game(text, words[2]), own=own)
     steps = text_of(words[1])
     history = text_of(words[2]) if words[2:] else None
-    return page("%s, %s" % (name, os.path.basename(words[1])), text, steps, printed("rehearse", text.encode(), steps.encode()), history, own)
+    return page("%s, %s" % (name, shown_name(words[1])), text, steps, printed("rehearse", text.encode(), steps.encode()), history, own)
 
 
 def main(words):

@@ -1,11 +1,11 @@
 """A small web server for the pages: it answers those who know a secret, and holds against those who don't.
 
 Each connection brings one request and gets one answer. Whoever is slow, sends too much or sends nonsense is dropped. When there
-are too many connections, the oldest of those that have not shown the secret makes room. Whatever is asked without the secret, from
+are too many connections of which it is not known whose they are, the oldest of them makes room. Whatever is asked without the secret, from
 another origin or for another host is answered alike: there is nothing here."""
 import asyncio, hmac, ipaddress, json, re, secrets, socket
 
-MOST_HEAD, MOST_HEADERS, MOST_CONNECTIONS = 8192, 64, 300
+MOST_HEAD, MOST_HEADERS, MOST_STRANGERS = 8192, 64, 300
 TO_ASK, TO_SEND, TO_TAKE = 5.0, 8.0, 20.0
 TOKEN = re.compile(r"[A-Za-z0-9!#$%&'*+.^_`|~-]{1,64}\Z")
 TARGET = re.compile(r"(GET|POST) (/[A-Za-z0-9/._~?=&-]*) HTTP/1\.[01]\Z")
@@ -69,7 +69,7 @@ class Request:
     def __init__(self, method, target, headers, reader, known):
         path, _, query = target.partition("?")
         self.method, self.parts, self.headers, self.reader = method, path.split("/")[1:], headers, reader
-        # To be called once the request has shown the secret.
+        # To be called once it is known whose the request is.
         self.known = known
         self.query = dict(pair.partition("=")[::2] for pair in query.split("&") if pair)
 
@@ -111,7 +111,7 @@ class Server:
 
     def __init__(self, answer, address, port=0, names=()):
         self.answer, self.address, self.port, self.names = answer, address, port, {name.lower() for name in names}
-        self.waiting, self.tasks, self.listener = {}, set(), None
+        self.strangers, self.tasks, self.listener = {}, set(), None
 
     async def start(self):
         self.listener = await asyncio.start_server(self.serve, self.address, self.port, limit=MOST_HEAD, backlog=256)
@@ -127,30 +127,30 @@ class Server:
         """One connection, from its request to its end."""
         task = asyncio.current_task()
         self.tasks.add(task)
-        self.waiting[task] = writer
         writer.transport.set_write_buffer_limits(high=0)
-        self.make_room()
+        self.make_room(task, writer)
         try:
             await self.exchange(task, reader, writer)
         except (asyncio.TimeoutError, asyncio.IncompleteReadError, asyncio.CancelledError, OSError):
             pass
         finally:
-            self.waiting.pop(task, None)
+            self.strangers.pop(task, None)
             self.tasks.discard(task)
             if writer.transport.get_write_buffer_size():
                 writer.transport.abort()
             writer.close()
 
-    def make_room(self):
-        """Drops the oldest connection that has not shown the secret if there are too many."""
-        if len(self.tasks) > MOST_CONNECTIONS:
-            oldest = next(iter(self.waiting))
-            self.waiting.pop(oldest).transport.abort()
+    def make_room(self, task, writer):
+        """Takes a connection of a stranger, and drops the oldest of them if there are too many."""
+        self.strangers[task] = writer
+        if len(self.strangers) > MOST_STRANGERS:
+            oldest = next(iter(self.strangers))
+            self.strangers.pop(oldest).transport.abort()
             oldest.cancel()
 
     async def exchange(self, task, reader, writer):
         try:
-            request = await asyncio.wait_for(self.request(reader, writer, lambda: self.waiting.pop(task, None)), TO_ASK)
+            request = await asyncio.wait_for(self.request(reader, writer, lambda: self.strangers.pop(task, None)), TO_ASK)
             status, kind, content = await self.answer(request)
         except asyncio.LimitOverrunError:
             status, kind, content = 404, "text/plain", Nothing().words.encode()
@@ -171,6 +171,7 @@ class Server:
             finally:
                 gone.cancel()
                 await pieces.aclose()
+        self.make_room(task, writer)
         await self.end(reader, writer)
 
     async def end(self, reader, writer):

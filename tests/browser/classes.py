@@ -1,11 +1,12 @@
 """The table of a class, without a browser: one legal history, whatever pupils, strangers and accidents do."""
-import json, os, random, signal, statistics, sys, threading, time
+import json, os, random, signal, socket, statistics, sys, threading, time
 
 from common import EXAMPLES, asked, equal, expect, played, written
 from visitors import Place, Pupil, opened
 
 PUPILS, LINES = 30, 100
 SEATS, BEHIND, CLICKS, MEDIAN = 64, 1000, 200, 0.050
+HALVES = 400
 MOST_MEMORY = 250_000
 TABLE = {
     "vertices": ["ann", "bob", "cem", "dot", "eve"],
@@ -226,7 +227,7 @@ def with_floods(folder):
         def flood(number):
             answers.append(ann.place.post("line", {"key": ann.key, "line": "gift ann %d" % (number % 2 * 2 - 1)}))
 
-        deaf = [opened(bob.place, bob.key) for _ in range(12)]
+        deaf = [opened(bob.place, bob.key) for _ in range(12)] + [half_a_line(ann) for _ in range(HALVES)]
         threads = [threading.Thread(target=flood, args=(number,)) for number in range(200)]
         for thread in threads:
             thread.start()
@@ -251,6 +252,14 @@ def with_floods(folder):
             link.close()
         ann.leave()
         bob.leave()
+
+
+def half_a_line(pupil):
+    """A connection that knows the secret, and sends half of a line and no more."""
+    link, place = socket.create_connection((pupil.place.host, pupil.place.port), 30), pupil.place
+    link.sendall(("POST %sline HTTP/1.1\r\nHost: %s:%d\r\nOrigin: %s\r\nContent-Type: application/json\r\nContent-Length: 900\r\n\r\n{" % (
+        place.path, place.host, place.port, place.origin)).encode())
+    return link
 
 
 def memory_of(child):

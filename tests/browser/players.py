@@ -253,7 +253,7 @@ def with_fire(player):
     player.browser.until("document.querySelectorAll('#told-fire li').length === 5")
     lines = player.value("[...document.querySelectorAll('#told-fire li')].map((at) => at.textContent)")
     equal([line.split(" ")[0] for line in lines], ["ann", "bob", "dan", "cyd", "All"], "the order of the fire")
-    equal(lines[1], "bob burns: If bob, cyd and dan lent at once, bob would owe 1. So it is no giver.", "why bob burns")
+    equal(lines[1], "bob burns: if bob, cyd and dan lent at once, bob would owe 1. So it is no giver.", "why bob burns")
     equal(player.value("viewer.board.burnt"), ["ann", "bob", "dan", "cyd"], "who burns on the board")
     amounts = player.value("[...document.querySelectorAll('#board .amount')].map((at) => at.textContent)")
     equal(amounts, ["-1", "0", "1", "1"], "the amounts under the fire")

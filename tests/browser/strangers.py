@@ -187,9 +187,10 @@ def of_alone(folder):
             printed, said, ended = asked(*words)
             equal((status, got["out"], got["status"], got["err"]), (200, printed, ended, said.replace("dollar: ", "", 1).strip()), "%r" % (given,))
         for given in ({}, {"command": "party", "table": table}, {"command": "judge"}, {"command": "judge", "table": 7}, {"command": "rank", "table": table},
-                      {"command": "judge", "table": "x" * ((1 << 20) + 1)}, {"command": "judge", "table": "\ud800"}, {"command": "layout", "table": table, "places": "a x y"}):
+                      {"command": "judge", "table": "x" * ((1 << 21) + 1)}, {"command": "judge", "table": "\ud800"}, {"command": "layout", "table": table, "places": "a x y"}):
             equal(place.post("ask", given)[0], 400, "the question %.60r" % given)
         equal(ask(command="judge", table="\u00e4")[1]["err"], "not JSON", "a text that is no table")
+        equal(ask(command="judge", table=" " * ((1 << 20) + 1))[1]["err"], "file too long", "a long text")
         equal(ask(command="layout", table="[" * 5000)[1]["err"], "not JSON", "a deep text")
         equal(place.ask("POST", "ask", raw=b"{}", headers={"Content-Length": str(1 << 27)})[0], 413, "a request that is too long")
         status, got = ask(command="replay", table=table, steps="1 lend a\n", name="</title><script>x</script>")
