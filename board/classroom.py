@@ -65,7 +65,7 @@ class Game:
 
     async def watch(self, child, ended):
         """Waits for the end of the program."""
-        said = await child.stderr.read(4096)
+        said = await child.stderr.read()
         status = await child.wait()
         if child is self.child:
             self.end = {"status": status, "text": spoken(said.decode(errors="replace"))}

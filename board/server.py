@@ -171,6 +171,7 @@ class Server:
             finally:
                 gone.cancel()
                 await pieces.aclose()
+                await asyncio.gather(gone, return_exceptions=True)
         self.make_room(task, writer)
         await self.end(reader, writer)
 
