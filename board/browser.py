@@ -1,8 +1,11 @@
-"""Drives Chromium without a window, through the two pipes that it takes commands and gives answers by. For check-replay."""
+"""Drives Chromium without a window, through the two pipes that it takes commands and gives answers by. For the tests of the pages."""
 import base64, fcntl, json, os, pathlib, select, shutil, subprocess, tempfile, time
 
 NAMES = "chromium", "chromium-browser", "google-chrome", "chrome"
 PATIENCE = 30
+KEYS = {"ArrowLeft": 37, "ArrowUp": 38, "ArrowRight": 39, "ArrowDown": 40, "Home": 36, "End": 35, " ": 32, "Tab": 9, "Enter": 13,
+        "Escape": 27}
+ALT, CTRL, SHIFT = 1, 2, 8
 
 
 def found():
@@ -28,7 +31,7 @@ class Browser:
             os.dup2(writing, 4)
 
         words = [self.program, "--headless", "--remote-debugging-pipe", "--disable-gpu", "--no-first-run", "--hide-scrollbars",
-                 "--disable-background-networking", "--disable-component-update", "--disable-sync", "--host-resolver-rules=MAP * ~NOTFOUND",
+                 "--disable-background-networking", "--disable-component-update", "--disable-sync", "--host-resolver-rules=MAP * ~NOTFOUND, EXCLUDE 127.0.0.1",
                  "--user-data-dir=" + self.folder, *(["--no-sandbox"] if os.geteuid() == 0 else [])]
         self.child = subprocess.Popen(words, stdin=subprocess.DEVNULL, stdout=subprocess.DEVNULL, stderr=subprocess.DEVNULL,
                                       close_fds=False, preexec_fn=hand_over)
@@ -93,8 +96,8 @@ class Browser:
         return got["result"].get("value")
 
     def open(self, place):
-        """Opens a file as a page, and waits until it is there."""
-        wanted = pathlib.Path(place).resolve().as_uri()
+        """Opens a file as a page, or an address, and waits until it is there."""
+        wanted = place if place.startswith("http:") else pathlib.Path(place).resolve().as_uri()
         self.call("Page.navigate", url=wanted)
         self.until("document.readyState === 'complete' && location.href === %s" % json.dumps(wanted))
 
@@ -106,12 +109,63 @@ class Browser:
                 raise TimeoutError(expression)
             time.sleep(0.02)
 
-    def press(self, key, code=None, text=None):
+    def press(self, key, code=None, text=None, modifiers=0):
         """Presses a key and lets it go."""
-        code = code or {"ArrowLeft": 37, "ArrowRight": 39, "Home": 36, "End": 35, " ": 32, "Tab": 9}[key]
-        given = {"key": key, "code": "Space" if key == " " else key, "windowsVirtualKeyCode": code}
-        self.call("Input.dispatchKeyEvent", type="keyDown", **given, **({"text": text or key} if len(key) == 1 else {}))
+        code = code or KEYS.get(key) or ord(key.upper())
+        given = {"key": key, "code": "Space" if key == " " else key, "windowsVirtualKeyCode": code, "modifiers": modifiers}
+        text = text or {"Enter": "\r"}.get(key) or (key if len(key) == 1 else None)
+        self.call("Input.dispatchKeyEvent", type="keyDown", **given, **({"text": text} if text else {}))
         self.call("Input.dispatchKeyEvent", type="keyUp", **given)
+
+    def write(self, text):
+        """Types a text into what has the focus."""
+        self.call("Input.insertText", text=text)
+
+    def middle(self, selector):
+        """The middle of an element, after it was brought into view."""
+        found = self.value("(() => { const at = document.querySelector(%s); if (!at) return null; at.scrollIntoView({block: 'nearest'});"
+                           " const box = at.getBoundingClientRect(); return [box.x + box.width / 2, box.y + box.height / 2]; })()"
+                           % json.dumps(selector))
+        if not found:
+            raise ValueError("there is no %s" % selector)
+        return found
+
+    def mouse(self, kind, place, modifiers=0, held=1):
+        """One event of the mouse at a place."""
+        self.call("Input.dispatchMouseEvent", type="mouse" + kind, x=place[0], y=place[1], button="left", buttons=held, clickCount=1,
+                  modifiers=modifiers)
+
+    def click(self, selector, modifiers=0, hold=0):
+        """Clicks on an element with the mouse; with `hold` the button is down for so many seconds."""
+        place = self.middle(selector)
+        self.mouse("Moved", place, modifiers, 0)
+        self.mouse("Pressed", place, modifiers)
+        time.sleep(hold)
+        self.mouse("Released", place, modifiers, 0)
+
+    def drag(self, one, other):
+        """Draws with the mouse from a place to another."""
+        self.mouse("Moved", one, 0, 0)
+        self.mouse("Pressed", one)
+        for part in 0.2, 0.6, 1.0:
+            self.mouse("Moved", [one[i] + part * (other[i] - one[i]) for i in (0, 1)])
+        self.mouse("Released", other, 0, 0)
+
+    def touch(self, selector, hold=0):
+        """Touches an element with a finger; with `hold` for so many seconds."""
+        place = self.middle(selector)
+        self.call("Input.dispatchTouchEvent", type="touchStart", touchPoints=[{"x": place[0], "y": place[1]}])
+        time.sleep(hold)
+        self.call("Input.dispatchTouchEvent", type="touchEnd", touchPoints=[])
+
+    def choose_file(self, selector, place):
+        """Gives a file to an element for files."""
+        found = self.call("Runtime.evaluate", expression="document.querySelector(%s)" % json.dumps(selector))
+        self.call("DOM.setFileInputFiles", files=[os.path.abspath(place)], objectId=found["result"]["objectId"])
+
+    def save_in(self, folder):
+        """Has the page's files be saved in a folder without asking."""
+        self.call("Page.setDownloadBehavior", behavior="allow", downloadPath=folder)
 
     def size(self, wide, high):
         """Sets the size of the window."""

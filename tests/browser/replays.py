@@ -1,46 +1,21 @@
-#!/usr/bin/env python3
-"""Opens the pages of stories of examples/ in Chromium, and compares what stands on them with what the program prints.
+"""Pages of games that were played: at each step what stands on them is compared with the step and its printed line."""
+import math, os, time
 
-    docs/pictures/check-replay [PROGRAM]
-
-The slider is moved by keys, and at each step the page's text, board, script and marks are compared with the step and the line
-of the history. The last line is 'N passed, M failed'; the status is 0 where none failed. Where there is no Chromium it says so."""
-import math, os, subprocess, sys, tempfile
-
-sys.dont_write_bytecode = True
-from board import HERE
-from browser import Browser, found
+from common import EXAMPLES, equal, expect, lines_of, script, text_of, written
 from dollar import answer, edges, example, joined
 
-EXAMPLES = os.path.join(HERE, "..", "..", "examples")
 STORIES = ("village", "village_story"), ("houses", "tax_on_the_houses"), ("village", "roads_for_the_village")
 OTHERS = ("sixty_three_edges", "no_room_for_an_edge"), ("rich_triangle", "to_the_limit"), ("four_cycle", "clear_the_cycle")
-MOST_BYTES, WIDTHS = 100_000, (320, 400, 1024, 1920)
-results = []
+MOST_BYTES, WIDTHS = 100_000, (320, 360, 1280, 1920)
+LONGEST, OPENS_IN, STEPS_IN = 65536, 4.0, 0.25
 
 
-def expect(held, what):
-    """Counts what has held, or says what has not."""
-    results.append(bool(held))
-    if not held:
-        print("check-replay: " + what)
-
-
-def lines_of(name):
-    with open(os.path.join(EXAMPLES, name)) as file:
-        return file.read().splitlines()
-
-
-def page_of(program, folder, table, steps, *history):
+def page_of(folder, table, steps, *history):
     """The page of an example, and its place."""
-    words = [os.path.join(HERE, "replay.py"), os.path.join(EXAMPLES, table + ".json"), os.path.join(EXAMPLES, steps + ".txt"), *history]
-    done = subprocess.run([sys.executable, "-B", *words], stdout=subprocess.PIPE, env=dict(os.environ, DOLLAR=program))
-    expect(done.returncode == 0, "%s: replay.py has the status %d" % (steps, done.returncode))
-    place = os.path.join(folder, "%s%d.html" % (steps, len(history)))
-    with open(place, "wb") as file:
-        file.write(done.stdout)
-    expect(len(done.stdout) < MOST_BYTES, "%s: the page has %d bytes" % (steps, len(done.stdout)))
-    return place
+    page, said, status = script("replay.py", os.path.join(EXAMPLES, table + ".json"), os.path.join(EXAMPLES, steps + ".txt"), *history)
+    equal((status, said), (0, ""), "%s: replay.py" % steps)
+    expect(len(page) < MOST_BYTES, "%s: the page has %d bytes" % (steps, len(page)))
+    return written(folder, "%s%d.html" % (steps, len(history)), page.decode())
 
 
 SHOWN = """(() => {
@@ -176,10 +151,10 @@ def by_slider(browser, steps):
     browser.value("document.getElementById('slider').focus()")
     for key, wanted in ("ArrowRight", 1), ("ArrowRight", 2), ("ArrowLeft", 1), ("End", len(lines_of(steps + ".txt"))), ("Home", 0):
         browser.press(key)
-        expect(browser.value("now") == wanted, "%s: %s on the slider does not lead to %d" % (steps, key, wanted))
+        expect(browser.value("viewer.now") == wanted, "%s: %s on the slider does not lead to %d" % (steps, key, wanted))
     for row in "#marks", "#whole":
         browser.value("document.querySelector('%s [data-index=\"3\"]').click()" % row)
-        expect(browser.value("now") == 3, "%s: a click at %s does not lead to its step" % (steps, row))
+        expect(browser.value("viewer.now") == 3, "%s: a click at %s does not lead to its step" % (steps, row))
     browser.press("Home")
 
 
@@ -188,16 +163,16 @@ def by_play(browser, steps):
     browser.value("document.activeElement.blur()")
     browser.press(" ")
     expect(browser.value("document.getElementById('play').textContent") == "Stop", steps + ": it does not play")
-    browser.until("now === 2")
+    browser.until("viewer.now === 2")
     browser.press(" ")
-    expect(browser.value("document.getElementById('play').textContent === 'Play' && timer === null"), steps + ": it does not stop")
+    expect(browser.value("document.getElementById('play').textContent === 'Play' && viewer.timer === null"), steps + ": it does not stop")
 
 
 def with_coins(browser, all_states, steps):
     """With motion, dollars are on their way after a step that moves, and the board is then as printed."""
     index = next(i for i, state in enumerate(all_states) if " moved " in state[3])
     browser.media(prefers_reduced_motion="no-preference")
-    browser.value("go(%d)" % (index - 1))
+    browser.value("viewer.go(%d)" % (index - 1))
     browser.press("ArrowRight")
     expect(browser.value("document.querySelectorAll('#board .coin').length") > 0, steps + ": no dollars move")
     browser.until("document.querySelectorAll('#board .coin').length === 0")
@@ -217,99 +192,145 @@ def in_sizes(browser, steps):
     browser.media(prefers_reduced_motion="reduce")
 
 
-def shown_as(browser, program, folder, given, history):
+def shown_as(browser, folder, given, history):
     """Sees that the page of these arguments has this history, and finds no difference in it."""
-    place = os.path.join(folder, "page.html")
-    with open(place, "wb") as file:
-        words = [sys.executable, "-B", os.path.join(HERE, "replay.py"), *given]
-        file.write(subprocess.run(words, stdout=subprocess.PIPE, env=dict(os.environ, DOLLAR=program)).stdout)
-    browser.open(place)
-    expect(browser.value("replies.map((reply) => reply.line)") == history, "%r: another history" % given)
-    expect(browser.value("states.every((state) => state.flaw === null)"), "%r: the page says that a line differs" % given)
+    page, said, status = script("replay.py", *given)
+    equal((status, said), (0, ""), "replay.py %s" % given)
+    browser.open(written(folder, "page.html", page.decode()))
+    equal(browser.value("viewer.game.replies.map((reply) => reply.line)"), history, "the history of %r" % given)
+    equal(browser.value("viewer.flaws"), {}, "the flaws of %r" % given)
 
 
-def of_greedy(browser, program, folder):
+def of_greedy(browser, folder):
     """The page of a greedy game."""
-    shown_as(browser, program, folder, [os.path.join(EXAMPLES, "four_cycle.json"), "--greedy", "10"], lines_of("greedy_cycle.out"))
+    shown_as(browser, folder, [os.path.join(EXAMPLES, "four_cycle.json"), "--greedy", "10"], lines_of("greedy_cycle.out"))
 
 
-def of_session(browser, program, folder, name):
+def of_session(browser, folder, name):
     """The page of a session, of its lines that made entries and of their answers."""
     entries = [pair for pair in zip(lines_of(name + ".txt"), lines_of(name + ".out")) if pair[1][0].isdigit()]
-    steps, history = os.path.join(folder, "steps"), os.path.join(folder, "history")
-    for place, lines in (steps, ["1 " + line for line, _ in entries]), (history, [answer for _, answer in entries]):
-        with open(place, "w") as file:
-            file.write("".join(line + "\n" for line in lines))
-    shown_as(browser, program, folder, [os.path.join(EXAMPLES, "triangle.json"), steps, history], [answer for _, answer in entries])
+    steps = written(folder, "steps", "".join("1 %s\n" % line for line, _ in entries))
+    history = written(folder, "history", "".join("%s\n" % answer for _, answer in entries))
+    shown_as(browser, folder, [os.path.join(EXAMPLES, "triangle.json"), steps, history], [answer for _, answer in entries])
 
 
-def of_long_game(browser, program, folder):
-    """The page of a game of 1,000 steps: as many marks as there is room for, so that each can be met, and those that tell most."""
-    asked, lines = [], []
-    for number in range(0, 1000, 2):
-        asked += ["1 lend a", "1 borrow a"]
-        lines += ["%d moved a=0 b=0 c=0" % number, "%d moved a=2 b=-1 c=-1" % (number + 1)]
-    for place in 500, 700:
+def of_long_game(browser, folder):
+    """The page of the longest game: it opens soon and steps at once, has marks where there is room for them, of the steps that tell
+    most, and lists a part of its lines."""
+    asked = ["1 lend a", "1 borrow a"] * (LONGEST // 2)
+    for place in 500, 60000:
         asked[place:place + 2] = ["2 look", "2 commit"]
-        verdict = "%d winnable by a=0 b=-1 c=-1 to a=0 b=0 c=0" % (place + 1)
-        lines[place:place + 2] = ["%d looked 0 a=2 b=-1 c=-1" % place, verdict]
-    steps, history = os.path.join(folder, "steps"), os.path.join(folder, "history")
-    for place, text in (steps, asked), (history, lines):
-        with open(place, "w") as file:
-            file.write("".join(line + "\n" for line in text))
-    shown_as(browser, program, folder, [os.path.join(EXAMPLES, "triangle.json"), steps, history], lines)
+    page, said, status = script("replay.py", os.path.join(EXAMPLES, "triangle.json"), written(folder, "steps", "\n".join(asked)))
+    equal((status, said), (0, ""), "replay.py of %d steps" % LONGEST)
+    place, start = written(folder, "page.html", page.decode()), time.monotonic()
+    browser.open(place)
+    opened = time.monotonic() - start
+    expect(opened < OPENS_IN, "%d steps open in %.1f s" % (LONGEST, opened))
     for wide in 400, 1920:
         browser.size(wide, 800)
-        browser.until("innerWidth === %d && document.querySelectorAll('#marks button').length === markedSteps().length" % wide)
-        marks = browser.value("[...document.querySelectorAll('#marks button')].map((at) => [Number(at.dataset.index), "
-                              "at.getBoundingClientRect().left])")
+        browser.until("innerWidth === %d && document.querySelectorAll('#marks button').length === viewer.markedSteps().length" % wide)
+        marks = browser.value("[...document.querySelectorAll('#marks button')].map((at) => Number(at.dataset.index))")
         expect(10 < len(marks) <= wide / 16, "%d marks on %d dots" % (len(marks), wide))
-        expect({502, 702} <= {index for index, _ in marks}, "a verdict among many moves has no mark at %d" % wide)
-        expect(browser.value("document.querySelectorAll('#whole li').length") == 1000, "not all steps are listed at %d" % wide)
-        browser.value("document.querySelector('#marks [data-index=\"702\"]').click()")
-        expect(browser.value("now") == 702, "a click at a mark does not lead to its step at %d" % wide)
+        expect({502, 60002} <= set(marks), "a verdict among many moves has no mark at %d" % wide)
+        browser.value("document.querySelector('#marks [data-index=\"60002\"]').click()")
+        equal(browser.value("[viewer.now, document.getElementById('asked').textContent]"), [60002, "2 commit"], "a click at a mark")
+        equal(browser.value("document.querySelector('#whole [aria-current]').dataset.index"), "60002", "its line in the list")
+    start = time.monotonic()
+    for _ in range(20):
+        browser.press("ArrowRight")
+    each = (time.monotonic() - start) / 20
+    equal(browser.value("viewer.now"), 60022, "20 steps further")
+    expect(each < STEPS_IN, "of %d steps each takes %.2f s" % (LONGEST, each))
+    browser.press("End")
+    equal(browser.value("[viewer.now, document.querySelectorAll('#whole li').length]"), [LONGEST, 400], "the last step")
+    browser.value("document.getElementById('earlier').click()")
+    equal(browser.value("document.querySelector('#whole li button').dataset.index"), str(LONGEST - 799), "the lines before")
 
 
-def with_differences(browser, program, folder):
-    """Where a printed line is changed the page says so, at that step and no other."""
+def with_differences(browser, folder):
+    """If a printed line is changed, the page says so at that step and no other."""
     table, steps = STORIES[0]
     lines = lines_of(steps + ".out")
     changed = {1: ("barn=2", "barn=3"), 4: ("given 1", "given 2"), 8: ("to well=1", "to well=2"), 10: ("won", "not won")}
     for index, (old, new) in changed.items():
-        place = os.path.join(folder, "history")
-        with open(place, "w") as file:
-            file.write("".join((line.replace(old, new) if i == index else line) + "\n" for i, line in enumerate(lines)))
-        browser.open(page_of(program, folder, table, steps, place))
-        flaws = browser.value("states.map((state, i) => (state.flaw ? i : 0)).filter((i) => i)")
-        expect(flaws[:1] == [index + 1], "a changed line %d is not told: %r" % (index, flaws))
-        browser.value("go(%d)" % (index + 1))
-        expect(browser.value(SHOWN)["differs"], "a changed line %d is not shown" % index)
+        history = "".join((line.replace(old, new) if i == index else line) + "\n" for i, line in enumerate(lines))
+        browser.open(page_of(folder, table, steps, written(folder, "history", history)))
+        equal(browser.value("viewer.flaws"), {str(index + 1): lines[index]}, "the flaws of a history with another line %d" % index)
+        browser.value("viewer.go(%d)" % (index + 1))
+        expect(lines[index] in (browser.value(SHOWN)["differs"] or ""), "a changed line %d is not shown" % index)
 
 
-def main(program):
-    chromium = found()
-    if not chromium:
-        print("Chromium is not here: no page was opened")
-        return 0
-    with tempfile.TemporaryDirectory() as folder, Browser(chromium) as browser:
-        browser.media(prefers_reduced_motion="reduce")
-        for table, steps in STORIES + OTHERS:
-            all_states = by_keys(browser, page_of(program, folder, table, steps), table, steps)
-            if (table, steps) in STORIES:
-                by_slider(browser, steps)
-                by_play(browser, steps)
-                with_coins(browser, all_states, steps)
-            in_sizes(browser, steps)
-        of_greedy(browser, program, folder)
-        for name in "session", "session_past_a_gift", "session_with_joins":
-            of_session(browser, program, folder, name)
-        of_long_game(browser, program, folder)
-        with_differences(browser, program, folder)
-        expect(browser.thrown == [], "pages have thrown: %r" % browser.thrown)
-        expect(all(url.startswith(("file://", "data:", "about:")) for url in browser.asked), "asked for: %r" % browser.asked)
-    print("%d passed, %d failed" % (sum(results), len(results) - sum(results)))
-    return int(not all(results))
+def with_strange_names(browser, folder):
+    """Names that mean something to a browser or to its language are names like others, and stand in their order."""
+    names = ["constructor", "__proto__", "2", "1", "toString"]
+    table = written(folder, "t.json", '{"vertices": ["%s"], "edges": [["constructor", "__proto__", 1], ["__proto__", "2", 1],'
+                    ' ["2", "1", 1], ["1", "toString", 1]], "amounts": [1, -1, 0, 2, 3], "q": "2"}' % '", "'.join(names))
+    page, said, status = script("replay.py", table, written(folder, "s", "1 lend __proto__\n1 script 1=2,constructor=-1\n1 look\n1 commit\n"))
+    equal((status, said), (0, ""), "replay.py with strange names")
+    browser.open(written(folder, "page.html", page.decode()))
+    for index in range(5):
+        browser.value("viewer.go(%d)" % index)
+        shown = browser.value(SHOWN)
+        equal([name for name, _ in shown["amounts"]], names, "the names at %d" % index)
+    equal(shown["script"][1][0], "__proto__", "the second row of the script")
 
 
-if __name__ == "__main__":
-    sys.exit(main(os.path.abspath(sys.argv[1]) if len(sys.argv) > 1 else os.path.join(HERE, "..", "..", "dollar")))
+def with_strangers(browser, folder):
+    """What is no table, or has a script in it, becomes no page; and a script in a page that was changed does not run."""
+    tables = {
+        "script": '{"vertices":["</script><script>window.pwned=1</script>"],"edges":[],"amounts":[1],"q":"a"}',
+        "none": "{}", "deep": "[" * 100000, "nan": '{"vertices":["a"],"edges":[],"amounts":[NaN],"q":"a"}',
+        "edge": '{"vertices":["a"],"edges":[["a","z",1]],"amounts":[1],"q":"a"}', "bytes": "\0\1",
+    }
+    steps, history = written(folder, "s", "1 claim\n"), written(folder, "h", "0 won\n")
+    for name, text in tables.items():
+        for words in ([steps], [steps, history], ["--greedy", "3"]):
+            page, said, status = script("replay.py", written(folder, "t.json", text), *words)
+            expect((page, status) == (b"", 1) and said.count("\n") == 1 and said.startswith("replay.py: "),
+                   "replay.py with the table %s: %d, %r" % (name, status, said))
+    table = os.path.join(EXAMPLES, "triangle.json")
+    for words in ([table, written(folder, "s", "1 lend <b>\n")], [table, steps, written(folder, "h", "0 won\n1 won\n")],
+                  [table, steps, written(folder, "h", "0 <script>\n")], ["/nowhere", steps], [table, "/nowhere"]):
+        page, said, status = script("replay.py", *words)
+        expect((page, status) == (b"", 1) and said.count("\n") == 1, "replay.py %s: %d, %r" % (words, status, said))
+    page, _, _ = script("replay.py", table, "/dev/stdin", input=b"1 lend a\n1 claim\n")
+    changed = page.decode().replace("<main>", '<main><script>window.pwned = 1</script><img src="x:" onerror="window.pwned = 2">')
+    browser.open(written(folder, "page.html", changed))
+    equal(browser.value("[viewer.game.length, window.pwned === undefined]"), [2, True], "a page with a script that is not its own")
+
+
+def with_places(browser, folder):
+    """The vertices stand where the lines of a file say."""
+    places = written(folder, "places", "a 0 0\nb 100 0\n\nc 100 50\n")
+    words = [os.path.join(EXAMPLES, "triangle.json"), os.path.join(EXAMPLES, "first_steps.txt")]
+    page, said, status = script("replay.py", "--places", places, *words)
+    equal((status, said), (0, ""), "replay.py with places")
+    browser.open(written(folder, "page.html", page.decode()))
+    (_, ax, ay), (_, bx, by), (_, cx, cy) = browser.value(SHOWN)["at"]
+    expect(ay == by and bx == cx and abs((cy - by) * 2 - (bx - ax)) <= 1, "the vertices stand elsewhere")
+    for text in "a 0 0\nb 1 0\n", "a 0 0\nb 1 0\nc x 1\n", "a 0 0\nb 1 0\nc 1\n", "a 0 0\nb 0 0\nc 1 1\n", "d 0 0\n", "a nan 0\n":
+        for name, given in ("replay.py", words), ("draw.py", words[:1]):
+            page, said, status = script(name, "--places", written(folder, "places", text), *given)
+            expect((page, status) == (b"", 1) and said.count("\n") == 1, "%s with the places %r: %d, %r" % (name, text, status, said))
+
+
+def all_of(browser, folder):
+    """All tests of these pages."""
+    browser.media(prefers_reduced_motion="reduce")
+    for table, steps in STORIES + OTHERS:
+        all_states = by_keys(browser, page_of(folder, table, steps), table, steps)
+        if (table, steps) in STORIES:
+            by_slider(browser, steps)
+            by_play(browser, steps)
+            with_coins(browser, all_states, steps)
+        in_sizes(browser, steps)
+    of_greedy(browser, folder)
+    for name in "session", "session_past_a_gift", "session_with_joins":
+        of_session(browser, folder, name)
+    with_differences(browser, folder)
+    with_strange_names(browser, folder)
+    with_strangers(browser, folder)
+    with_places(browser, folder)
+    of_long_game(browser, folder)
+    equal(browser.thrown, [], "what pages have thrown")
+    expect(all(url.startswith(("file://", "data:", "about:")) or url == "x:" for url in browser.asked), "asked for: %r" % browser.asked)

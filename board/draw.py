@@ -1,21 +1,24 @@
 #!/usr/bin/env python3
-"""Draws tables, their verdicts, and the pictures in this folder, which are made from the tables of examples/.
+"""Draws tables, their verdicts, and the pictures in docs/pictures, which are made from the tables of examples/.
 
-    docs/pictures/draw.py FILE > PICTURE.svg    a picture of a table of yours, its vertices in a ring, and of its verdict
-    docs/pictures/draw.py --check               says which pictures of this folder are not what it would write; the last
-                                                line is 'N passed, M failed'
-    docs/pictures/draw.py --write               writes the pictures of this folder anew
+    board/draw.py FILE > PICTURE.svg                    a picture of a table of yours, and of its verdict
+    board/draw.py --places PLACES FILE > PICTURE.svg    the same, with the vertices where the lines 'name x y' of a file say;
+                                                        x goes to the right, and y down
+    board/draw.py --check                               says which pictures of docs/pictures are not what it would write; the
+                                                        last line is 'N passed, M failed'
+    board/draw.py --write                               writes the pictures of docs/pictures anew
 
 A vertex has its name and its dollars; one in debt is red and hatched, and q has a double ring. Below a vertex stands what the
 script has it lend or borrow. What burns is orange, with its number in the order of burning. An edge that was added is blue. The
 script needs Python 3 and nothing else. It reckons burnings, scripts and losses itself; but a verdict of yours is the program's,
 which is what the variable DOLLAR names, or the script `dollar`."""
-import html, itertools, math, os, sys
+import html, itertools, math, os, re, sys
 
 sys.dont_write_bytecode = True
-from board import (AMOUNT_AT, HERE, NAME_AT, STRANDS, amount_size, fitted, name_size, own_places, radius, ring, span, table_of,
+from board import (AMOUNT_AT, NAME_AT, ROOT, STRANDS, amount_size, fitted, name_size, places_for, radius, shown_name, span, table_of, text_of,
                    width)
-from dollar import Fault, burnt, edges, example, fired, joined, judge
+from dollar import burnt, edges, example, fired, joined
+from program import Fault, printed
 
 MARGIN, LINE_HIGH, ROW, LEAST_WIDE = 15, 18, 22, 296
 BURNING, ADDED, LINE = "#b35900", "#1a66cc", "#667"
@@ -23,13 +26,9 @@ HATCH = ('<defs><pattern id="hatch" width="6" height="6" patternUnits="userSpace
          '<path d="M0 0V6" stroke="#b3261e" stroke-opacity="0.45" stroke-width="1.3"/></pattern></defs>')
 PLATE = 'paint-order="stroke" stroke="%s" stroke-width="3" stroke-linejoin="round"'
 
-
-CUBE = {"a": (-0.95, -0.35), "b": (0.35, -0.35), "c": (0.35, 0.95), "d": (-0.95, 0.95),
-        "e": (-0.35, -0.95), "f": (0.95, -0.95), "g": (0.95, 0.35), "h": (-0.35, 0.35)}
-BESIDE = {"a": (-1.0, 0.0), "b": (1.0, 0.0)}
-TRIANGLE, SQUARE, DIAMOND = ring("abc", -90), ring("abcd", -135, 1.2), ring("abcd", 180)
-PETERSEN = dict(ring("abcde", -90), **ring("fghij", -90, 0.5))
-VILLAGE = ring(["well", "mill", "inn", "forge", "barn"], -90)
+PICTURES_FOLDER = os.path.join(ROOT, "docs", "pictures")
+# As the text beside the picture has it.
+DIAMOND = {"a": (-1.0, 0.0), "b": (0.0, -1.0), "c": (1.0, 0.0), "d": (0.0, 1.0)}
 
 
 def pairs(amounts):
@@ -277,41 +276,53 @@ def both_orders(name, places):
         (table, places, earlier(table, order[::-1]), ["the divisor of the", "reversed order"], order[::-1])]
 
 
-def yours(place):
-    """The table of a file and its verdict."""
-    table, _ = table_of(place)
-    word, script, end = judge(table)
+def yours(place, own):
+    """The table of a file and its verdict, with the vertices where a text says, if there is one."""
+    text = text_of(place)
+    verdict = printed("judge", text.encode())
+    table, (word, by, to) = table_of(text), re.fullmatch(r"(\w+) by (.*) to (.*)\n", verdict).groups()
+    script, end = amounts_of(by), amounts_of(to)
     says = ["all burns, in this order;", "it can be won" if word == "winnable" else "it can't be won"]
-    places, name = own_places(table["vertices"]), os.path.basename(place)
-    return "%s, %s by %s" % (name, word, pairs(script)), [
+    places, name = places_for(table, own), shown_name(place)
+    return "%s, %s by %s" % (name, word, by), [
         (table, places, held(table), [name, "" if any(script.values()) else "no vertex need lend"], (), None, script),
         (table, places, end, says, burnt(table, end))]
 
 
+def amounts_of(pairs_):
+    """The amounts of a list of pairs as it is printed."""
+    return {name: int(amount) for name, amount in (pair.split("=") for pair in pairs_.split(" "))}
+
+
+def known(make, name, *given, places=None):
+    """A picture of an example, with the places that its graph has, or others."""
+    return make(name, places or places_for(example(name)), *given)
+
+
 PICTURES = {
-    "triangle": plain("triangle", TRIANGLE),
-    "complete_four": plain("debts_on_four", SQUARE),
-    "cube": plain("cube", CUBE),
-    "petersen": plain("petersen", PETERSEN),
-    "petersen_in_vain": verdict("petersen_in_vain", PETERSEN),
-    "banana": plain("banana", BESIDE),
-    "cube_verdict": verdict("cube", CUBE),
-    "cycle_burning": burning("four_cycle", DIAMOND),
-    "village": plain("village", VILLAGE),
-    "loss": loss("uneven_four", SQUARE, 2),
-    "joined": before_and_after("triangle_in_vain", TRIANGLE, "a", "b"),
-    "both_orders": both_orders("dual_of_uneven", SQUARE),
+    "triangle": known(plain, "triangle"),
+    "complete_four": known(plain, "debts_on_four"),
+    "cube": known(plain, "cube"),
+    "petersen": known(plain, "petersen"),
+    "petersen_in_vain": known(verdict, "petersen_in_vain"),
+    "banana": known(plain, "banana"),
+    "cube_verdict": known(verdict, "cube"),
+    "cycle_burning": known(burning, "four_cycle", places=DIAMOND),
+    "village": known(plain, "village"),
+    "loss": known(loss, "uneven_four", 2),
+    "joined": known(before_and_after, "triangle_in_vain", "a", "b"),
+    "both_orders": known(both_orders, "dual_of_uneven"),
 }
 
 
 def main(checking):
     right = failed = 0
-    for file in os.listdir(HERE) if checking else ():
+    for file in os.listdir(PICTURES_FOLDER) if checking else ():
         if file.endswith(".svg") and file[:-4] not in PICTURES:
             print("docs/pictures/%s is none of the pictures that draw.py makes" % file)
             failed += 1
     for name, (title, frames) in PICTURES.items():
-        text, place = "\n".join(picture(title, frames)) + "\n", os.path.join(HERE, name + ".svg")
+        text, place = "\n".join(picture(title, frames)) + "\n", os.path.join(PICTURES_FOLDER, name + ".svg")
         if not checking:
             with open(place, "w") as file:
                 file.write(text)
@@ -326,24 +337,29 @@ def main(checking):
     return failed > 0
 
 
-def drawn(place):
-    """Prints the picture of a file. The status is 1 where there is none."""
+def drawn(place, places):
+    """Prints the picture of a file. The status is 1 if there is none."""
     try:
-        print("\n".join(picture(*yours(place))))
-    except (OSError, ValueError, Fault) as fault:
+        print("\n".join(picture(*yours(place, None if places is None else text_of(places)))), flush=True)
+    except BrokenPipeError:
+        os.dup2(os.open(os.devnull, os.O_WRONLY), sys.stdout.fileno())
+        return 1
+    except (OSError, ValueError, RecursionError, Fault) as fault:
         print("draw.py: %s: %s" % (place, fault), file=sys.stderr)
         return 1
     return 0
 
 
 if __name__ == "__main__":
-    given = sys.argv[1:]
+    given, own_places = sys.argv[1:], None
     if given in (["-h"], ["--help"]):
         print(__doc__)
         sys.exit(0)
     if given in (["--check"], ["--write"]):
         sys.exit(main(given == ["--check"]))
+    if given[:1] == ["--places"] and len(given) > 1:
+        own_places, given = given[1], given[2:]
     if len(given) != 1 or given[0].startswith("-"):
         print(__doc__, file=sys.stderr)
         sys.exit(2)
-    sys.exit(drawn(given[0]))
+    sys.exit(drawn(given[0], own_places))

@@ -1,0 +1,189 @@
+"use strict";
+
+/* Playing alone: the page keeps the table and the steps, and the program answers each question of it. */
+
+const LOTS = 64;
+let table, fileName, examples, viewer, hands, questions, editor;
+let turn = Promise.resolve();
+
+async function post(path, thing) {
+  try {
+    const got = await fetch(path, { method: "POST", headers: { "Content-Type": "application/json" }, body: JSON.stringify(thing) });
+    if (!got.ok) return { status: got.status, out: "", err: await got.text() };
+    return await got.json();
+  } catch {
+    return { status: null, out: "", err: "board/play does not answer: it may have ended" };
+  }
+}
+
+const ask = (question) => post("ask", question);
+
+function sure(words) {
+  const box = element("sure");
+  box.querySelector("p").textContent = words;
+  box.returnValue = "no";
+  box.showModal();
+  return new Promise((done) => box.addEventListener("close", () => done(box.returnValue === "yes"), { once: true }));
+}
+
+const textOf = (lines) => lines.map((line) => `${line}\n`).join("");
+const stepsText = (length) => textOf(viewer.game.steps.slice(0, length).map(({ line }) => line));
+
+/* Lines are played one after another, each on what came of the one before. */
+
+function play(line) {
+  turn = turn.then(() => playNow(line));
+  return turn;
+}
+
+async function playNow(line) {
+  const { game, now } = viewer;
+  if (line.includes("\n")) return hands.tell("A line has no newline in it.");
+  if (now < game.length && !(await sure(`Going on from here drops the ${game.length - now} steps that follow. Shall they go?`))) return null;
+  const step = `${element("seat").value} ${line}`;
+  const said = await hands.patient(ask({ command: "rehearse", table, steps: `${stepsText(now)}${step}\n` }));
+  if (said.status !== 0) return hands.tell(faultWords(said.err), `dollar: ${said.err}`);
+  const printed = linesOf(said.out);
+  game.cut(now);
+  game.add(step, printed[now]);
+  hands.tell("");
+  hands.unchoose();
+  questions.clear();
+  viewer.reset(game, now + 1);
+  return viewer.board.svg.contains(document.activeElement) ? null : undefined;
+}
+
+/* Another table. What the program refuses is told, and nothing changes. */
+
+async function openTable(text, file, layout) {
+  const said = await ask({ command: "layout", table: text });
+  if (said.status !== 0) return said.err;
+  if (viewer.game.length && !(await sure(`The ${viewer.game.length} steps of this game go with its table. Shall they go?`))) return null;
+  [table, fileName] = [text, file];
+  begin(layout || layoutOf(said.layout));
+  return null;
+}
+
+function begin(layout) {
+  const game = new Game(JSON.parse(table));
+  element("title").textContent = document.title = `The dollar game: ${fileName}`;
+  if (viewer) {
+    hands.forget();
+    hands.names(game.names);
+    questions.clear();
+    viewer.reset(game, 0, layout);
+  } else {
+    viewer = new Viewer(game, layout, { hands: true });
+    hands = new Hands(viewer, play);
+    questions = new Questions(viewer, ask, play);
+    editor = new Editor(viewer, hands, (text, places) => openTable(text, fileName, places), (text) => ask({ command: "layout", table: text }).then(found));
+    viewer.filled(0);
+    viewer.afterShow = () => questions.clear();
+  }
+}
+
+const found = (said) => (said.layout ? { ...said, layout: layoutOf(said.layout) } : said);
+
+async function openFile(file) {
+  if (!file) return;
+  if (file.size > 1 << 20) return hands.tell(faultWords("file too long"), "dollar: file too long");
+  told(await openTable(await file.text(), file.name));
+}
+
+function told(fault) {
+  hands.tell(fault === null ? "" : faultWords(fault), fault === null ? "" : `dollar: ${fault}`);
+}
+
+/* Other dollars, drawn by lots, of which the program says which can be won. */
+
+async function drawLots(degree, kind) {
+  const now = viewer.game.tableAt(viewer.now);
+  const tables = Array.from({ length: LOTS }, () => ({ ...now, amounts: lots(now.vertices.length, degree) }));
+  const said = await ask({ command: "judge --lines", table, tables: textOf(tables.map((each) => JSON.stringify(each))) });
+  if (said.status !== 0) return told(said.err);
+  const at = linesOf(said.out).findIndex((line) => (kind ? line.startsWith(`${kind} `) : /^(un)?winnable /.test(line)));
+  if (at < 0) return hands.tell(`Of ${LOTS} that were drawn none ${kind === "winnable" ? "can" : kind ? "can't" : "is a table that can"} be won.`);
+  told(await openTable(`${JSON.stringify(tables[at], null, 1)}\n`, fileName, viewer.board.layout));
+  return null;
+}
+
+function lots(count, degree) {
+  const amounts = Array.from({ length: count }, () => Math.floor(Math.random() * 7) - 3);
+  const each = Math.trunc((degree - amounts.reduce((sum, amount) => sum + amount, 0)) / count);
+  const spread = amounts.map((amount) => amount + each);
+  let left = degree - spread.reduce((sum, amount) => sum + amount, 0);
+  for (; left !== 0; left -= Math.sign(left)) spread[Math.floor(Math.random() * count)] += Math.sign(left);
+  return spread;
+}
+
+/* Take along. */
+
+function save(file, text, kind = "text/plain") {
+  const link = made("a");
+  link.href = URL.createObjectURL(new Blob([text], { type: kind }));
+  link.download = file;
+  link.click();
+  setTimeout(() => URL.revokeObjectURL(link.href), 10000);
+}
+
+function picture() {
+  const svg = viewer.board.svg.cloneNode(true), { width, height } = viewer.board.layout;
+  for (const [key, value] of Object.entries({ xmlns: SVG, width, height })) svg.setAttribute(key, value);
+  for (const at of svg.querySelectorAll(".reach, .drawn")) at.remove();
+  const rules = [...document.styleSheets].flatMap((sheet) => [...sheet.cssRules]).map((rule) => rule.cssText);
+  const colours = rules.find((rule) => rule.startsWith(":root")).replace("light dark", "light");
+  const style = draw("style", {}, svg, [colours, ...rules.filter((rule) => rule.startsWith("svg "))].join("\n").replaceAll("svg ", ""));
+  svg.prepend(style);
+  return new XMLSerializer().serializeToString(svg);
+}
+
+async function takePage() {
+  const said = await ask({ command: "replay", table, steps: stepsText(viewer.game.length), name: fileName });
+  if (said.status === 0) save("game.html", said.page, "text/html");
+  else told(said.err);
+}
+
+function bindTaking() {
+  const on = (id, act) => element(id).addEventListener("click", act);
+  on("take-table", () => save("table.json", table));
+  on("take-steps", () => save("steps.txt", stepsText(viewer.game.length)));
+  on("take-now", () => save("now.json", questions.now()));
+  on("take-places", () => save("places.txt", textOf([...viewer.board.layout.places].map(([vertex, [x, y]]) => `${vertex} ${x} ${y}`))));
+  on("take-picture", () => save("board.svg", picture(), "image/svg+xml"));
+  on("take-page", takePage);
+  on("print", () => window.print());
+}
+
+function bindTables() {
+  element("example").append(...Object.keys(examples).map((file) => new Option(file, file)));
+  element("example").addEventListener("change", async (event) => {
+    const file = event.target.value;
+    event.target.value = "";
+    if (file) told(await openTable(examples[file], file));
+  });
+  element("open").addEventListener("change", async (event) => {
+    await openFile(event.target.files[0]);
+    event.target.value = "";
+  });
+  document.addEventListener("dragover", (event) => event.preventDefault());
+  document.addEventListener("drop", (event) => {
+    event.preventDefault();
+    openFile(event.dataTransfer.files[0]);
+  });
+  element("edit").addEventListener("click", () => editor.open());
+  element("draw-form").addEventListener("submit", (event) => {
+    event.preventDefault();
+    drawLots(Number(element("draw-degree").value), element("draw-kind").value);
+  });
+}
+
+async function start() {
+  const given = await (await fetch("start")).json();
+  ({ table, examples, name: fileName } = given);
+  element("seat").replaceChildren(...Array.from({ length: 64 }, (_, i) => new Option(i + 1, i + 1)));
+  begin(layoutOf(given.layout));
+  bindTaking();
+  bindTables();
+}
+
+start();

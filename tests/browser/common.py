@@ -1,0 +1,81 @@
+"""What the tests of the pages share: counting what has held, and the program that is asked."""
+import contextlib, os, re, subprocess, sys
+
+TESTS = os.path.dirname(os.path.abspath(__file__))
+ROOT = os.path.dirname(os.path.dirname(TESTS))
+BOARD, EXAMPLES = os.path.join(ROOT, "board"), os.path.join(ROOT, "examples")
+sys.dont_write_bytecode = True
+sys.path[:0] = [BOARD, EXAMPLES]
+PATIENCE = 30
+results = []
+
+
+def expect(held, what):
+    """Counts what has held, or says what has not."""
+    results.append(bool(held))
+    if not held:
+        print(what, flush=True)
+
+
+def equal(found, wanted, what):
+    """Counts whether two things are equal, and says how they differ."""
+    expect(found == wanted, "%s: found %.600r, wanted %.600r" % (what, found, wanted))
+
+
+def lines_of(name):
+    with open(os.path.join(EXAMPLES, name)) as file:
+        return file.read().splitlines()
+
+
+def text_of(*place):
+    with open(os.path.join(*place), newline="") as file:
+        return file.read()
+
+
+def written(folder, name, text):
+    """A file in a folder with a text, as its place."""
+    place = os.path.join(folder, name)
+    with open(place, "w", newline="") as file:
+        file.write(text)
+    return place
+
+
+def script(name, *words, **given):
+    """Runs a script of board/, and gives what it printed, what it said on standard error, and its status."""
+    done = subprocess.run([sys.executable, "-B", os.path.join(BOARD, name), *words], stdout=subprocess.PIPE, stderr=subprocess.PIPE,
+                          timeout=PATIENCE * 4, **given)
+    return done.stdout, done.stderr.decode(errors="replace"), done.returncode
+
+
+def asked(command, *words):
+    """What the program prints for a command, with its status and its fault, as the page would have it."""
+    done = subprocess.run([os.environ["DOLLAR"], command, *words], stdin=subprocess.DEVNULL, stdout=subprocess.PIPE, stderr=subprocess.PIPE)
+    return done.stdout.decode(), done.stderr.decode(), done.returncode
+
+
+@contextlib.contextmanager
+def played(*words):
+    """Starts board/play, and gives the process and the addresses that it prints. Ends it, and sees that it ends well."""
+    child = subprocess.Popen([sys.executable, "-B", os.path.join(BOARD, "play"), "--no-browser", *words], stdin=subprocess.DEVNULL,
+                             stdout=subprocess.PIPE, stderr=subprocess.PIPE, text=True)
+    try:
+        yield child, addresses(child)
+    finally:
+        child.terminate()
+        try:
+            _, said = child.communicate(timeout=PATIENCE)
+        except subprocess.TimeoutExpired:
+            child.kill()
+            _, said = child.communicate()
+            expect(False, "board/play does not end")
+        expect(child.returncode == 0 and said == "", "board/play ended with %s and said %s" % (child.returncode, said))
+
+
+def addresses(child):
+    """The addresses in the lines that it prints, up to the one that says how it is ended."""
+    found = []
+    for line in child.stdout:
+        found += re.findall(r"http://\S+", line)
+        if "ends it" in line:
+            return found
+    raise EOFError("board/play has ended: %s" % child.stderr.read())
