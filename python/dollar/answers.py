@@ -354,8 +354,9 @@ def refusal(kind: Callable[..., Refused], text: str, table: Optional[int]) -> Re
     return row
 
 
-ABOUT = r"(\w+=-?\d+(?: \w+=-?\d+)*)"
-FORMS = [re.compile(form.replace("P", ABOUT).replace("N", r"(\d+)"), re.ASCII) for form in (
+NUMBER = r"(?:0|-?[1-9]\d*)"
+AMOUNTS = r"(\w+={0}(?: \w+={0})*)".format(NUMBER)
+FORMS = [re.compile(form.replace("P", AMOUNTS).replace("N", r"(0|[1-9]\d*)"), re.ASCII) for form in (
     "(moved) P", "(given|joined|looked) N P", "(won|not won)", "(winnable|unwinnable) by P to P", "(rank at least) N",
     r"(rank below) N at (?:P|\?)", "(stale) N", r"(refused \w+)", r"(bad \w+)", "(turns)")]
 
@@ -398,7 +399,7 @@ def answer(text: str) -> Union[Verdict, RankTest, Entry]:
 def numbered(line: str, with_seat: bool = False) -> Entry:
     """The entry of a line that has its number before it, and its seat after that where it has one. An answer that begins with
     `bad` has neither."""
-    form = re.compile(r"(\d+) (\d+) (.+)" if with_seat else r"(\d+)() (.+)", re.ASCII).fullmatch(line)
+    form = re.fullmatch(r"(\d+) (\d+) (.+)" if with_seat else r"(\d+)() (.+)", line, re.ASCII)
     if not form:
         return entry(line)
     return entry(form[3], int(form[1]), int(form[2]) if with_seat else None)

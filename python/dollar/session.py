@@ -2,13 +2,13 @@
 
 from __future__ import annotations
 
+import queue
 import subprocess
 import threading
-from concurrent.futures import Future, ThreadPoolExecutor
-from concurrent.futures import TimeoutError as NotInTime
+import weakref
 from contextlib import ExitStack
 from types import TracebackType
-from typing import Any, Callable, NamedTuple, Optional, Type, TypeVar
+from typing import Any, Callable, NamedTuple, Optional, Tuple, Type, TypeVar
 
 from dollar.answers import Entry, numbered
 from dollar.commands import option
@@ -46,6 +46,19 @@ def one_line(line: str) -> bytes:
     if len(sent) > LONGEST_LINE:
         raise ValueError("a line has more than 1024 bytes")
     return sent
+
+
+Work = Tuple[Callable[[], Any], "queue.SimpleQueue[Any]"]
+
+
+def work_on(work: queue.SimpleQueue[Optional[Work]]) -> None:
+    """Does one piece of work after another, until there is a None, and hands on what comes of each."""
+    while True:
+        piece = work.get()
+        if piece is None:
+            return
+        do, done = piece
+        done.put(do())
 
 
 class Session:
@@ -97,7 +110,9 @@ class Session:
             names, descriptors = open_files([members(table)], until)
             self.child = subprocess.Popen([find_program(program), "serve", *names, *words], stdin=subprocess.PIPE,
                                           stdout=subprocess.PIPE, stderr=subprocess.PIPE, pass_fds=descriptors)
-        self.worker = ThreadPoolExecutor(1, "dollar session")
+        self.work: queue.SimpleQueue[Optional[Work]] = queue.SimpleQueue()
+        threading.Thread(target=work_on, args=(self.work,), daemon=True).start()
+        weakref.finalize(self, self.work.put, None)
 
     def __enter__(self) -> Session:
         return self
@@ -132,33 +147,33 @@ class Session:
     def close(self) -> End:
         """Ends the input, which ends the session. Tells how it has ended, the same at each call."""
         with self.turn:
-            if self.ended is None:
-                said = self._in_time(lambda: self.child.communicate()[1])
-                self._is_over(said.decode(errors="replace").rstrip("\n"))
-            assert self.ended is not None
-            return self.ended
+            return self.ended or self._in_time(self._end)
 
     def _exchange(self, line: bytes) -> bytes:
+        if self.ended is not None:
+            return b""
         assert self.child.stdin is not None and self.child.stdout is not None
         try:
             self.child.stdin.write(line + b"\n")
             self.child.stdin.flush()
-        except BrokenPipeError:
+        except OSError:
             pass  # It has ended: there is no answer to be read, and standard error says why.
         return self.child.stdout.readline()
 
-    def _in_time(self, work: Callable[[], Got]) -> Got:
-        """What comes of the work, which the one thread that reads and writes does as a whole: an interrupt of the caller's does not
-        cut it in two."""
-        future: Future[Got] = self.worker.submit(work)
-        try:
-            return future.result(self.patience)
-        except NotInTime:
-            self.child.kill()
-            self.worker.submit(self.child.communicate).result()
-            self._is_over("nothing for %s seconds, after which it was killed" % self.patience)
-            raise TimeoutError("the program said nothing for %s seconds, and was killed" % self.patience) from None
+    def _end(self, told: Optional[str] = None) -> End:
+        if self.ended is None:
+            said = self.child.communicate()[1].decode(errors="replace").rstrip("\n")
+            self.ended = End(self.child.returncode, said if told is None else told)
+        return self.ended
 
-    def _is_over(self, said: str) -> None:
-        self.ended = End(self.child.returncode, said)
-        self.worker.shutdown(wait=False)
+    def _in_time(self, do: Callable[[], Got]) -> Got:
+        """What comes of a piece of work. Another thread does each as a whole, so that an interrupt in this one cuts none in two."""
+        done: queue.SimpleQueue[Got] = queue.SimpleQueue()
+        self.work.put((do, done))
+        try:
+            return done.get(timeout=self.patience)
+        except queue.Empty:
+            self.child.kill()
+            told = "nothing for %s seconds, after which it was killed" % self.patience
+            self.work.put((lambda: self._end(told), done))
+            raise TimeoutError("the program said nothing for %s seconds, and was killed" % self.patience) from None

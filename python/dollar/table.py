@@ -80,9 +80,14 @@ def of_networkx(graph: Any) -> Multigraph:
 
 
 def of_sage_graph(graph: Any) -> Multigraph:
-    """The multigraph of a Graph of Sage. A label of an edge is how often it is there."""
+    """The multigraph of a Graph of Sage. If it is weighted, the weight of an edge is how often it is there."""
     vertices = list(graph.vertices())
-    edges = [(u, v, 1 if label is None else edge_weight(u, v, label)) for u, v, label in graph.edges(labels=True)]
+    edges = []
+    for u, v, label in graph.edges(labels=True):
+        if label is not None and not graph.weighted():
+            raise ValueError("the edge from %s to %s has the label %r: only in a graph with weighted=True it is a number of edges"
+                             % (u, v, label))
+        edges.append((u, v, 1 if label is None else edge_weight(u, v, label)))
     return Multigraph(vertices, merged(edges, {node: at for at, node in enumerate(vertices)}))
 
 
