@@ -9,10 +9,9 @@ come. In the middle of the game the program is killed. A new one is asked the li
 answer as the first did, and the class plays on where it was, each with the look that he had. At the end `rehearse` plays the
 entries once more, and has to print what the pupils were told. The last line is 'N passed, M failed'; the status is 0 where none
 failed."""
-import os, random, signal, sys, threading
+import random, signal, threading
 
-HERE = os.path.dirname(os.path.abspath(__file__))
-sys.path.insert(0, os.path.join(HERE, "..", "python"))
+from driver import program_of, start
 import dollar
 
 PUPILS, LINES = 30, 20
@@ -70,8 +69,8 @@ def looks_kept(lines):
     return right
 
 
-def main(program):
-    results, lines = [], []
+def main(words):
+    program, results, lines = program_of(words), [], []
     draws = {seat: random.Random(seat) for seat in range(1, PUPILS + 1)}
     # The script ./dollar builds the program where it is not there yet, which no pupil should have to wait for.
     dollar.judge(TABLE, program)
@@ -100,4 +99,4 @@ def main(program):
 
 
 if __name__ == "__main__":
-    sys.exit(main(os.path.abspath(sys.argv[1] if len(sys.argv) > 1 else os.path.join(HERE, "..", "dollar"))))
+    start(main)

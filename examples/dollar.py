@@ -22,9 +22,9 @@ def package():
 
 
 def main(words):
-    if words:
-        os.environ["DOLLAR"] = os.path.abspath(words[0])
-    found = package()
+    from driver import program_of
+
+    os.environ["DOLLAR"], found = program_of(words), package()
     modules = [found, *(importlib.import_module("dollar." + each.name) for each in pkgutil.iter_modules(found.__path__))]
     results = [doctest.testmod(module) for module in modules]
     failed, tried = (sum(numbers) for numbers in zip(*results))
@@ -33,5 +33,8 @@ def main(words):
 
 
 if __name__ == "__main__":
-    sys.exit(main(sys.argv[1:]))
+    package()
+    from driver import start
+
+    start(main)
 package()

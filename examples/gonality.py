@@ -21,9 +21,9 @@ degree one run of the program, over all of them.
 
 Trees have 1, cycles 2, complete graphs one less than vertices, two vertices joined more than once 2, complete bipartite graphs
 the lesser part, and the cube and Petersen's graph 4."""
-import doctest, itertools, json, os, sys
+import doctest, itertools, json, os
 
-sys.path.insert(0, os.path.join(os.path.dirname(os.path.abspath(__file__)), "..", "python"))
+from driver import program_of, start
 import dollar
 
 
@@ -48,9 +48,7 @@ def gonality(table):
 
 
 def main(words):
-    if words:
-        os.environ["DOLLAR"] = words[0]
-        os.environ["DOLLAR"] = dollar.find_program()
+    os.environ["DOLLAR"] = program_of(words)
     if words[1:]:
         with open(words[1]) as file:
             for line in file:
@@ -62,9 +60,4 @@ def main(words):
 
 
 if __name__ == "__main__":
-    try:
-        sys.exit(main(sys.argv[1:]))
-    except (OSError, ValueError, TypeError, RecursionError, dollar.Fault) as error:
-        sys.exit("gonality.py: %s" % error)
-    except KeyboardInterrupt:
-        sys.exit(130)
+    start(main, "[PROGRAM [FILE]]", 2)

@@ -7,10 +7,9 @@ A session is the command `serve FILE`, and a table with seats for many people `s
 before it reads on, so that a tool may write one line, wait for its answer, and choose the next line by it; the class `Session` of
 the package `dollar` does just that. The answers expected here were worked out by hand. The last line is 'N passed, M failed'; the
 status is 0 where none failed."""
-import os, subprocess, sys
+import os
 
-HERE = os.path.dirname(os.path.abspath(__file__))
-sys.path.insert(0, os.path.join(HERE, "..", "python"))
+from driver import HERE, program_of, start
 import dollar
 from dollar import Ended
 
@@ -68,10 +67,10 @@ def refused(ask, *words):
         return str(error)
 
 
-def main(program):
-    triangle = os.path.join(HERE, "triangle.json")
+def main(words):
+    program, triangle = program_of(words), os.path.join(HERE, "triangle.json")
     # The script ./dollar builds the program where it is not there yet, which no session should have to wait for.
-    subprocess.run([program, "judge", triangle], stdout=subprocess.DEVNULL)
+    dollar.judge(triangle, program)
 
     def session(**options):
         return dollar.Session(triangle, program=program, **options)
@@ -145,4 +144,4 @@ def main(program):
 
 
 if __name__ == "__main__":
-    sys.exit(main(os.path.abspath(sys.argv[1] if len(sys.argv) > 1 else os.path.join(HERE, "..", "dollar"))))
+    start(main)

@@ -47,7 +47,7 @@ def judge(table: Any, program: Optional[Place] = None) -> Verdict:
     winnable by 0=0 1=-1 to 0=1 1=0
     """
     file = members(table)
-    line, = answered(program, "judge", file)
+    line = "\n".join(answered(program, "judge", file))
     return verdict_of(line, table if isinstance(table, Table) else Table(json.loads(file)))
 
 
@@ -58,8 +58,8 @@ def rank(table: Any, degree: int, program: Optional[Place] = None, *, workers: O
     >>> rank(Table([[0, 1], [1, 0]], [2, -1]), 2)
     RankTest(holds=False, degree=2, loss={'0': 0, '1': 2})
     """
-    line, = answered(program, "rank", members(table), str(whole(degree, "the degree")), *option("--workers", workers))
-    return rank_test_of(line)
+    words = (str(whole(degree, "the degree")), *option("--workers", workers))
+    return rank_test_of("\n".join(answered(program, "rank", members(table), *words)))
 
 
 def rr(table: Any, program: Optional[Place] = None) -> RiemannRoch:

@@ -2,6 +2,7 @@
 
 from __future__ import annotations
 
+import fcntl
 import functools
 import os
 import shutil
@@ -86,13 +87,15 @@ def find_program(program: Optional[Place] = None) -> str:
 
 def open_files(files: Iterable[bytes], until: ExitStack) -> Tuple[List[str], List[int]]:
     """Names by which a child can read files with these bytes, and the descriptors that it must be handed. The files have no
-    names of their own, so that none is left behind."""
+    names of their own, so that none is left behind. Descriptors below 3 are the child's standard streams, even if they are closed
+    here."""
     descriptors = []
     for content in files:
         file: IO[bytes] = until.enter_context(tempfile.TemporaryFile())
         file.write(content)
         file.flush()
-        descriptors.append(file.fileno())
+        descriptors.append(fcntl.fcntl(file, fcntl.F_DUPFD_CLOEXEC, 3))
+        until.callback(os.close, descriptors[-1])
     return ["/dev/fd/%d" % descriptor for descriptor in descriptors], descriptors
 
 

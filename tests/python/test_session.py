@@ -3,10 +3,13 @@ import collections
 import os
 import random
 import signal
+import subprocess
+import sys
 import threading
 import time
 
 import pytest
+from conftest import ROOT
 from party import Bad, Game, parse, trials
 
 from dollar import Ended, Session, Table
@@ -199,6 +202,17 @@ def test_what_is_no_line():
         with pytest.raises(ValueError, match="newline"):
             session.ask_bytes(b"1 look\n1 look")
         assert session.ask_seat(3, "look").word == "bad seat" and session.ask_seat(2, "look").number == 0
+
+
+@pytest.mark.parametrize("closed", ["<&-", ">&-", "2>&-", "<&- >&- 2>&-"])
+def test_standard_streams_may_be_closed(closed, tmp_path):
+    words = ("import dollar, sys; table = dollar.Table([[0, 1], [1, 0]], [2, -1]); session = table.serve(); "
+             "texts = [str(dollar.judge(table)), str(next(dollar.judge_all([table]))), str(session.ask('claim'))]; "
+             "open(sys.argv[1], 'w').write('|'.join(texts))")
+    done = subprocess.run(["sh", "-c", '"$0" -c "$1" "$2" ' + closed, sys.executable, words, str(tmp_path / "said")], timeout=30,
+                          env=dict(os.environ, PYTHONPATH=str(ROOT / "python")))
+    verdict = "winnable by 0=0 1=-1 to 0=1 1=0"
+    assert done.returncode == 0 and (tmp_path / "said").read_text() == "%s|%s|0 not won" % (verdict, verdict)
 
 
 def test_nothing_is_left_behind():
