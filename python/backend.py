@@ -27,8 +27,10 @@ Tag: py3-none-any
 
 
 def sources():
-    """The files of the package, by the names that they have in it."""
-    return {"dollar/" + file.name: file.read_bytes() for file in sorted((HERE / "dollar").iterdir()) if file.suffix in (".py", ".typed")}
+    """The files of the package, by the names that they have in it. Where vertices stand on pictures is told by a module of the board."""
+    files = [file for file in sorted((HERE / "dollar").iterdir()) if file.suffix in (".py", ".typed")]
+    files += [file for file in [HERE.parent / "board" / "places.py"] if file.is_file()]
+    return {"dollar/" + file.name: file.read_bytes() for file in files}
 
 
 def record_of(files):

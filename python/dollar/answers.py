@@ -121,7 +121,7 @@ class Verdict(Answer):
 
     def _repr_svg_(self) -> Optional[str]:
         table = getattr(self, "_table", None)
-        return None if table is None else drawing.picture(table, script=self.script, order=checks.burnt(table, self.reduced))
+        return None if table is None else drawing.picture(table, script=self.script)
 
 
 @dataclass(frozen=True, eq=False)

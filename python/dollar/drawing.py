@@ -6,6 +6,7 @@ import importlib.util
 import math
 from functools import lru_cache
 from html import escape
+from pathlib import Path
 from typing import Any, Callable, Dict, Iterable, Iterator, Optional, Sequence, Tuple
 
 from dollar import checks
@@ -27,17 +28,16 @@ def ring(vertices: Sequence[str], edges: Iterable[Any] = ()) -> Places:
 
 @lru_cache(maxsize=None)
 def places_of() -> Callable[[Any, Any], Places]:
-    """What tells where vertices stand: the module of the board where the clone has it, and else a ring."""
-    file = CLONE / "board" / "places.py"
-    if not file.is_file():
-        return ring
-    spec = importlib.util.spec_from_file_location("dollar_board_places", file)
-    if spec is None or spec.loader is None:
-        return ring
-    module = importlib.util.module_from_spec(spec)
-    spec.loader.exec_module(module)
-    found: Callable[[Any, Any], Places] = module.places
-    return found
+    """What tells where vertices stand: the board's module `places`, which lies in the clone and in what pip has installed, or else a
+    ring."""
+    for file in (Path(__file__).with_name("places.py"), CLONE / "board" / "places.py"):
+        spec = importlib.util.spec_from_file_location("dollar.places", file)
+        if file.is_file() and spec is not None and spec.loader is not None:
+            module = importlib.util.module_from_spec(spec)
+            spec.loader.exec_module(module)
+            found: Callable[[Any, Any], Places] = module.places
+            return found
+    return ring
 
 
 def strands(start: Tuple[float, float], end: Tuple[float, float], count: int, colour: str) -> Iterator[str]:
