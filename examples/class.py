@@ -9,21 +9,23 @@ come. In the middle of the game the program is killed. A new one is asked the li
 answer as the first did, and the class plays on where it was, each with the look that he had. At the end `rehearse` plays the
 entries once more, and has to print what the pupils were told. The last line is 'N passed, M failed'; the status is 0 where none
 failed."""
-import json, os, random, signal, subprocess, sys, tempfile, threading
-from talk import Table
+import random, signal, threading
+
+from driver import program_of, start
+import dollar
 
 PUPILS, LINES = 30, 20
-TABLE = {
+TABLE = dollar.Table({
     "vertices": ["ann", "bob", "cem", "dot", "eve"],
     "edges": [["ann", "bob", 1], ["bob", "cem", 2], ["cem", "dot", 1], ["dot", "ann", 1], ["dot", "eve", 3]],
     "amounts": [6, -3, 1, -2, -1],
     "q": "ann",
-}
+})
 
 
 def line_of(draw):
     """A line that a pupil may ask."""
-    one, other = draw.choice(TABLE["vertices"]), draw.choice(TABLE["vertices"])
+    one, other = draw.choice(TABLE.vertices), draw.choice(TABLE.vertices)
     return draw.choice([
         "look", "look", "commit", "commit", "rank 1", "claim", "lend " + one, "borrow " + one, "fire " + one,
         "script %s=%d" % (one, draw.randint(-2, 2)), "gift %s %d" % (one, draw.randint(-2, 2)), "join %s %s" % (one, other),
@@ -31,17 +33,17 @@ def line_of(draw):
     ])
 
 
-def attend(table, seat, draw, lines):
+def attend(session, seat, draw, lines):
     """Asks the pupil's lines. Each goes into the list of all, with the seat and the answer, in the order of the answers."""
     for _ in range(LINES):
         line = line_of(draw)
-        with table.turn:
-            lines.append((seat, line, table.ask_seat(seat, line)))
+        with session.turn:
+            lines.append((seat, line, session.ask_seat(seat, line)))
 
 
-def play(table, draws, lines):
+def play(session, draws, lines):
     """Has all pupils play at once, until each has asked his lines."""
-    pupils = [threading.Thread(target=attend, args=(table, seat, draw, lines)) for seat, draw in draws.items()]
+    pupils = [threading.Thread(target=attend, args=(session, seat, draw, lines)) for seat, draw in draws.items()]
     for pupil in pupils:
         pupil.start()
     for pupil in pupils:
@@ -49,8 +51,8 @@ def play(table, draws, lines):
 
 
 def entries_of(lines):
-    """The lines whose answers are entries, which begin with a number."""
-    return [(seat, line, answer) for seat, line, answer in lines if answer[0].isdigit()]
+    """The lines whose answers are entries, which have a number."""
+    return [(seat, line, answer) for seat, line, answer in lines if answer.number is not None]
 
 
 def looks_kept(lines):
@@ -58,43 +60,36 @@ def looks_kept(lines):
     kept, right = set(), True
     for seat, line, answer in lines:
         if line == "commit" or line == "rank 1":
-            right = right and (answer != "bad look") == (seat in kept)
+            right = right and (answer.word != "bad look") == (seat in kept)
             kept.discard(seat)
         elif line == "rank 5000":
-            right = right and answer == ("bad trials" if seat in kept else "bad look")
+            right = right and answer.word == ("bad trials" if seat in kept else "bad look")
         elif line == "look":
             kept.add(seat)
     return right
 
 
-def main(program):
-    results = []
-    with tempfile.TemporaryDirectory() as folder:
-        file, steps = os.path.join(folder, "table.json"), os.path.join(folder, "steps.txt")
-        with open(file, "w") as out:
-            json.dump(TABLE, out)
-        # The script ./dollar builds the program where it is not there yet, which no pupil should have to wait for.
-        subprocess.run([program, "judge", file], stdout=subprocess.DEVNULL)
-        table, lines = Table(program, file, PUPILS), []
-        draws = {seat: random.Random(seat) for seat in range(1, PUPILS + 1)}
-        play(table, draws, lines)
-        table.child.kill()
-        results.append(table.close() == (-signal.SIGKILL, ""))
-        table = Table(program, file, PUPILS)
-        results.append(all(table.ask_seat(seat, line) == answer for seat, line, answer in entries_of(lines)))
-        play(table, draws, lines)
-        results.append(table.close() == (0, ""))
-        results.append(len(lines) == 2 * PUPILS * LINES)
-        entries = entries_of(lines)
-        results.append([int(answer.split(" ")[0]) for _, _, answer in entries] == list(range(len(entries))))
-        results.append({answer for _, _, answer in lines if not answer[0].isdigit()}
-                       <= {"bad word", "bad form", "bad name", "bad look", "bad trials"})
-        results.append(looks_kept(lines))
-        with open(steps, "w") as out:
-            out.writelines("%d %s\n" % (seat, line) for seat, line, _ in entries)
-        again = subprocess.run([program, "rehearse", file, steps], capture_output=True, text=True)
-        results.append((again.returncode, again.stderr) == (0, ""))
-        results.append(again.stdout.splitlines() == [answer for _, _, answer in entries])
+def main(words):
+    program, results, lines = program_of(words), [], []
+    draws = {seat: random.Random(seat) for seat in range(1, PUPILS + 1)}
+    # The script ./dollar builds the program where it is not there yet, which no pupil should have to wait for.
+    dollar.judge(TABLE, program)
+    session = TABLE.serve(PUPILS, program=program)
+    play(session, draws, lines)
+    session.child.kill()
+    results.append(session.close() == (-signal.SIGKILL, ""))
+    session = TABLE.serve(PUPILS, program=program)
+    results.append(all(str(session.ask_seat(seat, line)) == str(answer) for seat, line, answer in entries_of(lines)))
+    play(session, draws, lines)
+    results.append(session.close() == (0, ""))
+    results.append(len(lines) == 2 * PUPILS * LINES)
+    entries = entries_of(lines)
+    results.append([answer.number for _, _, answer in entries] == list(range(len(entries))))
+    results.append({answer.word for _, _, answer in lines if answer.number is None}
+                   <= {"bad word", "bad form", "bad name", "bad look", "bad trials"})
+    results.append(looks_kept(lines))
+    again = dollar.rehearse(TABLE, ["%d %s" % (seat, line) for seat, line, _ in entries], program)
+    results.append([str(answer) for answer in again] == [str(answer) for _, _, answer in entries])
     for number, passed in enumerate(results):
         if not passed:
             print("check %d failed" % number)
@@ -104,5 +99,4 @@ def main(program):
 
 
 if __name__ == "__main__":
-    here = os.path.dirname(os.path.abspath(__file__))
-    sys.exit(main(os.path.abspath(sys.argv[1] if len(sys.argv) > 1 else os.path.join(here, "..", "dollar"))))
+    start(main)

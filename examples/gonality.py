@@ -21,45 +21,43 @@ degree one run of the program, over all of them.
 
 Trees have 1, cycles 2, complete graphs one less than vertices, two vertices joined more than once 2, complete bipartite graphs
 the lesser part, and the cube and Petersen's graph 4."""
-import doctest, itertools, json, os, shutil, sys, types
+import doctest, itertools, json, os
 
-sys.path.insert(0, os.path.dirname(os.path.abspath(__file__)))
+from driver import program_of, start
 import dollar
 
 
 def graph(size, edges):
     """A table with these edges between so many vertices."""
-    return dollar.table_of(types.SimpleNamespace(nodes=list(range(size)), edges=edges), {})
+    matrix = [[0] * size for _ in range(size)]
+    for u, v in edges:
+        matrix[u][v] += 1
+        matrix[v][u] += 1
+    return dollar.Table(matrix)
 
 
 def placed(table, degree):
     """The table with so many dollars in each way in which q has one of them at least."""
-    names = table["vertices"]
-    for more in itertools.combinations_with_replacement(names, degree - 1):
-        yield dict(table, amounts=[(name == table["q"]) + more.count(name) for name in names])
+    for more in itertools.combinations_with_replacement(table.vertices, degree - 1):
+        yield dict(table, amounts=[(name == table.q) + more.count(name) for name in table.vertices])
 
 
 def gonality(table):
     """The least degree of an effective divisor of rank at least 1: at most a dollar for each vertex."""
-    for degree in itertools.count(1):
-        for found in dollar.rank_all(placed(table, degree), 1):
-            if isinstance(found, dollar.Fault):
-                raise found
-            if found[0] == "rank at least":
-                return degree
+    return next(degree for degree in itertools.count(1) if any(dollar.rank_all(placed(table, degree), 1, errors="raise")))
+
+
+def main(words):
+    os.environ["DOLLAR"] = program_of(words)
+    if words[1:]:
+        with open(words[1]) as file:
+            for line in file:
+                print(gonality(dollar.Table(json.loads(line))), flush=True)
+        return 0
+    failed, tried = doctest.testmod()
+    print("%d passed, %d failed" % (tried - failed, failed))
+    return failed > 0
 
 
 if __name__ == "__main__":
-    if len(sys.argv) > 1:
-        program = shutil.which(sys.argv[1])
-        if not program:
-            sys.exit("gonality.py: %s is no program; the words are [PROGRAM [FILE]]" % sys.argv[1])
-        os.environ["DOLLAR"] = os.path.abspath(program)
-    if len(sys.argv) > 2:
-        with open(sys.argv[2]) as file:
-            for line in file:
-                print(gonality(json.loads(line)), flush=True)
-        sys.exit()
-    failed, tried = doctest.testmod()
-    print("%d passed, %d failed" % (tried - failed, failed))
-    sys.exit(failed > 0)
+    start(main, "[PROGRAM [FILE]]", 2)

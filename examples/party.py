@@ -10,6 +10,8 @@ steps in the order that came about, and `serve` one of the scripts. The last lin
 where none failed."""
 import collections, itertools, json, os, random, re, subprocess, sys, tempfile
 
+from driver import program_of, start
+
 SEATS, LINES = 64, 1024
 TABLE = {
     "vertices": ["a", "b", "c", "d"],
@@ -228,8 +230,8 @@ def some_script(rng, names):
     return lines
 
 
-def main(program):
-    results = []
+def main(words):
+    program, results = program_of(words), []
 
     def check(fine, what):
         print("%s: %s" % ("passed" if fine else "FAILED", what))
@@ -320,5 +322,4 @@ def main(program):
 
 
 if __name__ == "__main__":
-    here = os.path.dirname(os.path.abspath(__file__))
-    sys.exit(main(os.path.abspath(sys.argv[1] if len(sys.argv) > 1 else os.path.join(here, "..", "dollar"))))
+    start(main)

@@ -4,8 +4,8 @@
     examples/sweep.py [--scheduler ADDRESS | --processes N] [--program PROGRAM] [--chunk LINES] FILE CSV
 
 The cluster is the one whose scheduler has the address, or one of N processes on this machine, by default as many as there are
-processors. PROGRAM is the program as the workers find it; by default the one of this clone. Each worker hands its chunks, of
-1,000 lines by default, to one `dollar judge --lines /dev/stdin`. Dask is the Python module `distributed`, in Debian the package
+processors. PROGRAM is the program as the workers find it; by default the one of this clone. A worker hands each of its chunks, of
+1,000 lines by default, to a `dollar judge --lines /dev/stdin`. Dask is the Python module `distributed`, in Debian the package
 python3-distributed.
 
 The CSV file has a row for each line, in order: its number from 1 on, the answer (`winnable`, `unwinnable`, or `refused` and why),
@@ -17,29 +17,20 @@ terminal the number of rows is shown as it grows.
     [7, 'winnable', 'a=0 b=-1', 'a=0 b=1']
     >>> row(8, "refused no vertex q")
     [8, 'refused no vertex q', '', '']"""
-import argparse, collections, csv, itertools, os, signal, subprocess, sys, threading
+import argparse, collections, csv, itertools, os, signal, subprocess, sys
+
+from driver import HERE, program_of, start
 
 HEADER = ["line", "answer", "script", "amounts"]
-HERE = os.path.dirname(os.path.abspath(__file__))
 PROGRAM = os.path.join(HERE, "..", "crates", "dollar", "out", "dollar")
 
 
 def judged(program, lines):
-    """The answers to some lines, by the program that this thread of the worker has started, or starts now."""
-    from distributed import get_worker
-
-    worker, key = get_worker(), "dollar %s %d" % (program, threading.get_ident())
-    child = getattr(worker, key, None)
-    if child is None or child.poll() is not None:
-        child = subprocess.Popen([program, "judge", "--lines", "/dev/stdin"], stdin=subprocess.PIPE, stdout=subprocess.PIPE)
-        setattr(worker, key, child)
-    sender = threading.Thread(target=lambda: (child.stdin.write(b"".join(lines)), child.stdin.flush()))
-    sender.start()
-    answers = [child.stdout.readline() for _ in lines]
-    sender.join()
-    if not answers[-1].endswith(b"\n"):
-        raise RuntimeError("%s ended with status %d" % (program, child.wait()))
-    return [answer[:-1].decode() for answer in answers]
+    """The answers to some lines, by a run of the program on a worker."""
+    done = subprocess.run([program, "judge", "--lines", "/dev/stdin"], input=b"".join(lines), stdout=subprocess.PIPE)
+    if done.returncode:
+        raise ChildProcessError("%s ended with status %d" % (program, done.returncode))
+    return done.stdout.decode().splitlines()
 
 
 def row(number, answer):
@@ -57,7 +48,7 @@ def rows_kept(place):
         return 0
     with open(place, "r+b") as file:
         if not (",".join(HEADER) + "\n").encode().startswith(file.readline()):
-            sys.exit("sweep.py: %s is there, and is no CSV file of a sweep; nothing was changed" % place)
+            raise ValueError("%s is there, and is no CSV file of a sweep; nothing was changed" % place)
         file.seek(0)
         size = rows = 0
         for line in file:
@@ -130,21 +121,21 @@ def words_of(arguments):
 
 def main(arguments):
     words = words_of(arguments)
+    with open(words.file, "rb"):
+        pass
     try:
         from distributed import Client, LocalCluster
     except ModuleNotFoundError as error:
-        sys.exit("sweep.py: this Python, %s, has %s" % (sys.executable, str(error).lower()))
+        raise ValueError("this Python, %s, has %s" % (sys.executable, str(error).lower())) from error
 
     if words.scheduler:
         with Client(words.scheduler) as client:
             return sweep(client, words)
+    words.program = program_of([words.program])
     with LocalCluster(n_workers=words.processes, threads_per_worker=1, dashboard_address=None) as cluster, Client(cluster) as client:
         client.run(no_interrupts)
         return sweep(client, words)
 
 
 if __name__ == "__main__":
-    try:
-        main(sys.argv[1:])
-    except KeyboardInterrupt:
-        sys.exit(130)
+    start(main, most=len(sys.argv))

@@ -4,98 +4,37 @@
     examples/talk.py [PROGRAM]
 
 A session is the command `serve FILE`, and a table with seats for many people `serve FILE --seats N`. It answers each line
-before it reads on, so that a tool may write one line, wait for its answer, and choose the next line by it; `Session` below does
-just that. The answers expected here were worked out by hand. The last line is 'N passed, M failed'; the status is 0 where none
-failed."""
-import os, subprocess, sys, threading
+before it reads on, so that a tool may write one line, wait for its answer, and choose the next line by it; the class `Session` of
+the package `dollar` does just that. The answers expected here were worked out by hand. The last line is 'N passed, M failed'; the
+status is 0 where none failed."""
+import os
 
+from driver import HERE, program_of, start
+import dollar
+from dollar import Ended
 
 results = []
 
 
-class Ended(Exception):
-    """The session ended in place of an answer, or had ended before; `fault` is what the program said on standard error."""
-
-    def __init__(self, status, fault):
-        super().__init__("the session ended with status %s: %s" % (status, fault or "nothing was said"))
-        self.status, self.fault = status, fault
-
-
-def one_line(line):
-    """The bytes of a line, which is given without its newline. A ValueError where that is no line of a session."""
-    if "\n" in line:
-        raise ValueError("a line has a newline in it")
-    sent = line.encode()
-    if len(sent) > 1024:
-        raise ValueError("a line has more than 1024 bytes")
-    return sent
-
-
-class Session:
-    """A session of PROGRAM on the table of a file. Options are those of `serve`, as "--cap", "100"."""
+class Session(dollar.Session):
+    """`dollar.Session(table, program=PROGRAM)`, as it was called before: the program first, options as words, as "--cap", "100", and
+    answers as texts."""
 
     def __init__(self, program, table, *options, patience=20):
-        self.patience, self.end = patience, None
-        self.child = subprocess.Popen([program, "serve", table, *options], stdin=subprocess.PIPE,
-                                      stdout=subprocess.PIPE, stderr=subprocess.PIPE)
+        super().__init__(table, *options, program=program, patience=patience)
 
     def ask(self, line):
-        """The answer to a line, both without a newline. Raises Ended where the session ends instead.
-
-        A line with a newline in it would be two, and have two answers, of which the second would be taken for that of the next
-        line; and one with more than 1,024 bytes would end the session. So both raise ValueError, and nothing is sent."""
-        return self.ask_bytes(one_line(line))
-
-    def ask_bytes(self, line):
-        """The same of a line as bytes, whatever it is."""
-        if self.end:
-            raise Ended(*self.end)
-        try:
-            self.child.stdin.write(line + b"\n")
-            self.child.stdin.flush()
-        except BrokenPipeError:
-            pass  # it has ended: there is no answer to be read, and the fault is on standard error
-        answer = self._watched(self.child.stdout.readline)
-        if not answer.endswith(b"\n"):
-            raise Ended(*self.close())
-        return answer[:-1].decode()
+        return str(super().ask(line))
 
     def close(self):
-        """Ends the input, which ends the session. Gives the exit status and the line on standard error, the same at each call."""
-        if not self.end:
-            _, fault = self._watched(self.child.communicate)
-            self.end = self.child.returncode, fault.decode().rstrip("\n")
-        return self.end
-
-    def _watched(self, wait):
-        # A read from a pipe waits for ever. The watchdog kills a program that says nothing, which ends the read.
-        late = threading.Event()
-        watchdog = threading.Timer(self.patience, lambda: (late.set(), self.child.kill()))
-        watchdog.start()
-        try:
-            got = wait()
-        finally:
-            watchdog.cancel()
-        if late.is_set():
-            self.child.communicate()
-            self.end = self.child.returncode, "nothing for %s seconds, after which it was killed" % self.patience
-            raise TimeoutError("the program said nothing for %s seconds, and was killed" % self.patience)
-        return got
+        return tuple(super().close())
 
 
 class Table(Session):
-    """A table with so many seats, each with a look of its own, for a tool that many people use at once. Any thread may ask: a
-    line and its answer stay together. A thread that holds `turn` may ask too, and nobody else asks while it does: so it can write
-    down line and answer in the order of the game."""
+    """`dollar.Session(table, seats=N)`, as it was called before."""
 
     def __init__(self, program, table, seats, *options, patience=20):
         super().__init__(program, table, "--seats", str(seats), *options, patience=patience)
-        self.turn = threading.RLock()
-
-    def ask_seat(self, seat, line):
-        """The answer to a line of the seat, a number from 1 on; it is `bad seat` where there is none. Raises as `ask` does."""
-        with self.turn:
-            return self.ask("%d %s" % (seat, line))
 
 
 def check(name, found, expected):
@@ -112,23 +51,33 @@ def play(name, session, lines, end):
         for line, answer in lines:
             try:
                 check("%s, %.20r" % (name, line), session.ask_bytes(line.encode()), answer)
-            except Ended as early:
+            except Ended:
                 check("%s, %.20r" % (name, line), None, answer)
-                check("%s, the end" % name, (early.status, early.fault), end)
-                return
+                break
         check("%s, the end" % name, session.close(), end)
     except TimeoutError as hang:
         check(name, str(hang), "an answer")
 
 
-def main(program):
-    triangle = os.path.join(os.path.dirname(os.path.abspath(__file__)), "triangle.json")
+def refused(ask, *words):
+    """What a call says that is refused."""
+    try:
+        return ask(*words)
+    except (ValueError, Ended) as error:
+        return str(error)
+
+
+def main(words):
+    program, triangle = program_of(words), os.path.join(HERE, "triangle.json")
     # The script ./dollar builds the program where it is not there yet, which no session should have to wait for.
-    subprocess.run([program, "judge", triangle], stdout=subprocess.DEVNULL)
+    dollar.judge(triangle, program)
+
+    def session(**options):
+        return dollar.Session(triangle, program=program, **options)
 
     # The triangle, where a has 2 dollars, and b and c owe one each: when a lends, nobody is in debt any more. The commit
     # uses the look up; a line that is bad has no number, and a gift that is refused has one.
-    play("a session", Session(program, triangle), [
+    play("a session", session(), [
         ("look", "0 looked 0 a=2 b=-1 c=-1"),
         ("lend a", "1 moved a=0 b=0 c=0"),
         ("commit", "2 winnable by a=0 b=0 c=0 to a=0 b=0 c=0"),
@@ -139,7 +88,7 @@ def main(program):
     ], (0, ""))
 
     # A gift of less than nothing is a levy. It counts as a gift, so that the verdict on the look before it is stale.
-    play("a levy", Session(program, triangle), [
+    play("a levy", session(), [
         ("look", "0 looked 0 a=2 b=-1 c=-1"),
         ("gift a -1", "1 given 1 a=1 b=-1 c=-1"),
         ("commit", "2 stale 1"),
@@ -147,7 +96,7 @@ def main(program):
 
     # A join adds an edge, and counts as a gift does. The amounts are as they were; but along two edges a now sends b two
     # dollars when it lends.
-    play("a join", Session(program, triangle), [
+    play("a join", session(), [
         ("look", "0 looked 0 a=2 b=-1 c=-1"),
         ("join a a", "1 refused loop"),
         ("join a b", "2 joined 1 a=2 b=-1 c=-1"),
@@ -157,57 +106,42 @@ def main(program):
 
     # A tool that chooses by the answers: whoever owes most borrows, until nobody owes anything. First b, the earlier of
     # two who owe a dollar, and then c, who owes two after that.
-    session, position = Session(program, triangle), {"a": 2, "b": -1, "c": -1}
-    borrowed = []
-    try:
+    borrowed, position = [], {"a": 2, "b": -1, "c": -1}
+    with session() as tool:
         while min(position.values()) < 0 and len(borrowed) < 10:
             borrowed.append(min(position, key=position.get))
-            number, word, *pairs = session.ask("borrow " + borrowed[-1]).split(" ")
-            position = {name: int(amount) for name, amount in (pair.split("=") for pair in pairs)}
-        check("a tool, the last answer", session.ask("claim"), "2 won")
-        check("a tool, the end", session.close(), (0, ""))
-    except (Ended, TimeoutError, ValueError) as fault:
-        check("a tool", str(fault), "answers")
+            position = tool.ask("borrow " + borrowed[-1]).amounts
+        check("a tool, the last answer", tool.ask("claim"), ("won",))
     check("a tool, who borrowed", borrowed, ["b", "c"])
 
     # A line that ends a session has no answer; the calls that were entered before it stand.
-    play("a full history", Session(program, triangle, "--cap", "1"), [("claim", "0 not won"), ("claim", None)],
-         (3, "dollar: the history is full"))
-    play("a long line", Session(program, triangle), [("x" * 1024, "bad word"), ("x" * 1025, None)],
-         (3, "dollar: long line"))
-    play("no line", Session(program, triangle), [], (0, ""))
+    play("a full history", session(cap=1), [("claim", "0 not won"), ("claim", None)], (3, "dollar: the history is full"))
+    play("a long line", session(), [("x" * 1024, "bad word"), ("x" * 1025, None)], (3, "dollar: long line"))
+    play("no line", session(), [], (0, ""))
 
     # Who asks on after the end is told of it each time.
-    session, told = Session(program, triangle, "--cap", "1"), []
-    for line in "claim", "claim", "look":
-        try:
-            told.append(session.ask(line))
-        except Ended as early:
-            told.append((early.status, early.fault))
-    full = (3, "dollar: the history is full")
-    check("after the end", told + [session.close(), session.close()], ["0 not won"] + [full] * 4)
+    full = session(cap=1)
+    over = "the session has ended with status 3: the history is full"
+    check("after the end", [str(refused(full.ask, line)) for line in ("claim", "claim", "look")], ["0 not won", over, over])
+    check("after the end, closed", [full.close(), full.close()], [(3, "dollar: the history is full")] * 2)
 
     # A tool that hands on what a stranger wrote is refused what is no line, and the next answer is that to the next line.
-    session = Session(program, triangle)
-    for line, refused in (("look\nclaim", "a line has a newline in it"), ("x" * 1025, "a line has more than 1024 bytes")):
-        try:
-            check("no line of a session, %.20r" % line, session.ask(line), None)
-        except ValueError as fault:
-            check("no line of a session, %.20r" % line, str(fault), refused)
-    play("after what is no line", session, [("claim", "0 not won")], (0, ""))
+    strange = session()
+    for line, fault in (("look\nclaim", "a line has a newline in it"), ("x" * 1025, "a line has more than 1024 bytes")):
+        check("no line of a session, %.20r" % line, refused(strange.ask, line), fault)
+    play("after what is no line", strange, [("claim", "0 not won")], (0, ""))
 
     # Two seats, each with its own look; the third line is that of no seat, and so is one without a number.
-    table = Table(program, triangle, 2)
+    shared = session(seats=2)
     for seat, line, answer in ((1, "look", "0 looked 0 a=2 b=-1 c=-1"), (2, "commit", "bad look"), (3, "look", "bad seat"),
                                (2, "lend a", "1 moved a=0 b=0 c=0"),
                                (1, "commit", "2 winnable by a=0 b=0 c=0 to a=0 b=0 c=0")):
-        check("a table, seat %d, %s" % (seat, line), table.ask_seat(seat, line), answer)
-    play("a table, the end", table, [("look", "bad seat")], (0, ""))
+        check("a table, seat %d, %s" % (seat, line), str(shared.ask_seat(seat, line)), answer)
+    play("a table, the end", shared, [("look", "bad seat")], (0, ""))
 
     print("%d passed, %d failed" % (results.count(True), results.count(False)))
     return results.count(False) > 0
 
 
 if __name__ == "__main__":
-    here = os.path.dirname(os.path.abspath(__file__))
-    sys.exit(main(os.path.abspath(sys.argv[1] if len(sys.argv) > 1 else os.path.join(here, "..", "dollar"))))
+    start(main)

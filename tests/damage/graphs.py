@@ -1,12 +1,12 @@
 """Extreme graphs: many edges, few, long and heavy, with amounts at both limits. Each verdict is checked by its definition, in
 whole numbers without bounds; each rank test by making all trials."""
-import itertools, json
+import itertools, json, resource
 
-from runs import Run
+from runs import Run, TRIANGLE
 from dollar import answer, flaw
 from party import Game
 
-LIMIT, VALENCE, VERTICES = 1000000, 63, 16
+LIMIT, VALENCE, VERTICES, STACK = 1000000, 63, 16, 256 << 10
 
 
 def table(size, edges, amounts, q=0):
@@ -161,7 +161,27 @@ def both_ranks(checks, board, place):
                 [min(rank, 4) for rank in numbers[2:]])
 
 
+def small_stacks(checks):
+    """The least stack that docs/BOUNDS.md tells is enough for the deepest texts and the largest graphs."""
+    def limited():
+        resource.setrlimit(resource.RLIMIT_STACK, (STACK, resource.RLIM_INFINITY))
+
+    deep = {"arrays": b"[" * 127 + b"]" * 127, "objects": b'{"a":' * 127 + b"1" + b"}" * 127}
+    full = json.dumps(table(VERTICES, complete(VERTICES, 4), [LIMIT] * VERTICES)).encode()
+    steps, script = checks.put("steps", b"1 look\n1 commit\n1 look\n1 rank 1\n"), checks.put("script", b"look\ncommit\nlook\nrank 1\n")
+    for what, text in (*deep.items(), ("sixteen vertices", full), ("a triangle", TRIANGLE)):
+        board = checks.put("board", text)
+        for words in (("judge", board), ("rank", board, "1"), ("rank", board, "1", "--workers", "16"), ("rr", board), ("greedy", board, "3"),
+                      ("rehearse", board, steps), ("party", board, script), ("judge", "--lines", board), ("rr", "--lines", "--workers", "16", board)):
+            checks.same("%s of %s with a stack of 256 KiB" % (words[0], what), checks.run(*words), checks.run(*words, before=limited))
+        checks.same("serve of %s with a stack of 256 KiB" % what, checks.run("serve", board, typed=b"look\ncommit\nlook\nrank 1\n"),
+                    checks.run("serve", board, typed=b"look\ncommit\nlook\nrank 1\n", before=limited))
+    for words in (("--help",), ("--version",), ("help", "serve"), ("judge",), ("nothing",)):
+        checks.same("%s with a stack of 256 KiB" % " ".join(words), checks.run(*words), checks.run(*words, before=limited))
+
+
 def check(checks):
+    small_stacks(checks)
     by_hand(checks)
     verdicts(checks)
     ranks(checks)

@@ -1,5 +1,6 @@
-"""Runs whose files and streams are not what they should be: closed, full, without end, gone in mid-answer, or interrupted."""
-import os, resource, shutil, signal, subprocess, tempfile, threading, time
+"""Runs whose files and streams are not what they should be: closed, full, without end, gone in mid-answer, not read, or
+interrupted."""
+import array, fcntl, os, resource, shutil, signal, subprocess, tempfile, termios, threading, time
 
 from runs import PATIENCE, TRIANGLE, WON, Run, refused
 
@@ -250,6 +251,68 @@ def interrupted_ranks(checks, number, words):
     checks.holds("%s, interrupted" % " ".join(words), ended in endings and endings <= allowed, endings)
 
 
+def waits(output):
+    """Waits until nothing more comes into a pipe that nobody reads, and tells how much is in it."""
+    held, until, seen = array.array("i", [0]), time.monotonic() + PATIENCE, []
+    while time.monotonic() < until and (len(seen) < 10 or seen[-10] != seen[-1] or seen[-1] == 0):
+        time.sleep(0.03)
+        fcntl.ioctl(output, termios.FIONREAD, held)
+        seen.append(held[0])
+    return seen[-1]
+
+
+LOOKS, TURNS, TABLES = 20000, 65536, 20000
+
+
+def long_answers(checks):
+    """Runs whose answers are longer than a pipe holds: the words, a file for the input or None, and all that they print."""
+    table, circle = checks.put("triangle", TRIANGLE), checks.put("poor", TRIANGLE.replace(b"[2,-1,-1]", b"[-1,1,0]"))
+    looks, steps = checks.put("looks", b"look\n" * LOOKS), checks.put("look_steps", b"1 look\n" * LOOKS)
+    tables = checks.put("tables", (TRIANGLE + b"\n") * TABLES)
+    seen = b"".join(b"%d looked 0 a=2 b=-1 c=-1\n" % entry for entry in range(LOOKS))
+    seat = b"".join(b"%d 1 looked 0 a=2 b=-1 c=-1\n" % entry for entry in range(LOOKS))
+    # The first in debt borrows, and after three turns all is as it was: -1 1 0, then 1 0 -1, then 0 -1 1.
+    turns = b"".join(b"%d moved %s\n" % (turn, (b"a=1 b=0 c=-1", b"a=0 b=-1 c=1", b"a=-1 b=1 c=0")[turn % 3]) for turn in range(TURNS))
+    return [
+        (("serve", table), looks, seen), (("serve", table, "--seats", "1"), steps, seen), (("rehearse", table, steps), None, seen),
+        (("party", table, looks), None, seat), (("greedy", circle, str(TURNS)), None, turns),
+        (("judge", "--lines", tables), None, WON * TABLES), (("rank", "--lines", tables, "0"), None, b"rank at least 0\n" * TABLES),
+        (("rr", "--lines", tables), None, b"degree 0 genus 1 rank 0 dual 0\n" * TABLES)]
+
+
+def unread_answers(checks):
+    """A reader that waits while the program is interrupted gets a beginning of the answers, which may end within a line, and no
+    word of a fault."""
+    cut = 0
+    for words, given, whole in long_answers(checks):
+        for number in (signal.SIGINT, signal.SIGTERM):
+            with open(given or os.devnull, "rb") as typed:
+                child = checks.start(*words, stdin=typed)
+                held = waits(child.stdout)
+                child.send_signal(number)
+                run = ended_run(child)
+            what = "%s, interrupted, whose reader waits" % " ".join(words[:2] if words[1] == "--lines" else words[:1])
+            checks.same(what, (-number, b""), (run.status, run.faults))
+            checks.holds("%s: the output" % what, held <= len(run.output) < len(whole) and whole.startswith(run.output), len(run.output))
+            cut += not run.output.endswith(b"\n")
+    checks.holds("an output that is cut within a line", cut > 0)
+
+
+def file_limits(checks):
+    """A file that may not grow: the signal for it ends the program without a word, and where that is ignored the end is a write
+    fault; the file has the first bytes of the answer either way."""
+    words, _, whole = long_answers(checks)[2]
+    for name, action, status, faults in (("", signal.SIG_DFL, -signal.SIGXFSZ, b""), (", signal ignored", signal.SIG_IGN, WRITE.status, WRITE.faults)):
+        def limited():
+            signal.signal(signal.SIGXFSZ, action)
+            resource.setrlimit(resource.RLIMIT_FSIZE, (1000, 1000))
+
+        with tempfile.TemporaryFile() as output:
+            run = checks.run(*words, before=limited, stdout=output)
+            output.seek(0)
+            checks.same("an output that may have 1,000 bytes%s" % name, Run(status, whole[:1000], faults), run._replace(output=output.read()))
+
+
 def ended_run(child, before=b""):
     """How a run ends that has printed something before."""
     output, faults = child.communicate(timeout=PATIENCE)
@@ -265,3 +328,5 @@ def check(checks):
     changing_files(checks)
     threads(checks)
     interrupts(checks)
+    unread_answers(checks)
+    file_limits(checks)

@@ -1,0 +1,75 @@
+"""Builds the package for pip from the standard library alone: so `pip install ./python` asks no network for anything.
+
+pip calls the functions below (PEP 517, and PEP 660 for `pip install -e`). Equal files make an equal wheel, byte for byte."""
+
+import base64
+import hashlib
+import io
+import re
+import tarfile
+import zipfile
+from pathlib import Path
+
+HERE = Path(__file__).resolve().parent
+VERSION = re.search(r'^__version__ = "(.+)"$', (HERE / "dollar" / "__init__.py").read_text(encoding="utf-8"), re.MULTILINE)[1]
+NAME = "dollar-" + VERSION
+METADATA = """Metadata-Version: 2.1
+Name: dollar
+Version: %s
+Summary: The dollar game of Baker and Norine from Python, by the proved program dollar
+Requires-Python: >=3.9
+""" % VERSION
+WHEEL = """Wheel-Version: 1.0
+Generator: backend.py of dollar
+Root-Is-Purelib: true
+Tag: py3-none-any
+"""
+
+
+def sources():
+    """The files of the package, by the names that they have in it. Where vertices stand on pictures is told by a module of the board."""
+    files = [file for file in sorted((HERE / "dollar").iterdir()) if file.suffix in (".py", ".typed")]
+    files += [file for file in [HERE.parent / "board" / "places.py"] if file.is_file()]
+    return {"dollar/" + file.name: file.read_bytes() for file in files}
+
+
+def record_of(files):
+    """The list of the files of a wheel, with their hashes."""
+    rows = []
+    for name, content in files.items():
+        digest = base64.urlsafe_b64encode(hashlib.sha256(content).digest()).rstrip(b"=").decode()
+        rows.append("%s,sha256=%s,%d\n" % (name, digest, len(content)))
+    return "".join(rows)
+
+
+def wheel_of(folder, files):
+    """Writes a wheel with these files into a folder, and tells its name."""
+    info = NAME + ".dist-info/"
+    files = dict(files, **{info + "METADATA": METADATA.encode(), info + "WHEEL": WHEEL.encode()})
+    files[info + "RECORD"] = (record_of(files) + info + "RECORD,,\n").encode()
+    name = NAME + "-py3-none-any.whl"
+    with zipfile.ZipFile(Path(folder) / name, "w", zipfile.ZIP_DEFLATED) as wheel:
+        for path, content in files.items():
+            entry = zipfile.ZipInfo(path)
+            entry.compress_type, entry.external_attr = zipfile.ZIP_DEFLATED, 0o644 << 16
+            wheel.writestr(entry, content)
+    return name
+
+
+def build_wheel(wheel_directory, config_settings=None, metadata_directory=None):
+    return wheel_of(wheel_directory, sources())
+
+
+def build_editable(wheel_directory, config_settings=None, metadata_directory=None):
+    return wheel_of(wheel_directory, {"dollar.pth": (str(HERE) + "\n").encode()})
+
+
+def build_sdist(sdist_directory, config_settings=None):
+    files = dict(sources(), **{name: (HERE / name).read_bytes() for name in ("pyproject.toml", "backend.py")})
+    files["PKG-INFO"] = METADATA.encode()
+    with tarfile.open(Path(sdist_directory) / (NAME + ".tar.gz"), "w:gz", format=tarfile.PAX_FORMAT) as archive:
+        for name, content in files.items():
+            entry = tarfile.TarInfo(NAME + "/" + name)
+            entry.size, entry.mode = len(content), 0o644
+            archive.addfile(entry, io.BytesIO(content))
+    return NAME + ".tar.gz"

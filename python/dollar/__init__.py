@@ -1,0 +1,44 @@
+"""The dollar game from Python: tables, verdicts, ranks, games and sweeps, by the program `dollar`.
+
+>>> import dollar
+>>> triangle = dollar.Table({"vertices": ["a", "b", "c"], "edges": [["a", "b", 1], ["b", "c", 1], ["a", "c", 1]],
+...                          "amounts": [2, -1, -1], "q": "a"})
+>>> print(dollar.judge(triangle))
+winnable by a=0 b=-1 c=-1 to a=0 b=0 c=0
+>>> print(dollar.rank(triangle, 1))
+rank below 1 at a=0 b=0 c=1
+>>> dollar.rr(triangle)
+RiemannRoch(degree=0, genus=1, rank=0, dual=0)
+
+A table is made of whatever has a graph, and what is no table is an error; see `Table`. `judge_all`, `rank_all` and `rr_all` answer
+many tables, `Session` plays line by line, `flaw` checks a verdict without the program. docs/PYTHON.md shows it all.
+"""
+
+from dollar import former
+from dollar.answers import (
+    Answer, Entry, History, Party, RankTest, Refused, RefusedRankTest, RefusedRiemannRoch, RefusedVerdict, RiemannRoch, Verdict, answer,
+    history, to_csv)
+from dollar.checks import burnt, edges, fired, flaw, joined
+from dollar.commands import greedy, judge, party, rank, rehearse, rr, run
+from dollar.drawing import picture
+from dollar.program import Fault, ProgramNotFound, find_program
+from dollar.session import End, Ended, Session
+from dollar.sweeps import judge_all, rank_all, rr_all
+from dollar.table import Table, example
+
+__version__ = "1.0.0"
+
+__all__ = [
+    "Answer", "End", "Ended", "Entry", "Fault", "History", "Party", "ProgramNotFound", "RankTest", "Refused", "RefusedRankTest",
+    "RefusedRiemannRoch", "RefusedVerdict", "RiemannRoch", "Session", "Table", "Verdict", "answer", "burnt", "edges", "example",
+    "find_program", "fired", "flaw", "greedy", "history", "joined", "judge", "judge_all", "party", "picture", "rank", "rank_all",
+    "rehearse", "rr", "rr_all", "run", "to_csv",
+]
+
+
+def __getattr__(name: str) -> object:
+    """The names that the module had before it was a package."""
+    if name in former.__all__:
+        found: object = getattr(former, name)
+        return found
+    raise AttributeError("module 'dollar' has no attribute %r" % name)

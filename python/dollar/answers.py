@@ -1,0 +1,482 @@
+"""What the program answers, as small typed values."""
+
+from __future__ import annotations
+
+import csv
+import re
+from collections.abc import Mapping as AbstractMapping
+from dataclasses import InitVar, dataclass, fields
+from html import escape
+from typing import IO, Any, Callable, Dict, Iterable, Iterator, List, Optional, Tuple, Union
+
+from dollar import checks, drawing
+from dollar.program import Fault
+
+Pairs = Dict[str, int]
+
+
+def pairs_text(amounts: Pairs) -> str:
+    """The amounts as the program prints them.
+
+    >>> pairs_text({"a": 2, "b": -1})
+    'a=2 b=-1'
+    """
+    return " ".join("%s=%d" % pair for pair in amounts.items())
+
+
+def pairs_of(text: str) -> Pairs:
+    """The amounts that the program has printed so."""
+    return {name: int(amount) for name, amount in (pair.split("=") for pair in text.split(" "))}
+
+
+class Answer:
+    """What all answers have: they print as the program prints them, and are equal to the tuple of their parts, and can be taken
+    apart like it."""
+
+    def parts(self) -> Tuple[Any, ...]:
+        """The answer as a tuple: its word, its numbers, and its amounts as dicts."""
+        raise NotImplementedError
+
+    def __iter__(self) -> Iterator[Any]:
+        return iter(self.parts())
+
+    def __len__(self) -> int:
+        return len(self.parts())
+
+    def __getitem__(self, place: Any) -> Any:
+        return self.parts()[place]
+
+    def __eq__(self, other: object) -> bool:
+        if isinstance(other, Answer):
+            return self.parts() == other.parts()
+        if isinstance(other, tuple):
+            return self.parts() == other
+        return NotImplemented
+
+    def __hash__(self) -> int:
+        return hash(str(self))
+
+
+@dataclass(frozen=True, eq=False)
+class Verdict(Answer):
+    """Whether all debts can be cleared; how often each vertex lends; and the reduced divisor to which that leads.
+
+    >>> from dollar import Table, judge
+    >>> table = Table({"vertices": ["a", "b"], "edges": [["a", "b", 1]], "amounts": [2, -1], "q": "a"})
+    >>> verdict = judge(table)
+    >>> verdict
+    Verdict(winnable=True, script={'a': 0, 'b': -1}, reduced={'a': 1, 'b': 0})
+    >>> print(verdict)
+    winnable by a=0 b=-1 to a=1 b=0
+    >>> verdict == ("winnable", {"a": 0, "b": -1}, {"a": 1, "b": 0})
+    True
+    >>> "can be won" if verdict else "can't be won"
+    'can be won'
+
+    What it leads to can be handed back as the amounts of a table:
+
+    >>> print(judge(Table(table, verdict.reduced)))
+    winnable by a=0 b=0 to a=1 b=0
+    """
+
+    winnable: bool
+    script: Pairs
+    reduced: Pairs
+    table: InitVar[Any] = None
+
+    def __post_init__(self, table: Any) -> None:
+        object.__setattr__(self, "_table", table)
+
+    def __bool__(self) -> bool:
+        return self.winnable
+
+    def __str__(self) -> str:
+        return "%s by %s to %s" % (self.parts()[0], pairs_text(self.script), pairs_text(self.reduced))
+
+    def parts(self) -> Tuple[Any, ...]:
+        return "winnable" if self.winnable else "unwinnable", self.script, self.reduced
+
+    def judged(self, table: Any = None) -> Any:
+        """The table that is given, or else the one that was judged."""
+        judged = getattr(self, "_table", None) if table is None else table
+        if judged is None:
+            raise ValueError("a verdict out of a history knows no table: say which one it is about")
+        return judged
+
+    def check(self, table: Any = None) -> None:
+        """Checks the verdict by its definition, which needs no trust in the program. A ValueError tells what is wrong. A verdict of
+        `judge` and `judge_all` knows its table.
+
+        >>> from dollar import Table, judge
+        >>> table = Table([[0, 1], [1, 0]], [2, -1])
+        >>> judge(table).check()
+        >>> Verdict(False, {"0": 0, "1": -1}, {"0": 1, "1": 0}).check(table)
+        Traceback (most recent call last):
+            ...
+        ValueError: q is in debt exactly where nothing can be won
+        """
+        found = checks.flaw(self.judged(table), self)
+        if found is not None:
+            raise ValueError(found)
+
+    def _repr_svg_(self) -> Optional[str]:
+        table = getattr(self, "_table", None)
+        return None if table is None else drawing.picture(table, script=self.script)
+
+
+@dataclass(frozen=True, eq=False)
+class RankTest(Answer):
+    """Whether so many dollars can be lost, wherever; if not, the first way to lose them after which the table can't be won. `loss`
+    is None as well where a law settles a test that is past the limits.
+
+    >>> from dollar import Table, rank
+    >>> table = Table([[0, 3], [3, 0]], [1, 1])
+    >>> print(rank(table, 1))
+    rank at least 1
+    >>> rank(table, 2)
+    RankTest(holds=False, degree=2, loss={'0': 0, '1': 2})
+    """
+
+    holds: bool
+    degree: int
+    loss: Optional[Pairs] = None
+
+    def __bool__(self) -> bool:
+        return self.holds
+
+    def __str__(self) -> str:
+        if self.holds:
+            return "rank at least %d" % self.degree
+        return "rank below %d at %s" % (self.degree, "?" if self.loss is None else pairs_text(self.loss))
+
+    def parts(self) -> Tuple[Any, ...]:
+        word = "rank at least" if self.holds else "rank below"
+        return (word, self.degree) if self.loss is None else (word, self.degree, self.loss)
+
+
+@dataclass(frozen=True, eq=False)
+class RiemannRoch(AbstractMapping[str, Optional[int]]):
+    """The degree, the genus, the rank, and the rank of the dual. A rank is None where `rr_all` finds it past the limits.
+
+    It prints as the program does, and is equal to the dict of its numbers:
+
+    >>> from dollar import Table, rr
+    >>> numbers = rr(Table([[0, 3], [3, 0]], [1, 1]))
+    >>> numbers
+    RiemannRoch(degree=2, genus=2, rank=1, dual=0)
+    >>> numbers.rank == numbers["rank"] == 1, numbers == {"degree": 2, "genus": 2, "rank": 1, "dual": 0}
+    (True, True)
+    >>> print(numbers)
+    degree 2
+    genus 2
+    rank 1
+    dual 0
+    """
+
+    degree: int
+    genus: int
+    rank: Optional[int]
+    dual: Optional[int]
+
+    def __getitem__(self, word: str) -> Optional[int]:
+        if word not in RIEMANN_ROCH:
+            raise KeyError(word)
+        number: Optional[int] = getattr(self, word)
+        return number
+
+    def __iter__(self) -> Iterator[str]:
+        return iter(RIEMANN_ROCH)
+
+    def __len__(self) -> int:
+        return len(RIEMANN_ROCH)
+
+    def __hash__(self) -> int:
+        return hash(tuple(self.values()))
+
+    def __str__(self) -> str:
+        return "\n".join("%s %s" % (word, "?" if number is None else number) for word, number in self.items())
+
+    def _repr_html_(self) -> str:
+        return table_html(RIEMANN_ROCH, [["?" if number is None else number for number in self.values()]])
+
+
+RIEMANN_ROCH = tuple(field.name for field in fields(RiemannRoch))
+
+
+@dataclass(frozen=True, eq=False)
+class Entry(Answer):
+    """An answer in a history or a session: its word, and what belongs to it.
+
+    `word` is `moved`, `given`, `joined`, `looked`, `won`, `not won`, `stale`, `turns`, `winnable`, `unwinnable`, `rank at least`,
+    `rank below`, or `refused` or `bad` and why. `gifts` is the count of gifts, levies and joins, `amounts` what the vertices hold,
+    `found` the verdict or the rank test that was entered. What begins with `bad` has no number, and changed nothing.
+
+    >>> from dollar import Table, rehearse
+    >>> looked, moved, verdict = rehearse(Table([[0, 1], [1, 0]], [2, -1]), ["1 look", "2 lend 0", "1 commit"])
+    >>> print(moved)
+    1 moved 0=1 1=0
+    >>> moved.word, moved.amounts, verdict.found.winnable
+    ('moved', {'0': 1, '1': 0}, True)
+    >>> moved == ("moved", {"0": 1, "1": 0})
+    True
+    """
+
+    word: str
+    gifts: Optional[int] = None
+    amounts: Optional[Pairs] = None
+    found: Union[Verdict, RankTest, None] = None
+    number: Optional[int] = None
+    seat: Optional[int] = None
+
+    def text(self) -> str:
+        """The text of the answer, without number and seat."""
+        if self.found is not None:
+            return str(self.found)
+        shown = [self.word, self.gifts, None if self.amounts is None else pairs_text(self.amounts)]
+        return " ".join(str(part) for part in shown if part is not None)
+
+    def __str__(self) -> str:
+        before = "".join("%d " % number for number in (self.number, self.seat) if number is not None)
+        return before + self.text()
+
+    def parts(self) -> Tuple[Any, ...]:
+        if self.found is not None:
+            return self.found.parts()
+        return tuple(part for part in (self.word, self.gifts, self.amounts) if part is not None)
+
+
+class History(List[Entry]):
+    """The entries of a game, in order, which print as the program prints them.
+
+    >>> from dollar import Table, greedy
+    >>> print(greedy(Table([[0, 1], [1, 0]], [2, -1]), 5))
+    0 moved 0=1 1=0
+    1 won
+    """
+
+    def __str__(self) -> str:
+        return "\n".join(map(str, self))
+
+    def _repr_html_(self) -> str:
+        rows = [["" if entry.number is None else entry.number, "" if entry.seat is None else entry.seat, entry.text()] for entry in self]
+        return table_html(("number", "seat", "answer"), rows)
+
+
+@dataclass(frozen=True)
+class Party:
+    """What a party made: the history, its totals, and for each seat whose session ended early the text of its fault.
+
+    >>> from dollar import Table, party
+    >>> played = party(Table([[0, 1], [1, 0]], [2, -1]), ["lend 0"], ["jump"])
+    >>> played.history == [("moved", {"0": 1, "1": 0})], played.calls, played.faults
+    (True, [1, 0], {})
+    >>> print(played)
+    0 1 moved 0=1 1=0
+    entries 1
+    gifts 0
+    position 0=1 1=0
+    seat 1 calls 1
+    seat 2 calls 0
+    """
+
+    history: History
+    gifts: int
+    position: Pairs
+    calls: List[int]
+    faults: Dict[int, str]
+
+    def __str__(self) -> str:
+        totals = ["entries %d" % len(self.history), "gifts %d" % self.gifts, "position " + pairs_text(self.position)]
+        return "\n".join([*map(str, self.history), *totals,
+                          *("seat %d calls %d" % (seat, calls) for seat, calls in enumerate(self.calls, 1))])
+
+    def _repr_html_(self) -> str:
+        return self.history._repr_html_()
+
+
+class Refused(Fault):
+    """A table of a sweep that was refused: a row that has None for each number, and in `refused` why.
+
+    It is a Fault that can be raised, and false, as is a verdict of what can't be won.
+
+    >>> from dollar import rr_all
+    >>> row, = rr_all([{"vertices": ["a"]}])
+    >>> row
+    RefusedRiemannRoch(degree=None, genus=None, rank=None, dual=None, refused='shape of top')
+    >>> row.rank is None, row.table, bool(row)
+    (True, 0, False)
+    """
+
+    refused: str
+
+    def __bool__(self) -> bool:
+        return False
+
+    def __reduce__(self) -> Tuple[Callable[..., Refused], Tuple[Any, ...]]:
+        return refusal, (type(self), self.text, self.table)
+
+
+@dataclass(eq=False)
+class RefusedVerdict(Refused):
+    """A table that was refused a verdict."""
+
+    winnable: None = None
+    script: None = None
+    reduced: None = None
+    refused: str = ""
+
+
+@dataclass(eq=False)
+class RefusedRankTest(Refused):
+    """A table that was refused a rank test."""
+
+    holds: None = None
+    degree: None = None
+    loss: None = None
+    refused: str = ""
+
+
+@dataclass(eq=False)
+class RefusedRiemannRoch(Refused):
+    """A table that was refused its four numbers."""
+
+    degree: None = None
+    genus: None = None
+    rank: None = None
+    dual: None = None
+    refused: str = ""
+
+
+def refusal(kind: Callable[..., Refused], text: str, table: Optional[int]) -> Refused:
+    """The row of such a kind for a table that was refused."""
+    row = kind(refused=text)
+    Fault.__init__(row, text, 3, table)
+    return row
+
+
+NUMBER = r"(?:0|-?[1-9]\d*)"
+AMOUNTS = r"(\w+={0}(?: \w+={0})*)".format(NUMBER)
+FORMS = [re.compile(form.replace("P", AMOUNTS).replace("N", r"(0|[1-9]\d*)"), re.ASCII) for form in (
+    "(moved) P", "(given|joined|looked) N P", "(won|not won)", "(winnable|unwinnable) by P to P", "(rank at least) N",
+    r"(rank below) N at (?:P|\?)", "(stale) N", r"(refused \w+)", r"(bad \w+)", "(turns)")]
+
+
+def no_answer(text: str) -> ValueError:
+    return ValueError("no answer of the program: %r" % text)
+
+
+def entry(text: str, number: Optional[int] = None, seat: Optional[int] = None) -> Entry:
+    """The entry with this text, which has no number and no seat before it.
+
+    >>> entry("given 1 a=2 b=0 c=-1")
+    Entry(word='given', gifts=1, amounts={'a': 2, 'b': 0, 'c': -1}, found=None, number=None, seat=None)
+    >>> entry("lent a")
+    Traceback (most recent call last):
+        ...
+    ValueError: no answer of the program: 'lent a'
+    """
+    form = next((found for found in (form.fullmatch(text) for form in FORMS) if found), None)
+    if form is None:
+        raise no_answer(text)
+    word, *rest = form.groups()
+    if word in ("winnable", "unwinnable"):
+        verdict = Verdict(word == "winnable", pairs_of(rest[0]), pairs_of(rest[1]))
+        return Entry(word, found=verdict, number=number, seat=seat)
+    if word in ("rank at least", "rank below"):
+        loss = pairs_of(rest[1]) if rest[1:] and rest[1] else None
+        return Entry(word, found=RankTest(word == "rank at least", int(rest[0]), loss), number=number, seat=seat)
+    gifts = next((int(part) for part in rest if part.isdigit()), None)
+    amounts = next((pairs_of(part) for part in rest if "=" in part), None)
+    return Entry(word, gifts, amounts, number=number, seat=seat)
+
+
+def answer(text: str) -> Union[Verdict, RankTest, Entry]:
+    """The answer with this text, which has no number before it."""
+    read = entry(text)
+    return read if read.found is None else read.found
+
+
+def numbered(line: str, with_seat: bool = False) -> Entry:
+    """The entry of a line that has its number before it, and its seat after that where it has one. An answer that begins with
+    `bad` has neither."""
+    form = re.fullmatch(r"(\d+) (\d+) (.+)" if with_seat else r"(\d+)() (.+)", line, re.ASCII)
+    if not form:
+        return entry(line)
+    return entry(form[3], int(form[1]), int(form[2]) if with_seat else None)
+
+
+def history(lines: Iterable[str], with_seat: bool = False) -> History:
+    """The entries of these lines, which have their numbers before them, from 0 on."""
+    entries = History(numbered(line, with_seat) for line in lines)
+    if [each.number for each in entries] != list(range(len(entries))):
+        raise ValueError("no history: %r" % [str(each) for each in entries])
+    return entries
+
+
+def verdict_of(text: str, table: Any = None) -> Verdict:
+    """The verdict with this text."""
+    found = entry(text).found
+    if not isinstance(found, Verdict):
+        raise no_answer(text)
+    return Verdict(found.winnable, found.script, found.reduced, table)
+
+
+def rank_test_of(text: str) -> RankTest:
+    """The rank test with this text."""
+    found = entry(text).found
+    if not isinstance(found, RankTest):
+        raise no_answer(text)
+    return found
+
+
+def riemann_roch_of(words: List[str]) -> RiemannRoch:
+    """The four numbers, of which each stands after its word."""
+    if tuple(words[::2]) != RIEMANN_ROCH or len(words) != 2 * len(RIEMANN_ROCH):
+        raise no_answer(" ".join(words))
+    degree, genus, rank, dual = (None if number == "?" else int(number) for number in words[1::2])
+    if degree is None or genus is None:
+        raise no_answer(" ".join(words))
+    return RiemannRoch(degree, genus, rank, dual)
+
+
+Row = Union[Verdict, RankTest, RiemannRoch, Refused]
+
+
+def cell(value: Any) -> Any:
+    """What a CSV file has for a value."""
+    if isinstance(value, dict):
+        return pairs_text(value)
+    return str(value).lower() if isinstance(value, bool) else value
+
+
+def to_csv(answers: Iterable[Row], file: Union[str, IO[str]]) -> int:
+    """Writes a CSV file of the answers of a sweep, a row for each: the number of the table, from 0, what was found, and in the last
+    column why a table was refused. `file` is its place, or a file that is open for writing. Tells how many rows there are.
+
+    >>> import sys
+    >>> from dollar import Table, rr_all
+    >>> to_csv(rr_all([Table([[0, 3], [3, 0]], [1, 1]), {"vertices": []}]), sys.stdout)
+    table,degree,genus,rank,dual,refused
+    0,2,2,1,0,
+    1,,,,,shape of top
+    2
+    """
+    if isinstance(file, str):
+        with open(file, "w", newline="") as opened:
+            return to_csv(answers, opened)
+    writer = csv.writer(file, lineterminator="\n")
+    count = 0
+    for count, row in enumerate(answers, 1):
+        names = [field.name for field in fields(row) if field.name != "refused"]
+        if count == 1:
+            writer.writerow(["table", *names, "refused"])
+        writer.writerow([count - 1, *(cell(getattr(row, name)) for name in names), getattr(row, "refused", None)])
+    return count
+
+
+def table_html(names: Iterable[object], rows: Iterable[Iterable[object]]) -> str:
+    """A table for a notebook."""
+    def row(tag: str, cells: Iterable[object]) -> str:
+        return "<tr>%s</tr>" % "".join("<%s>%s</%s>" % (tag, escape(str(each)), tag) for each in cells)
+
+    return "<table>%s%s</table>" % (row("th", names), "".join(row("td", cells) for cells in rows))

@@ -1,0 +1,426 @@
+"""Tables, and what they can be made of. Nothing that is given is dropped or rounded."""
+
+from __future__ import annotations
+
+import importlib
+import json
+import operator
+import os
+import re
+from collections.abc import Mapping as AbstractMapping
+from typing import TYPE_CHECKING, Any, Callable, Dict, Iterable, Iterator, List, NamedTuple, Optional, Tuple, Union
+
+from dollar import drawing
+from dollar.program import CLONE, Place, is_clone
+
+if TYPE_CHECKING:
+    from dollar.session import Session
+
+MEMBERS = ("vertices", "edges", "amounts", "q")
+NAME = re.compile(r"[A-Za-z0-9_]{1,16}", re.ASCII)
+# The program reads no further: a longer file is refused.
+MOST_BYTES = 1048576
+Edge = Tuple[str, str, int]
+
+
+def whole(number: Any, what: str) -> int:
+    """A whole number as an int. A TypeError names what it is if it is none, be it as near to one as it may.
+
+    >>> whole(1.0, "the amount of vertex a")
+    Traceback (most recent call last):
+        ...
+    TypeError: the amount of vertex a is no whole number: 1.0
+    """
+    try:
+        return int(operator.index(number))
+    except TypeError:
+        raise TypeError("%s is no whole number: %r" % (what, number)) from None
+
+
+class Multigraph(NamedTuple):
+    """What a table is made of: its vertices; for each edge two of them, and how often it is there; and the amounts and q, if it
+    tells them."""
+
+    vertices: List[Any]
+    edges: List[Tuple[Any, Any, int]]
+    amounts: Any = None
+    q: Any = None
+
+
+def edge_weight(u: Any, v: Any, weight: Any) -> int:
+    """How many edges a weight stands for."""
+    what = "the weight of the edge from %s to %s" % (u, v)
+    count = whole(weight, what)
+    if count < 1:
+        raise ValueError("%s is no number of edges: %d" % (what, count))
+    return count
+
+
+def merged(edges: Iterable[Tuple[Any, Any, int]], place: Dict[Any, int]) -> List[Tuple[Any, Any, int]]:
+    """The edges, those between the same two vertices as one, each from the earlier to the later vertex."""
+    counts: Dict[Tuple[Any, Any], int] = {}
+    for u, v, count in edges:
+        if u not in place or v not in place:
+            raise ValueError("the edge from %s to %s has no vertex" % (u, v))
+        if place[u] == place[v]:
+            raise ValueError("the edge from %s to %s is a loop" % (u, v))
+        pair = (u, v) if place[u] < place[v] else (v, u)
+        counts[pair] = counts.get(pair, 0) + count
+    return [(u, v, count) for (u, v), count in counts.items()]
+
+
+def of_networkx(graph: Any) -> Multigraph:
+    """The multigraph of a graph of networkx, or of whatever has its `nodes` and `edges`."""
+    vertices = list(graph.nodes)
+    if callable(graph.edges):
+        edges = [(u, v, edge_weight(u, v, data.get("weight", 1))) for u, v, data in graph.edges(data=True)]
+    else:
+        edges = [(u, v, 1) for u, v in graph.edges]
+    return Multigraph(vertices, merged(edges, {node: at for at, node in enumerate(vertices)}))
+
+
+def of_sage_graph(graph: Any) -> Multigraph:
+    """The multigraph of a Graph of Sage. If it is weighted, the weight of an edge is how often it is there."""
+    vertices = list(graph.vertices())
+    edges = []
+    for u, v, label in graph.edges(labels=True):
+        if label is not None and not graph.weighted():
+            raise ValueError("the edge from %s to %s has the label %r: only in a graph with weighted=True it is a number of edges"
+                             % (u, v, label))
+        edges.append((u, v, 1 if label is None else edge_weight(u, v, label)))
+    return Multigraph(vertices, merged(edges, {node: at for at, node in enumerate(vertices)}))
+
+
+def of_sandpile(sandpile: Any, amounts: Any = None) -> Multigraph:
+    """The multigraph of a Sandpile of Sage, which has each edge in both directions; its sink is q."""
+    vertices, ways = list(sandpile.vertices()), sandpile.dict()
+    counts = {(u, v): whole(count, "the weight of the edge from %s to %s" % (u, v))
+              for u, near in ways.items() for v, count in near.items()}
+    for (u, v), count in counts.items():
+        if counts.get((v, u), 0) != count:
+            raise ValueError("a directed graph has no table: from %s to %s there are %d edges, and %d back"
+                             % (u, v, count, counts.get((v, u), 0)))
+    place = {vertex: at for at, vertex in enumerate(vertices)}
+    edges = [(u, v, count) for (u, v), count in counts.items() if place[u] <= place[v] and count]
+    return Multigraph(vertices, merged(edges, place), amounts, sandpile.sink())
+
+
+def of_sandpile_divisor(divisor: Any) -> Multigraph:
+    """The multigraph and amounts of a SandpileDivisor of Sage."""
+    graph = of_sandpile(divisor.sandpile() if callable(divisor.sandpile) else divisor.sandpile, dict(divisor))
+    missing = [vertex for vertex in graph.vertices if vertex not in divisor]
+    if missing:
+        raise ValueError("there is no amount for vertex %s: a configuration has none at the sink" % missing[0])
+    return graph
+
+
+def of_matrix(matrix: Any) -> Multigraph:
+    """The multigraph of an adjacency matrix: how many edges join the vertex of a row to that of a column."""
+    rows = [list(row) for row in (matrix.to_numpy() if hasattr(matrix, "to_numpy") else matrix)]
+    if any(len(row) != len(rows) for row in rows):
+        raise ValueError("an adjacency matrix has as many columns as rows")
+    counts = [[whole(count, "the number of edges from %d to %d" % (u, v)) for v, count in enumerate(row)] for u, row in enumerate(rows)]
+    for u, row in enumerate(counts):
+        for v, count in enumerate(row):
+            if count < 0:
+                raise ValueError("the number of edges from %d to %d is %d" % (u, v, count))
+            if count != counts[v][u]:
+                raise ValueError("a directed graph has no table: from %d to %d there are %d edges, and %d back" % (u, v, count, counts[v][u]))
+    edges = [(u, v, count) for u, row in enumerate(counts) for v, count in enumerate(row[:u + 1]) if count]
+    return Multigraph(list(range(len(rows))), merged([(v, u, count) for u, v, count in edges], {v: v for v in range(len(rows))}))
+
+
+def of_members(table: Any) -> Multigraph:
+    """The multigraph, amounts and q of a table as a file has it."""
+    if set(table) != set(MEMBERS):
+        raise ValueError("a table has the members vertices, edges, amounts and q, and not %s" % ", ".join(map(str, table)))
+    vertices, edges = list(table["vertices"]), []
+    for at, edge in enumerate(table["edges"]):
+        if isinstance(edge, str) or len(edge) != 3:
+            raise ValueError("edge %d is no list of two names and a number: %r" % (at, edge))
+        edges.append((edge[0], edge[1], edge_weight(*edge)))
+    merged(edges, {vertex: at for at, vertex in enumerate(vertices)})
+    return Multigraph(vertices, edges, list(table["amounts"]), table["q"])
+
+
+def of_graph6(line: Union[str, bytes]) -> Multigraph:
+    """The multigraph of a line in the format graph6; its vertices are the numbers from 0 on."""
+    text = line.decode("ascii") if isinstance(line, bytes) else line
+    text = text.rstrip("\r\n")
+    if text.startswith(">>graph6<<"):
+        text = text[len(">>graph6<<"):]
+    codes = [ord(letter) - 63 for letter in text]
+    if not codes or not all(0 <= code < 64 for code in codes):
+        raise ValueError("no line of graph6: %r" % text)
+    size, pairs = codes[0], [(u, v) for v in range(codes[0]) for u in range(v)]
+    if size == 63:
+        raise ValueError("the graph has more than 62 vertices, and a table has at most 16")
+    bits = [code >> at & 1 for code in codes[1:] for at in range(5, -1, -1)]
+    if len(codes) - 1 != (len(pairs) + 5) // 6 or any(bits[len(pairs):]):
+        raise ValueError("no line of graph6: %r" % text)
+    return Multigraph(list(range(size)), [(u, v, 1) for (u, v), bit in zip(pairs, bits) if bit])
+
+
+def multigraph(thing: Any) -> Multigraph:
+    """What a table is to be made of, whatever says it."""
+    if isinstance(thing, Table):
+        return Multigraph(list(thing.vertices), list(thing.edges), list(thing.amounts), thing.q)
+    if isinstance(thing, (str, bytes, os.PathLike)):
+        raise TypeError("Table.read reads a file, and Table.graph6 a line of graph6: %r is neither a graph nor a matrix" % (thing,))
+    if hasattr(thing, "sandpile") and isinstance(thing, AbstractMapping):
+        return of_sandpile_divisor(thing)
+    if isinstance(thing, AbstractMapping):
+        return of_members(thing)
+    if hasattr(thing, "sink") and hasattr(thing, "dict"):
+        return of_sandpile(thing)
+    if hasattr(thing, "edges") and (hasattr(thing, "nodes") or hasattr(thing, "vertices")):
+        if getattr(thing, "is_directed", bool)():
+            raise ValueError("a directed graph has no table")
+        return of_networkx(thing) if hasattr(thing, "nodes") else of_sage_graph(thing)
+    if hasattr(thing, "__iter__"):
+        return of_matrix(thing)
+    raise TypeError("a table is made of a graph, a matrix or a table, and not of %r" % (thing,))
+
+
+def named(vertices: List[Any], names: Callable[[Any], str]) -> List[str]:
+    """The names of the vertices, which are all different."""
+    found: Dict[str, Any] = {}
+    for vertex in vertices:
+        name = names(vertex)
+        if not isinstance(name, str) or not NAME.fullmatch(name):
+            raise ValueError("vertex %s has no name of 1 to 16 letters from a to z or A to Z, digits or _: give them by the parameter "
+                             "`names`, a function from a vertex to its name" % (vertex,))
+        if name in found:
+            raise ValueError("the vertices %r and %r have the same name" % (found[name], vertex))
+        found[name] = vertex
+    return list(found)
+
+
+def place_of(key: Any, places: Dict[Any, int], names: Tuple[str, ...]) -> int:
+    """The place of a vertex, which is given as itself or by its name's text."""
+    try:
+        if key in places:
+            return places[key]
+    except TypeError:
+        pass
+    if str(key) in names:
+        return names.index(str(key))
+    raise ValueError("no vertex is %r: the vertices are %s" % (key, ", ".join(names)))
+
+
+def held(amounts: Any, places: Dict[Any, int], names: Tuple[str, ...]) -> Tuple[int, ...]:
+    """The amounts in the order of the vertices."""
+    if amounts is None:
+        return (0,) * len(names)
+    if isinstance(amounts, (set, frozenset, str)):
+        raise TypeError("amounts are a list in the order of the vertices, or a dict, and not %r" % (amounts,))
+    if not hasattr(amounts, "keys"):
+        given = list(amounts)
+        if len(given) != len(names):
+            raise ValueError("there are %d amounts for %d vertices" % (len(given), len(names)))
+        return tuple(whole(amount, "the amount of vertex %s" % name) for name, amount in zip(names, given))
+    found: Dict[int, int] = {}
+    for key in amounts.keys():
+        place = place_of(key, places, names)
+        if place in found:
+            raise ValueError("there are two amounts for vertex %s" % names[place])
+        found[place] = whole(amounts[key], "the amount of vertex %s" % names[place])
+    return tuple(found.get(place, 0) for place in range(len(names)))
+
+
+class Table:
+    """A graph, the dollars at its vertices, and the vertex q from which verdicts are reckoned. A table can't be changed.
+
+    It is made of a graph of networkx, which may be a MultiGraph; a Graph, a Sandpile or a SandpileDivisor of Sage; an adjacency
+    matrix; another table; or the members of a table file as a dict. `Table.read` reads a file, and `Table.graph6` a line of graph6.
+
+    The amounts are a list in the order of the vertices, or a dict, whose keys are vertices or the texts of their names; a vertex
+    that is not in it has 0 dollars. If they are not given, they are those of the table or divisor that was given, or else all 0.
+    q is the first vertex where neither says another. The name of a vertex is its text, unless `names` is a function that gives it
+    another; answers name vertices so.
+
+    >>> Table([[0, 2], [2, 0]], [3, -1])
+    Table({'vertices': ['0', '1'], 'edges': [['0', '1', 2]], 'amounts': [3, -1], 'q': '0'})
+    >>> table = Table({"vertices": ["a", "b"], "edges": [["a", "b", 1]], "amounts": [2, -1], "q": "a"})
+    >>> table.vertices, table.edges, table.amounts, table.q
+    (('a', 'b'), (('a', 'b', 1),), (2, -1), 'a')
+    >>> table.divisor
+    {'a': 2, 'b': -1}
+    >>> Table(table, {"b": 5}, "b").amounts
+    (0, 5)
+
+    What would have to be dropped or rounded is an error: a TypeError where a number is no whole number, and else a ValueError.
+
+    >>> Table(table, {"c": 5})
+    Traceback (most recent call last):
+        ...
+    ValueError: no vertex is 'c': the vertices are a, b
+    >>> Table(table, {"a": 1.7})
+    Traceback (most recent call last):
+        ...
+    TypeError: the amount of vertex a is no whole number: 1.7
+    """
+
+    __slots__ = ("_amounts", "_edges", "_q", "_vertices")
+
+    def __init__(self, graph: Any, amounts: Any = None, q: Any = None, *, names: Callable[[Any], str] = str) -> None:
+        made = graph if isinstance(graph, Multigraph) else multigraph(graph)
+        self._vertices = tuple(named(made.vertices, names))
+        places = {vertex: place for place, vertex in enumerate(made.vertices)}
+        self._edges: Tuple[Edge, ...] = tuple((self._vertices[places[u]], self._vertices[places[v]], count) for u, v, count in made.edges)
+        self._amounts = held(made.amounts if amounts is None else amounts, places, self._vertices)
+        q = made.q if q is None else q
+        if q is None and not self._vertices:
+            raise ValueError("there is no vertex")
+        self._q = self._vertices[0 if q is None else place_of(q, places, self._vertices)]
+
+    @classmethod
+    def read(cls, file: Place) -> Table:
+        """The table of a file."""
+        with open(file, encoding="utf-8") as text:
+            return cls(json.load(text))
+
+    @classmethod
+    def graph6(cls, line: Union[str, bytes], amounts: Any = None, q: Any = None) -> Table:
+        """The table of a line in the format graph6, as nauty's programs print it; its vertices are 0, 1, 2 and so on.
+
+        >>> Table.graph6("Bw", [1, 0, -1]).edges
+        (('0', '1', 1), ('0', '2', 1), ('1', '2', 1))
+        """
+        return cls(of_graph6(line), amounts, q)
+
+    @property
+    def vertices(self) -> Tuple[str, ...]:
+        """The names of the vertices, in order."""
+        return self._vertices
+
+    @property
+    def edges(self) -> Tuple[Edge, ...]:
+        """The edges: two names, and how often the edge is there."""
+        return self._edges
+
+    @property
+    def amounts(self) -> Tuple[int, ...]:
+        """The amounts, in the order of the vertices."""
+        return self._amounts
+
+    @property
+    def q(self) -> str:
+        """The name of the vertex from which verdicts are reckoned."""
+        return self._q
+
+    @property
+    def divisor(self) -> Dict[str, int]:
+        """The amounts by the names of the vertices."""
+        return dict(zip(self._vertices, self._amounts))
+
+    def keys(self) -> Tuple[str, ...]:
+        """The members of a table file: so `dict(table, amounts=[..])` is a dict with other amounts."""
+        return MEMBERS
+
+    def __getitem__(self, member: str) -> Any:
+        if member == "q":
+            return self._q
+        if member == "edges":
+            return [list(edge) for edge in self._edges]
+        if member in MEMBERS:
+            return list(getattr(self, member))
+        raise KeyError(member)
+
+    def to_dict(self) -> Dict[str, Any]:
+        """The members of a table file."""
+        return {member: self[member] for member in MEMBERS}
+
+    def to_json(self) -> str:
+        """The table as a table file has it, in one line without its end."""
+        return json.dumps(self.to_dict())
+
+    def write(self, file: Place) -> None:
+        """Writes a table file."""
+        with open(file, "w", encoding="utf-8") as text:
+            text.write(self.to_json() + "\n")
+
+    def to_networkx(self) -> Any:
+        """The graph as a MultiGraph of networkx, whose nodes are the names, each with its `amount`.
+
+        Of it and the amounts the same table can be made: `Table(table.to_networkx(), table.divisor, table.q)`.
+        """
+        graph = importlib.import_module("networkx").MultiGraph()
+        for name, amount in self.divisor.items():
+            graph.add_node(name, amount=amount)
+        graph.add_edges_from((u, v) for u, v, count in self._edges for _ in range(count))
+        return graph
+
+    def to_sage(self) -> Any:
+        """The amounts as a SandpileDivisor of Sage, on the Sandpile of the graph, whose sink is q."""
+        sandpiles = importlib.import_module("sage.sandpiles.all")
+        graph: Dict[str, Dict[str, int]] = {name: {} for name in self._vertices}
+        for u, v, count in self._edges:
+            graph[u][v] = graph[v][u] = graph[u].get(v, 0) + count
+        return sandpiles.SandpileDivisor(sandpiles.Sandpile(graph, self._q), self.divisor)
+
+    def serve(self, seats: Optional[int] = None, **options: Any) -> Session:
+        """A session on the table, or with `seats` one for many people; docs of `Session` tell the options.
+
+        >>> with Table([[0, 1], [1, 0]], [2, -1]).serve(seats=2) as session:
+        ...     print(session.ask_seat(2, "lend 0"))
+        0 moved 0=1 1=0
+        """
+        from dollar.session import Session
+
+        return Session(self, seats=seats, **options)
+
+    def _as_multigraph(self) -> Tuple[Tuple[str, ...], Dict[Tuple[str, str], int], Tuple[int, ...], str]:
+        place = {name: at for at, name in enumerate(self._vertices)}
+        return self._vertices, {(u, v): count for u, v, count in merged(self._edges, place)}, self._amounts, self._q
+
+    def __eq__(self, other: object) -> bool:
+        if not isinstance(other, Table):
+            return NotImplemented
+        return self._as_multigraph() == other._as_multigraph()
+
+    def __hash__(self) -> int:
+        return hash((self._vertices, self._amounts, self._q))
+
+    def __repr__(self) -> str:
+        return "Table(%r)" % self.to_dict()
+
+    def _repr_svg_(self) -> str:
+        return drawing.picture(self)
+
+
+def members(thing: Any) -> bytes:
+    """The bytes of a table file for whatever a command takes as a table: a Table, the members of one as a dict, a SandpileDivisor of
+    Sage, or the place of a file."""
+    if isinstance(thing, (str, os.PathLike)):
+        with open(thing, "rb") as file:
+            return file.read(MOST_BYTES + 1)
+    return one_line(thing)
+
+
+def one_line(thing: Any) -> bytes:
+    """The same in one line, of what is no file."""
+    if isinstance(thing, Table):
+        return thing.to_json().encode()
+    if hasattr(thing, "sandpile"):
+        return Table(thing).to_json().encode()
+    if isinstance(thing, AbstractMapping):
+        return json.dumps(dict(thing), default=operator.index).encode()
+    raise TypeError("a table is a Table, a dict or a SandpileDivisor: Table(graph, amounts) makes one of a %s" % type(thing).__name__)
+
+
+def example(name: str) -> Table:
+    """The table of a file in the folder `examples` of the clone in which this package lies."""
+    if not is_clone(CLONE):
+        raise FileNotFoundError("the examples lie in a clone of the repository, and this package in none")
+    return Table.read(CLONE / "examples" / (name + ".json"))
+
+
+def iterate(tables: Iterable[Any]) -> Iterator[Tuple[Any, bytes]]:
+    """Each table, and its line."""
+    for number, table in enumerate(tables):
+        try:
+            made = Table(table) if hasattr(table, "sandpile") else table
+            yield made, one_line(made) + b"\n"
+        except (TypeError, ValueError) as error:
+            raise type(error)("table %d: %s" % (number, error)) from None

@@ -1,0 +1,9 @@
+"""What the tests share: the package of this clone, and the model of the game of examples/party.py, which knows the rules and nothing
+of the program."""
+import os
+import sys
+from pathlib import Path
+
+ROOT = Path(__file__).resolve().parents[2]
+os.environ.setdefault("DOLLAR", str(ROOT / "dollar"))
+sys.path[:0] = [str(ROOT / "python"), str(ROOT / "examples")]

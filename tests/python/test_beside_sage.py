@@ -1,0 +1,78 @@
+"""Beside Sage, an independent program: reduced divisors, ranks and who can win, and its graphs and divisors as tables."""
+import random
+
+import pytest
+
+import dollar
+from dollar import Table
+
+sandpiles = pytest.importorskip("sage.sandpiles.all")
+sage_all = pytest.importorskip("sage.all")
+
+
+def random_divisors(count, seed=1):
+    """Divisors on random connected multigraphs of two to five vertices."""
+    rng = random.Random(seed)
+    for _ in range(count):
+        size = rng.randint(2, 5)
+        near = {v: {} for v in range(size)}
+        for v in range(1, size):
+            u = rng.randrange(v)
+            near[u][v] = near[v][u] = rng.randint(1, 2)
+        for _ in range(rng.randint(0, 3)):
+            u, v = rng.sample(range(size), 2)
+            near[u][v] = near[v][u] = near[u].get(v, 0) + 1
+        yield sandpiles.SandpileDivisor(sandpiles.Sandpile(near, rng.randrange(size)), [rng.randint(-2, 3) for _ in range(size)])
+
+
+def by_name(divisor):
+    return {str(vertex): int(amount) for vertex, amount in divisor.items()}
+
+
+def test_two_thousand_divisors():
+    divisors = list(random_divisors(2000))
+    wrong = []
+    for divisor, verdict, numbers in zip(divisors, dollar.judge_all(divisors), dollar.rr_all(divisors)):
+        rank = int(divisor.rank())
+        if (verdict.reduced, verdict.winnable, numbers.rank) != (by_name(divisor.q_reduced()), rank >= 0, rank):
+            wrong.append(divisor)
+    assert wrong == []
+
+
+def test_divisors_come_back():
+    for divisor in random_divisors(60, 2):
+        table = Table(divisor)
+        assert (table.divisor, table.q) == (by_name(divisor), str(divisor.sandpile().sink()))
+        back = table.to_sage()
+        assert Table(back) == table and int(back.rank()) == int(divisor.rank())
+        assert dollar.judge(divisor) == dollar.judge(table)
+
+
+def test_graphs():
+    petersen = sage_all.graphs.PetersenGraph()
+    table = Table(petersen, {0: sage_all.Integer(3), 5: -1})
+    assert len(table.edges) == 15 and table.divisor["0"] == 3 and table.divisor["5"] == -1
+    assert Table(sandpiles.Sandpile(petersen, 4)).q == "4"
+    several = sage_all.Graph([(0, 1), (0, 1), (1, 2)], multiedges=True)
+    assert Table(several).edges == (("0", "1", 2), ("1", "2", 1))
+    weighted = sage_all.Graph([(0, 1, 3)], weighted=True)
+    assert Table(weighted).edges == (("0", "1", 3),) and Table(sandpiles.Sandpile(weighted, 0)) == Table(weighted)
+    assert Table(sage_all.matrix([[0, 2], [2, 0]]), [1, 2]).edges == (("0", "1", 2),)
+
+
+REFUSED = [
+    (lambda: Table(sage_all.DiGraph([(0, 1)])), ValueError, "a directed graph"),
+    (lambda: Table(sandpiles.Sandpile({0: {1: 1}, 1: {0: 2}}, 0)), ValueError, "from 0 to 1 there are 1 edges, and 2 back"),
+    (lambda: Table(sage_all.Graph([(0, 1, 3)])), ValueError, "the edge from 0 to 1 has the label 3"),
+    (lambda: Table(sage_all.Graph([(0, 1, 1.5)], weighted=True)), TypeError, "the weight of the edge from 0 to 1 is no whole number"),
+    (lambda: Table(sage_all.Graph([(0, 0)], loops=True)), ValueError, "the edge from 0 to 0 is a loop"),
+    (lambda: Table(sandpiles.sandpiles.Cycle(4).max_stable()), ValueError, "a configuration has none at the sink"),
+    (lambda: Table(sage_all.graphs.PathGraph(2), [sage_all.QQ(1) / 2, 0]), TypeError, "the amount of vertex 0 is no whole number: 1/2"),
+    (lambda: Table(sage_all.graphs.PathGraph(2), [sage_all.RDF(1), 0]), TypeError, "the amount of vertex 0 is no whole number: 1.0"),
+]
+
+
+@pytest.mark.parametrize("call, error, text", REFUSED)
+def test_refused(call, error, text):
+    with pytest.raises(error, match=text):
+        call()

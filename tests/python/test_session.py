@@ -1,0 +1,224 @@
+"""Sessions: never out of step, whatever is asked and whatever comes in between."""
+import collections
+import os
+import random
+import signal
+import subprocess
+import sys
+import threading
+import time
+
+import pytest
+from conftest import ROOT
+from party import Bad, Game, parse, trials
+
+from dollar import Ended, Session, Table
+
+TABLE = {
+    "vertices": ["a", "b", "c", "d"],
+    "edges": [["a", "b", 1], ["b", "c", 2], ["c", "d", 1], ["a", "d", 1]],
+    "amounts": [-3, 5, 0, -1],
+    "q": "a",
+}
+SEATS, LINES = 5, 20_000
+
+
+class Model:
+    """What a session with seats answers, by the rules."""
+
+    def __init__(self):
+        self.game, self.number, self.looks = Game(TABLE), 0, {}
+
+    def is_answer(self, line, text):
+        """Whether a text is the right answer to a line, which is played."""
+        seat, space, rest = line.partition(" ")
+        if not space or seat not in map(str, range(1, SEATS + 1)):
+            return text == "bad seat"
+        try:
+            command = parse(rest, self.game.names)
+        except Bad as fault:
+            return text == str(fault)
+        needs_look = command[0] in ("commit", "rank")
+        if needs_look and seat not in self.looks:
+            return text == "bad look"
+        if command[0] == "rank" and trials(len(self.game.names), command[1]) is None:
+            return text == "bad trials"
+        start = "%d " % self.number
+        self.number += 1
+        gifts = self.looks.pop(seat) if needs_look else 0
+        fine = text.startswith(start) and self.game.is_reply(command, text[len(start):], gifts)
+        if command[0] == "look":
+            self.looks[seat] = self.game.gifts
+        return fine
+
+
+def some_line(rng):
+    """A line of a stranger: a good one, or a damaged one, or none at all."""
+    one, other = rng.choice("abcd"), rng.choice("abcd")
+    line = "%d %s" % (rng.randint(1, SEATS), rng.choice([
+        "look", "look", "commit", "rank 1", "claim", "lend " + one, "borrow " + one, "fire %s,%s" % (one, other), "rank 5000",
+        "script %s=%d" % (one, rng.randint(-2, 2)), "gift %s %d" % (one, rng.randint(-2, 2)), "join %s %s" % (one, one)]))
+    kind = rng.random()
+    if kind < 0.6:
+        return line
+    place = rng.randrange(len(line) + 1)
+    if kind < 0.9:
+        # No letter that ends a line: what splits lines in Python ends none here.
+        return line[:place] + rng.choice(["", " ", "\t", "\r", "\0", "é", "\u2028", "0", "-", ",", "=", "x" * 1000]) + line[place + rng.randint(0, 2):]
+    return rng.choice([
+        line[:place] + "\n" + line[place:], "\n", line + "\n", "x" * 1025, "é" * 513, line + "\ud800", "", "6 look", "0 look", "01 look",
+        "look", "x" * 1024])
+
+
+def is_refused(line):
+    try:
+        return "\n" in line or len(line.encode()) > 1024
+    except UnicodeEncodeError:
+        return True
+
+
+def test_hostile_lines_leave_it_in_step():
+    rng, model, refused, wrong = random.Random(1), Model(), 0, []
+    with Table(TABLE).serve(SEATS) as session:
+        for _ in range(LINES):
+            line = some_line(rng)
+            try:
+                text = str(session.ask(line))
+            except ValueError:
+                assert is_refused(line), line
+                refused += 1
+                continue
+            assert not is_refused(line), line
+            if not model.is_answer(line, text):
+                wrong.append((line, text))
+    assert wrong == [] and refused > 500 and model.number > 5000
+
+
+class Interrupt(Exception):
+    """What a signal raises in the middle of a call."""
+
+
+def is_interrupted(session, seconds):
+    """Asks a line that changes nothing, and is interrupted after so long if that takes longer. Tells whether it was."""
+    try:
+        try:
+            signal.setitimer(signal.ITIMER_REAL, seconds)
+            session.ask("jump")
+        finally:
+            signal.setitimer(signal.ITIMER_REAL, 0)
+    except Interrupt:
+        return True
+    return False
+
+
+def test_an_interrupt_leaves_no_answer_unread():
+    def interrupt(*_):
+        raise Interrupt
+
+    rng, interrupted = random.Random(2), 0
+    before = signal.signal(signal.SIGALRM, interrupt)
+    try:
+        with Session(TABLE) as session:
+            for number in range(3000):
+                interrupted += is_interrupted(session, rng.uniform(1e-6, 2e-4))
+                assert session.ask("claim").number == number
+    finally:
+        signal.signal(signal.SIGALRM, before)
+    assert interrupted > 20
+
+
+def test_threads_have_their_own_answers():
+    session, told = Session(TABLE, seats=8), collections.defaultdict(list)
+
+    def attend(seat):
+        for _ in range(200):
+            told[seat].append(session.ask_seat(seat, "claim").number)
+
+    seats = [threading.Thread(target=attend, args=(seat,)) for seat in range(1, 9)]
+    for thread in seats:
+        thread.start()
+    for thread in seats:
+        thread.join()
+    assert session.close() == (0, "")
+    assert sorted(number for numbers in told.values() for number in numbers) == list(range(1600))
+    assert all(numbers == sorted(numbers) for numbers in told.values())
+
+
+def test_ends():
+    session = Session(TABLE, cap=1)
+    assert session.ask("claim") == ("not won",)
+    for _ in range(2):
+        with pytest.raises(Ended, match="the history is full") as caught:
+            session.ask("claim")
+        assert (caught.value.text, caught.value.status) == ("the history is full", 3)
+    assert session.close() == session.close() == (3, "dollar: the history is full")
+    with pytest.raises(Ended, match="the history is full"):
+        with Session(TABLE, cap=1) as session:
+            session.ask_bytes(b"claim")
+            session.ask("claim")
+    # With a session that is refused from the start, the end of `with` tells it.
+    with pytest.raises(Ended, match="no vertex q"):
+        with Session(dict(TABLE, q="z")):
+            pass
+    with pytest.raises(ZeroDivisionError):
+        with Session(dict(TABLE, q="z")):
+            1 / 0
+    session = Session(TABLE)
+    assert session.close() == (0, "")
+    with pytest.raises(Ended, match="status 0"):
+        session.ask("claim")
+
+
+def test_a_killed_program_is_told():
+    session = Session(TABLE)
+    session.ask("look")
+    session.child.kill()
+    with pytest.raises(Ended):
+        for _ in range(100):
+            session.ask("look")
+    assert session.close() == (-signal.SIGKILL, "")
+
+
+def test_a_silent_program_is_killed(tmp_path):
+    program = tmp_path / "program"
+    program.write_text("#!/bin/sh\nexec sleep 60\n")
+    program.chmod(0o755)
+    session = Session(TABLE, patience=0.2, program=str(program))
+    began = time.monotonic()
+    with pytest.raises(TimeoutError, match="nothing for 0.2 seconds"):
+        session.ask("look")
+    assert time.monotonic() - began < 5
+    assert session.close() == (-signal.SIGKILL, "nothing for 0.2 seconds, after which it was killed")
+
+
+def test_what_is_no_line():
+    with Session(TABLE, seats=2) as session:
+        for line in (7, b"look", None):
+            with pytest.raises(TypeError, match="a line is a text"):
+                session.ask(line)
+        for seat in ("1 look\n2", 1.5, None):
+            with pytest.raises(TypeError, match="a seat is no whole number"):
+                session.ask_seat(seat, "look")
+        with pytest.raises(ValueError, match="newline"):
+            session.ask_bytes(b"1 look\n1 look")
+        assert session.ask_seat(3, "look").word == "bad seat" and session.ask_seat(2, "look").number == 0
+
+
+@pytest.mark.parametrize("closed", ["<&-", ">&-", "2>&-", "<&- >&- 2>&-"])
+def test_standard_streams_may_be_closed(closed, tmp_path):
+    words = ("import dollar, sys; table = dollar.Table([[0, 1], [1, 0]], [2, -1]); session = table.serve(); "
+             "texts = [str(dollar.judge(table)), str(next(dollar.judge_all([table]))), str(session.ask('claim'))]; "
+             "open(sys.argv[1], 'w').write('|'.join(texts))")
+    done = subprocess.run(["sh", "-c", '"$0" -c "$1" "$2" ' + closed, sys.executable, words, str(tmp_path / "said")], timeout=30,
+                          env=dict(os.environ, PYTHONPATH=str(ROOT / "python")))
+    verdict = "winnable by 0=0 1=-1 to 0=1 1=0"
+    assert done.returncode == 0 and (tmp_path / "said").read_text() == "%s|%s|0 not won" % (verdict, verdict)
+
+
+def test_nothing_is_left_behind():
+    before = len(os.listdir("/proc/self/fd"))
+    for _ in range(20):
+        with Session(TABLE) as session:
+            session.ask("claim")
+    time.sleep(0.1)
+    assert len(os.listdir("/proc/self/fd")) == before

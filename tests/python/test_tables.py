@@ -1,0 +1,224 @@
+"""Tables: what they are made of comes back as it was, and what would have to be dropped or rounded is refused."""
+import decimal
+import fractions
+import json
+import pickle
+import random
+import types
+
+import pytest
+from conftest import ROOT
+
+import dollar
+from dollar import Table
+
+PATH = {"vertices": ["a", "b", "c"], "edges": [["a", "b", 1], ["b", "c", 2]], "amounts": [2, -1, 0], "q": "b"}
+
+
+def connected_graphs(networkx, most=7):
+    """All connected graphs of up to so many vertices."""
+    return [graph for graph in networkx.graph_atlas_g()[1:] if len(graph) <= most and networkx.is_connected(graph)]
+
+
+def test_all_small_graphs_come_back_from_networkx():
+    networkx = pytest.importorskip("networkx")
+    graphs = connected_graphs(networkx)
+    assert len(graphs) == 1 + 1 + 2 + 6 + 21 + 112 + 853
+    for graph in graphs:
+        table = Table(graph, {node: node - 2 for node in graph}, max(graph))
+        back = table.to_networkx()
+        assert {frozenset(map(int, edge)) for edge in back.edges()} == {frozenset(edge) for edge in graph.edges}
+        assert back.number_of_edges() == graph.number_of_edges()
+        assert [back.nodes[str(node)]["amount"] for node in graph] == [node - 2 for node in graph]
+        assert Table(back, table.divisor, table.q) == table
+        assert Table.graph6(networkx.to_graph6_bytes(graph), table.divisor, table.q) == table
+        matrix = [[int(graph.has_edge(u, v)) for v in graph] for u in graph]
+        assert Table(matrix, list(table.amounts), table.q) == table
+        assert Table(json.loads(table.to_json())) == table == pickle.loads(pickle.dumps(table)) == eval(repr(table))
+
+
+def test_the_program_reads_what_a_table_says():
+    networkx = pytest.importorskip("networkx")
+    graphs = connected_graphs(networkx)
+    tables = [Table(graph, {node: (node * 7 + place) % 9 - 3 for node in graph}) for place, graph in enumerate(graphs)]
+    for graph, table, numbers in zip(graphs, tables, dollar.rr_all(tables)):
+        assert numbers.degree == sum(table.amounts)
+        assert numbers.genus == graph.number_of_edges() - len(graph) + 1
+    for table, verdict in zip(tables, dollar.judge_all(tables)):
+        verdict.check()
+        again = dollar.judge(Table(table, verdict.reduced)) if len(table.vertices) == 7 and table.amounts[0] == 2 else None
+        assert again is None or (set(again.script.values()) == {0} and again.reduced == verdict.reduced)
+
+
+def test_edges_of_multigraphs_are_counted():
+    networkx = pytest.importorskip("networkx")
+    rng = random.Random(1)
+    for _ in range(200):
+        graph, counts = networkx.MultiGraph(), {}
+        graph.add_nodes_from("abcde")
+        for _ in range(rng.randint(4, 12)):
+            u, v = rng.sample("abcde", 2)
+            weight = rng.choice([None, 1, 2, 3])
+            graph.add_edge(u, v, **({} if weight is None else {"weight": weight}))
+            counts[frozenset((u, v))] = counts.get(frozenset((u, v)), 0) + (weight or 1)
+        table = Table(graph)
+        assert {frozenset(edge[:2]): edge[2] for edge in table.edges} == counts
+        assert table.to_networkx().number_of_edges() == sum(counts.values())
+
+
+def test_a_file_comes_back(tmp_path):
+    table = Table(PATH)
+    assert table.to_dict() == PATH
+    table.write(tmp_path / "table.json")
+    assert Table.read(tmp_path / "table.json") == table
+    assert dollar.judge(str(tmp_path / "table.json")) == dollar.judge(table) == dollar.judge(PATH)
+    with pytest.raises(FileNotFoundError, match="missing.json"):
+        dollar.judge(str(tmp_path / "missing.json"))
+
+
+def test_amounts_are_by_vertex_or_by_name():
+    graph = types.SimpleNamespace(nodes=[0, 1, 2], edges=[(0, 1), (1, 2), (2, 1)])
+    assert Table(graph, {0: 1, "2": 5}, 2).to_dict() == {
+        "vertices": ["0", "1", "2"], "edges": [["0", "1", 1], ["1", "2", 2]], "amounts": [1, 0, 5], "q": "2"}
+    grid = types.SimpleNamespace(nodes=[(0, 0), (0, 1)], edges=[((0, 0), (0, 1))])
+    named = Table(grid, {(0, 1): 4, "r0c0": -1}, (0, 1), names=lambda vertex: "r%dc%d" % vertex)
+    assert (named.divisor, named.q) == ({"r0c0": -1, "r0c1": 4}, "r0c1")
+
+
+def test_an_answer_can_be_handed_back():
+    networkx = pytest.importorskip("networkx")
+    graph = networkx.cycle_graph(4)
+    verdict = dollar.judge(Table(graph, {0: -2, 1: 0, 2: 3, 3: 0}))
+    # Degree 1 before, and so after.
+    assert sum(Table(graph, verdict.reduced).amounts) == 1
+    assert dollar.judge(Table(graph, verdict.reduced)).reduced == verdict.reduced
+
+
+def directed(*edges):
+    return types.SimpleNamespace(nodes=[0, 1], edges=list(edges), is_directed=lambda: True)
+
+
+def weighted(weight):
+    class Edges(list):
+        def __call__(self, data):
+            return [(0, 1, {"weight": weight})]
+
+    return types.SimpleNamespace(nodes=[0, 1], edges=Edges())
+
+
+PAIR = types.SimpleNamespace(nodes=[0, 1], edges=[(0, 1)])
+REFUSED = [
+    (lambda: Table(PAIR, {7: 1}), ValueError, "no vertex is 7: the vertices are 0, 1"),
+    (lambda: Table(PAIR, {"x": 1}), ValueError, "no vertex is 'x'"),
+    (lambda: Table(PAIR, {1: 1}, 7), ValueError, "no vertex is 7"),
+    (lambda: Table(PAIR, {0: 1, "0": 1}), ValueError, "two amounts for vertex 0"),
+    (lambda: Table(PAIR, {0: 1.7}), TypeError, "the amount of vertex 0 is no whole number: 1.7"),
+    (lambda: Table(PAIR, {0: 1.0}), TypeError, "the amount of vertex 0 is no whole number: 1.0"),
+    (lambda: Table(PAIR, {1: fractions.Fraction(-1, 2)}), TypeError, r"the amount of vertex 1 is no whole number: Fraction\(-1, 2\)"),
+    (lambda: Table(PAIR, {1: fractions.Fraction(2, 1)}), TypeError, "the amount of vertex 1 is no whole number"),
+    (lambda: Table(PAIR, [decimal.Decimal("1.9"), 0]), TypeError, "the amount of vertex 0 is no whole number: Decimal"),
+    (lambda: Table(PAIR, [None, 0]), TypeError, "the amount of vertex 0 is no whole number: None"),
+    (lambda: Table(PAIR, ["1", 0]), TypeError, "the amount of vertex 0 is no whole number: '1'"),
+    (lambda: Table(PAIR, [1]), ValueError, "there are 1 amounts for 2 vertices"),
+    (lambda: Table(PAIR, [1, 0, 0]), ValueError, "there are 3 amounts for 2 vertices"),
+    (lambda: Table(PAIR, {1, 2}), TypeError, "amounts are a list in the order of the vertices, or a dict"),
+    (lambda: Table(PAIR, "12"), TypeError, "amounts are a list"),
+    (lambda: Table(directed((0, 1), (1, 0))), ValueError, "a directed graph"),
+    (lambda: Table(weighted(0.5)), TypeError, "the weight of the edge from 0 to 1 is no whole number: 0.5"),
+    (lambda: Table(weighted("x")), TypeError, "the weight of the edge from 0 to 1"),
+    (lambda: Table(weighted(None)), TypeError, "the weight of the edge from 0 to 1"),
+    (lambda: Table(weighted(0)), ValueError, "the weight of the edge from 0 to 1 is no number of edges: 0"),
+    (lambda: Table(weighted(-2)), ValueError, "the weight of the edge from 0 to 1 is no number of edges: -2"),
+    (lambda: Table(types.SimpleNamespace(nodes=[0, 1], edges=[(0, 1), (1, 1)])), ValueError, "the edge from 1 to 1 is a loop"),
+    (lambda: Table(types.SimpleNamespace(nodes=[0, 1], edges=[(0, 2)])), ValueError, "the edge from 0 to 2 has no vertex"),
+    (lambda: Table(types.SimpleNamespace(nodes=[0, 1], edges=[(0, 1, 3)])), ValueError, ""),
+    (lambda: Table(types.SimpleNamespace(nodes=[0, "0"], edges=[(0, "0")])), ValueError, "the vertices 0 and '0' have the same name"),
+    (lambda: Table(types.SimpleNamespace(nodes=[(0, 1)], edges=[])), ValueError, r"vertex \(0, 1\) has no name"),
+    (lambda: Table(types.SimpleNamespace(nodes=[], edges=[])), ValueError, "there is no vertex"),
+    (lambda: Table([[0, 1], [2, 0]]), ValueError, "a directed graph has no table: from 0 to 1 there are 1 edges, and 2 back"),
+    (lambda: Table([[0, -1], [-1, 0]]), ValueError, "the number of edges from 0 to 1 is -1"),
+    (lambda: Table([[1, 1], [1, 0]]), ValueError, "the edge from 0 to 0 is a loop"),
+    (lambda: Table([[0, 1.0], [1.0, 0]]), TypeError, "the number of edges from 0 to 1 is no whole number: 1.0"),
+    (lambda: Table([[0, 1]]), ValueError, "as many columns as rows"),
+    (lambda: Table("examples/cube.json"), TypeError, "Table.read reads a file"),
+    (lambda: Table(7), TypeError, "and not of 7"),
+    (lambda: Table({"a": {"b": 1}}), ValueError, "a table has the members"),
+    (lambda: Table(dict(PATH, name="x")), ValueError, "a table has the members"),
+    (lambda: Table(dict(PATH, edges=["ab1"])), ValueError, "edge 0 is no list"),
+    (lambda: Table(dict(PATH, edges=[["a", "z", 1]])), ValueError, "the edge from a to z has no vertex"),
+    (lambda: Table(dict(PATH, edges=[["a", "a", 1]])), ValueError, "the edge from a to a is a loop"),
+    (lambda: Table(dict(PATH, q="z")), ValueError, "no vertex is 'z'"),
+    (lambda: Table(dict(PATH, amounts=[1, 2, 3.5])), TypeError, "the amount of vertex c is no whole number: 3.5"),
+    (lambda: Table.graph6(""), ValueError, "no line of graph6"),
+    (lambda: Table.graph6("Bx"), ValueError, "no line of graph6: 'Bx'"),
+    (lambda: Table.graph6("Bww"), ValueError, "no line of graph6"),
+    (lambda: Table.graph6(":Bw"), ValueError, "no line of graph6: ':Bw'"),
+    (lambda: Table.graph6("&Bw"), ValueError, "no line of graph6: '&Bw'"),
+    (lambda: Table.graph6("~??~"), ValueError, "more than 62 vertices"),
+    (lambda: dollar.judge(PAIR), TypeError, r"Table\(graph, amounts\) makes one"),
+    (lambda: dollar.judge(7), TypeError, r"Table\(graph, amounts\) makes one of a int"),
+    (lambda: dollar.judge(dict(PATH, amounts=[fractions.Fraction(1, 2), 0, 0])), TypeError, ""),
+    (lambda: dollar.rank(PATH, 1.5), TypeError, "the degree is no whole number: 1.5"),
+    (lambda: dollar.greedy(PATH, "3"), TypeError, "the number of turns is no whole number: '3'"),
+    (lambda: dollar.rehearse(PATH, "1 look"), TypeError, "lines are a list of texts"),
+    (lambda: list(dollar.judge_all([PATH, dict(PATH, amounts=[decimal.Decimal("-1.5")] * 3)])), TypeError, "table 1: "),
+    (lambda: list(dollar.judge_all([PATH, PAIR])), TypeError, "table 1: a table is a Table"),
+    (lambda: dollar.judge_all([], errors="ignore"), ValueError, "errors are either 'row' or 'raise'"),
+]
+
+
+@pytest.mark.parametrize("call, error, text", REFUSED)
+def test_refused(call, error, text):
+    with pytest.raises(error, match=text):
+        call()
+
+
+def test_numbers_that_are_whole_are_taken():
+    numpy = pytest.importorskip("numpy")
+    table = Table(numpy.array([[0, 2], [2, 0]]), numpy.array([3, -1]))
+    assert table == Table([[0, 2], [2, 0]], [3, -1])
+    assert json.loads(table.to_json())["amounts"] == [3, -1]
+    given = {"vertices": ["a", "b"], "edges": [["a", "b", numpy.uint8(2)]], "amounts": [numpy.int64(3), numpy.int16(-1)], "q": "a"}
+    assert dollar.judge(given) == dollar.judge(Table(given)) == next(dollar.judge_all([given]))
+    for wrong in (numpy.float32(1.7), numpy.float64(2.0)):
+        with pytest.raises(TypeError):
+            Table(PAIR, {0: wrong})
+    with pytest.raises(TypeError, match="table 0: "):
+        list(dollar.judge_all([dict(given, amounts=[numpy.float32(1.7), 0])]))
+    # A float of numpy's that is one of Python's goes as it is, and is refused by the program.
+    row, = dollar.judge_all([dict(given, amounts=[numpy.float64(2.0), 0])])
+    assert row.refused == "shape of amounts"
+
+
+def test_frames_of_pandas():
+    pandas = pytest.importorskip("pandas")
+    frame = pandas.DataFrame([[0, 2], [2, 0]])
+    assert Table(frame, pandas.Series({"1": -1, "0": 3})) == Table([[0, 2], [2, 0]], [3, -1])
+
+
+def test_pictures_stand_as_the_board_has_them():
+    """The board's module is for all graphs, and a ring for where it is not."""
+    from dollar import drawing
+
+    cube = dollar.example("cube")
+    board = ROOT / "board" / "places.py"
+    if board.is_file():
+        found = drawing.places_of()(list(cube.vertices), list(cube.edges))
+        assert found != drawing.ring(cube.vertices) and list(found) == list(cube.vertices)
+    else:
+        assert drawing.places_of() is drawing.ring
+    given = {name: (float(place), 0.0) for place, name in enumerate(cube.vertices)}
+    assert dollar.picture(cube, places=given) != cube._repr_svg_()
+
+
+def test_pictures():
+    from xml.dom import minidom
+
+    for name in ("cube", "petersen", "banana", "triangle", "million_path", "sixty_three_edges"):
+        table = dollar.example(name)
+        for picture in (table._repr_svg_(), dollar.judge(table)._repr_svg_()):
+            texts = [node.firstChild.data for node in minidom.parseString(picture).getElementsByTagName("text")]
+            assert set(table.vertices) <= set(texts) and {str(amount) for amount in table.amounts} <= set(texts)
+    # On the triangle b and c borrow once each.
+    assert dollar.judge(dollar.example("triangle"))._repr_svg_().count(">borrows 1<") == 2
+    assert dollar.answer("winnable by a=0 to a=0")._repr_svg_() is None
