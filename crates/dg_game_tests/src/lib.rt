@@ -2,6 +2,8 @@
 #![tactic(auto)]
 
 #[cfg(test)]
+mod edges;
+#[cfg(test)]
 mod game;
 #[cfg(test)]
 mod rank;

@@ -1,13 +1,84 @@
-//! Schedules on small tables, reckoned by hand.
-mod commits;
-mod ranks;
-mod schedules;
+//! Schedules: what no row in tests/rows shows of them.
+use crate::game::{start, triangle};
+use dg_chips::{Move, Start};
+use dg_game::{Command, MAX_ENTRIES, Plain, Request, Step};
+use dg_rehearsal::{Rehearsal, RehearseFault, rehearse};
+use std::alloc::Global;
+use std::process::Abort;
+use std::test::Fail;
 
-use dg_game::{Command, Step};
+// The seats and the commands of steps, and the requests of their entries: a commit and a rank test tell the look that they
+// are on, which is the last of their seat.
+const STEPS: [(u8, Command, Request); 8] = [
+    (2, Command::Call(Plain::Claim), Request::Claim),
+    (1, Command::Call(Plain::Look), Request::Look),
+    (
+        64,
+        Command::Call(Plain::Move(Move::Lend(0))),
+        Request::Move(Move::Lend(0)),
+    ),
+    (2, Command::Call(Plain::Look), Request::Look),
+    (1, Command::Commit, Request::Judge(1)),
+    (1, Command::Call(Plain::Gift(1, -1)), Request::Gift(1, -1)),
+    (1, Command::Call(Plain::Join(0, 1)), Request::Join(0, 1)),
+    (2, Command::Rank(3), Request::Rank(3, 3)),
+];
 
-fn rank(seat: u8, k: u32) -> Step {
+#[test]
+fn entries_are_those_of_the_steps(rt: HostRuntime) -> Result<(), Fail> {
+    let start = start(triangle()?, &[2, -1, -1], 0)?;
+    let mut steps = Vec::new(rt.alloc());
+    for (seat, command, _) in &STEPS {
+        steps.push(Step {
+            seat: *seat,
+            command: *command,
+        })?;
+    }
+    let history = rehearse(rt.alloc(), &start, &steps)?;
+    assert!(rt; history.len() == 8);
+    for (entry, (seat, _, request)) in history.iter().zip(&STEPS) {
+        assert!(rt; entry.seat == *seat && entry.request == *request);
+    }
+    Ok(())
+}
+
+fn claim(seat: u8) -> Step {
     Step {
         seat,
-        command: Command::Rank(k),
+        command: Command::Call(Plain::Claim),
     }
+}
+
+#[test]
+fn seats_are_1_to_64(rt: HostRuntime) -> Result<(), Fail> {
+    let start = start(triangle()?, &[2, -1, -1], 0)?;
+    no_seat_claims(&rt, rt.alloc(), &start, &[claim(0), claim(1)], 0);
+    no_seat_claims(&rt, rt.alloc(), &start, &[claim(1), claim(65)], 1);
+    no_seat_claims(&rt, rt.alloc(), &start, &[claim(1), claim(0)], 1);
+    no_seat_looks(&rt, &start, 0);
+    no_seat_looks(&rt, &start, 65);
+    Ok(())
+}
+
+// Whether a first call by this seat is refused.
+fn no_seat_looks(rt: &impl Abort, start: &Start, seat: u8) {
+    let mut rehearsal = Rehearsal::new(start);
+    let came = rehearsal.call(seat, &Plain::Look);
+    assert!(rt; came == Err(RehearseFault::Seat(0)));
+}
+
+// Where a history is full, the seat of the next step is judged first.
+#[test]
+fn seats_come_before_the_length(rt: HostRuntime) -> Result<(), Fail> {
+    let start = start(triangle()?, &[2, -1, -1], 0)?;
+    let mut steps = vec![in rt.alloc(); claim(1); MAX_ENTRIES]?;
+    steps.push(claim(0))?;
+    no_seat_claims(&rt, rt.alloc(), &start, &steps, MAX_ENTRIES);
+    Ok(())
+}
+
+// Whether the step at this place is refused for its seat.
+fn no_seat_claims(rt: &impl Abort, alloc: Global, start: &Start, steps: &[Step], place: usize) {
+    let fault = rehearse(alloc, start, steps).err();
+    assert!(rt; fault == Some(RehearseFault::Seat(place)));
 }

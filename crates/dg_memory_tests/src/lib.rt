@@ -12,8 +12,6 @@ mod lends;
 #[cfg(test)]
 mod outcomes;
 #[cfg(test)]
-mod runs;
-#[cfg(test)]
 mod sparing;
 #[cfg(test)]
 mod tables;

@@ -6,7 +6,6 @@ use crate::observer::watching::watched;
 use crate::party::gates::enter_first;
 use crate::session::streams::{Flow, Sip, serves};
 use crate::strategy::plays::{played, settled};
-use crate::table::crowded::crowds;
 use crate::table::filled::fills;
 use crate::table::meetings::{Meeting, meet};
 use crate::table::pens::writes;
@@ -36,8 +35,6 @@ pub(crate) enum Scene<'a> {
     Calls(&'a Calls<'a>),
     // Ten thousand calls are made, until the row is full.
     Filled,
-    // All seats that there may be fill all cells that there may be.
-    Crowded,
     // Calls are chosen at the position that they find.
     Turns,
     // A finding is entered with a drift that leads nowhere.
@@ -114,7 +111,6 @@ fn shown<N: Name + Send + Sync, R: Threads + Wait + Abort + Sync>(
         Scene::Pen | Scene::NoSeats => Err(Fail::from("a table that is not wanted")),
         Scene::Calls(calls) => calls_are_entries(rt, alloc, table, seats, calls),
         Scene::Filled => fills(rt, alloc, table, seats),
-        Scene::Crowded => crowds(rt, alloc, table, seats),
         Scene::Meeting(meeting) => meet(rt, alloc, table, seats, meeting),
         Scene::Gate => enter_first(rt, alloc, &table, seats.as_mut_slice()),
         scene => match seats.as_mut_slice() {

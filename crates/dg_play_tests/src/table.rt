@@ -1,5 +1,4 @@
 //! Small tables, reckoned by hand, and many threads on one table.
-pub(crate) mod crowded;
 pub(crate) mod filled;
 pub(crate) mod meetings;
 pub(crate) mod pens;

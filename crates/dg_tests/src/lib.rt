@@ -6,6 +6,8 @@ mod burn;
 #[cfg(test)]
 mod chips;
 #[cfg(test)]
+mod edges;
+#[cfg(test)]
 mod graph;
 #[cfg(test)]
 mod reduce;

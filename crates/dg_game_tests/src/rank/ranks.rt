@@ -1,115 +1,35 @@
-//! Ranks, first losses, and both sides of Riemann-Roch.
+//! Ranks, and both sides of Riemann-Roch.
 ghost use Rattle.std.specs.Prelude.{◌≡◌, ◌<◌};
 
+use crate::edges::{FOUR, PAIR, SQUARE, TRIANGLE};
 use crate::rank::references::plainly;
 use dg_chips::{Divisor, dual};
 use dg_graph::Graph;
-use dg_rank::{
-    OpenGate, RankFault, both_ranks, both_ranks_in_limits, has_rank, rank, rank_at_least, rank_with,
-};
+use dg_rank::{OpenGate, RankFault, both_ranks, both_ranks_in_limits, has_rank, rank, rank_with};
 use dg_ranked::RankVerdict;
 use std::process::Abort;
 use std::sync::Wait;
 use std::test::Fail;
 use std::thread::Threads;
 
-pub(super) const PAIR: &[(u8, u8, u8)] = &[(0, 1, 3)];
-
-pub(super) const TRIANGLE: &[(u8, u8, u8)] = &[(0, 1, 1), (1, 2, 1), (0, 2, 1)];
-
-pub(super) const SQUARE: &[(u8, u8, u8)] = &[(0, 1, 1), (1, 2, 1), (2, 3, 1), (0, 3, 1)];
-
-pub(super) const FOUR: &[(u8, u8, u8)] = &[
-    (0, 1, 1),
-    (0, 2, 1),
-    (0, 3, 1),
-    (1, 2, 1),
-    (1, 3, 1),
-    (2, 3, 1),
-];
-
-/// Edges, amounts on their vertices, a degree, and the first loss; no loss where the rank is at least the degree.
-pub(super) type FirstLoss = (&'static [(u8, u8, u8)], &'static [i64], u32, &'static [i64]);
-
-// By hand. With 3 edges between two vertices, a move changes the amount of vertex 0 by 3. So of degree 0 a divisor is
-// winnable where that amount is a multiple of 3, and of degree 1 where it is that or one more. On the triangle a divisor
-// of degree 0 is winnable where the amount of vertex 1 less that of vertex 2 is a multiple of 3. With a degree of at
-// least the genus every divisor is won, and with a degree below 0 none.
-static FIRST_LOSSES: [FirstLoss; 8] = [
-    (PAIR, &[1, 1], 1, &[]),
-    (PAIR, &[1, 1], 2, &[0, 2]),
-    (PAIR, &[0, 2], 1, &[1, 0]),
-    (TRIANGLE, &[1, 0, 0], 1, &[0, 0, 1]),
-    (TRIANGLE, &[2, -1, -1], 0, &[]),
-    (TRIANGLE, &[-1, 1, 0], 0, &[0, 0, 0]),
-    (&[], &[-1_000_000], 1_000, &[1_000]),
-    (&[(0, 1, 63)], &[1_000_000, 1_000_000], 1_000, &[]),
-];
-
-#[test]
-fn ranks_and_first_losses(rt: HostRuntime) -> Result<(), Fail> {
-    for (edges, amounts, degree, loss) in &FIRST_LOSSES {
-        let graph = Graph::new(amounts.len(), edges)?;
-        let wanted = verdict(&graph, *degree, loss)?;
-        is_from_each(&rt, &graph, amounts, *degree, &wanted)?;
-    }
-    Ok(())
-}
-
-// The answer of a rank test with this first loss.
-pub(super) fn verdict(graph: &Graph, degree: u32, loss: &[i64]) -> Result<RankVerdict, Fail> {
-    if loss.is_empty() {
-        Ok(RankVerdict::AtLeast(degree))
-    } else {
-        Ok(RankVerdict::Below(degree, Divisor::new(graph, loss)?))
-    }
-}
-
-// Whether this is the answer from each vertex.
-fn is_from_each(
-    rt: &impl Abort,
-    graph: &Graph,
-    amounts: &[i64],
-    degree: u32,
-    wanted: &RankVerdict,
-) -> Result<(), Fail> {
-    let divisor = Divisor::new(graph, amounts)?;
-    for q in 0..graph.size() {
-        let found = rank_at_least(graph, q, &divisor, degree)?;
-        assert!(rt; found == *wanted, "{degree} at {amounts:?}");
-    }
-    Ok(())
-}
-
-#[test]
-fn too_many_trials(rt: HostRuntime) -> Result<(), Fail> {
-    let triangle = Graph::new(3, TRIANGLE)?;
-    let divisor = Divisor::new(&triangle, &[1, 0, 0])?;
-    assert!(rt; rank_at_least(&triangle, 0, &divisor, 631) == Err(RankFault::TooMany));
-    Ok(())
-}
-
 #[test]
 fn too_many_workers(rt: HostRuntime) -> Result<(), Fail> {
-    let triangle = Graph::new(3, TRIANGLE)?;
-    let below = RankVerdict::Below(1, Divisor::new(&triangle, &[0, 0, 1])?);
-    answers(&rt, 1, 3, &Ok(below))?;
-    answers(&rt, 1, 0, &Err(RankFault::Workers))?;
-    answers(&rt, 1, 17, &Err(RankFault::Workers))?;
-    answers(&rt, 631, 17, &Err(RankFault::TooMany))
+    refuses(&rt, 1, 0, RankFault::Workers)?;
+    refuses(&rt, 1, 17, RankFault::Workers)?;
+    refuses(&rt, 631, 17, RankFault::TooMany)
 }
 
-// Whether so many workers answer so on the triangle with 1 0 0.
-fn answers<R: Threads + Wait + Abort>(
+// Whether so many workers refuse the triangle with 1 0 0 so.
+fn refuses<R: Threads + Wait + Abort>(
     rt: &R,
     degree: u32,
     workers: u32,
-    wanted: &Result<RankVerdict, RankFault>,
+    fault: RankFault,
 ) -> Result<(), Fail> {
     let triangle = Graph::new(3, TRIANGLE)?;
     let divisor = Divisor::new(&triangle, &[1, 0, 0])?;
     let found = rank_with(rt, &triangle, 0, &divisor, degree, workers, &OpenGate);
-    assert!(rt; found == *wanted, "{workers} workers");
+    assert!(rt; found == Err(fault), "{workers} workers");
     Ok(())
 }
 

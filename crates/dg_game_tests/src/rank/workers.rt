@@ -1,7 +1,7 @@
 //! Rank tests in pieces, each in a thread of its own.
 ghost use Rattle.std.specs.Prelude.{◌<◌};
 
-use crate::rank::ranks::{FOUR, FirstLoss, PAIR, SQUARE, TRIANGLE, verdict};
+use crate::edges::{FOUR, PAIR, SQUARE, TRIANGLE};
 use dg_chips::Divisor;
 use dg_graph::Graph;
 use dg_rank::{Gate, OpenGate, RankFault, rank_at_least, rank_with};
@@ -82,6 +82,9 @@ fn each_once(workers: u32) -> u64 {
     counts
 }
 
+/// Edges, amounts on their vertices, a degree, and the first loss; no loss where the rank is at least the degree.
+type FirstLoss = (&'static [(u8, u8, u8)], &'static [i64], u32, &'static [i64]);
+
 // By hand: on the triangle a divisor of degree 0 is winnable where the amounts of the last two vertices agree but for a
 // multiple of 3, and all are won with a degree of at least 1. On the complete graph of four the canonical divisor has the
 // rank 3 - 1.
@@ -95,6 +98,15 @@ static FIRST_LOSSES: [FirstLoss; 8] = [
     (TRIANGLE, &[150, 0, 0], 150, &[0, 1, 149]),
     (FOUR, &[1, 1, 1, 1], 2, &[]),
 ];
+
+// The answer of a rank test with this first loss.
+fn verdict(graph: &Graph, degree: u32, loss: &[i64]) -> Result<RankVerdict, Fail> {
+    if loss.is_empty() {
+        Ok(RankVerdict::AtLeast(degree))
+    } else {
+        Ok(RankVerdict::Below(degree, Divisor::new(graph, loss)?))
+    }
+}
 
 #[test]
 fn pieces_run_at_once(rt: HostRuntime) -> Result<(), Fail> {

@@ -11,9 +11,9 @@ use std::process::Abort;
 use std::sync::Wait;
 use std::sync::atomic::{AtomicBool, AtomicU64, Ordering};
 use std::test::Fail;
+use std::thread;
 use std::thread::Threads;
 use std::time::{Clock, Duration};
-use std::{str, thread};
 
 // A gate that holds each seat until all have entered, but for no more than a million turns.
 #[derive(Drop)]
@@ -41,34 +41,17 @@ impl<'a, R: Clock + Sync> Gate for Meeting<'a, R> {
 
 const SCRIPT: &str = "lend a\nnothing\nlook\ngift b 1\ncommit\ncommit\nborrow a\n";
 
-const TOTALS: &str =
-    "entries 40\ngifts 8\nposition a=2 b=7 c=-1\nseat 1 calls 5\nseat 2 calls 5\nseat 3 calls 5\nseat 4 calls 5\nseat 5 calls 5\nseat 6 calls 5\nseat 7 calls 5\nseat 8 calls 5\n";
-
-// Scripts, how each session ends, the sum of their seats' numbers, how many lines are printed, and the last of them.
+// Scripts, how each session ends, and the sum of their seats' numbers. What is printed of such parties rows show.
 type Row = (
     &'static [&'static str],
     &'static [Result<u32, SessionEnd>],
     u64,
-    usize,
-    &'static str,
 );
 
 static ROWS: [Row; 3] = [
-    (
-        &["lend a\n", "borrow a\n"],
-        &[Ok(1), Ok(1)],
-        3,
-        7,
-        "entries 2\ngifts 0\nposition a=2 b=-1 c=-1\nseat 1 calls 1\nseat 2 calls 1\n",
-    ),
-    (&[SCRIPT; 8], &[Ok(7); 8], 36, 51, TOTALS),
-    (
-        &["bad", "", ""],
-        &[Ok(1), Ok(0), Ok(0)],
-        6,
-        6,
-        "entries 0\ngifts 0\nposition a=2 b=-1 c=-1\nseat 1 calls 0\nseat 2 calls 0\nseat 3 calls 0\n",
-    ),
+    (&["lend a\n", "borrow a\n"], &[Ok(1), Ok(1)], 3),
+    (&[SCRIPT; 8], &[Ok(7); 8], 36),
+    (&["bad", "", ""], &[Ok(1), Ok(0), Ok(0)], 6),
 ];
 
 #[test]
@@ -84,7 +67,7 @@ fn go_on<R: Threads + Wait + Clock + Abort + Sync>(
     alloc: Global,
     row: &Row,
 ) -> Result<(), Fail> {
-    let (texts, ends, numbers, lines, last) = *row;
+    let (texts, ends, numbers) = *row;
     let meeting = Meeting {
         rt,
         seats: texts.len() as u64,
@@ -95,19 +78,13 @@ fn go_on<R: Threads + Wait + Clock + Abort + Sync>(
     let found = played(rt, alloc, texts, &meeting)?;
     has_let_all_in(rt, &meeting, numbers);
     assert!(rt; found.ends.as_slice() == ends);
-    prints(rt, &found.text, lines, last)
+    Ok(())
 }
 
 fn has_let_all_in<R: Abort>(rt: &R, meeting: &Meeting<'_, R>, numbers: u64) {
     assert!(rt; !meeting.has_missed.load(Ordering::SeqCst));
     assert!(rt; meeting.entered.load(Ordering::SeqCst) == meeting.seats);
     assert!(rt; meeting.numbers.load(Ordering::SeqCst) == numbers);
-}
-
-fn prints(rt: &impl Abort, text: &[u8], lines: usize, last: &str) -> Result<(), Fail> {
-    assert!(rt; str::from_utf8(text)?.lines().count() == lines);
-    assert!(rt; text.ends_with(last.as_bytes()));
-    Ok(())
 }
 
 // A party on the triangle, of a session over each of the texts.

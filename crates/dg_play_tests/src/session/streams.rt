@@ -1,11 +1,11 @@
-//! Readers and writers that fail, and a million lines.
+//! Readers and writers that fail.
 
 use crate::openings::{Scene, on_a_table};
 use crate::tables::{TRIANGLE, triangle};
 use dg_chips::Start;
 use dg_file::{Names, read_table};
 use dg_log::Name;
-use dg_session::{MAX_LINES, SessionEnd, serve, streams_are_cut_in_one_way};
+use dg_session::{SessionEnd, serve, streams_are_cut_in_one_way};
 use dg_streams::{Input, Output};
 use dg_table::{Seat, Table};
 use std::alloc::Global;
@@ -199,47 +199,17 @@ fn long_lines_are_answered(rt: HostRuntime) -> Result<(), Fail> {
         text.push(b'\n')?;
         answer.extend_from_slice(b"bad word\n")?;
     }
-    are_answered(&rt, alloc, &text, &answer, 100_000, Ok(1_000))
-}
-
-// Lines that come in few reads, on a table where nobody owes, to a writer that fails where it holds so many bytes.
-fn are_answered<R: Threads + Wait + Abort + Sync>(
-    rt: &R,
-    alloc: Global,
-    text: &[u8],
-    answer: &[u8],
-    fails_at: usize,
-    end: Result<u32, SessionEnd>,
-) -> Result<(), Fail> {
     let zero = triangle(&[0, 0, 0])?;
-    let reader = new_flow(text, 100_000, None);
-    let writer = new_sip(alloc, 100_000, fails_at, false);
+    let reader = new_flow(&text, 100_000, None);
+    let writer = new_sip(alloc, 100_000, 100_000, false);
     on_a_table(
-        rt,
+        &rt,
         alloc,
         1,
         &zero,
         1,
-        Scene::Session(reader, writer, answer, end),
+        Scene::Session(reader, writer, &answer, Ok(1_000)),
     )
-}
-
-#[test]
-fn a_million_lines_are_answered(rt: HostRuntime) -> Result<(), Fail> {
-    let alloc = rt.alloc();
-    let (mut text, mut answer) = (Vec::new(alloc), Vec::new(alloc));
-    for _ in 0..MAX_LINES {
-        text.extend_from_slice(b"x\n")?;
-        answer.extend_from_slice(b"bad word\n")?;
-    }
-    for (more, end) in [
-        (b"".as_slice(), Ok(MAX_LINES)),
-        (b"x".as_slice(), Err(SessionEnd::Turns)),
-    ] {
-        text.extend_from_slice(more)?;
-        are_answered(&rt, alloc, &text, &answer, 10_000_000, end)?;
-    }
-    Ok(())
 }
 
 // The session over the reader leaves the writer with the answer, and ends so.

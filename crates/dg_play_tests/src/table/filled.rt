@@ -2,15 +2,15 @@
 
 use crate::openings::{Scene, on_a_table};
 use crate::strategy::choices::LendFirst;
-use crate::table::crowded::{refuses_rank, refuses_verdict, tried};
 use crate::table::settles::{look_at, settle};
 use crate::tables::{amounts, triangle};
-use dg_analyst::{look, reckon};
+use dg_analyst::{Reckoned, Tried, commit, commit_rank, look, reckon, try_rank};
 use dg_chips::{Divisor, Move};
 use dg_game::Plain;
 use dg_graph::Graph;
 use dg_log::{Log, Name};
 use dg_observer::{Observer, Positions};
+use dg_rank::OpenGate;
 use dg_strategy::{Ended, Strategy, play};
 use dg_table::{Fault, Seat, Table};
 use std::alloc::Global;
@@ -48,6 +48,7 @@ pub(crate) fn fills<N: Name, R: Threads + Wait + Abort>(
     assert!(rt; audit.entries == 10_007 && audit.calls.starts_with(&[10_006, 1]));
     assert!(rt; audit.position == amounts(&[-20_004, 10_002, 10_002])?);
     assert!(rt; watched == audit.position);
+    assert!(rt; audit.history(alloc)?.len() == 10_007);
     Ok(())
 }
 
@@ -60,7 +61,7 @@ fn watched<N: Name>(rt: &impl Abort, alloc: Global, table: &Table<N>) -> Result<
     Ok(*observer.state())
 }
 
-// Two seats fill the table.
+// Two seats fill the table, and the second is still told of the last entry.
 fn is_played<N: Name, R: Threads + Wait + Abort>(
     rt: &R,
     alloc: Global,
@@ -72,6 +73,7 @@ fn is_played<N: Name, R: Threads + Wait + Abort>(
             goes_on(rt, alloc, table, first)?;
             hears_all(rt, alloc, table, second)?;
             is_full(rt, alloc, table, first)?;
+            hears(rt, table.log(), second, 10_006)?;
             found(rt, first, second);
             Ok(())
         }
@@ -168,10 +170,70 @@ fn refuses_calls<N: Name, R: Wait + Abort>(
 ) {
     let called = table.call(rt, alloc, seat, LEND).err();
     assert!(rt; called == Some(Fault::Full));
-    let turned = table
-        .turn(rt, alloc, seat, &mut |_: &Graph, _: &Divisor| None)
-        .err();
-    assert!(rt; turned == Some(Fault::Full));
+    refuses_turn(rt, alloc, table, seat);
     let played = play(rt, alloc, table, seat, &Strategy::new(LendFirst), 1).err();
     assert!(rt; played == Some(Fault::Full));
+}
+
+// The seat looks, and tries whether the rank is at least 0.
+fn tried<N: Name, R: Threads + Wait>(
+    rt: &R,
+    alloc: Global,
+    table: &Table<N>,
+    seat: &mut Seat<N>,
+) -> Result<Tried<N>, Fail> {
+    let taken = look(table, rt, alloc, seat)?;
+    Ok(
+        try_rank(rt, taken, 0, 1, &OpenGate)
+            .ok()
+            .ok_or("a rank test")?,
+    )
+}
+
+// A verdict on the look of this number comes back from a table that is full.
+fn refuses_verdict<N: Name, R: Wait + Abort>(
+    rt: &R,
+    alloc: Global,
+    table: &Table<N>,
+    seat: &mut Seat<N>,
+    reckoned: Reckoned<N>,
+    number: u32,
+) -> Result<(), Fail> {
+    let (reckoned, fault) = commit(table, rt, alloc, seat, reckoned)
+        .err()
+        .ok_or("a table that is full")?;
+    assert!(rt; reckoned.look().receipt().number() == number && fault == Fault::Full);
+    Ok(())
+}
+
+// So does a rank test.
+fn refuses_rank<N: Name, R: Wait + Abort>(
+    rt: &R,
+    alloc: Global,
+    table: &Table<N>,
+    seat: &mut Seat<N>,
+    tried: Tried<N>,
+    number: u32,
+) -> Result<(), Fail> {
+    let (tried, fault) = commit_rank(table, rt, alloc, seat, tried)
+        .err()
+        .ok_or("a table that is full")?;
+    assert!(rt; tried.look().receipt().number() == number && fault == Fault::Full);
+    Ok(())
+}
+
+// Nothing is asked of a turn.
+fn refuses_turn<N: Name, R: Wait + Abort>(
+    rt: &R,
+    alloc: Global,
+    table: &Table<N>,
+    seat: &mut Seat<N>,
+) {
+    let mut is_asked = false;
+    let mut choose = |_: &Graph, _: &Divisor| {
+        is_asked = true;
+        None
+    };
+    let turned = table.turn(rt, alloc, seat, &mut choose).err();
+    assert!(rt; turned == Some(Fault::Full) && !is_asked);
 }

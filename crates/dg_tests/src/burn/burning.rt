@@ -3,18 +3,13 @@
 ghost use Rattle.std.specs.Prelude.{◌<◌};
 
 use crate::burn::reference::burn_anew;
+use crate::edges::{PATH, SQUARE, TRIANGLE};
 use dg_burn::{Counted, burn, burn_counted, held_at};
 use dg_chips::Wide;
 use dg_graph::Graph;
 use dg_reduce::is_solvent_off;
 use std::process::Abort;
 use std::test::Fail;
-
-const TRIANGLE: &[(u8, u8, u8)] = &[(0, 1, 1), (1, 2, 1), (0, 2, 1)];
-
-const SQUARE: &[(u8, u8, u8)] = &[(0, 1, 1), (1, 2, 1), (2, 3, 1), (3, 0, 1)];
-
-const PATH: &[(u8, u8, u8)] = &[(0, 1, 1), (1, 2, 1), (2, 3, 1)];
 
 const MULTIPLE: &[(u8, u8, u8)] = &[
     (0, 1, 2),

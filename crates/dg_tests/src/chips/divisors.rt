@@ -1,12 +1,10 @@
 //! Divisors.
 
+use crate::edges::TRIANGLE;
 use dg_chips::{ChipFault, Divisor, Script};
 use dg_graph::Graph;
 use std::process::Abort;
 use std::test::Fail;
-
-/// The edges of the triangle.
-const TRIANGLE: &[(u8, u8, u8)] = &[(0, 1, 1), (1, 2, 1), (0, 2, 1)];
 
 /// The edges of a star of two edges, one of them fourfold.
 const STAR: &[(u8, u8, u8)] = &[(0, 1, 1), (0, 2, 4)];
@@ -36,42 +34,6 @@ fn holds(rt: &impl Abort, divisor: &Divisor, amounts: &[i64; 3]) {
     assert!(rt; divisor.size() == 3);
     assert!(rt; divisor.get(0) == amounts[0]);
     assert!(rt; divisor.get(1) == amounts[1] && divisor.get(2) == amounts[2]);
-}
-
-// A vertex, dollars for it, and what 999999 -999999 4 become by them, where that is within the limit.
-static MORE: [(usize, i64, Option<[i64; 3]>); 6] = [
-    (0, 1, Some([1_000_000, -999_999, 4])),
-    (0, 2, None),
-    (1, -1, Some([999_999, -1_000_000, 4])),
-    (1, -2, None),
-    (2, -7, Some([999_999, -999_999, -3])),
-    (2, 1_000_000, None),
-];
-
-#[test]
-fn what_divisors_hold_with_more(rt: HostRuntime) -> Result<(), Fail> {
-    let triangle = Graph::new(3, TRIANGLE)?;
-    let divisor = Divisor::new(&triangle, &[999_999, -999_999, 4])?;
-    for (v, dollars, after) in &MORE {
-        holds_with_more(&rt, &triangle, &divisor, (*v, *dollars), after)?;
-    }
-    Ok(())
-}
-
-fn holds_with_more(
-    rt: &impl Abort,
-    triangle: &Graph,
-    divisor: &Divisor,
-    (v, dollars): (usize, i64),
-    after: &Option<[i64; 3]>,
-) -> Result<(), Fail> {
-    let held = match after {
-        Some(amounts) => Some(Divisor::new(triangle, amounts)?),
-        None => None,
-    };
-    assert!(rt; v < divisor.size() && dollars.unsigned_abs() <= 1_000_000);
-    assert!(rt; divisor.with_more(v, dollars) == held, "{dollars} at {v}");
-    Ok(())
 }
 
 // A divisor, another one, and the first less the second, or why it is refused.

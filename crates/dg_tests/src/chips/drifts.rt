@@ -2,6 +2,7 @@
 
 ghost use Rattle.std.specs.Prelude.{◌≡◌};
 
+use crate::edges::TRIANGLE;
 use dg_chips::{Divisor, Drift, Move, Script, Wide};
 use dg_graph::Graph;
 use std::process::Abort;
@@ -15,9 +16,6 @@ fn holds(drift: &Drift, entries: &[i64]) -> bool {
     }
     drift.size() == entries.len()
 }
-
-/// The edges of the triangle.
-const TRIANGLE: &[(u8, u8, u8)] = &[(0, 1, 1), (1, 2, 1), (0, 2, 1)];
 
 // Scripts for the triangle, and what they lead to from 2 0 0.
 static LED: [([i64; 3], [i64; 3]); 4] = [

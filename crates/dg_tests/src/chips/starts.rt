@@ -1,23 +1,10 @@
-//! What graphs, divisors, scripts and starts take and refuse.
+//! What scripts and starts take and refuse.
 
-use dg_chips::{ChipFault, Divisor, Script, ScriptFault, Start, StartFault};
+use crate::edges::TRIANGLE;
+use dg_chips::{Divisor, Script, ScriptFault, Start, StartFault};
 use dg_graph::Graph;
 use std::process::Abort;
 use std::test::Fail;
-
-/// The edges of the triangle.
-const TRIANGLE: &[(u8, u8, u8)] = &[(0, 1, 1), (1, 2, 1), (0, 2, 1)];
-
-// Amounts for the triangle, and why they are refused.
-static AMOUNTS: [(&[i64], Option<ChipFault>); 7] = [
-    (&[1_000_000, -1_000_000, 0], None),
-    (&[0, 0], Some(ChipFault::Length)),
-    (&[0, 0, 0, 0], Some(ChipFault::Length)),
-    (&[1_000_001, 0], Some(ChipFault::Length)),
-    (&[0, 1_000_001, 1_000_001], Some(ChipFault::Range(1))),
-    (&[0, 0, -1_000_001], Some(ChipFault::Range(2))),
-    (&[i64::MIN, i64::MAX, 0], Some(ChipFault::Range(0))),
-];
 
 // Entries of scripts for the triangle, and why they are refused.
 static ENTRIES: [(&[i64], Option<ScriptFault>); 6] = [
@@ -33,11 +20,8 @@ static ENTRIES: [(&[i64], Option<ScriptFault>); 6] = [
 ];
 
 #[test]
-fn what_a_graph_takes(rt: HostRuntime) -> Result<(), Fail> {
+fn which_scripts_are_taken(rt: HostRuntime) -> Result<(), Fail> {
     let triangle = Graph::new(3, TRIANGLE)?;
-    for (numbers, fault) in &AMOUNTS {
-        assert!(rt; Divisor::new(&triangle, numbers).err() == *fault, "amounts");
-    }
     for (numbers, fault) in &ENTRIES {
         assert!(rt; Script::new(&triangle, numbers).err() == *fault, "entries");
     }

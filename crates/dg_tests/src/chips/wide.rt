@@ -1,12 +1,10 @@
 //! Wide amounts.
 
+use crate::edges::TRIANGLE;
 use dg_chips::{ChipFault, Divisor, Script, Wide};
 use dg_graph::Graph;
 use std::process::Abort;
 use std::test::Fail;
-
-/// The edges of the triangle.
-const TRIANGLE: &[(u8, u8, u8)] = &[(0, 1, 1), (1, 2, 1), (0, 2, 1)];
 
 // Numbers for the triangle, and why they are refused.
 static NUMBERS: [(&[i128], Option<ChipFault>); 5] = [

@@ -1,6 +1,6 @@
-//! Graphs that are given, and graphs that are refused.
+//! Graphs that are given.
 
-use dg_graph::{Graph, GraphFault};
+use dg_graph::Graph;
 use std::process::Abort;
 use std::test::Fail;
 
@@ -78,40 +78,5 @@ fn has_vertex(rt: &impl Abort, graph: &Graph, v: usize, valence: u8) {
             0
         };
         assert!(rt; *edges == wanted);
-    }
-}
-
-#[test]
-fn items_of_one_pair_are_added_up(rt: HostRuntime) -> Result<(), Fail> {
-    let double = Graph::new(2, &[(0, 1, 1), (1, 0, 2)])?;
-    assert!(rt; double.edges(0, 1) == 3 && double.edges(1, 0) == 3);
-    assert!(rt; *double.row(1) == [3, 0, 0, 0, 0, 0, 0, 0, 0, 0, 0, 0, 0, 0, 0, 0]);
-    Ok(())
-}
-
-// A size, items, and the first fault of them.
-static REFUSED: [(usize, &[(u8, u8, u8)], GraphFault); 12] = [
-    (0, &[(0, 9, 1)], GraphFault::Size),
-    (17, &[], GraphFault::Size),
-    (2, &[(0, 1, 1), (2, 2, 0)], GraphFault::NoVertex(1)),
-    (2, &[(0, 2, 1)], GraphFault::NoVertex(0)),
-    (2, &[(1, 1, 0), (0, 2, 1)], GraphFault::Loop(0)),
-    (2, &[(0, 1, 1), (1, 1, 1)], GraphFault::Loop(1)),
-    (2, &[(1, 0, 0), (0, 2, 1)], GraphFault::Multiplicity(0)),
-    (
-        3,
-        &[(0, 1, 1), (1, 2, 64), (1, 0, 0)],
-        GraphFault::Multiplicity(2),
-    ),
-    (4, &[(2, 1, 64)], GraphFault::Valence(1)),
-    (2, &[(0, 1, 200), (1, 0, 200)], GraphFault::Valence(0)),
-    (2, &[], GraphFault::NotConnected),
-    (4, &[(0, 1, 1), (2, 3, 1)], GraphFault::NotConnected),
-];
-
-#[test]
-fn the_first_fault_is_reported(rt: HostRuntime) {
-    for (size, items, fault) in &REFUSED {
-        assert!(rt; Graph::new(*size, items).err() == Some(*fault), "{fault}");
     }
 }

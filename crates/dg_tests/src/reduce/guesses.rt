@@ -2,6 +2,7 @@
 
 ghost use Rattle.std.specs.Prelude.{◌≡◌};
 
+use crate::edges::{PATH, SQUARE, TRIANGLE};
 use dg_chips::{Script, Wide};
 use dg_graph::{Graph, GraphFault};
 use dg_reduce::{
@@ -20,12 +21,6 @@ type Case = (
     &'static [i64],
     [&'static [i64]; 7],
 );
-
-const TRIANGLE: &[(u8, u8, u8)] = &[(0, 1, 1), (1, 2, 1), (0, 2, 1)];
-
-const SQUARE: &[(u8, u8, u8)] = &[(0, 1, 1), (1, 2, 1), (2, 3, 1), (3, 0, 1)];
-
-const PATH: &[(u8, u8, u8)] = &[(0, 1, 1), (1, 2, 1), (2, 3, 1)];
 
 const HOUSE: &[(u8, u8, u8)] = &[
     (0, 1, 2),

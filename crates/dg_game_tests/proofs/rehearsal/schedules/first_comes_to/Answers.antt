@@ -1,5 +1,0 @@
-use Rattle.std.proofs.Common.{[]}
-use Rattle.dg_game_tests.proofs.rehearsal.schedules.first_comes_to.Goals as goal
-
-pub call-came-requires : goal.call-came-requires
-call-came-requires g c = (_, [], [], c.new-rehearsal.ensures [])

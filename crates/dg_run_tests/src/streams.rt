@@ -1,0 +1,38 @@
+//! An output that fails.
+
+use dg_asked::{Asked, Task};
+use dg_server::{Fault, perform};
+use dg_sources::Shelf;
+use dg_streams::Output;
+use std::process::Abort;
+use std::rt::Files;
+use std::sync::Wait;
+use std::thread::Threads;
+
+// One vertex, in debt.
+const ALONE: &str = r#"{"vertices":["a"],"edges":[],"amounts":[-1],"q":"a"}"#;
+
+// The answer has 26 bytes.
+#[test]
+fn an_output_that_is_refused_is_a_fault(rt: HostRuntime) {
+    for size in [0, 5, 25, 26] {
+        has_room(&rt, size);
+    }
+}
+
+// Whether the answer is printed where there is room for 26 bytes, and a fault of writing comes where there is less.
+fn has_room<R>(rt: &R, size: usize)
+where
+    R: Files + AllocGlobal + Threads + Wait + Abort + Sync,
+{
+    let shelf = Shelf {
+        files: &[("table.json", ALONE.as_bytes())],
+    };
+    let asked = Asked::Task(Task::Judge { file: "table.json" });
+    let mut page = [0; 26];
+    assert!(rt; size <= 26);
+    let mut output = Output::new(&mut page[..size]);
+    let got = perform(rt, asked, &shelf, b"".as_slice(), &mut output);
+    assert!(rt; matches!(&got, Ok(())) == (size == 26));
+    assert!(rt; matches!(&got, Err(Fault::Write)) == (size != 26));
+}
