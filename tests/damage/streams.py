@@ -202,7 +202,7 @@ def threads(checks):
         checks.same("serve without threads", THREAD._replace(output=told), checks.run(
             "serve", table, typed=b"look\nrank 631\nrank 1\nclaim\n", before=without_threads))
     else:
-        print("here no limit on processes refuses a thread: the runs without room for one were left out")
+        print("left out: runs without room for a thread, for want of a limit on processes that refuses one")
     checks.program = own
 
 
