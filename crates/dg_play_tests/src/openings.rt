@@ -5,7 +5,7 @@ use crate::analyst::looks::{asks_too_much, judged, ranked};
 use crate::observer::watching::watched;
 use crate::party::gates::enter_first;
 use crate::session::streams::{Flow, Sip, serves};
-use crate::strategy::plays::{played, settled};
+use crate::strategy::plays::played;
 use crate::table::filled::fills;
 use crate::table::meetings::{Meeting, meet};
 use crate::table::pens::writes;
@@ -47,8 +47,6 @@ pub(crate) enum Scene<'a> {
     TooMuch,
     // Observers read what two seats have entered.
     Watched,
-    // The greedy settler has five turns, in which these vertices borrow, or it claims.
-    Settler(Option<[u8; 5]>),
     // Strategies are played.
     Strategies,
     // Seats play in threads.
@@ -130,7 +128,6 @@ fn shown_to_one<N: Name, R: Threads + Wait + Abort>(
 ) -> Result<(), Fail> {
     match scene {
         Scene::Turns => turns(rt, alloc, table, seat),
-        Scene::Settler(borrowers) => settled(rt, alloc, table, seat, borrowers),
         Scene::Strategies => played(rt, alloc, table, seat),
         Scene::Session(reader, writer, answer, end) => {
             serves(rt, alloc, table, seat, reader, writer, answer, end)
