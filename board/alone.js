@@ -50,17 +50,44 @@ async function playNow(line) {
   hands.unchoose();
   questions.clear();
   viewer.reset(game, now + 1);
-  return viewer.board.svg.contains(document.activeElement) ? null : undefined;
+  keep();
+  return null;
+}
+
+/* The game outlasts a reload of the page. */
+
+const KEPT = `dollar ${location.pathname}`;
+
+function keep() {
+  const kept = { table, fileName, steps: stepsText(viewer.game.length), places: placesText(viewer.board.layout) };
+  try {
+    sessionStorage.setItem(KEPT, JSON.stringify(kept));
+  } catch {
+    /* A browser that keeps nothing, or not so much: then the game lasts as long as the page. */
+  }
+}
+
+/* What was kept, with what the program prints of it, or null. */
+async function kept() {
+  try {
+    const found_ = JSON.parse(sessionStorage.getItem(KEPT));
+    const placed = await ask({ command: "layout", table: found_.table, places: found_.places });
+    const said = await ask({ command: "rehearse", table: found_.table, steps: found_.steps });
+    return placed.status === 0 && said.status === 0 ? { ...found_, layout: placed.layout, printed: said.out } : null;
+  } catch {
+    return null;
+  }
 }
 
 /* Another table. What the program refuses is told, and nothing changes. */
 
-async function openTable(text, file, layout) {
-  const said = await ask({ command: "layout", table: text });
+async function openTable(text, file, places) {
+  const said = await ask({ command: "layout", table: text, ...(places === undefined ? {} : { places }) });
   if (said.status !== 0) return said.err;
   if (viewer.game.length && !(await sure(`The ${viewer.game.length} steps of this game go with its table. Shall they go?`))) return null;
   [table, fileName] = [text, file];
-  begin(layout || layoutOf(said.layout));
+  begin(layoutOf(said.layout));
+  keep();
   return null;
 }
 
@@ -103,7 +130,7 @@ async function drawLots(degree, kind) {
   if (said.status !== 0) return told(said.err);
   const at = linesOf(said.out).findIndex((line) => (kind ? line.startsWith(`${kind} `) : /^(un)?winnable /.test(line)));
   if (at < 0) return hands.tell(`Of ${LOTS} that were drawn none ${kind === "winnable" ? "can" : kind ? "can't" : "is a table that can"} be won.`);
-  told(await openTable(`${JSON.stringify(tables[at], null, 1)}\n`, fileName, viewer.board.layout));
+  told(await openTable(`${JSON.stringify(tables[at], null, 1)}\n`, fileName, placesText(viewer.board.layout)));
   return null;
 }
 
@@ -148,7 +175,7 @@ function bindTaking() {
   on("take-table", () => save("table.json", table));
   on("take-steps", () => save("steps.txt", stepsText(viewer.game.length)));
   on("take-now", () => save("now.json", questions.now()));
-  on("take-places", () => save("places.txt", textOf([...viewer.board.layout.places].map(([vertex, [x, y]]) => `${vertex} ${x} ${y}`))));
+  on("take-places", () => save("places.txt", placesText(viewer.board.layout)));
   on("take-picture", () => save("board.svg", picture(), "image/svg+xml"));
   on("take-page", takePage);
   on("print", () => window.print());
@@ -181,7 +208,14 @@ async function start() {
   const given = await (await fetch("start")).json();
   ({ table, examples, name: fileName } = given);
   element("seat").replaceChildren(...Array.from({ length: 64 }, (_, i) => new Option(i + 1, i + 1)));
-  begin(layoutOf(given.layout));
+  const before = await kept();
+  if (before) ({ table, fileName } = before);
+  begin(layoutOf((before || given).layout));
+  if (before) {
+    const printed = linesOf(before.printed), { game } = viewer;
+    linesOf(before.steps).forEach((line, i) => game.add(line, printed[i]));
+    viewer.reset(game, game.length);
+  }
   bindTaking();
   bindTables();
 }

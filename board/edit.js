@@ -2,7 +2,13 @@
 
 /* The editor: a draft of a table, on the board and in two lists. Whether it is a table says the program, when it is done. */
 
-const MOST_VERTICES = 16;
+const MOST_VERTICES = 16, ROOM = [620, 440];
+
+/* The lines `name x y` of the places of a layout. */
+
+function placesText(layout) {
+  return [...layout.places].map(([name, [x, y]]) => `${name} ${x} ${y}\n`).join("");
+}
 
 class Editor {
   /* `done` is called with the text of the table and the places, and gives what the program refuses, or null. */
@@ -19,7 +25,7 @@ class Editor {
     const { game, now, board } = this.viewer, table = game.tableAt(now);
     this.viewer.stop();
     this.kept = board.layout;
-    board.layout = { ...board.layout, places: new Map(board.layout.places), sizes: new Map(board.layout.sizes) };
+    board.layout = this.wider(board.layout);
     board.burnt = [];
     this.draft = {
       vertices: table.vertices.map((name, i) => ({ name, amount: table.amounts[i] })),
@@ -28,6 +34,14 @@ class Editor {
     this.hands.other = { drag: (press, at) => this.drag(press, at), up: (press, at, to) => this.up(press, at, to) };
     this.shown(true);
     this.fill();
+  }
+
+  /* A layout with room around it, for what is to come. */
+  wider(layout) {
+    const width = Math.max(layout.width, ROOM[0]), height = Math.max(layout.height, ROOM[1]);
+    const moved = ([x, y]) => [Math.round(x + (width - layout.width) / 2), Math.round(y + (height - layout.height) / 2)];
+    const places = new Map([...layout.places].map(([name, place]) => [name, moved(place)]));
+    return { ...layout, width, height, places, sizes: new Map(layout.sizes) };
   }
 
   shown(open) {
@@ -55,7 +69,7 @@ class Editor {
   }
 
   async finish() {
-    const refused = await this.done(this.text(), this.viewer.board.layout);
+    const refused = await this.done(this.text(), placesText(this.viewer.board.layout));
     if (refused === null) this.leave();
     else this.refuse(faultWords(refused), `dollar: ${refused}`);
   }
@@ -70,7 +84,7 @@ class Editor {
   async places() {
     const found = await this.find(this.text());
     if (found.layout) {
-      this.viewer.board.layout = found.layout;
+      this.viewer.board.layout = this.wider(found.layout);
       this.draw();
     } else {
       this.refuse(faultWords(found.err), `dollar: ${found.err}`);

@@ -352,8 +352,12 @@ def with_takings(player, browser_folder):
     equal(player.value("viewer.game.replies.map(({line}) => line)"), asked("rehearse", table, steps)[0].splitlines(), "the page that is saved")
     player.browser.open(written(browser_folder, "board.html", '<!doctype html><img src="%s">' % os.path.join(player.folder, "board.svg")))
     player.browser.until("document.querySelector('img').naturalWidth > 0")
-    player.browser.open(address)
-    player.browser.until(READY)
+    before = text_of(table), text_of(steps)
+    player.browser.open(address + "#%3Cimg%20src=x%20onerror=p()%3E")
+    player.browser.until(READY + " && viewer.game.length > 0")
+    table, steps = player.compare("after a reload")
+    equal((text_of(table), text_of(steps)), before, "the files after a reload")
+    expect(player.value("document.querySelectorAll('img').length") == 0, "a fragment of an address is shown")
 
 
 def in_sizes(player, folder):
