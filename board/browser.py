@@ -158,6 +158,14 @@ class Browser:
         time.sleep(hold)
         self.call("Input.dispatchTouchEvent", type="touchEnd", touchPoints=[])
 
+    def touch_drag(self, one, other):
+        """Draws with a finger from a place to another."""
+        point = lambda part: [{"x": one[0] + part * (other[0] - one[0]), "y": one[1] + part * (other[1] - one[1])}]
+        self.call("Input.dispatchTouchEvent", type="touchStart", touchPoints=point(0))
+        for part in 0.2, 0.6, 1.0:
+            self.call("Input.dispatchTouchEvent", type="touchMove", touchPoints=point(part))
+        self.call("Input.dispatchTouchEvent", type="touchEnd", touchPoints=[])
+
     def choose_file(self, selector, place):
         """Gives a file to an element for files."""
         found = self.call("Runtime.evaluate", expression="document.querySelector(%s)" % json.dumps(selector))

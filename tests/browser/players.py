@@ -117,6 +117,7 @@ def by_touch(player):
     browser = player.browser
     equal(player.did(browser.touch, AT % "dan"), "1 lend dan", "a touch")
     equal(player.did(browser.touch, AT % "dan", 0.8), "1 borrow dan", "a long touch")
+    equal(player.did(browser.touch_drag, browser.middle(AT % "ann"), browser.middle(AT % "bob")), "1 join ann bob", "a line by a finger")
 
 
 def by_keys(player):

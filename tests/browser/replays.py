@@ -226,6 +226,8 @@ def of_long_game(browser, folder):
     browser.open(place)
     opened = time.monotonic() - start
     expect(opened < OPENS_IN, "%d steps open in %.1f s" % (LONGEST, opened))
+    if os.environ.get("TOLD"):
+        print("%d steps open in %.2f s" % (LONGEST, opened))
     for wide in 400, 1920:
         browser.size(wide, 800)
         browser.until("innerWidth === %d && document.querySelectorAll('#marks button').length === viewer.markedSteps().length" % wide)
@@ -241,6 +243,8 @@ def of_long_game(browser, folder):
     each = (time.monotonic() - start) / 20
     equal(browser.value("viewer.now"), 60022, "20 steps further")
     expect(each < STEPS_IN, "of %d steps each takes %.2f s" % (LONGEST, each))
+    if os.environ.get("TOLD"):
+        print("of these a step takes %.3f s" % each)
     browser.press("End")
     equal(browser.value("[viewer.now, document.querySelectorAll('#whole li').length]"), [LONGEST, 400], "the last step")
     browser.value("document.getElementById('earlier').click()")

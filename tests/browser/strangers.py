@@ -215,6 +215,12 @@ def of_command_line(folder):
         done = subprocess.run(play + words, capture_output=True, text=True, stdin=subprocess.DEVNULL, timeout=60)
         expect((done.returncode, done.stdout) == (1, "") and done.stderr.startswith("board/play: ") and done.stderr.count("\n") == 1,
                "board/play %s: %d, %r, %r" % (words, done.returncode, done.stdout, done.stderr))
+    for script in ["draw.py", os.path.join(EXAMPLES, "cube.json")], ["replay.py", os.path.join(EXAMPLES, "village.json"), os.path.join(EXAMPLES, "village_story.txt")]:
+        one, other = os.pipe()
+        os.close(one)
+        done = subprocess.run([sys.executable, "-B", os.path.join(BOARD, script[0]), *script[1:]], stdout=other, stderr=subprocess.PIPE, timeout=60)
+        os.close(other)
+        equal((done.returncode, done.stderr), (1, b""), "%s whose reader has gone" % script[0])
     for words in (["--seats", "0"], ["--seats", "65"], ["--seats", "x"], ["--port", "70000"], ["--host", "127.0.0.1"], ["a", "b"]):
         done = subprocess.run(play + words, capture_output=True, text=True, stdin=subprocess.DEVNULL, timeout=60)
         equal((done.returncode, done.stdout), (2, ""), "board/play %s" % words)
