@@ -6,24 +6,11 @@ const LOTS = 64;
 let table, fileName, examples, viewer, hands, questions, editor;
 let turn = Promise.resolve();
 
-async function post(path, thing) {
-  try {
-    const got = await fetch(path, { method: "POST", headers: { "Content-Type": "application/json" }, body: JSON.stringify(thing) });
-    if (!got.ok) return { status: got.status, out: "", err: await got.text() };
-    return await got.json();
-  } catch {
-    return { status: null, out: "", err: "board/play does not answer: it may have ended" };
-  }
-}
+/* What the program says to a question: its status, its answer and its fault. */
 
-const ask = (question) => post("ask", question);
-
-function sure(words) {
-  const box = element("sure");
-  box.querySelector("p").textContent = words;
-  box.returnValue = "no";
-  box.showModal();
-  return new Promise((done) => box.addEventListener("close", () => done(box.returnValue === "yes"), { once: true }));
+async function ask(question) {
+  const said = await post("ask", question);
+  return said.refused ? { status: said.status, out: "", err: said.refused } : said;
 }
 
 const textOf = (lines) => lines.map((line) => `${line}\n`).join("");
@@ -70,10 +57,10 @@ function keep() {
 /* What was kept, with what the program prints of it, or null. */
 async function kept() {
   try {
-    const found_ = JSON.parse(sessionStorage.getItem(KEPT));
-    const placed = await ask({ command: "layout", table: found_.table, places: found_.places });
-    const said = await ask({ command: "rehearse", table: found_.table, steps: found_.steps });
-    return placed.status === 0 && said.status === 0 ? { ...found_, layout: placed.layout, printed: said.out } : null;
+    const before = JSON.parse(sessionStorage.getItem(KEPT));
+    const placed = await ask({ command: "layout", table: before.table, places: before.places });
+    const said = await ask({ command: "rehearse", table: before.table, steps: before.steps });
+    return placed.status === 0 && said.status === 0 ? { ...before, layout: placed.layout, printed: said.out } : null;
   } catch {
     return null;
   }
@@ -144,14 +131,6 @@ function lots(count, degree) {
 }
 
 /* Take along. */
-
-function save(file, text, kind = "text/plain") {
-  const link = made("a");
-  link.href = URL.createObjectURL(new Blob([text], { type: kind }));
-  link.download = file;
-  link.click();
-  setTimeout(() => URL.revokeObjectURL(link.href), 10000);
-}
 
 function picture() {
   const svg = viewer.board.svg.cloneNode(true), { width, height } = viewer.board.layout;

@@ -1,7 +1,7 @@
 """Playing alone: the page keeps the table and the steps, and each of its questions goes to the program."""
 import asyncio, contextlib, json, os, tempfile
 
-from board import EXAMPLES, layout, table_of, text_of
+from board import EXAMPLES, USUAL, layout, table_of, text_of
 from pages import asset, assembled
 from program import PATIENCE, Fault, program, spoken
 from replay import page
@@ -9,9 +9,7 @@ from server import Nothing, Refused, as_json, same, text_in
 
 MOST_TABLE, MOST_STEPS, MOST_BODY, MOST_TABLES = 1 << 21, 1 << 21, 1 << 24, 1 << 21
 AT_ONCE = 3
-ASSETS = "page.css", "words.js", "board.js", "viewer.js", "hand.js", "ask.js", "edit.js", "alone.js"
-# Room for these is left in the circles.
-USUAL = [-99, 999]
+ASSETS = "page.css", "words.js", "board.js", "viewer.js", "hand.js", "page.js", "ask.js", "edit.js", "alone.js"
 
 
 def examples():

@@ -7,23 +7,6 @@ const KEPT = `dollar ${location.pathname.replaceAll("-", "").toLowerCase()}`;
 let given, viewer, hands, source, me = null, state = null, waiting = [], frame = null, took = 0, stopped = false;
 const entries = new Map(), players = [];
 
-async function post(path, thing) {
-  try {
-    const got = await fetch(path, { method: "POST", headers: { "Content-Type": "application/json" }, body: JSON.stringify(thing) });
-    return got.ok ? await got.json() : { refused: await got.text(), status: got.status };
-  } catch {
-    return { refused: "There was no answer. Look at the list whether the line was played.", status: null };
-  }
-}
-
-function sure(words) {
-  const box = element("sure");
-  box.querySelector("p").textContent = words;
-  box.returnValue = "no";
-  box.showModal();
-  return new Promise((done) => box.addEventListener("close", () => done(box.returnValue === "yes"), { once: true }));
-}
-
 /* A seat of one's own, which is kept over a reload. */
 
 function kept() {
@@ -176,7 +159,7 @@ async function play(line) {
   if (!me) return hands.tell("Take a seat first.");
   const got = await hands.patient(post("line", { key: me.key, line }));
   if (got.status === 404) return seek();
-  if (got.refused) return hands.tell(got.refused);
+  if (got.refused) return hands.tell(got.status === null ? `${got.refused} The list shows whether the line was played.` : got.refused);
   const bad = got.answer.startsWith("bad ");
   hands.tell(bad ? faultWords(got.answer) : "", bad ? got.answer : "");
   if (!bad) hands.unchoose();
@@ -210,14 +193,6 @@ function drawCode(rows) {
     if (dot === "1") draw("rect", { x, y, width: 1.02, height: 1.02, class: "dot" }, box);
   }));
   box.removeAttribute("hidden");
-}
-
-function save(file, text, kind) {
-  const link = made("a");
-  link.href = URL.createObjectURL(new Blob([text], { type: kind }));
-  link.download = file;
-  link.click();
-  setTimeout(() => URL.revokeObjectURL(link.href), 10000);
 }
 
 function teach() {

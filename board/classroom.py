@@ -2,7 +2,7 @@
 back; each seat's lines are put to the program one after another, and all see each entry as it comes."""
 import asyncio, contextlib, json, re, time
 
-from board import layout, table_of
+from board import USUAL, layout, table_of
 from pages import asset, assembled
 from program import PATIENCE, Fault, printed, program, spoken
 from replay import page
@@ -12,9 +12,8 @@ MOST_BODY, MOST_LINE, MOST_NAME, MOST_SEATS = 1 << 14, 1024, 24, 64
 # A seat may play so many lines at once, and then so many in a second; so many of its lines wait, and so many pages are open on it.
 AT_ONCE, IN_A_SECOND, MOST_WAITING, MOST_PAGES = 60, 10.0, 4, 4
 BATCH, HEARTBEAT, UNUSED = 400, 15.0, 60.0
-ASSETS = "page.css", "words.js", "board.js", "viewer.js", "hand.js", "class.js"
+ASSETS = "page.css", "words.js", "board.js", "viewer.js", "hand.js", "page.js", "class.js"
 FILES = {"table.json": "application/json", "steps.txt": "text/plain", "history.txt": "text/plain"}
-USUAL = [-99, 999]
 KEEP_OPEN = b": the game goes on\n\n"
 
 

@@ -136,10 +136,10 @@ class Editor {
   }
 
   input(type, value, label, change) {
-    const made_ = Object.assign(document.createElement("input"), { type, value });
-    made_.setAttribute("aria-label", label);
-    made_.addEventListener("change", () => change(made_));
-    return made_;
+    const field = Object.assign(document.createElement("input"), { type, value });
+    field.setAttribute("aria-label", label);
+    field.addEventListener("change", () => change(field));
+    return field;
   }
 
   number(value, label, change) {

@@ -1,5 +1,5 @@
 """The table of a class, without a browser: one legal history, whatever pupils, strangers and accidents do."""
-import json, os, random, signal, socket, statistics, sys, threading, time
+import http.client, json, os, random, signal, socket, statistics, sys, threading, time
 
 from common import EXAMPLES, asked, equal, expect, played, written
 from visitors import Place, Pupil, opened
@@ -125,7 +125,7 @@ def with_strangers(folder):
         equal(late.states[-1]["names"]["3"]["name"], "a b " + "c" * 20, "a free seat that nobody had, and a name")
         steps, _ = taken(desk, folder)
         equal(steps, ["1 claim"], "the steps after strangers")
-        headers = dict(_headers(place))
+        headers = headers_of(place)
         expect("script-src 'self'" in headers["content-security-policy"] and "unsafe" not in headers["content-security-policy"],
                "the policy is %s" % headers["content-security-policy"])
         equal([headers[name] for name in ("referrer-policy", "x-content-type-options", "cache-control")], ["no-referrer", "nosniff", "no-store"], "headers")
@@ -133,11 +133,13 @@ def with_strangers(folder):
             pupil.leave()
 
 
-def _headers(place):
-    import http.client
+def headers_of(place):
+    """The headers of a page."""
     link = http.client.HTTPConnection(place.host, place.port)
     link.request("GET", place.path)
-    return [(name.lower(), value) for name, value in link.getresponse().getheaders()]
+    headers = {name.lower(): value for name, value in link.getresponse().getheaders()}
+    link.close()
+    return headers
 
 
 def with_commands(folder):
@@ -250,6 +252,7 @@ def with_floods(folder):
         expect(memory_of(child) < MOST_MEMORY, "%d KiB of memory" % memory_of(child))
         for link in deaf:
             link.close()
+        expect(ann.until(lambda pupil: pupil.states[-1]["names"][str(bob.seat)]["here"] == 0), "pages that vanished are still there")
         ann.leave()
         bob.leave()
 

@@ -426,4 +426,4 @@ def all_of(browser, folder):
         equal(outside, [], "what the page has asked of others")
     browser.value("void play('claim')")
     browser.until("!document.getElementById('refused').hidden")
-    expect("does not answer" in browser.value("document.getElementById('refused').textContent"), "the end of board/play is not told")
+    expect("There is no answer from board/play" in browser.value("document.getElementById('refused').textContent"), "the end of board/play is not told")

@@ -176,7 +176,10 @@ def of_alone(folder):
                 ("POST", "ask", {"command": "judge", "table": table}, {"Origin": None}),
                 ("GET", "start", None, {"Host": "evil.example:%d" % place.port}), ("POST", "start", {}, ())):
             equal(place.ask(method, path, thing, headers), (404, "there is nothing here"), "%s %s" % (method, path))
-        ask = lambda **given: place.post("ask", given)
+
+        def ask(**given):
+            return place.post("ask", given)
+
         file, steps = os.path.join(EXAMPLES, "triangle.json"), "1 look\n2 lend a\n1 commit\n"
         for given, words in (({"command": "judge"}, ("judge", file)), ({"command": "rr"}, ("rr", file)),
                              ({"command": "rank", "degree": "1"}, ("rank", file, "1")), ({"command": "rank", "degree": "-1"}, ("rank", "--", file, "-1")),
@@ -202,6 +205,11 @@ def of_alone(folder):
             thread.join()
         equal(ask(command="judge", table=table)[1]["status"], 0, "the server after many questions")
         expect(memory_of(child) < MOST_MEMORY, "%d KiB of memory" % memory_of(child))
+    places = written(folder, "places", "a 0 0\nb 10 0\nc 10 5\n")
+    for words in [], ["--seats", "2"]:
+        with played(os.path.join(EXAMPLES, "triangle.json"), "--places", places, *words) as (_, found):
+            at = json.loads(Place(found[0]).get("start")[1])["layout"]["places"]
+            expect(at["a"][1] == at["b"][1] < at["c"][1] and at["b"][0] == at["c"][0] > at["a"][0], "other places: %r" % at)
 
 
 def of_command_line(folder):
