@@ -45,9 +45,22 @@ function stand(words) {
   document.body.classList.add("outside");
 }
 
-function sit() {
+function inside() {
   element("entrance").hidden = true;
   document.body.classList.remove("outside");
+}
+
+/* A page without a seat, which shows the way in as well. */
+
+function watch() {
+  inside();
+  element("hands").hidden = true;
+  showWay();
+  listen("events?");
+}
+
+function sit() {
+  inside();
   listen(`events?key=${encodeURIComponent(me.key)}&`);
 }
 
@@ -184,6 +197,12 @@ async function command(path, thing) {
   return got;
 }
 
+function showWay() {
+  element("way").hidden = false;
+  element("address").textContent = given.address;
+  drawCode(given.code);
+}
+
 function drawCode(rows) {
   const box = element("code");
   if (!rows) return;
@@ -198,8 +217,7 @@ function drawCode(rows) {
 function teach() {
   element("teacher").hidden = false;
   element("hands").hidden = true;
-  element("address").textContent = given.address;
-  drawCode(given.code);
+  showWay();
   const on = (id, act) => element(id).addEventListener("click", act);
   on("pause", () => command("pause", { paused: !state.paused }));
   on("end", async () => {
@@ -223,6 +241,7 @@ async function start() {
   hands = teaches ? null : new Hands(viewer, play);
   if (teaches) return teach();
   element("join").addEventListener("submit", join);
+  element("watch").addEventListener("click", watch);
   me = kept();
   if (me) return sit();
   element("entrance").hidden = false;

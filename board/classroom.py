@@ -160,20 +160,23 @@ class Classroom:
         raise Nothing
 
     def begin(self, role):
-        return {"role": role, "name": self.name, "table": self.text, "layout": self.layout, "seats": self.seats}
+        return {"role": role, "name": self.name, "table": self.text, "layout": self.layout, "seats": self.seats,
+                "address": self.address, "code": code_of(self.address)}
 
     def pupils_page(self, asked, request):
         if asked == "start":
             return as_json(self.begin("pupil"))
         if asked == "events":
-            seat, number = self.seat_of(request.query.get("key", "")), begin_at(request)
-            request.known()
+            number, seat = begin_at(request), None
+            if "key" in request.query:
+                seat = self.seat_of(request.query["key"])
+                request.known()
             return 200, "text/event-stream", lambda gone: self.events(gone, number, seat)
         return self.common_page(asked)
 
     def teachers_page(self, asked, request):
         if asked == "start":
-            return as_json({**self.begin("teacher"), "address": self.address, "code": code_of(self.address)})
+            return as_json(self.begin("teacher"))
         if asked == "events":
             number = begin_at(request)
             return 200, "text/event-stream", lambda gone: self.events(gone, number, None)

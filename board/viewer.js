@@ -126,7 +126,7 @@ class Viewer {
     const index = this.now, { game } = this, step = game.steps[index - 1], reply = game.replies[index - 1], state = game.states[index];
     const flaw = this.flaws[index];
     element("place").textContent = index ? `Step ${index} of ${game.length}` : `The start, before ${game.length} steps`;
-    element("step").textContent = index ? `${this.who(step.seat, index)}: ${commandWords(step)}` : "The table as its file has it";
+    element("step").textContent = index ? `${this.who(step.seat, index)}: ${commandWords(step)}` : "The table at the start";
     element("moves").textContent = index && reply.kind === "moved" ? flowWords(state.edges, step.script) : "";
     element("answer").textContent = index ? replyWords(reply, state.amounts, game.table.q) : debtWords(state.amounts);
     element("asked").textContent = index ? step.line : "";

@@ -216,6 +216,11 @@ def all_of(browsers, folder):
         one.open(pupils)
         one.until(READY)
         in_sizes(one, "entrance")
+        one.click("#watch")
+        one.until("state !== null")
+        equal(one.value("[document.getElementById('address').textContent, getComputedStyle(document.getElementById('hands')).display]"),
+              [pupils, "none"], "a page that only watches")
+        in_sizes(one, "watching")
         ann, bob = PagePupil(one, pupils, "Zo\u00eb"), PagePupil(two, pupils, "<img src=x onerror=p()>")
         teachers(desk, teacher, saved)
         for part in with_pages, with_seats, with_commands:
