@@ -26,7 +26,8 @@ function play(line) {
 async function playNow(line) {
   const { game, now } = viewer;
   if (line.includes("\n")) return hands.tell("A line has no newline in it.");
-  if (now < game.length && !(await sure(`Going on from here drops the ${game.length - now} steps that follow. Shall they go?`))) return null;
+  const dropped = game.length - now;
+  if (dropped && !(await sure(`Going on from here drops the ${dropped} steps that follow. Shall they go?`))) return null;
   const step = `${element("seat").value} ${line}`;
   const said = await hands.patient(ask({ command: "rehearse", table, steps: `${stepsText(now)}${step}\n` }));
   if (said.status !== 0) return hands.tell(faultWords(said.err), `dollar: ${said.err}`);
@@ -71,7 +72,8 @@ async function kept() {
 async function openTable(text, file, places) {
   const said = await ask({ command: "layout", table: text, ...(places === undefined ? {} : { places }) });
   if (said.status !== 0) return said.err;
-  if (viewer.game.length && !(await sure(`The ${viewer.game.length} steps of this game go with its table. Shall they go?`))) return null;
+  const { length } = viewer.game;
+  if (length && !(await sure(`The ${length} steps of this game go with its table. Shall they go?`))) return null;
   [table, fileName] = [text, file];
   begin(layoutOf(said.layout));
   keep();
@@ -90,13 +92,18 @@ function begin(layout) {
     viewer = new Viewer(game, layout, { hands: true });
     hands = new Hands(viewer, play);
     questions = new Questions(viewer, ask, play);
-    editor = new Editor(viewer, hands, (text, places) => openTable(text, fileName, places), (text) => ask({ command: "layout", table: text }).then(found));
+    editor = new Editor(viewer, hands, (text, places) => openTable(text, fileName, places), find);
     viewer.filled(0);
     viewer.afterShow = () => questions.clear();
   }
 }
 
-const found = (said) => (said.layout ? { ...said, layout: layoutOf(said.layout) } : said);
+/* A table's verdict and the places that its graph has. */
+
+async function find(text) {
+  const said = await ask({ command: "layout", table: text });
+  return said.layout ? { ...said, layout: layoutOf(said.layout) } : said;
+}
 
 async function openFile(file) {
   if (!file) return;
@@ -116,7 +123,7 @@ async function drawLots(degree, kind) {
   const said = await ask({ command: "judge --lines", table, tables: textOf(tables.map((each) => JSON.stringify(each))) });
   if (said.status !== 0) return told(said.err);
   const at = linesOf(said.out).findIndex((line) => (kind ? line.startsWith(`${kind} `) : /^(un)?winnable /.test(line)));
-  if (at < 0) return hands.tell(`Of ${LOTS} that were drawn none ${kind === "winnable" ? "can" : kind ? "can't" : "is a table that can"} be won.`);
+  if (at < 0) return hands.tell(`Of ${LOTS} that were drawn none ${kind === "unwinnable" ? "can't" : "can"} be won.`);
   told(await openTable(`${JSON.stringify(tables[at], null, 1)}\n`, fileName, placesText(viewer.board.layout)));
   return null;
 }
@@ -138,8 +145,8 @@ function picture() {
   for (const at of svg.querySelectorAll(".reach, .drawn")) at.remove();
   const rules = [...document.styleSheets].flatMap((sheet) => [...sheet.cssRules]).map((rule) => rule.cssText);
   const colours = rules.find((rule) => rule.startsWith(":root")).replace("light dark", "light");
-  const style = draw("style", {}, svg, [colours, ...rules.filter((rule) => rule.startsWith("svg "))].join("\n").replaceAll("svg ", ""));
-  svg.prepend(style);
+  const drawing = rules.filter((rule) => rule.startsWith("svg ")).join("\n").replaceAll("svg ", "");
+  svg.prepend(draw("style", {}, svg, `${colours}\n${drawing}`));
   return new XMLSerializer().serializeToString(svg);
 }
 

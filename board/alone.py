@@ -1,9 +1,9 @@
 """Playing alone: the page keeps the table and the steps, and each of its questions goes to the program."""
-import asyncio, contextlib, json, os, tempfile
+import asyncio, contextlib, os, tempfile
 
 from board import EXAMPLES, USUAL, layout, table_of, text_of
 from pages import asset, assembled
-from program import PATIENCE, Fault, program, spoken
+from program import PATIENCE, program, spoken
 from replay import page
 from server import Nothing, Refused, as_json, same, text_in
 
@@ -46,7 +46,8 @@ class Alone:
     def start(self):
         """What the page begins with."""
         table = table_of(self.text)
-        return {"name": self.name, "table": self.text, "examples": examples(), "layout": layout(table, table["amounts"] + USUAL, self.own)}
+        return {"name": self.name, "table": self.text, "examples": examples(),
+                "layout": layout(table, table["amounts"] + USUAL, self.own)}
 
     async def asked(self, given):
         """What the program says to a question of the page, or a thing that is made of a table that it takes for one."""

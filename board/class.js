@@ -157,7 +157,8 @@ function told() {
 function endWords({ status, text }) {
   if (status === 0) return "The teacher has ended the game.";
   if (text === "the history is full") return "The game has ended: the history is full.";
-  return `The program has ended: ${text || (status < 0 ? "it was killed" : `with status ${status}`)}. All that the list has was played.`;
+  const how = status < 0 ? "it was killed" : `with status ${status}`;
+  return `The program has ended: ${text || how}. All that the list has was played.`;
 }
 
 function notice(words) {
@@ -172,7 +173,8 @@ async function play(line) {
   if (!me) return hands.tell("Take a seat first.");
   const got = await hands.patient(post("line", { key: me.key, line }));
   if (got.status === 404) return seek();
-  if (got.refused) return hands.tell(got.status === null ? `${got.refused} The list shows whether the line was played.` : got.refused);
+  if (got.status === null) return hands.tell(`${got.refused} The list shows whether the line was played.`);
+  if (got.refused) return hands.tell(got.refused);
   const bad = got.answer.startsWith("bad ");
   hands.tell(bad ? faultWords(got.answer) : "", bad ? got.answer : "");
   if (!bad) hands.unchoose();

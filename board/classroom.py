@@ -127,7 +127,9 @@ class Classroom:
     def last_words(self):
         """What is to be said before the game is lost."""
         lost = len(self.game.entries) - self.saved
-        return "Entries that were not taken along from the teacher's page: %d. Once more ends the game, and drops them." % lost if lost else ""
+        if not lost:
+            return ""
+        return "Entries that were not taken along from the teacher's page: %d. Once more ends the game, and drops them." % lost
 
     def changed(self):
         """Tells all pages that there is something new."""

@@ -111,7 +111,8 @@ class Editor {
   }
 
   move(name, [x, y]) {
-    const { layout } = this.viewer.board, edge = layout.radius + 6, inside = (part, most) => Math.round(Math.min(Math.max(part, edge), most - edge));
+    const { layout } = this.viewer.board, edge = layout.radius + 6;
+    const inside = (part, most) => Math.round(Math.min(Math.max(part, edge), most - edge));
     layout.places.set(name, [inside(x, layout.width), inside(y, layout.height)]);
     this.draw();
   }
@@ -220,7 +221,8 @@ class Editor {
   /* Of some places the one that is farthest from all vertices. */
   freePlace() {
     const { layout } = this.viewer.board, taken = [...layout.places.values()];
-    const spots = Array.from({ length: 63 }, (_, i) => [(layout.width * (1 + (i % 9))) / 10, (layout.height * (1 + Math.floor(i / 9))) / 8]);
+    const parts = Array.from({ length: 9 }, (_, i) => (i + 1) / 10);
+    const spots = parts.flatMap((down) => parts.map((right) => [layout.width * right, layout.height * down]));
     const room = ([x, y]) => Math.min(...taken.map(([u, v]) => Math.hypot(u - x, v - y)));
     return spots.reduce((best, spot) => (room(spot) > room(best) ? spot : best));
   }
