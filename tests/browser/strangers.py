@@ -5,7 +5,8 @@ from classes import memory_of, table_file, taken
 from common import EXAMPLES, asked, equal, expect, played, text_of, written
 from visitors import Place, Pupil
 
-REQUESTS, TOGETHER, SEED, SILENT = 2000, 250, 20260, 700
+REQUESTS, TOGETHER, SEED = 2000, 250, 20260
+SILENT, MOST_KEPT = 700, 350
 # A head has 5 seconds, a body 8, and a second goes by at the end.
 LATEST = 12.0
 MOST_MEMORY = 120_000
@@ -185,6 +186,8 @@ def of_silence(folder):
                 equal(ann.play("gift ann 1")[0], 200, "who plays among %d silent connections" % number)
                 waits.append(time.monotonic() - start)
         expect(max(waits) < 2.0, "who plays among silent connections waited %.2f s" % max(waits))
+        kept = len(os.listdir("/proc/%d/fd" % child.pid))
+        expect(kept < MOST_KEPT, "%d connections are kept" % kept)
         start = time.monotonic()
         expect(all(ended(link) for link in links), "a silent connection is not dropped")
         expect(time.monotonic() - start < LATEST, "silent connections are dropped after %.1f s" % (time.monotonic() - start))
