@@ -44,12 +44,13 @@ def clean(name):
 class Game:
     """The program at one end of a pipe, and what it has answered: the entries, each a seat, a line, an answer and who sat there."""
 
-    def __init__(self, place, seats):
-        self.place, self.seats, self.entries = place, seats, []
+    def __init__(self, place, seats, kept=None):
+        self.place, self.seats, self.kept, self.entries = place, seats, kept, list(kept.entries) if kept else []
         self.child, self.turn, self.end = None, asyncio.Lock(), None
 
     async def start(self, ended):
-        """Starts the program, and has it play again all entries that there were. `ended` is called when it ends."""
+        """Starts the program, and has it play again all entries that there were. `ended` is called when it ends. Raises Fault if
+        the program answers them otherwise."""
         async with self.turn:
             self.child = await asyncio.create_subprocess_exec(
                 program(), "serve", "--seats", str(self.seats), "--", self.place,
@@ -59,7 +60,8 @@ class Game:
             for seat, line, answer, _ in self.entries:
                 if await self.answer("%d %s" % (seat, line)) != answer:
                     self.child.kill()
-                    break
+                    await self.child.wait()
+                    raise Fault("the program does not answer the lines of the game as it did", None)
         return asyncio.ensure_future(self.watch(self.child, ended))
 
     async def watch(self, child, ended):
@@ -90,6 +92,8 @@ class Game:
             answer = await self.answer("%d %s" % (seat, line))
             if answer is not None and answer[:1].isdigit():
                 self.entries.append((seat, line, answer, name))
+                if self.kept:
+                    self.kept.add(seat, line, answer)
             return answer
 
     async def close(self):
@@ -107,11 +111,15 @@ class Game:
 class Classroom:
     """Answers the requests of pupils, who know one secret, and of the teacher, who knows another."""
 
-    def __init__(self, name, text, place, seats, own=None):
+    def __init__(self, name, text, place, seats, own=None, kept=None):
         self.name, self.text, self.own, self.seats = name, text, own, seats
         self.secret, self.teacher = new_secret(), new_secret()
-        self.game, self.taken, self.paused, self.saved = Game(place, seats), {}, False, 0
-        self.used, self.news, self.changes, self.address, self.watching = [0] * (seats + 1), None, 0, "", None
+        self.game, self.taken, self.paused, self.saved = Game(place, seats, kept), {}, False, 0
+        self.news, self.changes, self.address, self.watching = None, 0, "", None
+        # How many entries each seat has, also of those who sat there before.
+        self.used = [0] * (seats + 1)
+        for number, _, _, _ in self.game.entries:
+            self.used[number] += 1
         self.page = assembled("class.html", {"title": "The dollar game"})
         table = table_of(text)
         self.layout = layout(table, table["amounts"] + USUAL, own)
@@ -127,7 +135,7 @@ class Classroom:
     def last_words(self):
         """What is to be said before the game is lost."""
         lost = len(self.game.entries) - self.saved
-        if not lost:
+        if not lost or (self.game.kept and self.game.kept.is_kept()):
             return ""
         return "Entries that were not taken along from the teacher's page: %d. Once more ends the game, and drops them." % lost
 
@@ -280,8 +288,8 @@ class Classroom:
             raise Refused(409, "The game goes on.")
         try:
             self.watching = await self.game.start(self.changed)
-        except OSError as error:
-            raise Refused(503, "The program can't be started: %s." % error) from None
+        except (OSError, Fault) as error:
+            raise Refused(503, "The game can't be begun again: %s." % error) from None
 
     async def replay(self):
         """The page that shows the game."""

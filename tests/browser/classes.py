@@ -1,7 +1,7 @@
 """The table of a class, without a browser: one legal history, whatever pupils, strangers and accidents do."""
-import http.client, json, os, random, signal, socket, statistics, sys, threading, time
+import http.client, json, os, random, signal, socket, statistics, subprocess, sys, threading, time
 
-from common import asked, equal, expect, played, written
+from common import BOARD, EXAMPLES, addresses, asked, equal, expect, played, script, text_of, written
 from visitors import Place, Pupil, opened
 
 PUPILS, LINES = 30, 100
@@ -343,6 +343,48 @@ def with_deaths(folder):
             pupil.leave()
 
 
+def with_keeping(folder):
+    """A game that is kept outlasts board/play itself, with the looks that the seats had, also if it was killed while it wrote."""
+    kept, table = os.path.join(folder, "kept"), table_file(folder)
+    words = [table, "--seats", "3", "--keep", kept]
+    command = [sys.executable, "-B", os.path.join(BOARD, "play"), "--no-browser", *words]
+    child = subprocess.Popen(command, stdin=subprocess.DEVNULL, stdout=subprocess.PIPE, stderr=subprocess.PIPE, text=True)
+    ann = Pupil(addresses(child)[0], "ann")
+    equal(
+        [ann.play(line)[0] for line in ("look", "gift ann 1", "look", "lend zoe", "lend ann")], [200] * 5, "lines that are kept"
+    )
+    ann.leave()
+    child.kill()
+    child.communicate()
+    with open(os.path.join(kept, "steps.txt"), "a") as file:
+        file.write("1 claim\n1 cl")
+    with played(*words) as (_, (pupils, teacher)):
+        again, desk = Pupil(pupils, "ann"), Place(teacher)
+        expect(again.until(lambda pupil: len(pupil.entries) == 4), "%d entries came back" % len(again.entries))
+        equal(again.seat, 2, "the seat, since the first has a look of somebody else")
+        again.leave()
+        late = [Pupil(pupils, "late") for _ in range(2)]
+        expect("winnable" in late[1].play("commit")[1], "the look was not kept: %r" % late[1].lines)
+        steps, _ = taken(desk, folder)
+        equal(steps, ["1 look", "1 gift ann 1", "1 look", "1 lend ann", "1 commit"], "the steps that were kept")
+        files = [text_of(kept, name) for name in ("steps.txt", "history.txt")]
+        equal(files, [desk.get(name)[1] for name in ("steps.txt", "history.txt")], "the files of a kept game")
+        for pupil in late:
+            pupil.leave()
+    steps, history = files
+    for name, text, word in (
+        ("steps.txt", "9 look\n" + steps, "no seat"),
+        ("history.txt", "0 won\n" + history, "as it did"),
+        ("table.json", text_of(EXAMPLES, "cube.json"), "another table"),
+    ):
+        before = text_of(kept, name)
+        written(kept, name, text)
+        printed, said, status = script("play", "--no-browser", *words, stdin=subprocess.DEVNULL)
+        expect((printed, status) == (b"", 1) and word in said and said.count("\n") == 1, "with another %s: %r" % (name, said))
+        equal(text_of(kept, name), text, "a file of a game that is not gone on with")
+        written(kept, name, before)
+
+
 def attend_until_dead(pupil, draw):
     for _ in range(10000):
         if pupil.play(line_of(draw))[0] == 503:
@@ -506,6 +548,7 @@ def all_of(folder, pages=()):
         with_strangers,
         with_commands,
         with_deaths,
+        with_keeping,
         with_full_history,
         with_floods,
         with_clicks,
