@@ -1,6 +1,6 @@
 """A table for a class: one `dollar serve FILE --seats N` behind the pages of all. A click is a line, and what is drawn is what came
 back; each seat's lines are put to the program one after another, and all see each entry as it comes."""
-import asyncio, contextlib, json, re, time
+import asyncio, contextlib, functools, json, re, time
 
 from board import USUAL, layout, table_of
 from pages import asset, assembled
@@ -370,6 +370,7 @@ def event(kind, thing, number=None):
     return ("%sevent: %s\ndata: %s\n\n" % (name, kind, json.dumps(thing))).encode()
 
 
+@functools.lru_cache(maxsize=1)
 def code_of(address):
     """The QR code of an address, as rows of 0 and 1, or None where there is no library that makes one."""
     with contextlib.suppress(ImportError):

@@ -525,7 +525,7 @@ def with_network(folder):
         equal(
             [
                 place.get("start", headers={"Host": host % port})[0]
-                for host in ("localhost:%d", "evil.example:%d", "0.0.0.0:%d", "192.0.2.1:%d")
+                for host in ("localhost:%d", "evil.example:%d", "0.0.0.0:%d", "198.51.100.7:%d")
             ],
             [200 if place.host == "127.0.0.1" else 404, 404, 404, 404],
             "other names",

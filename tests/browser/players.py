@@ -95,7 +95,7 @@ def by_mouse(player):
     equal(player.did(browser.click, AT % "cyd"), "1 lend cyd", "a click")
     equal(player.text("#said"), "0 moved ann=-1 bob=2 cyd=1 dan=-1", "its answer")
     equal(player.did(browser.click, AT % "dan", SHIFT), "1 borrow dan", "a shift-click")
-    equal(player.did(browser.click, AT % "bob", hold=0.7), "1 borrow bob", "a long press")
+    equal(player.did(browser.click, AT % "bob", hold=1.0), "1 borrow bob", "a long press")
     browser.click(AT % "bob", CTRL)
     browser.click(AT % "cyd", CTRL)
     equal(
@@ -128,7 +128,7 @@ def by_touch(player):
     """A touch lends, and a long one borrows."""
     browser = player.browser
     equal(player.did(browser.touch, AT % "dan"), "1 lend dan", "a touch")
-    equal(player.did(browser.touch, AT % "dan", 0.8), "1 borrow dan", "a long touch")
+    equal(player.did(browser.touch, AT % "dan", 1.0), "1 borrow dan", "a long touch")
     equal(
         player.did(browser.touch_drag, browser.middle(AT % "ann"), browser.middle(AT % "bob")),
         "1 join ann bob",

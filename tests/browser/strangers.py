@@ -296,7 +296,7 @@ def of_command_line(folder):
         [folder],
         [bad, "--seats", "3"],
         [os.path.join(EXAMPLES, "cube.json"), "--places", bad],
-        [os.path.join(EXAMPLES, "cube.json"), "--seats", "3", "--host", "192.0.2.1"],
+        [os.path.join(EXAMPLES, "cube.json"), "--seats", "3", "--host", "198.51.100.7"],
         [written(folder, "bytes", "\0")],
     ):
         done = subprocess.run(play + words, capture_output=True, text=True, stdin=subprocess.DEVNULL, timeout=60)

@@ -88,7 +88,7 @@ def with_pages(ann, bob, desk, child, room, folder):
     ann.browser.click(AT % "cyd")
     for page in ann, bob:
         page.has(1)
-    bob.browser.touch(AT % "dan", 0.8)
+    bob.browser.touch(AT % "dan", 1.0)
     ann.has(2)
     equal(
         ann.text("#asked") + " " + ann.text("#said"), "2 borrow dan 1 moved ann=-2 bob=1 cyd=0 dan=2", "a long touch of another"
