@@ -91,11 +91,11 @@ def page_of(words, places):
     name, own = shown_name(words[0]), None if places is None else text_of(places)
     text = checked(text_of(words[0]))
     if words[1] == "--greedy":
-        return page("%s, greedy" % name, text, *greedy_game(text, words[2]), own=own)
-    steps = text_of(words[1])
-    history = text_of(words[2]) if words[2:] else None
+        title, (steps, history) = "greedy", greedy_game(text, words[2])
+    else:
+        title, steps, history = shown_name(words[1]), text_of(words[1]), text_of(words[2]) if words[2:] else None
     lines = printed("rehearse", text.encode(), steps.encode())
-    return page("%s, %s" % (name, shown_name(words[1])), text, steps, lines, history, own)
+    return page("%s, %s" % (name, title), text, steps, lines, history, own)
 
 
 def main(words):
