@@ -6,24 +6,11 @@ const LOTS = 64;
 let table, fileName, examples, viewer, hands, questions, editor;
 let turn = Promise.resolve();
 
-async function post(path, thing) {
-  try {
-    const got = await fetch(path, { method: "POST", headers: { "Content-Type": "application/json" }, body: JSON.stringify(thing) });
-    if (!got.ok) return { status: got.status, out: "", err: await got.text() };
-    return await got.json();
-  } catch {
-    return { status: null, out: "", err: "board/play does not answer: it may have ended" };
-  }
-}
+/* What the program says to a question: its status, its answer and its fault. */
 
-const ask = (question) => post("ask", question);
-
-function sure(words) {
-  const box = element("sure");
-  box.querySelector("p").textContent = words;
-  box.returnValue = "no";
-  box.showModal();
-  return new Promise((done) => box.addEventListener("close", () => done(box.returnValue === "yes"), { once: true }));
+async function ask(question) {
+  const said = await post("ask", question);
+  return said.refused ? { status: said.status, out: "", err: said.refused } : said;
 }
 
 const textOf = (lines) => lines.map((line) => `${line}\n`).join("");
@@ -39,7 +26,8 @@ function play(line) {
 async function playNow(line) {
   const { game, now } = viewer;
   if (line.includes("\n")) return hands.tell("A line has no newline in it.");
-  if (now < game.length && !(await sure(`Going on from here drops the ${game.length - now} steps that follow. Shall they go?`))) return null;
+  const dropped = game.length - now;
+  if (dropped && !(await sure(`Going on from here drops the ${dropped} steps that follow. Shall they go?`))) return null;
   const step = `${element("seat").value} ${line}`;
   const said = await hands.patient(ask({ command: "rehearse", table, steps: `${stepsText(now)}${step}\n` }));
   if (said.status !== 0) return hands.tell(faultWords(said.err), `dollar: ${said.err}`);
@@ -50,17 +38,45 @@ async function playNow(line) {
   hands.unchoose();
   questions.clear();
   viewer.reset(game, now + 1);
-  return viewer.board.svg.contains(document.activeElement) ? null : undefined;
+  keep();
+  return null;
+}
+
+/* The game outlasts a reload of the page. */
+
+const KEPT = `dollar ${location.pathname}`;
+
+function keep() {
+  const kept = { table, fileName, steps: stepsText(viewer.game.length), places: placesText(viewer.board.layout) };
+  try {
+    sessionStorage.setItem(KEPT, JSON.stringify(kept));
+  } catch {
+    /* A browser that keeps nothing, or not so much: then the game lasts as long as the page. */
+  }
+}
+
+/* What was kept, with what the program prints of it, or null. */
+async function kept() {
+  try {
+    const before = JSON.parse(sessionStorage.getItem(KEPT));
+    const placed = await ask({ command: "layout", table: before.table, places: before.places });
+    const said = await ask({ command: "rehearse", table: before.table, steps: before.steps });
+    return placed.status === 0 && said.status === 0 ? { ...before, layout: placed.layout, printed: said.out } : null;
+  } catch {
+    return null;
+  }
 }
 
 /* Another table. What the program refuses is told, and nothing changes. */
 
-async function openTable(text, file, layout) {
-  const said = await ask({ command: "layout", table: text });
+async function openTable(text, file, places) {
+  const said = await ask({ command: "layout", table: text, ...(places === undefined ? {} : { places }) });
   if (said.status !== 0) return said.err;
-  if (viewer.game.length && !(await sure(`The ${viewer.game.length} steps of this game go with its table. Shall they go?`))) return null;
+  const { length } = viewer.game;
+  if (length && !(await sure(`The ${length} steps of this game go with its table. Shall they go?`))) return null;
   [table, fileName] = [text, file];
-  begin(layout || layoutOf(said.layout));
+  begin(layoutOf(said.layout));
+  keep();
   return null;
 }
 
@@ -76,13 +92,18 @@ function begin(layout) {
     viewer = new Viewer(game, layout, { hands: true });
     hands = new Hands(viewer, play);
     questions = new Questions(viewer, ask, play);
-    editor = new Editor(viewer, hands, (text, places) => openTable(text, fileName, places), (text) => ask({ command: "layout", table: text }).then(found));
+    editor = new Editor(viewer, hands, (text, places) => openTable(text, fileName, places), find);
     viewer.filled(0);
     viewer.afterShow = () => questions.clear();
   }
 }
 
-const found = (said) => (said.layout ? { ...said, layout: layoutOf(said.layout) } : said);
+/* A table's verdict and the places that its graph has. */
+
+async function find(text) {
+  const said = await ask({ command: "layout", table: text });
+  return said.layout ? { ...said, layout: layoutOf(said.layout) } : said;
+}
 
 async function openFile(file) {
   if (!file) return;
@@ -102,8 +123,8 @@ async function drawLots(degree, kind) {
   const said = await ask({ command: "judge --lines", table, tables: textOf(tables.map((each) => JSON.stringify(each))) });
   if (said.status !== 0) return told(said.err);
   const at = linesOf(said.out).findIndex((line) => (kind ? line.startsWith(`${kind} `) : /^(un)?winnable /.test(line)));
-  if (at < 0) return hands.tell(`Of ${LOTS} that were drawn none ${kind === "winnable" ? "can" : kind ? "can't" : "is a table that can"} be won.`);
-  told(await openTable(`${JSON.stringify(tables[at], null, 1)}\n`, fileName, viewer.board.layout));
+  if (at < 0) return hands.tell(`Of ${LOTS} that were drawn none ${kind === "unwinnable" ? "can't" : "can"} be won.`);
+  told(await openTable(`${JSON.stringify(tables[at], null, 1)}\n`, fileName, placesText(viewer.board.layout)));
   return null;
 }
 
@@ -118,22 +139,14 @@ function lots(count, degree) {
 
 /* Take along. */
 
-function save(file, text, kind = "text/plain") {
-  const link = made("a");
-  link.href = URL.createObjectURL(new Blob([text], { type: kind }));
-  link.download = file;
-  link.click();
-  setTimeout(() => URL.revokeObjectURL(link.href), 10000);
-}
-
 function picture() {
   const svg = viewer.board.svg.cloneNode(true), { width, height } = viewer.board.layout;
   for (const [key, value] of Object.entries({ xmlns: SVG, width, height })) svg.setAttribute(key, value);
   for (const at of svg.querySelectorAll(".reach, .drawn")) at.remove();
   const rules = [...document.styleSheets].flatMap((sheet) => [...sheet.cssRules]).map((rule) => rule.cssText);
   const colours = rules.find((rule) => rule.startsWith(":root")).replace("light dark", "light");
-  const style = draw("style", {}, svg, [colours, ...rules.filter((rule) => rule.startsWith("svg "))].join("\n").replaceAll("svg ", ""));
-  svg.prepend(style);
+  const drawing = rules.filter((rule) => rule.startsWith("svg ")).join("\n").replaceAll("svg ", "");
+  svg.prepend(draw("style", {}, svg, `${colours}\n${drawing}`));
   return new XMLSerializer().serializeToString(svg);
 }
 
@@ -148,7 +161,7 @@ function bindTaking() {
   on("take-table", () => save("table.json", table));
   on("take-steps", () => save("steps.txt", stepsText(viewer.game.length)));
   on("take-now", () => save("now.json", questions.now()));
-  on("take-places", () => save("places.txt", textOf([...viewer.board.layout.places].map(([vertex, [x, y]]) => `${vertex} ${x} ${y}`))));
+  on("take-places", () => save("places.txt", placesText(viewer.board.layout)));
   on("take-picture", () => save("board.svg", picture(), "image/svg+xml"));
   on("take-page", takePage);
   on("print", () => window.print());
@@ -181,7 +194,14 @@ async function start() {
   const given = await (await fetch("start")).json();
   ({ table, examples, name: fileName } = given);
   element("seat").replaceChildren(...Array.from({ length: 64 }, (_, i) => new Option(i + 1, i + 1)));
-  begin(layoutOf(given.layout));
+  const before = await kept();
+  if (before) ({ table, fileName } = before);
+  begin(layoutOf((before || given).layout));
+  if (before) {
+    const printed = linesOf(before.printed), { game } = viewer;
+    linesOf(before.steps).forEach((line, i) => game.add(line, printed[i]));
+    viewer.reset(game, game.length);
+  }
   bindTaking();
   bindTables();
 }

@@ -1,17 +1,15 @@
 """Playing alone: the page keeps the table and the steps, and each of its questions goes to the program."""
-import asyncio, contextlib, json, os, tempfile
+import asyncio, contextlib, os, tempfile
 
-from board import EXAMPLES, layout, table_of, text_of
+from board import EXAMPLES, USUAL, layout, table_of, text_of
 from pages import asset, assembled
-from program import PATIENCE, Fault, program, spoken
+from program import PATIENCE, program, spoken
 from replay import page
 from server import Nothing, Refused, as_json, same, text_in
 
 MOST_TABLE, MOST_STEPS, MOST_BODY, MOST_TABLES = 1 << 21, 1 << 21, 1 << 24, 1 << 21
 AT_ONCE = 3
-ASSETS = "page.css", "words.js", "board.js", "viewer.js", "hand.js", "ask.js", "edit.js", "alone.js"
-# Room for these is left in the circles.
-USUAL = [-99, 999]
+ASSETS = "page.css", "words.js", "board.js", "viewer.js", "hand.js", "page.js", "ask.js", "edit.js", "alone.js"
 
 
 def examples():
@@ -48,7 +46,8 @@ class Alone:
     def start(self):
         """What the page begins with."""
         table = table_of(self.text)
-        return {"name": self.name, "table": self.text, "examples": examples(), "layout": layout(table, table["amounts"] + USUAL, self.own)}
+        return {"name": self.name, "table": self.text, "examples": examples(),
+                "layout": layout(table, table["amounts"] + USUAL, self.own)}
 
     async def asked(self, given):
         """What the program says to a question of the page, or a thing that is made of a table that it takes for one."""

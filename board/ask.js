@@ -74,7 +74,8 @@ class Questions {
     const lost = await this.answer({ command: "rank", degree: String(degree) });
     if (lost === null) return;
     const reply = answerOf(linesOf(lost)[0]);
-    const first = degree === 0 ? "It can't be won as it stands." : `The first way to lose ${dollars(degree)} that can't be borne: ${lossWords(reply.loss)}.`;
+    const first = degree === 0 ? "It can't be won as it stands."
+      : `The first way to lose ${dollars(degree)} that can't be borne: ${lossWords(reply.loss)}.`;
     this.tell(`The rank is ${rank[1]}. ${first}`, printed + lost);
     this.mark(this.viewer.lost(reply.loss));
   }
@@ -83,8 +84,9 @@ class Questions {
     const printed = await this.answer({ command: "rr" });
     if (printed === null) return;
     const number = Object.fromEntries(linesOf(printed).map((line) => line.split(" ")));
-    this.tell(`There are ${dollars(Number(number.degree))} in all. Edges less vertices, plus 1, are ${number.genus}. The rank is ${number.rank}, and `
-      + `that of the dual ${number.dual}. By Riemann-Roch rank less dual is degree + 1 less genus.`, printed);
+    this.tell(`In all there are ${dollars(Number(number.degree))}. Edges less vertices, plus 1, are ${number.genus}. `
+      + `The rank is ${number.rank}, and that of the dual is ${number.dual}. `
+      + "By Riemann-Roch rank less dual is degree + 1 less genus.", printed);
   }
 
   /* The fire, as the program tells it: of those that don't burn yet all would lend at once, and who would then owe burns. */

@@ -58,8 +58,8 @@ class Board {
   }
 
   signs() {
-    const hatch = draw("pattern", { id: "hatch", width: 6, height: 6, patternUnits: "userSpaceOnUse", patternTransform: "rotate(45)" },
-      draw("defs", {}, this.svg));
+    const given = { id: "hatch", width: 6, height: 6, patternUnits: "userSpaceOnUse", patternTransform: "rotate(45)" };
+    const hatch = draw("pattern", given, draw("defs", {}, this.svg));
     draw("path", { d: "M0 0 V6" }, hatch);
   }
 
@@ -69,7 +69,8 @@ class Board {
     return Array.from({ length: drawn }, (_, i) => {
       const bow = (i - (drawn - 1) / 2) * Math.min(36, 252 / drawn);
       const bent = [(x + z) / 2 - (bow * (w - y)) / long, (y + w) / 2 + (bow * (z - x)) / long];
-      return { path: `M${x} ${y} Q${bent[0]} ${bent[1]} ${z} ${w}`, middle: [(x + z) / 4 + bent[0] / 2, (y + w) / 4 + bent[1] / 2] };
+      const middle = [(x + z) / 4 + bent[0] / 2, (y + w) / 4 + bent[1] / 2];
+      return { path: `M${x} ${y} Q${bent[0]} ${bent[1]} ${z} ${w}`, middle };
     });
   }
 
@@ -79,7 +80,7 @@ class Board {
       strands.forEach(({ path, middle }, i) => {
         const kind = `edge${count > strands.length ? " many" : ""}${i >= strands.length - added ? " added" : ""}`;
         draw("path", { class: kind, d: path, "data-pair": key }, this.svg);
-        if (count > strands.length) draw("text", { class: "says plated", x: middle[0], y: middle[1] - 8 }, this.svg, `${count} edges`);
+        if (count > strands.length) this.words(middle[0], middle[1] - 8, `${count} edges`);
       });
     }
   }
@@ -90,9 +91,8 @@ class Board {
     const group = draw("g", { class: kinds.filter(Boolean).join(" "), "data-name": name }, this.svg);
     if (this.hands) {
       const label = `${amountWords(name, amount)}${isQ ? ", q" : ""}${says ? `, ${says}` : ""}`;
-      for (const [key, value] of Object.entries({ tabindex: 0, role: "button", "aria-label": label, "aria-pressed": this.chosen.has(name) })) {
-        group.setAttribute(key, value);
-      }
+      const given = { tabindex: 0, role: "button", "aria-label": label, "aria-pressed": this.chosen.has(name) };
+      for (const [key, value] of Object.entries(given)) group.setAttribute(key, value);
       draw("circle", { class: "reach", cx: x, cy: y, r: r + 9 }, group);
     }
     if (isQ) draw("circle", { class: "ring", cx: x, cy: y, r: r + 4 }, group);
@@ -101,7 +101,11 @@ class Board {
     draw("text", { class: "name inside", x, y: y - 6, "font-size": this.layout.sizes.get(name) }, group, name);
     const size = Math.min(16, this.layout.room / (0.7 * String(amount).length));
     draw("text", { class: "amount inside", x, y: y + 10, "font-size": size, "font-weight": "bold" }, group, amount);
-    if (says) draw("text", { class: "says plated", x, y: y + r + 17 }, group, says);
+    if (says) this.words(x, y + r + 17, says, group);
+  }
+
+  words(x, y, text, parent = this.svg) {
+    draw("text", { class: "says plated", x, y }, parent, text);
   }
 
   badge(name, number) {
@@ -128,8 +132,9 @@ class Board {
     for (const way of this.ways(state, script)) {
       const place = this.pointOn(way, 0.62), ahead = this.pointOn(way, 0.64);
       const turn = (Math.atan2(ahead.y - place.y, ahead.x - place.x) * 180) / Math.PI;
-      draw("path", { class: "arrow", d: "M8 0 L-5 6 L-5 -6 Z", transform: `translate(${place.x} ${place.y}) rotate(${turn})` }, this.svg);
-      if (way.label > 1) draw("text", { class: "says plated", x: place.x, y: place.y - 9 }, this.svg, way.label);
+      const transform = `translate(${place.x} ${place.y}) rotate(${turn})`;
+      draw("path", { class: "arrow", d: "M8 0 L-5 6 L-5 -6 Z", transform }, this.svg);
+      if (way.label > 1) this.words(place.x, place.y - 9, way.label);
     }
   }
 

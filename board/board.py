@@ -12,6 +12,8 @@ LEAST_ROUND, MOST_ROUND, APART, LEAST_SIZE = 21, 46, 38, 82
 NAME_AT, AMOUNT_AT = -6, 10
 NAME_SIZE, AMOUNT_SIZE = 11, 16
 STRANDS, MARGIN, MOST_TEXT = 8, 30, 1 << 26
+# A board that is played on has room for amounts of so many digits from the start.
+USUAL = [-99, 999]
 WIDTHS = {**dict.fromkeys("mwMW", 1.0), **dict.fromkeys("fijlrtI-", 0.42), **dict.fromkeys("OQGDHNU", 0.8)}
 
 

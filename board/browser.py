@@ -1,4 +1,4 @@
-"""Drives Chromium without a window, through the two pipes that it takes commands and gives answers by. For the tests of the pages."""
+"""Drives Chromium without a window, for the tests of the pages, by the two pipes on which it takes commands and gives answers."""
 import base64, fcntl, json, os, pathlib, select, shutil, subprocess, tempfile, time
 
 NAMES = "chromium", "chromium-browser", "google-chrome", "chrome"
@@ -31,7 +31,8 @@ class Browser:
             os.dup2(writing, 4)
 
         words = [self.program, "--headless", "--remote-debugging-pipe", "--disable-gpu", "--no-first-run", "--hide-scrollbars",
-                 "--disable-background-networking", "--disable-component-update", "--disable-sync", "--host-resolver-rules=MAP * ~NOTFOUND, EXCLUDE 127.0.0.1",
+                 "--disable-background-networking", "--disable-component-update", "--disable-sync",
+                 "--host-resolver-rules=MAP * ~NOTFOUND, EXCLUDE 127.0.0.1",
                  "--user-data-dir=" + self.folder, *(["--no-sandbox"] if os.geteuid() == 0 else [])]
         self.child = subprocess.Popen(words, stdin=subprocess.DEVNULL, stdout=subprocess.DEVNULL, stderr=subprocess.DEVNULL,
                                       close_fds=False, preexec_fn=hand_over)
@@ -123,7 +124,8 @@ class Browser:
 
     def middle(self, selector):
         """The middle of an element, after it was brought into view."""
-        found = self.value("(() => { const at = document.querySelector(%s); if (!at) return null; at.scrollIntoView({block: 'nearest'});"
+        found = self.value("(() => { const at = document.querySelector(%s); if (!at) return null;"
+                           " at.scrollIntoView({block: 'nearest'});"
                            " const box = at.getBoundingClientRect(); return [box.x + box.width / 2, box.y + box.height / 2]; })()"
                            % json.dumps(selector))
         if not found:
@@ -132,8 +134,8 @@ class Browser:
 
     def mouse(self, kind, place, modifiers=0, held=1):
         """One event of the mouse at a place."""
-        self.call("Input.dispatchMouseEvent", type="mouse" + kind, x=place[0], y=place[1], button="left", buttons=held, clickCount=1,
-                  modifiers=modifiers)
+        self.call("Input.dispatchMouseEvent", type="mouse" + kind, x=place[0], y=place[1], button="left", buttons=held,
+                  clickCount=1, modifiers=modifiers)
 
     def click(self, selector, modifiers=0, hold=0):
         """Clicks on an element with the mouse; with `hold` the button is down for so many seconds."""
@@ -156,6 +158,14 @@ class Browser:
         place = self.middle(selector)
         self.call("Input.dispatchTouchEvent", type="touchStart", touchPoints=[{"x": place[0], "y": place[1]}])
         time.sleep(hold)
+        self.call("Input.dispatchTouchEvent", type="touchEnd", touchPoints=[])
+
+    def touch_drag(self, one, other):
+        """Draws with a finger from a place to another."""
+        point = lambda part: [{"x": one[0] + part * (other[0] - one[0]), "y": one[1] + part * (other[1] - one[1])}]
+        self.call("Input.dispatchTouchEvent", type="touchStart", touchPoints=point(0))
+        for part in 0.2, 0.6, 1.0:
+            self.call("Input.dispatchTouchEvent", type="touchMove", touchPoints=point(part))
         self.call("Input.dispatchTouchEvent", type="touchEnd", touchPoints=[])
 
     def choose_file(self, selector, place):

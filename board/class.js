@@ -7,23 +7,6 @@ const KEPT = `dollar ${location.pathname.replaceAll("-", "").toLowerCase()}`;
 let given, viewer, hands, source, me = null, state = null, waiting = [], frame = null, took = 0, stopped = false;
 const entries = new Map(), players = [];
 
-async function post(path, thing) {
-  try {
-    const got = await fetch(path, { method: "POST", headers: { "Content-Type": "application/json" }, body: JSON.stringify(thing) });
-    return got.ok ? await got.json() : { refused: await got.text(), status: got.status };
-  } catch {
-    return { refused: "There was no answer. Look at the list whether the line was played.", status: null };
-  }
-}
-
-function sure(words) {
-  const box = element("sure");
-  box.querySelector("p").textContent = words;
-  box.returnValue = "no";
-  box.showModal();
-  return new Promise((done) => box.addEventListener("close", () => done(box.returnValue === "yes"), { once: true }));
-}
-
 /* A seat of one's own, which is kept over a reload. */
 
 function kept() {
@@ -62,9 +45,22 @@ function stand(words) {
   document.body.classList.add("outside");
 }
 
-function sit() {
+function inside() {
   element("entrance").hidden = true;
   document.body.classList.remove("outside");
+}
+
+/* A page without a seat, which shows the way in as well. */
+
+function watch() {
+  inside();
+  element("hands").hidden = true;
+  showWay();
+  listen("events?");
+}
+
+function sit() {
+  inside();
   listen(`events?key=${encodeURIComponent(me.key)}&`);
 }
 
@@ -161,7 +157,8 @@ function told() {
 function endWords({ status, text }) {
   if (status === 0) return "The teacher has ended the game.";
   if (text === "the history is full") return "The game has ended: the history is full.";
-  return `The program has ended: ${text || (status < 0 ? "it was killed" : `with status ${status}`)}. All that the list has was played.`;
+  const how = status < 0 ? "it was killed" : `with status ${status}`;
+  return `The program has ended: ${text || how}. All that the list has was played.`;
 }
 
 function notice(words) {
@@ -176,6 +173,7 @@ async function play(line) {
   if (!me) return hands.tell("Take a seat first.");
   const got = await hands.patient(post("line", { key: me.key, line }));
   if (got.status === 404) return seek();
+  if (got.status === null) return hands.tell(`${got.refused} The list shows whether the line was played.`);
   if (got.refused) return hands.tell(got.refused);
   const bad = got.answer.startsWith("bad ");
   hands.tell(bad ? faultWords(got.answer) : "", bad ? got.answer : "");
@@ -201,6 +199,12 @@ async function command(path, thing) {
   return got;
 }
 
+function showWay() {
+  element("way").hidden = false;
+  element("address").textContent = given.address;
+  drawCode(given.code);
+}
+
 function drawCode(rows) {
   const box = element("code");
   if (!rows) return;
@@ -212,19 +216,10 @@ function drawCode(rows) {
   box.removeAttribute("hidden");
 }
 
-function save(file, text, kind) {
-  const link = made("a");
-  link.href = URL.createObjectURL(new Blob([text], { type: kind }));
-  link.download = file;
-  link.click();
-  setTimeout(() => URL.revokeObjectURL(link.href), 10000);
-}
-
 function teach() {
   element("teacher").hidden = false;
   element("hands").hidden = true;
-  element("address").textContent = given.address;
-  drawCode(given.code);
+  showWay();
   const on = (id, act) => element(id).addEventListener("click", act);
   on("pause", () => command("pause", { paused: !state.paused }));
   on("end", async () => {
@@ -248,6 +243,7 @@ async function start() {
   hands = teaches ? null : new Hands(viewer, play);
   if (teaches) return teach();
   element("join").addEventListener("submit", join);
+  element("watch").addEventListener("click", watch);
   me = kept();
   if (me) return sit();
   element("entrance").hidden = false;

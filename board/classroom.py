@@ -1,8 +1,8 @@
 """A table for a class: one `dollar serve FILE --seats N` behind the pages of all. A click is a line, and what is drawn is what came
 back; each seat's lines are put to the program one after another, and all see each entry as it comes."""
-import asyncio, contextlib, json, re, time
+import asyncio, contextlib, functools, json, re, time
 
-from board import layout, table_of
+from board import USUAL, layout, table_of
 from pages import asset, assembled
 from program import PATIENCE, Fault, printed, program, spoken
 from replay import page
@@ -12,9 +12,8 @@ MOST_BODY, MOST_LINE, MOST_NAME, MOST_SEATS = 1 << 14, 1024, 24, 64
 # A seat may play so many lines at once, and then so many in a second; so many of its lines wait, and so many pages are open on it.
 AT_ONCE, IN_A_SECOND, MOST_WAITING, MOST_PAGES = 60, 10.0, 4, 4
 BATCH, HEARTBEAT, UNUSED = 400, 15.0, 60.0
-ASSETS = "page.css", "words.js", "board.js", "viewer.js", "hand.js", "class.js"
+ASSETS = "page.css", "words.js", "board.js", "viewer.js", "hand.js", "page.js", "class.js"
 FILES = {"table.json": "application/json", "steps.txt": "text/plain", "history.txt": "text/plain"}
-USUAL = [-99, 999]
 KEEP_OPEN = b": the game goes on\n\n"
 
 
@@ -45,12 +44,13 @@ def clean(name):
 class Game:
     """The program at one end of a pipe, and what it has answered: the entries, each a seat, a line, an answer and who sat there."""
 
-    def __init__(self, place, seats):
-        self.place, self.seats, self.entries = place, seats, []
+    def __init__(self, place, seats, kept=None):
+        self.place, self.seats, self.kept, self.entries = place, seats, kept, list(kept.entries) if kept else []
         self.child, self.turn, self.end = None, asyncio.Lock(), None
 
     async def start(self, ended):
-        """Starts the program, and has it play again all entries that there were. `ended` is called when it ends."""
+        """Starts the program, and has it play again all entries that there were. `ended` is called when it ends. Raises Fault if
+        the program answers them otherwise."""
         async with self.turn:
             self.child = await asyncio.create_subprocess_exec(
                 program(), "serve", "--seats", str(self.seats), "--", self.place,
@@ -60,7 +60,8 @@ class Game:
             for seat, line, answer, _ in self.entries:
                 if await self.answer("%d %s" % (seat, line)) != answer:
                     self.child.kill()
-                    break
+                    await self.child.wait()
+                    raise Fault("the program does not answer the lines of the game as it did", None)
         return asyncio.ensure_future(self.watch(self.child, ended))
 
     async def watch(self, child, ended):
@@ -91,6 +92,8 @@ class Game:
             answer = await self.answer("%d %s" % (seat, line))
             if answer is not None and answer[:1].isdigit():
                 self.entries.append((seat, line, answer, name))
+                if self.kept:
+                    self.kept.add(seat, line, answer)
             return answer
 
     async def close(self):
@@ -108,11 +111,15 @@ class Game:
 class Classroom:
     """Answers the requests of pupils, who know one secret, and of the teacher, who knows another."""
 
-    def __init__(self, name, text, place, seats, own=None):
+    def __init__(self, name, text, place, seats, own=None, kept=None):
         self.name, self.text, self.own, self.seats = name, text, own, seats
         self.secret, self.teacher = new_secret(), new_secret()
-        self.game, self.taken, self.paused, self.saved = Game(place, seats), {}, False, 0
-        self.used, self.news, self.changes, self.address, self.watching = [0] * (seats + 1), None, 0, "", None
+        self.game, self.taken, self.paused, self.saved = Game(place, seats, kept), {}, False, 0
+        self.news, self.changes, self.address, self.watching = None, 0, "", None
+        # How many entries each seat has, also of those who sat there before.
+        self.used = [0] * (seats + 1)
+        for number, _, _, _ in self.game.entries:
+            self.used[number] += 1
         self.page = assembled("class.html", {"title": "The dollar game"})
         table = table_of(text)
         self.layout = layout(table, table["amounts"] + USUAL, own)
@@ -128,7 +135,9 @@ class Classroom:
     def last_words(self):
         """What is to be said before the game is lost."""
         lost = len(self.game.entries) - self.saved
-        return "Entries that were not taken along from the teacher's page: %d. Once more ends the game, and drops them." % lost if lost else ""
+        if not lost or (self.game.kept and self.game.kept.is_kept()):
+            return ""
+        return "Entries that were not taken along from the teacher's page: %d. Once more ends the game, and drops them." % lost
 
     def changed(self):
         """Tells all pages that there is something new."""
@@ -161,20 +170,23 @@ class Classroom:
         raise Nothing
 
     def begin(self, role):
-        return {"role": role, "name": self.name, "table": self.text, "layout": self.layout, "seats": self.seats}
+        return {"role": role, "name": self.name, "table": self.text, "layout": self.layout, "seats": self.seats,
+                "address": self.address, "code": code_of(self.address)}
 
     def pupils_page(self, asked, request):
         if asked == "start":
             return as_json(self.begin("pupil"))
         if asked == "events":
-            seat, number = self.seat_of(request.query.get("key", "")), begin_at(request)
-            request.known()
+            number, seat = begin_at(request), None
+            if "key" in request.query:
+                seat = self.seat_of(request.query["key"])
+                request.known()
             return 200, "text/event-stream", lambda gone: self.events(gone, number, seat)
         return self.common_page(asked)
 
     def teachers_page(self, asked, request):
         if asked == "start":
-            return as_json({**self.begin("teacher"), "address": self.address, "code": code_of(self.address)})
+            return as_json(self.begin("teacher"))
         if asked == "events":
             number = begin_at(request)
             return 200, "text/event-stream", lambda gone: self.events(gone, number, None)
@@ -276,8 +288,8 @@ class Classroom:
             raise Refused(409, "The game goes on.")
         try:
             self.watching = await self.game.start(self.changed)
-        except OSError as error:
-            raise Refused(503, "The program can't be started: %s." % error) from None
+        except (OSError, Fault) as error:
+            raise Refused(503, "The game can't be begun again: %s." % error) from None
 
     async def replay(self):
         """The page that shows the game."""
@@ -358,6 +370,7 @@ def event(kind, thing, number=None):
     return ("%sevent: %s\ndata: %s\n\n" % (name, kind, json.dumps(thing))).encode()
 
 
+@functools.lru_cache(maxsize=1)
 def code_of(address):
     """The QR code of an address, as rows of 0 and 1, or None where there is no library that makes one."""
     with contextlib.suppress(ImportError):

@@ -15,8 +15,8 @@ which is what the variable DOLLAR names, or the script `dollar`."""
 import html, itertools, math, os, re, sys
 
 sys.dont_write_bytecode = True
-from board import (AMOUNT_AT, NAME_AT, ROOT, STRANDS, amount_size, fitted, name_size, places_for, radius, shown_name, span, table_of, text_of,
-                   width)
+from board import (AMOUNT_AT, NAME_AT, ROOT, STRANDS, amount_size, fitted, name_size, places_for, radius, shown_name, span,
+                   table_of, text_of, width)
 from dollar import burnt, edges, example, fired, joined
 from program import Fault, printed
 

@@ -2,7 +2,13 @@
 
 /* The editor: a draft of a table, on the board and in two lists. Whether it is a table says the program, when it is done. */
 
-const MOST_VERTICES = 16;
+const MOST_VERTICES = 16, ROOM = [620, 440];
+
+/* The lines `name x y` of the places of a layout. */
+
+function placesText(layout) {
+  return [...layout.places].map(([name, [x, y]]) => `${name} ${x} ${y}\n`).join("");
+}
 
 class Editor {
   /* `done` is called with the text of the table and the places, and gives what the program refuses, or null. */
@@ -19,7 +25,7 @@ class Editor {
     const { game, now, board } = this.viewer, table = game.tableAt(now);
     this.viewer.stop();
     this.kept = board.layout;
-    board.layout = { ...board.layout, places: new Map(board.layout.places), sizes: new Map(board.layout.sizes) };
+    board.layout = this.wider(board.layout);
     board.burnt = [];
     this.draft = {
       vertices: table.vertices.map((name, i) => ({ name, amount: table.amounts[i] })),
@@ -28,6 +34,14 @@ class Editor {
     this.hands.other = { drag: (press, at) => this.drag(press, at), up: (press, at, to) => this.up(press, at, to) };
     this.shown(true);
     this.fill();
+  }
+
+  /* A layout with room around it, for what is to come. */
+  wider(layout) {
+    const width = Math.max(layout.width, ROOM[0]), height = Math.max(layout.height, ROOM[1]);
+    const moved = ([x, y]) => [Math.round(x + (width - layout.width) / 2), Math.round(y + (height - layout.height) / 2)];
+    const places = new Map([...layout.places].map(([name, place]) => [name, moved(place)]));
+    return { ...layout, width, height, places, sizes: new Map(layout.sizes) };
   }
 
   shown(open) {
@@ -55,7 +69,7 @@ class Editor {
   }
 
   async finish() {
-    const refused = await this.done(this.text(), this.viewer.board.layout);
+    const refused = await this.done(this.text(), placesText(this.viewer.board.layout));
     if (refused === null) this.leave();
     else this.refuse(faultWords(refused), `dollar: ${refused}`);
   }
@@ -70,7 +84,7 @@ class Editor {
   async places() {
     const found = await this.find(this.text());
     if (found.layout) {
-      this.viewer.board.layout = found.layout;
+      this.viewer.board.layout = this.wider(found.layout);
       this.draw();
     } else {
       this.refuse(faultWords(found.err), `dollar: ${found.err}`);
@@ -97,7 +111,8 @@ class Editor {
   }
 
   move(name, [x, y]) {
-    const { layout } = this.viewer.board, edge = layout.radius + 6, inside = (part, most) => Math.round(Math.min(Math.max(part, edge), most - edge));
+    const { layout } = this.viewer.board, edge = layout.radius + 6;
+    const inside = (part, most) => Math.round(Math.min(Math.max(part, edge), most - edge));
     layout.places.set(name, [inside(x, layout.width), inside(y, layout.height)]);
     this.draw();
   }
@@ -122,10 +137,10 @@ class Editor {
   }
 
   input(type, value, label, change) {
-    const made_ = Object.assign(document.createElement("input"), { type, value });
-    made_.setAttribute("aria-label", label);
-    made_.addEventListener("change", () => change(made_));
-    return made_;
+    const field = Object.assign(document.createElement("input"), { type, value });
+    field.setAttribute("aria-label", label);
+    field.addEventListener("change", () => change(field));
+    return field;
   }
 
   number(value, label, change) {
@@ -206,7 +221,8 @@ class Editor {
   /* Of some places the one that is farthest from all vertices. */
   freePlace() {
     const { layout } = this.viewer.board, taken = [...layout.places.values()];
-    const spots = Array.from({ length: 63 }, (_, i) => [(layout.width * (1 + (i % 9))) / 10, (layout.height * (1 + Math.floor(i / 9))) / 8]);
+    const parts = Array.from({ length: 9 }, (_, i) => (i + 1) / 10);
+    const spots = parts.flatMap((down) => parts.map((right) => [layout.width * right, layout.height * down]));
     const room = ([x, y]) => Math.min(...taken.map(([u, v]) => Math.hypot(u - x, v - y)));
     return spots.reduce((best, spot) => (room(spot) > room(best) ? spot : best));
   }

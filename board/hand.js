@@ -34,6 +34,10 @@ class Hands {
     svg.addEventListener("pointerup", (event) => this.up(event));
     svg.addEventListener("pointercancel", () => this.drop());
     svg.addEventListener("contextmenu", (event) => event.preventDefault());
+    // A finger on a vertex does not scroll the page; beside the vertices it does, but for an editor's.
+    svg.addEventListener("touchstart", (event) => {
+      if (this.other || this.vertexAt(this.point(event.touches[0])) !== null) event.preventDefault();
+    }, { passive: false });
   }
 
   down(event) {

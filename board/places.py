@@ -303,7 +303,9 @@ def springs(names, near):
     start in a ring and come to rest in so many rounds."""
     far = {name: walk(name, near) for name in names}
     apart = max(max(each.values()) for each in far.values()) + 1
-    found = {name: (x * (1 + 0.01 * i), y * (1 + 0.007 * i)) for i, (name, (x, y)) in enumerate(ring(names, size=apart / 2).items())}
+    start = ring(names, size=apart / 2)
+    # A little out of round, so that no symmetry keeps the springs from coming to rest elsewhere.
+    found = {name: (x * (1 + 0.01 * i), y * (1 + 0.007 * i)) for i, (name, (x, y)) in enumerate(start.items())}
     for _ in range(ROUNDS):
         found = {name: pulled(name, found, far[name], apart) for name in names}
     return centred(level(found))
@@ -348,7 +350,8 @@ def lines_of(near):
 
 def crowded(names, near, found):
     """How many vertices stand on an edge of others, or on each other, or nearly so."""
-    on_edges = sum(distance(found[name], found[u], found[v]) < CLOSE for u, v in lines_of(near) for name in names if name not in (u, v))
+    aside = [(name, u, v) for u, v in lines_of(near) for name in names if name not in (u, v)]
+    on_edges = sum(distance(found[name], found[u], found[v]) < CLOSE for name, u, v in aside)
     return on_edges + sum(math.dist(found[u], found[v]) < 2 * CLOSE for u, v in itertools.combinations(names, 2))
 
 

@@ -1,5 +1,5 @@
 """Runs the program. A page and a picture ask it, and reckon nothing themselves."""
-import os, re, subprocess, tempfile
+import functools, os, re, subprocess, tempfile
 
 from board import ROOT
 
@@ -18,8 +18,16 @@ class Fault(Exception):
 
 
 def program():
-    """What the variable DOLLAR names, or the script `dollar`, which builds the program if it is not there."""
-    return os.environ.get("DOLLAR") or os.path.join(ROOT, "dollar")
+    """What the variable DOLLAR names, or the script `dollar`."""
+    return os.environ.get("DOLLAR") or script()
+
+
+@functools.lru_cache(maxsize=None)
+def script():
+    """The script `dollar`. If it has to build the program first, it says so on standard error, and takes its time."""
+    place = os.path.join(ROOT, "dollar")
+    subprocess.run([place, "--version"], stdin=subprocess.DEVNULL, stdout=subprocess.DEVNULL)
+    return place
 
 
 def spoken(said):

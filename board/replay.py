@@ -10,7 +10,7 @@ With `--places PLACES` before these, the vertices stand where the lines 'name x 
 The page is one file for a browser, and asks no network for anything. The table, the steps and the history are in it unchanged. The
 page draws them and knows no rule of the game. The program is what the variable DOLLAR names, or the script `dollar`. The script
 needs Python 3 and nothing else."""
-import base64, hashlib, html, json, os, re, subprocess, sys
+import base64, hashlib, html, json, os, re, sys
 
 sys.dont_write_bytecode = True
 from board import HERE, layout, shown_name, table_of, text_of
@@ -79,10 +79,11 @@ def page(title, text, steps, lines, history=None, own=None):
     style = "\n" + part("page.css")
     policy = "default-src 'none'; script-src %s; style-src %s; img-src data:; base-uri 'none'; form-action 'none'" % (
         digest(code), digest(style))
+    parts = {name: part(name + ".html") for name in ("board", "controls", "now", "whole")}
     return filled(part("replay.html"), {
-        "title": html.escape(title), "policy": policy, "style": part("page.css"),
-        **{name: part(name + ".html") for name in ("board", "controls", "now", "whole")}, "table": in_page(text), "steps": steps, "printed": shown,
-        "layout": in_page(json.dumps(layout(table, amounts, own))), "flaws": in_page(json.dumps(flaws)), "script": code})
+        **parts, "title": html.escape(title), "policy": policy, "style": part("page.css"), "table": in_page(text),
+        "steps": steps, "printed": shown, "layout": in_page(json.dumps(layout(table, amounts, own))),
+        "flaws": in_page(json.dumps(flaws)), "script": code})
 
 
 def page_of(words, places):
@@ -90,10 +91,11 @@ def page_of(words, places):
     name, own = shown_name(words[0]), None if places is None else text_of(places)
     text = checked(text_of(words[0]))
     if words[1] == "--greedy":
-        return page("%s, greedy" % name, text, *greedy_game(text, words[2]), own=own)
-    steps = text_of(words[1])
-    history = text_of(words[2]) if words[2:] else None
-    return page("%s, %s" % (name, shown_name(words[1])), text, steps, printed("rehearse", text.encode(), steps.encode()), history, own)
+        title, (steps, history) = "greedy", greedy_game(text, words[2])
+    else:
+        title, steps, history = shown_name(words[1]), text_of(words[1]), text_of(words[2]) if words[2:] else None
+    lines = printed("rehearse", text.encode(), steps.encode())
+    return page("%s, %s" % (name, title), text, steps, lines, history, own)
 
 
 def main(words):

@@ -1,13 +1,14 @@
 """A small web server for the pages: it answers those who know a secret, and holds against those who don't.
 
 Each connection brings one request and gets one answer. Whoever is slow, sends too much or sends nonsense is dropped. When there
-are too many connections of which it is not known whose they are, the oldest of them makes room. Whatever is asked without the secret, from
-another origin or for another host is answered alike: there is nothing here."""
+are too many connections of which it is not known whose they are, the oldest of them makes room. Whatever is asked without the
+secret, from another origin or for another host is answered alike: there is nothing here."""
 import asyncio, hmac, ipaddress, json, re, secrets, socket
 
 MOST_HEAD, MOST_HEADERS, MOST_STRANGERS = 8192, 64, 300
 TO_ASK, TO_SEND, TO_TAKE = 5.0, 8.0, 20.0
 TOKEN = re.compile(r"[A-Za-z0-9!#$%&'*+.^_`|~-]{1,64}\Z")
+VALUE = re.compile(r"[\t -~]*\Z")
 TARGET = re.compile(r"(GET|POST) (/[A-Za-z0-9/._~?=&-]*) HTTP/1\.[01]\Z")
 POLICY = ("default-src 'none'; script-src 'self'; style-src 'self'; img-src 'self' data:; connect-src 'self'; "
           "base-uri 'none'; form-action 'none'; frame-ancestors 'none'")
@@ -18,8 +19,7 @@ ALWAYS = {
 }
 REASONS = {200: "OK", 400: "Bad Request", 404: "Not Found", 409: "Conflict", 413: "Content Too Large", 429: "Too Many Requests",
            503: "Service Unavailable"}
-
-
+HOST = re.compile(r"(\[[0-9a-f:.]+\]|[^:\[\]]+)(?::([0-9]{1,5}))?\Z")
 ANY = "0.0.0.0", "::"
 LETTERS, LONG = "abcdefghijkmnpqrstuvwxyz23456789", 26
 
@@ -210,9 +210,10 @@ class Server:
 
     def is_here(self, host, writer):
         """Whether a Host names this server: by the address that was called, or by a name that was given to it."""
-        name, colon, port = (host or "").lower().rpartition(":")
-        if not colon or port != str(self.port):
+        found = HOST.match((host or "").lower())
+        if not found or int(found.group(2) or 80) != self.port:
             return False
+        name = found.group(1)
         called = ipaddress.ip_address(writer.get_extra_info("sockname")[0].partition("%")[0])
         if name in self.names or (name == "localhost" and called.is_loopback):
             return True
@@ -223,13 +224,13 @@ class Server:
 
 
 def headers_of(lines):
-    """The headers by their names in small letters. Raises Refused where a line is none, or one that counts comes twice."""
+    """The headers by their names in small letters. Raises Refused where a line is none, or one comes twice."""
     if len(lines) > MOST_HEADERS:
         raise Nothing
     headers = {}
     for line in lines:
         name, colon, value = line.partition(":")
-        if not colon or not TOKEN.match(name) or name.lower() in headers or any(ord(letter) < 32 and letter != "\t" for letter in value):
+        if not colon or not TOKEN.match(name) or not VALUE.match(value) or name.lower() in headers:
             raise Nothing
         headers[name.lower()] = value.strip(" \t")
     return headers

@@ -4,7 +4,9 @@
 
 const element = (id) => document.getElementById(id);
 const BETWEEN = 2200, LISTED = 400;
-const TELLING = ["unread", "winnable", "unwinnable", "won", "refused", "stale", "rank", "joined", "given", "not-won", "looked", "moved"];
+const TELLING = [
+  "unread", "winnable", "unwinnable", "won", "refused", "stale", "rank", "joined", "given", "not-won", "looked", "moved",
+];
 
 function made(tag, text, kind) {
   const part = document.createElement(tag);
@@ -24,7 +26,7 @@ function tableRow(parent, cells, tag = "td") {
 }
 
 class Viewer {
-  /* `flaws` has for steps whose printed line is another than the program's what the program prints; `who` says of a step who played it. */
+  /* `flaws` has what the program prints, for each step that has another line; `who` says of a step who played it. */
   constructor(game, layout, { hands = false, flaws = {}, who = (seat) => `Seat ${seat}` } = {}) {
     Object.assign(this, { game, flaws, who, now: 0, timer: null, listed: [0, 0], afterShow: () => {} });
     this.board = new Board(document.querySelector("#board svg"), hands);
@@ -123,10 +125,10 @@ class Viewer {
   }
 
   showText() {
-    const index = this.now, { game } = this, step = game.steps[index - 1], reply = game.replies[index - 1], state = game.states[index];
-    const flaw = this.flaws[index];
+    const index = this.now, { game } = this, state = game.states[index], flaw = this.flaws[index];
+    const step = game.steps[index - 1], reply = game.replies[index - 1];
     element("place").textContent = index ? `Step ${index} of ${game.length}` : `The start, before ${game.length} steps`;
-    element("step").textContent = index ? `${this.who(step.seat, index)}: ${commandWords(step)}` : "The table as its file has it";
+    element("step").textContent = index ? `${this.who(step.seat, index)}: ${commandWords(step)}` : "The table at the start";
     element("moves").textContent = index && reply.kind === "moved" ? flowWords(state.edges, step.script) : "";
     element("answer").textContent = index ? replyWords(reply, state.amounts, game.table.q) : debtWords(state.amounts);
     element("asked").textContent = index ? step.line : "";

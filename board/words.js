@@ -138,7 +138,8 @@ function commandWords({ word, given, script }) {
     borrow: () => `${given[0]} borrows`,
     fire: () => (given[0].includes(",") ? `${listed(given[0].split(","))} lend, all at once` : `${given[0]} lends`),
     script: () => `${listed([...script].map(([name, count]) => `${name} ${often(count)}`))}, all at once`,
-    gift: () => (given[1].startsWith("-") ? `a levy of ${dollars(-given[1])} at ${given[0]}` : `a gift of ${dollars(Number(given[1]))} to ${given[0]}`),
+    gift: () => (given[1].startsWith("-") ? `a levy of ${dollars(-given[1])} at ${given[0]}`
+      : `a gift of ${dollars(Number(given[1]))} to ${given[0]}`),
     join: () => `one edge more between ${given[0]} and ${given[1]}`,
     claim: () => "claims that nobody is in debt",
     look: () => "looks",
@@ -190,9 +191,9 @@ function replyWords(reply, amounts, q) {
 }
 
 function markOf(step, reply) {
-  const sign = {
-    moved: "\u00b7", given: step.given[1] && step.given[1].startsWith("-") ? "\u2212" : "+", joined: "=", looked: "o", won: "\u2713",
-    "not-won": "\u2717", winnable: "\u2713", unwinnable: "\u2717", rank: "r", stale: "~", refused: "!", unread: "?",
+  const levy = step.given[1] && step.given[1].startsWith("-"), sign = {
+    moved: "\u00b7", given: levy ? "\u2212" : "+", joined: "=", looked: "o", won: "\u2713", "not-won": "\u2717",
+    winnable: "\u2713", unwinnable: "\u2717", rank: "r", stale: "~", refused: "!", unread: "?",
   };
   return sign[reply.kind];
 }
@@ -204,11 +205,12 @@ const FAULTS = [
   [/^shape of top/, "A table needs just these four: vertices, edges, amounts and q."],
   [/^shape of vertices/, "The vertices have to be a list of names."],
   [/^shape of edges/, "The edges have to be a list."],
-  [/^shape of edge (\d+)/, (i) => `Edge ${Number(i) + 1} of the list has to be two names and how many edges there are, at most 255.`],
+  [/^shape of edge (\d+)/, (i) => `Edge ${Number(i) + 1} of the list has to be two names and a number of edges, at most 255.`],
   [/^shape of amounts/, "The amounts have to be a list of whole numbers."],
   [/^shape of q/, "q has to be the name of a vertex."],
   [/^number of vertices/, "A table has 1 to 16 vertices."],
-  [/^name of vertex (\d+)/, (i) => `The name of vertex ${Number(i) + 1} is none: a name has 1 to 16 letters from a to z or A to Z, digits or _.`],
+  [/^name of vertex (\d+)/, (i) => `The name of vertex ${Number(i) + 1} is none: `
+    + "a name has 1 to 16 letters from a to z or A to Z, digits or _."],
   [/^vertex (\d+) named twice/, (i) => `Vertex ${Number(i) + 1} has the name of an earlier one.`],
   [/^edge (\d+) has no vertex/, (i) => `Edge ${Number(i) + 1} of the list leads to a vertex that is not there.`],
   [/^edge (\d+) is a loop/, (i) => `Edge ${Number(i) + 1} of the list leads from a vertex to itself.`],
@@ -216,7 +218,8 @@ const FAULTS = [
   [/^valence of vertex (\d+)/, (i) => `Vertex ${Number(i) + 1} has more than 63 edges.`],
   [/^not connected/, "Some vertices can't be reached from the others: an edge is missing."],
   [/^number of amounts/, "There have to be as many amounts as vertices."],
-  [/^amount of vertex (\d+)/, (i) => `The amount of vertex ${Number(i) + 1} is out of range: a million dollars, or a million owed, is the most.`],
+  [/^amount of vertex (\d+)/, (i) => `The amount of vertex ${Number(i) + 1} is out of range: `
+    + "a million dollars, or a million owed, is the most."],
   [/^no vertex q/, "q is the name of no vertex."],
   [/bad seat$/, "That is no seat."],
   [/bad word$/, "That is no command."],

@@ -1,7 +1,7 @@
 """The table of a class, without a browser: one legal history, whatever pupils, strangers and accidents do."""
-import json, os, random, signal, socket, statistics, sys, threading, time
+import http.client, json, os, random, signal, socket, statistics, subprocess, sys, threading, time
 
-from common import EXAMPLES, asked, equal, expect, played, written
+from common import BOARD, EXAMPLES, addresses, asked, equal, expect, played, script, text_of, written
 from visitors import Place, Pupil, opened
 
 PUPILS, LINES = 30, 100
@@ -11,18 +11,39 @@ MOST_MEMORY = 250_000
 TABLE = {
     "vertices": ["ann", "bob", "cem", "dot", "eve"],
     "edges": [["ann", "bob", 1], ["bob", "cem", 2], ["cem", "dot", 1], ["dot", "ann", 1], ["dot", "eve", 3]],
-    "amounts": [6, -3, 1, -2, -1], "q": "ann",
+    "amounts": [6, -3, 1, -2, -1],
+    "q": "ann",
 }
 
 
 def line_of(draw):
     """A line that a pupil may play."""
     one, other = draw.choice(TABLE["vertices"]), draw.choice(TABLE["vertices"])
-    return draw.choice([
-        "look", "look", "commit", "commit", "rank 1", "claim", "lend " + one, "borrow " + one, "fire " + one,
-        "script %s=%d" % (one, draw.randint(-2, 2)), "gift %s %d" % (one, draw.randint(-2, 2)), "join %s %s" % (one, other),
-        "rank 5000", "lend zoe", "lent " + one, "look now", "", "2 look", "look\r", "\u00e4" * 500, "x" * 990,
-    ])
+    return draw.choice(
+        [
+            "look",
+            "look",
+            "commit",
+            "commit",
+            "rank 1",
+            "claim",
+            "lend " + one,
+            "borrow " + one,
+            "fire " + one,
+            "script %s=%d" % (one, draw.randint(-2, 2)),
+            "gift %s %d" % (one, draw.randint(-2, 2)),
+            "join %s %s" % (one, other),
+            "rank 5000",
+            "lend zoe",
+            "lent " + one,
+            "look now",
+            "",
+            "2 look",
+            "look\r",
+            "\u00e4" * 500,
+            "x" * 990,
+        ]
+    )
 
 
 def table_file(folder):
@@ -52,9 +73,16 @@ def of_many(folder, pages=()):
     with played(table_file(folder), "--seats", str(PUPILS)) as (_, (pupils, teacher)):
         room = [page(pupils) for page in pages] + [Pupil(pupils, "pupil %d" % number) for number in range(PUPILS - len(pages))]
         equal(sorted(pupil.seat for pupil in room), list(range(1, PUPILS + 1)), "the seats")
-        equal(Place(pupils).post("join", {"name": "late"}), (409, "All 30 seats are taken. The teacher can free one."), "a seat too many")
-        threads = [threading.Thread(target=pupil.attend, args=([line_of(draw) for _ in range(LINES)],))
-                   for pupil in room for draw in [random.Random(pupil.seat)]]
+        equal(
+            Place(pupils).post("join", {"name": "late"}),
+            (409, "All 30 seats are taken. The teacher can free one."),
+            "a seat too many",
+        )
+        threads = [
+            threading.Thread(target=pupil.attend, args=([line_of(draw) for _ in range(LINES)],))
+            for pupil in room
+            for draw in [random.Random(pupil.seat)]
+        ]
         for thread in threads:
             thread.start()
         for thread in threads:
@@ -66,8 +94,11 @@ def of_many(folder, pages=()):
         for pupil in room:
             expect(in_order(pupil, steps, history), "the lines of seat %d are not in its order" % pupil.seat)
             expect(pupil.until(lambda pupil: len(pupil.entries) >= len(history)), "seat %d is not told all" % pupil.seat)
-            equal([("%s %s" % (seat, line), answer) for seat, line, answer in pupil.entries], list(zip(steps, history)),
-                  "what seat %d is told" % pupil.seat)
+            equal(
+                [("%s %s" % (seat, line), answer) for seat, line, answer in pupil.entries],
+                list(zip(steps, history)),
+                "what seat %d is told" % pupil.seat,
+            )
             pupil.leave()
 
 
@@ -85,59 +116,162 @@ def with_strangers(folder):
         secret = place.path.strip("/")
         line = {"key": ann.key, "line": "claim"}
         wrong = secret[:-1] + ("a" if secret[-1] != "a" else "b")
-        refused_alike(place, [("GET", path, None, ()) for path in (
-            "/", "/start", "/events", "/%s/" % wrong, "/%s/start" % wrong, "/%s/events?from=0" % wrong, "/%s/steps.txt" % wrong,
-            "/%s" % secret, "//%s/" % secret, "/%s/../" % secret, "/%s/%%2e" % secret, "/%s/x/start" % secret, "/%s/class.py" % secret,
-            "/%s/steps.txt" % secret, "/%s/events?key=&from=0" % secret, "/%s/events?key=%s&from=0" % (secret, wrong),
-            "/%s/events?key=%s&from=x" % (secret, ann.key), "/favicon.ico", "/robots.txt")], "without the secret")
-        refused_alike(place, [("POST", "/%s/line" % wrong, line, ()), ("POST", "/line", line, ())] + [
-            ("POST", path, {"seat": 1, "paused": True}, ()) for path in ("pause", "free", "end", "again", "replay", "start", "")], "a pupil")
-        refused_alike(place, [("POST", "line", {"key": key, "line": "claim", "seat": 1}, ()) for key in ("", "1", wrong, "x" * 64, ann.key[:-1])],
-                      "another seat")
+        refused_alike(
+            place,
+            [
+                ("GET", path, None, ())
+                for path in (
+                    "/",
+                    "/start",
+                    "/events",
+                    "/%s/" % wrong,
+                    "/%s/start" % wrong,
+                    "/%s/events?from=0" % wrong,
+                    "/%s/steps.txt" % wrong,
+                    "/%s" % secret,
+                    "//%s/" % secret,
+                    "/%s/../" % secret,
+                    "/%s/%%2e" % secret,
+                    "/%s/x/start" % secret,
+                    "/%s/class.py" % secret,
+                    "/%s/steps.txt" % secret,
+                    "/%s/events?key=&from=0" % secret,
+                    "/%s/events?key=%s&from=0" % (secret, wrong),
+                    "/%s/events?key=%s&from=x" % (secret, ann.key),
+                    "/favicon.ico",
+                    "/robots.txt",
+                )
+            ],
+            "without the secret",
+        )
+        refused_alike(
+            place,
+            [("POST", "/%s/line" % wrong, line, ()), ("POST", "/line", line, ())]
+            + [
+                ("POST", path, {"seat": 1, "paused": True}, ())
+                for path in ("pause", "free", "end", "again", "replay", "start", "")
+            ],
+            "a pupil",
+        )
+        refused_alike(
+            place,
+            [
+                ("POST", "line", {"key": key, "line": "claim", "seat": 1}, ())
+                for key in ("", "1", wrong, "x" * 64, ann.key[:-1])
+            ],
+            "another seat",
+        )
         host = "%s:%d" % (place.host, place.port)
-        hosts = ("evil.example:%d" % place.port, place.host, "%s:1" % place.host, "evil.example", "", "%s.evil.example:%d" % (place.host, place.port),
-                 "127.0.0.2:%d" % place.port, "[::1]:%d" % place.port, "0.0.0.0:%d" % place.port)
-        refused_alike(place, [("GET", "", None, {"Host": name}) for name in hosts] +
-                      [("POST", "line", line, {"Host": name, "Origin": "http://" + name}) for name in hosts], "another host")
-        origins = (None, "null", "http://evil.example", "https://" + host, "http://" + host + ".evil.example", "http://127.0.0.1", host, "")
-        refused_alike(place, [("POST", "line", line, {"Origin": origin}) for origin in origins] +
-                      [("GET", "start", None, {"Origin": "http://evil.example"}), ("POST", "line", line, {"Sec-Fetch-Site": "cross-site"}),
-                       ("GET", "start", None, {"Sec-Fetch-Site": "same-site"}), ("PUT", "line", line, ()), ("HEAD", "", None, ())][:-1], "another origin")
+        hosts = (
+            "evil.example:%d" % place.port,
+            place.host,
+            "%s:1" % place.host,
+            "evil.example",
+            "",
+            "%s.evil.example:%d" % (place.host, place.port),
+            "127.0.0.2:%d" % place.port,
+            "[::1]:%d" % place.port,
+            "0.0.0.0:%d" % place.port,
+        )
+        refused_alike(
+            place,
+            [("GET", "", None, {"Host": name}) for name in hosts]
+            + [("POST", "line", line, {"Host": name, "Origin": "http://" + name}) for name in hosts],
+            "another host",
+        )
+        origins = (
+            None,
+            "null",
+            "http://evil.example",
+            "https://" + host,
+            "http://" + host + ".evil.example",
+            "http://127.0.0.1",
+            host,
+            "",
+        )
+        refused_alike(
+            place,
+            [("POST", "line", line, {"Origin": origin}) for origin in origins]
+            + [
+                ("GET", "start", None, {"Origin": "http://evil.example"}),
+                ("POST", "line", line, {"Sec-Fetch-Site": "cross-site"}),
+                ("GET", "start", None, {"Sec-Fetch-Site": "same-site"}),
+                ("PUT", "line", line, ()),
+            ],
+            "another origin",
+        )
         equal(place.post("line", line)[0], 200, "the same line from its own page")
         equal(place.get("start", headers={"Host": "localhost:%d" % place.port})[0], 200, "localhost on loopback")
-        equal(place.get("/%s/start" % secret.replace("-", "").upper())[0], 200, "an address that is typed in capitals and without dashes")
-        equal(place.ask("POST", "line", line, {"Content-Type": "text/plain"}), (400, "the request is no JSON"), "a form of another page")
-        for text, words in (("claim\nlook", "A line has no newline in it."), ("x" * 1023, "A line has at most 1024 bytes."),
-                            ("\u00e4" * 512, "A line has at most 1024 bytes."), ("x" * 20000, "the request is too long")):
+        equal(
+            place.get("/%s/start" % secret.replace("-", "").upper())[0],
+            200,
+            "an address that is typed in capitals and without dashes",
+        )
+        equal(
+            place.ask("POST", "line", line, {"Content-Type": "text/plain"}),
+            (400, "the request is no JSON"),
+            "a form of another page",
+        )
+        for text, words in (
+            ("claim\nlook", "A line has no newline in it."),
+            ("x" * 1023, "A line has at most 1024 bytes."),
+            ("\u00e4" * 512, "A line has at most 1024 bytes."),
+            ("x" * 20000, "the request is too long"),
+        ):
             status, said = place.post("line", {"key": ann.key, "line": text})
             expect(status in (400, 413) and said.startswith(words), "the line %.9r: %d %s" % (text, status, said))
-        for thing in ({"key": ann.key, "line": 7}, {"key": ann.key}, {"line": "look"}, [], "look", None, 7, {"key": ann.key, "line": "\ud800"}):
+        for thing in (
+            {"key": ann.key, "line": 7},
+            {"key": ann.key},
+            {"line": "look"},
+            [],
+            "look",
+            None,
+            7,
+            {"key": ann.key, "line": "\ud800"},
+        ):
             status = place.ask("POST", "line", raw=json.dumps(thing).encode())[0]
             equal(status, 400, "a request of %.40r" % thing)
-        equal([place.ask("POST", "line", raw=raw)[0] for raw in (b"{", b"\xff", b"[" * 9000, b"{}" + b" " * 20000)], [400, 400, 400, 413], "no JSON")
+        equal(
+            [place.ask("POST", "line", raw=raw)[0] for raw in (b"{", b"\xff", b"[" * 9000, b"{}" + b" " * 20000)],
+            [400, 400, 400, 413],
+            "no JSON",
+        )
         equal(ann.play("2 look"), (200, "bad word"), "a line with another seat in it")
         equal(desk.post("free", {"seat": ann.seat})[0], 200, "a seat is freed")
         refused_alike(place, [("POST", "line", line, ())], "a seat that was freed")
         expect(ann.until(lambda pupil: "freed" in pupil.states and pupil.ended.is_set()), "who had the seat is not told")
-        equal([desk.post("free", {"seat": seat})[0] for seat in (1, 9, "2", None, [])], [409] * 5, "a seat that nobody has is freed")
+        equal(
+            [desk.post("free", {"seat": seat})[0] for seat in (1, 9, "2", None, [])],
+            [409] * 5,
+            "a seat that nobody has is freed",
+        )
         late = Pupil(pupils, "  a \u202e\x00 b\n\n" + "c" * 150)
         late.until(lambda pupil: pupil.states)
         equal(late.states[-1]["names"]["3"]["name"], "a b " + "c" * 20, "a free seat that nobody had, and a name")
         steps, _ = taken(desk, folder)
         equal(steps, ["1 claim"], "the steps after strangers")
-        headers = dict(_headers(place))
-        expect("script-src 'self'" in headers["content-security-policy"] and "unsafe" not in headers["content-security-policy"],
-               "the policy is %s" % headers["content-security-policy"])
-        equal([headers[name] for name in ("referrer-policy", "x-content-type-options", "cache-control")], ["no-referrer", "nosniff", "no-store"], "headers")
+        headers = headers_of(place)
+        expect(
+            "script-src 'self'" in headers["content-security-policy"] and "unsafe" not in headers["content-security-policy"],
+            "the policy is %s" % headers["content-security-policy"],
+        )
+        equal(
+            [headers[name] for name in ("referrer-policy", "x-content-type-options", "cache-control")],
+            ["no-referrer", "nosniff", "no-store"],
+            "headers",
+        )
         for pupil in ann, bob, late:
             pupil.leave()
 
 
-def _headers(place):
-    import http.client
+def headers_of(place):
+    """The headers of a page."""
     link = http.client.HTTPConnection(place.host, place.port)
     link.request("GET", place.path)
-    return [(name.lower(), value) for name, value in link.getresponse().getheaders()]
+    headers = {name.lower(): value for name, value in link.getresponse().getheaders()}
+    link.close()
+    return headers
 
 
 def with_commands(folder):
@@ -146,12 +280,24 @@ def with_commands(folder):
         ann, desk = Pupil(pupils, "ann"), Place(teacher)
         equal(ann.play("look")[0], 200, "a line")
         desk.post("pause", {"paused": True})
-        equal(ann.play("commit"), (409, "The teacher has stopped the game for a while. This line was not played."), "a line meanwhile")
+        equal(
+            ann.play("commit"),
+            (409, "The teacher has stopped the game for a while. This line was not played."),
+            "a line meanwhile",
+        )
         expect(ann.until(lambda pupil: pupil.states[-1]["paused"]), "nobody is told of it")
         desk.post("pause", {"paused": False})
-        equal(ann.play("commit")[1][:12], "1 unwinnable"[:12] if "unwinnable" in ann.lines[-1][2] else "1 winnable b", "a line after it")
+        equal(
+            ann.play("commit")[1][:12],
+            "1 unwinnable"[:12] if "unwinnable" in ann.lines[-1][2] else "1 winnable b",
+            "a line after it",
+        )
         desk.post("end", {})
-        equal(ann.play("claim"), (503, "The game has ended. This line was not played, unless the list has it."), "a line after the end")
+        equal(
+            ann.play("claim"),
+            (503, "The game has ended. This line was not played, unless the list has it."),
+            "a line after the end",
+        )
         expect(ann.until(lambda pupil: pupil.states[-1]["end"] == {"status": 0, "text": ""}), "nobody is told of the end")
         equal(len(taken(desk, folder)[0]), 2, "the steps after the end")
         desk.post("again", {})
@@ -175,17 +321,68 @@ def with_deaths(folder):
         for thread in threads:
             thread.join()
         for pupil in room[1:]:
-            equal(pupil.lines[-1][1:], (503, "The game has ended. This line was not played, unless the list has it."), "who plays is told")
-        expect(room[0].until(lambda pupil: pupil.states[-1]["end"] == {"status": -9, "text": ""}), "nobody is told that it was killed")
+            equal(
+                pupil.lines[-1][1:],
+                (503, "The game has ended. This line was not played, unless the list has it."),
+                "who plays is told",
+            )
+        expect(
+            room[0].until(lambda pupil: pupil.states[-1]["end"] == {"status": -9, "text": ""}),
+            "nobody is told that it was killed",
+        )
         before = len(taken(desk, folder)[0])
         equal(desk.post("again", {})[0], 200, "it is begun again")
         status, answer = room[0].play("commit")
-        expect(status == 200 and answer.split(" ")[1] in ("winnable", "unwinnable", "stale"), "the look was not kept: %s" % answer)
+        expect(
+            status == 200 and answer.split(" ")[1] in ("winnable", "unwinnable", "stale"), "the look was not kept: %s" % answer
+        )
         steps, history = taken(desk, folder)
         expect(len(history) == before + 1, "%d entries, and before %d" % (len(history), before))
         for pupil in room:
             expect(in_order(pupil, steps, history), "the lines of seat %d are not in its order" % pupil.seat)
             pupil.leave()
+
+
+def with_keeping(folder):
+    """A game that is kept outlasts board/play itself, with the looks that the seats had, also if it was killed while it wrote."""
+    kept, table = os.path.join(folder, "kept"), table_file(folder)
+    words = [table, "--seats", "3", "--keep", kept]
+    command = [sys.executable, "-B", os.path.join(BOARD, "play"), "--no-browser", *words]
+    child = subprocess.Popen(command, stdin=subprocess.DEVNULL, stdout=subprocess.PIPE, stderr=subprocess.PIPE, text=True)
+    ann = Pupil(addresses(child)[0], "ann")
+    equal(
+        [ann.play(line)[0] for line in ("look", "gift ann 1", "look", "lend zoe", "lend ann")], [200] * 5, "lines that are kept"
+    )
+    ann.leave()
+    child.kill()
+    child.communicate()
+    with open(os.path.join(kept, "steps.txt"), "a") as file:
+        file.write("1 claim\n1 cl")
+    with played(*words) as (_, (pupils, teacher)):
+        again, desk = Pupil(pupils, "ann"), Place(teacher)
+        expect(again.until(lambda pupil: len(pupil.entries) == 4), "%d entries came back" % len(again.entries))
+        equal(again.seat, 2, "the seat, since the first has a look of somebody else")
+        again.leave()
+        late = [Pupil(pupils, "late") for _ in range(2)]
+        expect("winnable" in late[1].play("commit")[1], "the look was not kept: %r" % late[1].lines)
+        steps, _ = taken(desk, folder)
+        equal(steps, ["1 look", "1 gift ann 1", "1 look", "1 lend ann", "1 commit"], "the steps that were kept")
+        files = [text_of(kept, name) for name in ("steps.txt", "history.txt")]
+        equal(files, [desk.get(name)[1] for name in ("steps.txt", "history.txt")], "the files of a kept game")
+        for pupil in late:
+            pupil.leave()
+    steps, history = files
+    for name, text, word in (
+        ("steps.txt", "9 look\n" + steps, "no seat"),
+        ("history.txt", "0 won\n" + history, "as it did"),
+        ("table.json", text_of(EXAMPLES, "cube.json"), "another table"),
+    ):
+        before = text_of(kept, name)
+        written(kept, name, text)
+        printed, said, status = script("play", "--no-browser", *words, stdin=subprocess.DEVNULL)
+        expect((printed, status) == (b"", 1) and word in said and said.count("\n") == 1, "with another %s: %r" % (name, said))
+        equal(text_of(kept, name), text, "a file of a game that is not gone on with")
+        written(kept, name, before)
 
 
 def attend_until_dead(pupil, draw):
@@ -203,14 +400,22 @@ def program_of(child):
 def with_full_history(folder):
     """A full history ends the game, and says so."""
     real = os.environ["DOLLAR"]
-    small = written(folder, "small", '#!/bin/sh\nword=$1\nshift\nif [ "$word" = serve ]; then exec "%s" serve --cap 5 "$@"; fi\nexec "%s" "$word" "$@"\n' % (real, real))
+    small = written(
+        folder,
+        "small",
+        '#!/bin/sh\nword=$1\nshift\nif [ "$word" = serve ]; then exec "%s" serve --cap 5 "$@"; fi\nexec "%s" "$word" "$@"\n'
+        % (real, real),
+    )
     os.chmod(small, 0o755)
     os.environ["DOLLAR"] = small
     try:
         with played(table_file(folder), "--seats", "2") as (_, (pupils, teacher)):
             ann, desk = Pupil(pupils, "ann"), Place(teacher)
             equal([ann.play("claim")[0] for _ in range(6)], [200] * 5 + [503], "lines past the capacity")
-            expect(ann.until(lambda pupil: pupil.states[-1]["end"] == {"status": 3, "text": "the history is full"}), "nobody is told of it")
+            expect(
+                ann.until(lambda pupil: pupil.states[-1]["end"] == {"status": 3, "text": "the history is full"}),
+                "nobody is told of it",
+            )
             equal(len(taken(desk, folder)[0]), 5, "the steps of a full history")
             ann.leave()
     finally:
@@ -242,14 +447,24 @@ def with_floods(folder):
         equal({status for status, _ in answers} - {200, 429}, set(), "the statuses of a flood")
         expect(any(status == 429 for status, _ in answers), "a flood is not told to be too fast")
         steps, history = taken(desk, folder)
-        equal(sorted(answer["answer"] for status, answer in answers if status == 200),
-              sorted(line for step, line in zip(steps, history) if step.startswith("1 ")), "the answers to a flood")
+        equal(
+            sorted(answer["answer"] for status, answer in answers if status == 200),
+            sorted(line for step, line in zip(steps, history) if step.startswith("1 ")),
+            "the answers to a flood",
+        )
         expect(max(waits) < 2, "another pupil waited %.1f s" % max(waits))
-        expect(bob.until(lambda pupil: "asleep" in pupil.states and pupil.ended.is_set()), "the oldest of many pages on a seat is not told")
+        expect(
+            bob.until(lambda pupil: "asleep" in pupil.states and pupil.ended.is_set()),
+            "the oldest of many pages on a seat is not told",
+        )
         expect(ann.until(lambda pupil: pupil.states[-1]["names"][str(bob.seat)]["here"] <= 4), "more than four pages on a seat")
         expect(memory_of(child) < MOST_MEMORY, "%d KiB of memory" % memory_of(child))
         for link in deaf:
             link.close()
+        expect(
+            ann.until(lambda pupil: pupil.states[-1]["names"][str(bob.seat)]["here"] == 0),
+            "pages that vanished are still there",
+        )
         ann.leave()
         bob.leave()
 
@@ -257,8 +472,12 @@ def with_floods(folder):
 def half_a_line(pupil):
     """A connection that knows the secret, and sends half of a line and no more."""
     link, place = socket.create_connection((pupil.place.host, pupil.place.port), 30), pupil.place
-    link.sendall(("POST %sline HTTP/1.1\r\nHost: %s:%d\r\nOrigin: %s\r\nContent-Type: application/json\r\nContent-Length: 900\r\n\r\n{" % (
-        place.path, place.host, place.port, place.origin)).encode())
+    link.sendall(
+        (
+            "POST %sline HTTP/1.1\r\nHost: %s:%d\r\nOrigin: %s\r\nContent-Type: application/json\r\nContent-Length: 900\r\n\r\n{"
+            % (place.path, place.host, place.port, place.origin)
+        ).encode()
+    )
     return link
 
 
@@ -272,7 +491,10 @@ def with_clicks(folder):
     """With 64 seats that all look on, and a thousand entries behind it, a click is answered at once."""
     with played(table_file(folder), "--seats", str(SEATS)) as (child, (pupils, teacher)):
         room = [Pupil(pupils, "pupil %d" % number) for number in range(SEATS)]
-        threads = [threading.Thread(target=lambda pupil=pupil: [pupil.play("look") for _ in range(BEHIND // SEATS + 1)]) for pupil in room]
+        threads = [
+            threading.Thread(target=lambda pupil=pupil: [pupil.play("look") for _ in range(BEHIND // SEATS + 1)])
+            for pupil in room
+        ]
         for thread in threads:
             thread.start()
         for thread in threads:
@@ -287,7 +509,9 @@ def with_clicks(folder):
         expect(room[-1].until(lambda pupil: len(pupil.entries) >= BEHIND + CLICKS), "the last seat is not told all")
         expect(memory_of(child) < MOST_MEMORY, "%d KiB of memory" % memory_of(child))
         if os.environ.get("TOLD"):
-            print("a click: median %.1f ms, worst %.1f ms; memory %d KiB" % (1000 * middle, 1000 * max(waits), memory_of(child)))
+            print(
+                "a click: median %.1f ms, worst %.1f ms; memory %d KiB" % (1000 * middle, 1000 * max(waits), memory_of(child))
+            )
         for pupil in room:
             pupil.leave()
 
@@ -298,17 +522,37 @@ def with_network(folder):
         place = Place(pupils)
         equal(place.get("start")[0], 200, "the address that is printed")
         port = place.port
-        equal([place.get("start", headers={"Host": host % port})[0] for host in ("localhost:%d", "evil.example:%d", "0.0.0.0:%d", "192.0.2.1:%d")],
-              [200 if place.host == "127.0.0.1" else 404, 404, 404, 404], "other names")
+        equal(
+            [
+                place.get("start", headers={"Host": host % port})[0]
+                for host in ("localhost:%d", "evil.example:%d", "0.0.0.0:%d", "198.51.100.7:%d")
+            ],
+            [200 if place.host == "127.0.0.1" else 404, 404, 404, 404],
+            "other names",
+        )
         near = Place("http://127.0.0.1:%d%s" % (port, place.path))
         equal(near.get("start")[0], 200, "the same on loopback")
-        equal(near.get("start", headers={"Host": "%s:%d" % (place.host, port)})[0], 200 if place.host == "127.0.0.1" else 404, "another address of it")
+        equal(
+            near.get("start", headers={"Host": "%s:%d" % (place.host, port)})[0],
+            200 if place.host == "127.0.0.1" else 404,
+            "another address of it",
+        )
         equal(Pupil(pupils, "ann", events=False).play("claim")[1], "0 not won", "a line from the network")
 
 
 def all_of(folder, pages=()):
     """All tests of the table of a class; the first with pages in a browser, if there are any."""
-    for part in (lambda folder: of_many(folder, pages)), with_network, with_strangers, with_commands, with_deaths, with_full_history, with_floods, with_clicks:
+    for part in (
+        (lambda folder: of_many(folder, pages)),
+        with_network,
+        with_strangers,
+        with_commands,
+        with_deaths,
+        with_keeping,
+        with_full_history,
+        with_floods,
+        with_clicks,
+    ):
         start = time.monotonic()
         part(folder)
         if os.environ.get("TOLD"):
@@ -318,6 +562,7 @@ def all_of(folder, pages=()):
 if __name__ == "__main__":
     import tempfile
     from common import results
+
     with tempfile.TemporaryDirectory() as place_:
         all_of(place_)
     print("%d passed, %d failed" % (sum(results), len(results) - sum(results)))

@@ -42,22 +42,34 @@ def written(folder, name, text):
 
 def script(name, *words, **given):
     """Runs a script of board/, and gives what it printed, what it said on standard error, and its status."""
-    done = subprocess.run([sys.executable, "-B", os.path.join(BOARD, name), *words], stdout=subprocess.PIPE, stderr=subprocess.PIPE,
-                          timeout=PATIENCE * 4, **given)
+    done = subprocess.run(
+        [sys.executable, "-B", os.path.join(BOARD, name), *words],
+        stdout=subprocess.PIPE,
+        stderr=subprocess.PIPE,
+        timeout=PATIENCE * 4,
+        **given
+    )
     return done.stdout, done.stderr.decode(errors="replace"), done.returncode
 
 
 def asked(command, *words):
     """What the program prints for a command, with its status and its fault, as the page would have it."""
-    done = subprocess.run([os.environ["DOLLAR"], command, *words], stdin=subprocess.DEVNULL, stdout=subprocess.PIPE, stderr=subprocess.PIPE)
+    done = subprocess.run(
+        [os.environ["DOLLAR"], command, *words], stdin=subprocess.DEVNULL, stdout=subprocess.PIPE, stderr=subprocess.PIPE
+    )
     return done.stdout.decode(), done.stderr.decode(), done.returncode
 
 
 @contextlib.contextmanager
 def played(*words):
     """Starts board/play, and gives the process and the addresses that it prints. Ends it, and sees that it ends well."""
-    child = subprocess.Popen([sys.executable, "-B", os.path.join(BOARD, "play"), "--no-browser", *words], stdin=subprocess.DEVNULL,
-                             stdout=subprocess.PIPE, stderr=subprocess.PIPE, text=True)
+    child = subprocess.Popen(
+        [sys.executable, "-B", os.path.join(BOARD, "play"), "--no-browser", *words],
+        stdin=subprocess.DEVNULL,
+        stdout=subprocess.PIPE,
+        stderr=subprocess.PIPE,
+        text=True,
+    )
     try:
         yield child, addresses(child)
     finally:

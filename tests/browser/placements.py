@@ -19,7 +19,8 @@ def complete(size):
 
 def grid(wide, high):
     return wide * high, [(y * wide + x, y * wide + x + 1) for y in range(high) for x in range(wide - 1)] + [
-        (y * wide + x, y * wide + x + wide) for y in range(high - 1) for x in range(wide)]
+        (y * wide + x, y * wide + x + wide) for y in range(high - 1) for x in range(wide)
+    ]
 
 
 def bipartite(one, other):
@@ -56,7 +57,7 @@ def relabelled(size, edges):
     DRAW.shuffle(names)
     order = names[:]
     DRAW.shuffle(order)
-    turned = [(names[i], names[j])[::DRAW.choice((1, -1))] for i, j in edges]
+    turned = [(names[i], names[j])[:: DRAW.choice((1, -1))] for i, j in edges]
     DRAW.shuffle(turned)
     return order, turned
 
@@ -72,8 +73,13 @@ def on_a_circle(found):
 def of_known():
     """For each known graph: its edges are as long, and as many of them cross, whatever its vertices are called."""
     # The crossings of a drawing as people know it: the cube's two squares cross twice, Petersen's star five times.
-    known = {"the cube": (cube(), 2), "Petersen's graph": (petersen(), 5), "K3,3": (bipartite(3, 3), 9), "K2,5": (bipartite(2, 5), 10),
-             "a prism": ((6, cycle(3)[1] + [(i + 3, j + 3) for i, j in cycle(3)[1]] + [(i, i + 3) for i in range(3)]), 0)}
+    known = {
+        "the cube": (cube(), 2),
+        "Petersen's graph": (petersen(), 5),
+        "K3,3": (bipartite(3, 3), 9),
+        "K2,5": (bipartite(2, 5), 10),
+        "a prism": ((6, cycle(3)[1] + [(i + 3, j + 3) for i, j in cycle(3)[1]] + [(i, i + 3) for i in range(3)]), 0),
+    }
     known.update({"cycle %d" % size: (cycle(size), 0) for size in (3, 4, 5, 9, 16)})
     known.update({"grid %dx%d" % each: (grid(*each), 0) for each in ((2, 3), (2, 8), (3, 3), (3, 5), (4, 4))})
     known.update({"path %d" % size: ((size, [(i, i + 1) for i in range(size - 1)]), 0) for size in (3, 8, 9, 16)})
@@ -105,14 +111,19 @@ def of_others():
     for size in range(4, 17):
         for _ in range(4):
             _, edges = tree(size)
-            order, edges = relabelled(size, edges + [tuple(DRAW.sample(range(size), 2)) for _ in range(DRAW.randrange(1, 2 * size))])
+            order, edges = relabelled(
+                size, edges + [tuple(DRAW.sample(range(size), 2)) for _ in range(DRAW.randrange(1, 2 * size))]
+            )
             start = time.process_time()
             found = places(order, edges)
             took = time.process_time() - start
             equal(places(order, [[v, u, 2] for u, v in edges]), found, "places at another run")
             expect(apart(found) > 0.1, "the vertices of a graph of %d are %.3f apart" % (size, apart(found)))
             expect(took < MOST_SECONDS, "places of a graph of %d take %.2f s" % (size, took))
-            expect(all(math.isfinite(part) and abs(part) <= 1.5 for place in found.values() for part in place), "places out of bounds")
+            expect(
+                all(math.isfinite(part) and abs(part) <= 1.5 for place in found.values() for part in place),
+                "places out of bounds",
+            )
 
 
 def of_examples():
@@ -121,11 +132,28 @@ def of_examples():
         if name.endswith(".json"):
             table = json.loads("\n".join(lines_of(name)))
             expect(apart(places(table["vertices"], table["edges"])) > 0.1, "%s: vertices too near" % name)
-    houses = places(["ann", "bob", "cyd", "dan"], [("ann", "bob"), ("bob", "cyd"), ("cyd", "dan"), ("dan", "ann"), ("bob", "dan")])
-    expect(houses["bob"][0] == houses["ann"][0] < 0 < houses["cyd"][0] == houses["dan"][0] and houses["bob"][1] == houses["cyd"][1] < 0,
-           "the houses stand elsewhere than on the blackboard: %r" % houses)
-    equal([len(places(*graph)) for graph in (([], []), (["a"], []), (["a", "b"], []), (list("abcd"), [("a", "b"), ("c", "d")]), (list("abc"), [("a", "a")]))],
-          [0, 1, 2, 4, 3], "graphs that are not connected")
+    houses = places(
+        ["ann", "bob", "cyd", "dan"], [("ann", "bob"), ("bob", "cyd"), ("cyd", "dan"), ("dan", "ann"), ("bob", "dan")]
+    )
+    expect(
+        houses["bob"][0] == houses["ann"][0] < 0 < houses["cyd"][0] == houses["dan"][0]
+        and houses["bob"][1] == houses["cyd"][1] < 0,
+        "the houses stand elsewhere than on the blackboard: %r" % houses,
+    )
+    equal(
+        [
+            len(places(*graph))
+            for graph in (
+                ([], []),
+                (["a"], []),
+                (["a", "b"], []),
+                (list("abcd"), [("a", "b"), ("c", "d")]),
+                (list("abc"), [("a", "a")]),
+            )
+        ],
+        [0, 1, 2, 4, 3],
+        "graphs that are not connected",
+    )
     equal(places_of_text("b 1 2\n\na -1e3 .5\n", ["a", "b"]), {"a": (-1000.0, 0.5), "b": (1.0, 2.0)}, "places of a text")
 
 

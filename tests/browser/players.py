@@ -80,8 +80,12 @@ class Player:
         steps = written(self.folder, "s", self.saved("#take-steps", "steps.txt"))
         printed, said, status = asked("rehearse", table, steps)
         equal((said, status), ("", 0), "%s: rehearse of what was saved" % where)
-        listed = self.value("[...document.querySelectorAll('#whole li')].map((at) => [...at.querySelectorAll('code')].map((c) => c.textContent))")
-        equal(listed, [list(pair) for pair in zip(text_of(steps).splitlines(), printed.splitlines())], "%s: the history" % where)
+        listed = self.value(
+            "[...document.querySelectorAll('#whole li')].map((at) => [...at.querySelectorAll('code')].map((c) => c.textContent))"
+        )
+        equal(
+            listed, [list(pair) for pair in zip(text_of(steps).splitlines(), printed.splitlines())], "%s: the history" % where
+        )
         return table, steps
 
 
@@ -91,15 +95,23 @@ def by_mouse(player):
     equal(player.did(browser.click, AT % "cyd"), "1 lend cyd", "a click")
     equal(player.text("#said"), "0 moved ann=-1 bob=2 cyd=1 dan=-1", "its answer")
     equal(player.did(browser.click, AT % "dan", SHIFT), "1 borrow dan", "a shift-click")
-    equal(player.did(browser.click, AT % "bob", hold=0.7), "1 borrow bob", "a long press")
+    equal(player.did(browser.click, AT % "bob", hold=1.0), "1 borrow bob", "a long press")
     browser.click(AT % "bob", CTRL)
     browser.click(AT % "cyd", CTRL)
-    equal(player.value("[...document.querySelectorAll('#board .chosen')].map((at) => at.dataset.name)"), ["bob", "cyd"], "the chosen ones")
+    equal(
+        player.value("[...document.querySelectorAll('#board .chosen')].map((at) => at.dataset.name)"),
+        ["bob", "cyd"],
+        "the chosen ones",
+    )
     equal(player.did(browser.click, "#fire"), "1 fire bob,cyd", "the chosen ones")
     equal(player.value("document.querySelectorAll('#board .chosen').length"), 0, "chosen ones after they fired")
     edges = "document.querySelectorAll('#board .edge').length"
     before = player.value(edges)
-    equal(player.did(browser.drag, browser.middle(AT % "ann"), browser.middle(AT % "cyd")), "1 join ann cyd", "a line from ann to cyd")
+    equal(
+        player.did(browser.drag, browser.middle(AT % "ann"), browser.middle(AT % "cyd")),
+        "1 join ann cyd",
+        "a line from ann to cyd",
+    )
     equal(player.value("[%s, document.querySelectorAll('#board .added').length]" % edges), [before + 1, 1], "its edge")
     browser.click("#choosing")
     browser.click(AT % "ann")
@@ -116,13 +128,18 @@ def by_touch(player):
     """A touch lends, and a long one borrows."""
     browser = player.browser
     equal(player.did(browser.touch, AT % "dan"), "1 lend dan", "a touch")
-    equal(player.did(browser.touch, AT % "dan", 0.8), "1 borrow dan", "a long touch")
+    equal(player.did(browser.touch, AT % "dan", 1.0), "1 borrow dan", "a long touch")
+    equal(
+        player.did(browser.touch_drag, browser.middle(AT % "ann"), browser.middle(AT % "bob")),
+        "1 join ann bob",
+        "a line by a finger",
+    )
 
 
 def by_keys(player):
     """All of it by keys alone."""
     browser = player.browser
-    player.value("document.activeElement.blur(), document.querySelector(\"%s\").focus()" % (AT % "ann"))
+    player.value('document.activeElement.blur(), document.querySelector("%s").focus()' % (AT % "ann"))
     equal(player.did(browser.press, "Enter"), "1 lend ann", "Enter")
     equal(player.value("document.activeElement.dataset.name"), "ann", "the focus after it")
     browser.press("ArrowUp")
@@ -138,7 +155,7 @@ def by_keys(player):
     equal(player.value("document.activeElement.dataset.name"), "bob", "Tab from ann")
     player.value("document.getElementById('fire').focus()")
     equal(player.did(browser.press, "Enter"), "1 fire ann,dan", "the chosen ones by keys")
-    player.value("document.querySelector(\"%s\").focus()" % (AT % "ann"))
+    player.value('document.querySelector("%s").focus()' % (AT % "ann"))
     browser.press("j")
     browser.press("ArrowUp")
     equal(player.did(browser.press, "j"), "1 join ann bob", "an edge by keys")
@@ -146,7 +163,9 @@ def by_keys(player):
     player.value("document.querySelector('#hands details').open = true")
     for field, text, button, line in (("gift-amount", "-2", "gift-to", "1 gift cyd -2"), ("rank-degree", None, None, None)):
         if line:
-            player.value("document.getElementById('%s').value = 'cyd'; document.getElementById('%s').select()" % (button, field))
+            player.value(
+                "document.getElementById('%s').value = 'cyd'; document.getElementById('%s').select()" % (button, field)
+            )
             browser.write(text)
             equal(player.did(browser.press, "Enter"), line, "a levy by keys")
     player.value("document.getElementById('line-in').focus()")
@@ -170,8 +189,14 @@ def by_seats(player):
     player.did(browser.click, "#commit")
     expect(re.search(r" stale \d+$", player.text("#said")), "a look before a gift is not stale: %s" % player.text("#said"))
     expect("Stale" in player.text("#answer"), "the page does not say that it is stale")
-    equal(player.refused(browser.click, "#commit"),
-          ("This seat has not looked since its last verdict. It looks first.", "dollar: step %d: no look" % (player.length() + 1)), "no look")
+    equal(
+        player.refused(browser.click, "#commit"),
+        (
+            "This seat has not looked since its last verdict. It looks first.",
+            "dollar: step %d: no look" % (player.length() + 1),
+        ),
+        "no look",
+    )
     player.did(browser.click, "#look")
     player.did(browser.click, "#rank-form button")
     expect("rank" in player.text("#said"), "no rank test: %s" % player.text("#said"))
@@ -182,12 +207,16 @@ def by_seats(player):
 def with_refusals(player):
     """What the program refuses is told in words and in its own, and changes nothing."""
     for line, words, own in (
-            ("lend zoe", "It names a vertex that is not there, or one twice.", "bad name"), ("jump", "That is no command.", "bad word"),
-            ("lend", "The command has too many words or too few, or a space too many.", "bad form"),
-            ("gift ann 1.5", "A number in it is none, or out of range.", "bad number"), ("<b>x</b>", "That is no command.", "bad word"),
-            ("rank 99999", "This seat has not looked since its last verdict. It looks first.", None),
-            ("", "That is no command.", "bad word"), ("look now " + "x" * 2000, "The command has too many words or too few, or a space too many.", "bad form"),
-            ("lend \u00e4nn", "It names a vertex that is not there, or one twice.", "bad name")):
+        ("lend zoe", "It names a vertex that is not there, or one twice.", "bad name"),
+        ("jump", "That is no command.", "bad word"),
+        ("lend", "The command has too many words or too few, or a space too many.", "bad form"),
+        ("gift ann 1.5", "A number in it is none, or out of range.", "bad number"),
+        ("<b>x</b>", "That is no command.", "bad word"),
+        ("rank 99999", "This seat has not looked since its last verdict. It looks first.", None),
+        ("", "That is no command.", "bad word"),
+        ("look now " + "x" * 2000, "The command has too many words or too few, or a space too many.", "bad form"),
+        ("lend \u00e4nn", "It names a vertex that is not there, or one twice.", "bad name"),
+    ):
         said = player.refused(player.value, "void play(%s)" % json.dumps(line))
         own = "dollar: line %d: %s" % (player.length() + 1, own) if own else "dollar: step %d: no look" % (player.length() + 1)
         equal(said, (words, own), "the line %.20r" % line)
@@ -206,8 +235,14 @@ def with_questions(player):
         equal(printed, judged, "whether it can be won at %d" % index)
         expect(("can be won" in words) == judged.startswith("winnable"), "the words %r for %r" % (words, judged))
         script, reduced = re.fullmatch(r"\w+ by (.*) to (.*)\n", judged).groups()
-        rows = player.value("[...document.querySelectorAll('#told-script tbody tr')].map((at) => [...at.children].map((c) => c.textContent))")
-        equal([[row[0], row[3]] for row in rows], [pair.split("=") for pair in reduced.split(" ")], "the script's end at %d" % index)
+        rows = player.value(
+            "[...document.querySelectorAll('#told-script tbody tr')].map((at) => [...at.children].map((c) => c.textContent))"
+        )
+        equal(
+            [[row[0], row[3]] for row in rows],
+            [pair.split("=") for pair in reduced.split(" ")],
+            "the script's end at %d" % index,
+        )
         says = player.value("[...document.querySelectorAll('#board .vertex .says')].length")
         equal(says, sum(not pair.endswith("=0") for pair in script.split(" ")), "the script on the board at %d" % index)
         _, printed = player.told("#ask-rr")
@@ -218,9 +253,15 @@ def with_questions(player):
         player.browser.until("/rank below/.test(document.getElementById('told-printed').textContent)")
         equal(player.text("#told-printed"), numbers + lost, "the rank at %d" % index)
         losses = [pair.split("=") for pair in re.fullmatch(r"rank below \d+ at (.*)\n", lost).group(1).split(" ")]
-        shown = player.value("[...document.querySelectorAll('#board .vertex')].filter((at) => at.querySelector('.says'))"
-                             ".map((at) => [at.dataset.name, at.querySelector('.says').textContent])")
-        equal(shown, [[name, "lost " + count] for name, count in losses if count != "0"], "the first loss on the board at %d" % index)
+        shown = player.value(
+            "[...document.querySelectorAll('#board .vertex')].filter((at) => at.querySelector('.says'))"
+            ".map((at) => [at.dataset.name, at.querySelector('.says').textContent])"
+        )
+        equal(
+            shown,
+            [[name, "lost " + count] for name, count in losses if count != "0"],
+            "the first loss on the board at %d" % index,
+        )
     equal(player.length(), length, "the entries after questions")
 
 
@@ -268,22 +309,32 @@ def with_tables(player, folder):
     browser.choose_file("#open", written(folder, "own.json", text_of(EXAMPLES, "petersen.json")))
     browser.until("fileName === 'own.json' && viewer.game.names.length === 10")
     for text, words, own in (
-            ("{", "This is no table file", "not JSON"), ("{}", "A table needs just these four", "shape of top"),
-            ('{"vertices":["a","b"],"edges":[],"amounts":[0,0],"q":"a"}', "Some vertices can't be reached", "not connected"),
-            ('{"vertices":["<img src=x onerror=window.pwned=1>"],"edges":[],"amounts":[0],"q":"a"}', "The name of vertex 1 is none", "name of vertex 0"),
-            (" " * (1 << 20) + "{}", "The file has more than a megabyte", "file too long")):
+        ("{", "This is no table file", "not JSON"),
+        ("{}", "A table needs just these four", "shape of top"),
+        ('{"vertices":["a","b"],"edges":[],"amounts":[0,0],"q":"a"}', "Some vertices can't be reached", "not connected"),
+        (
+            '{"vertices":["<img src=x onerror=window.pwned=1>"],"edges":[],"amounts":[0],"q":"a"}',
+            "The name of vertex 1 is none",
+            "name of vertex 0",
+        ),
+        (" " * (1 << 20) + "{}", "The file has more than a megabyte", "file too long"),
+    ):
         player.value("hands.tell('')")
         browser.choose_file("#open", written(folder, "bad.json", text))
         browser.until("!document.getElementById('refused').hidden")
         expect(player.text("#refused span").startswith(words), "%s: %s" % (own, player.text("#refused span")))
         equal(player.text("#refused code"), "dollar: " + own, "the program's own words")
         equal(player.value("fileName"), "own.json", "the table after one that was refused")
-    dropped = ("(() => { const data = new DataTransfer(); data.items.add(new File([%s], 'dropped.json'));"
-               " document.dispatchEvent(new DragEvent('drop', {dataTransfer: data, bubbles: true, cancelable: true})); })()")
+    dropped = (
+        "(() => { const data = new DataTransfer(); data.items.add(new File([%s], 'dropped.json'));"
+        " document.dispatchEvent(new DragEvent('drop', {dataTransfer: data, bubbles: true, cancelable: true})); })()"
+    )
     player.value(dropped % json.dumps(text_of(EXAMPLES, "cube.json")))
     browser.until("fileName === 'dropped.json' && viewer.game.names.length === 8")
     for kind in "winnable", "unwinnable":
-        player.value("document.getElementById('draw-degree').value = 2; document.getElementById('draw-kind').value = '%s'" % kind)
+        player.value(
+            "document.getElementById('draw-degree').value = 2; document.getElementById('draw-kind').value = '%s'" % kind
+        )
         before = player.value("table")
         browser.click("#draw-form button")
         browser.until("table !== %s" % json.dumps(before))
@@ -293,7 +344,10 @@ def with_tables(player, folder):
     player.value("document.getElementById('draw-degree').value = 5; document.getElementById('draw-kind').value = 'unwinnable'")
     browser.click("#draw-form button")
     browser.until("!document.getElementById('refused').hidden")
-    expect(player.text("#refused span").startswith("Of 64 that were drawn none"), "lots without a table: %s" % player.text("#refused span"))
+    expect(
+        player.text("#refused span").startswith("Of 64 that were drawn none"),
+        "lots without a table: %s" % player.text("#refused span"),
+    )
 
 
 def with_editor(player):
@@ -303,23 +357,33 @@ def with_editor(player):
     browser.until("fileName === 'triangle.json'")
     browser.click("#edit")
     browser.until("!document.getElementById('editor').hidden")
-    empty = player.value("(() => { const box = document.querySelector('#board svg').getBoundingClientRect(); return [box.x + 40, box.y + 40]; })()")
+    empty = player.value(
+        "(() => { const box = document.querySelector('#board svg').getBoundingClientRect(); return [box.x + 40, box.y + 40]; })()"
+    )
     browser.mouse("Pressed", empty)
     browser.mouse("Released", empty, 0, 0)
     equal(player.value("editor.draft.vertices.map((v) => v.name)"), ["a", "b", "c", "d"], "a vertex where there was none")
     browser.click("#edit-done")
     browser.until("!document.getElementById('edit-refused').hidden")
-    equal([player.text("#edit-refused span"), player.text("#edit-refused code")],
-          ["Some vertices can't be reached from the others: an edge is missing.", "dollar: not connected"], "a vertex without an edge")
+    equal(
+        [player.text("#edit-refused span"), player.text("#edit-refused code")],
+        ["Some vertices can't be reached from the others: an edge is missing.", "dollar: not connected"],
+        "a vertex without an edge",
+    )
     browser.click("input[value=edge]")
     browser.drag(browser.middle(AT % "d"), browser.middle(AT % "a"))
     browser.click("input[value=move]")
     old = browser.middle(AT % "d")
     browser.drag(old, [old[0] + 30, old[1] + 25])
     new = browser.middle(AT % "d")
-    expect(abs(new[0] - old[0] - 30) < 3 and abs(new[1] - old[1] - 25) < 3, "a vertex that is dragged from %r to %r" % (old, new))
-    for selector, text in (("#edit-vertices tr:nth-child(4) input[type=number]", "-5"), ("#edit-edges tr:nth-child(1) input", "3"),
-                           ("#edit-vertices tr:nth-child(4) input[type=text]", "zoe")):
+    expect(
+        abs(new[0] - old[0] - 30) < 3 and abs(new[1] - old[1] - 25) < 3, "a vertex that is dragged from %r to %r" % (old, new)
+    )
+    for selector, text in (
+        ("#edit-vertices tr:nth-child(4) input[type=number]", "-5"),
+        ("#edit-edges tr:nth-child(1) input", "3"),
+        ("#edit-vertices tr:nth-child(4) input[type=text]", "zoe"),
+    ):
         player.value("document.querySelector(%s).select()" % json.dumps(selector))
         browser.write(text)
         browser.press("Enter")
@@ -330,7 +394,11 @@ def with_editor(player):
     browser.click("#edit-done")
     browser.until("document.getElementById('editor').hidden")
     table = json.loads(player.saved("#take-table", "table.json"))
-    equal(table, {"vertices": ["a", "b", "zoe"], "edges": [["a", "b", 3], ["zoe", "a", 1]], "amounts": [2, -1, -5], "q": "b"}, "the edited table")
+    equal(
+        table,
+        {"vertices": ["a", "b", "zoe"], "edges": [["a", "b", 3], ["zoe", "a", 1]], "amounts": [2, -1, -5], "q": "b"},
+        "the edited table",
+    )
     places = player.saved("#take-places", "places.txt")
     equal([line.split(" ")[0] for line in places.splitlines()], ["a", "b", "zoe"], "the places that are saved")
     player.did(browser.click, AT % "zoe")
@@ -349,11 +417,21 @@ def with_takings(player, browser_folder):
     page = player.saved("#take-page", "game.html")
     address = player.value("location.href")
     player.browser.open(written(browser_folder, "game.html", page))
-    equal(player.value("viewer.game.replies.map(({line}) => line)"), asked("rehearse", table, steps)[0].splitlines(), "the page that is saved")
-    player.browser.open(written(browser_folder, "board.html", '<!doctype html><img src="%s">' % os.path.join(player.folder, "board.svg")))
+    equal(
+        player.value("viewer.game.replies.map(({line}) => line)"),
+        asked("rehearse", table, steps)[0].splitlines(),
+        "the page that is saved",
+    )
+    player.browser.open(
+        written(browser_folder, "board.html", '<!doctype html><img src="%s">' % os.path.join(player.folder, "board.svg"))
+    )
     player.browser.until("document.querySelector('img').naturalWidth > 0")
-    player.browser.open(address)
-    player.browser.until(READY)
+    before = text_of(table), text_of(steps)
+    player.browser.open(address + "#%3Cimg%20src=x%20onerror=p()%3E")
+    player.browser.until(READY + " && viewer.game.length > 0")
+    table, steps = player.compare("after a reload")
+    equal((text_of(table), text_of(steps)), before, "the files after a reload")
+    expect(player.value("document.querySelectorAll('img').length") == 0, "a fragment of an address is shown")
 
 
 def in_sizes(player, folder):
@@ -366,14 +444,20 @@ def in_sizes(player, folder):
             player.value("for (const at of document.querySelectorAll('details')) at.open = true")
             player.told("#ask-won")
             expect(player.value("document.documentElement.scrollWidth <= innerWidth"), "too wide at %d" % wide)
-            small = player.value("[...document.querySelectorAll('button, select, input, summary')].filter((at) => at.offsetParent &&"
-                                 " Math.min(at.offsetWidth, at.offsetHeight) < 16).map((at) => at.id || at.textContent)")
+            small = player.value(
+                "[...document.querySelectorAll('button, select, input, summary')].filter((at) => at.offsetParent &&"
+                " Math.min(at.offsetWidth, at.offsetHeight) < 16).map((at) => at.id || at.textContent)"
+            )
             equal(small, [], "what is too small at %d" % wide)
             if pictures and wide in WIDTHS:
-                browser.picture(os.path.join(pictures, "alone-%d%s.png" % (wide, "-dark" if features else "")), whole=wide == 360)
+                browser.picture(
+                    os.path.join(pictures, "alone-%d%s.png" % (wide, "-dark" if features else "")), whole=wide == 360
+                )
     browser.media(prefers_reduced_motion="reduce")
-    unnamed = player.value("[...document.querySelectorAll('button, select, input, [role=button]')].filter((at) => !(at.textContent.trim() ||"
-                           " at.getAttribute('aria-label') || (at.labels && at.labels.length))).map((at) => at.outerHTML)")
+    unnamed = player.value(
+        "[...document.querySelectorAll('button, select, input, [role=button]')].filter((at) => !(at.textContent.trim() ||"
+        " at.getAttribute('aria-label') || (at.labels && at.labels.length))).map((at) => at.outerHTML)"
+    )
     equal(unnamed, [], "controls without a name")
     browser.media("print")
     equal(player.value("getComputedStyle(document.getElementById('controls')).display"), "none", "buttons on paper")
@@ -388,14 +472,21 @@ def with_focus(player):
     seen = []
     for _ in range(60):
         browser.press("Tab")
-        at = player.value("(() => { const at = document.activeElement; if (!at || at === document.body) return null; const look = getComputedStyle("
-                          "at.classList.contains('vertex') ? at.querySelector('.reach') : at);"
-                          " return [at.dataset.name || at.id || at.textContent.trim(), look.outlineStyle !== 'none' || look.stroke !== 'none']; })()")
+        at = player.value(
+            "(() => { const at = document.activeElement; if (!at || at === document.body) return null;"
+            " const look = getComputedStyle("
+            "at.classList.contains('vertex') ? at.querySelector('.reach') : at);"
+            " return [at.dataset.name || at.id || at.textContent.trim(),"
+            " look.outlineStyle !== 'none' || look.stroke !== 'none']; })()"
+        )
         if at is None:
             break
         seen.append(at)
     equal([name for name, shown in seen if not shown], [], "where the focus can't be seen")
-    expect({"ann", "bob", "cyd", "dan", "ask-won", "claim", "line-in", "take-table"} <= {name for name, _ in seen}, "Tab comes to %r" % seen)
+    expect(
+        {"ann", "bob", "cyd", "dan", "ask-won", "claim", "line-in", "take-table"} <= {name for name, _ in seen},
+        "Tab comes to %r" % seen,
+    )
 
 
 def all_of(browser, folder):
@@ -421,4 +512,7 @@ def all_of(browser, folder):
         equal(outside, [], "what the page has asked of others")
     browser.value("void play('claim')")
     browser.until("!document.getElementById('refused').hidden")
-    expect("does not answer" in browser.value("document.getElementById('refused').textContent"), "the end of board/play is not told")
+    expect(
+        "There is no answer from board/play" in browser.value("document.getElementById('refused').textContent"),
+        "the end of board/play is not told",
+    )

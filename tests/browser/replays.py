@@ -1,7 +1,7 @@
 """Pages of games that were played: at each step what stands on them is compared with the step and its printed line."""
 import math, os, time
 
-from common import EXAMPLES, equal, expect, lines_of, script, text_of, written
+from common import EXAMPLES, equal, expect, lines_of, script, written
 from dollar import answer, edges, example, joined
 
 STORIES = ("village", "village_story"), ("houses", "tax_on_the_houses"), ("village", "roads_for_the_village")
@@ -12,7 +12,8 @@ LONGEST, OPENS_IN, STEPS_IN = 65536, 4.0, 0.25
 
 def page_of(folder, table, steps, *history):
     """The page of an example, and its place."""
-    page, said, status = script("replay.py", os.path.join(EXAMPLES, table + ".json"), os.path.join(EXAMPLES, steps + ".txt"), *history)
+    words = [os.path.join(EXAMPLES, table + ".json"), os.path.join(EXAMPLES, steps + ".txt"), *history]
+    page, said, status = script("replay.py", *words)
     equal((status, said), (0, ""), "%s: replay.py" % steps)
     expect(len(page) < MOST_BYTES, "%s: the page has %d bytes" % (steps, len(page)))
     return written(folder, "%s%d.html" % (steps, len(history)), page.decode())
@@ -226,9 +227,12 @@ def of_long_game(browser, folder):
     browser.open(place)
     opened = time.monotonic() - start
     expect(opened < OPENS_IN, "%d steps open in %.1f s" % (LONGEST, opened))
+    if os.environ.get("TOLD"):
+        print("%d steps open in %.2f s" % (LONGEST, opened))
     for wide in 400, 1920:
         browser.size(wide, 800)
-        browser.until("innerWidth === %d && document.querySelectorAll('#marks button').length === viewer.markedSteps().length" % wide)
+        browser.until("innerWidth === %d" % wide)
+        browser.until("document.querySelectorAll('#marks button').length === viewer.markedSteps().length")
         marks = browser.value("[...document.querySelectorAll('#marks button')].map((at) => Number(at.dataset.index))")
         expect(10 < len(marks) <= wide / 16, "%d marks on %d dots" % (len(marks), wide))
         expect({502, 60002} <= set(marks), "a verdict among many moves has no mark at %d" % wide)
@@ -241,6 +245,8 @@ def of_long_game(browser, folder):
     each = (time.monotonic() - start) / 20
     equal(browser.value("viewer.now"), 60022, "20 steps further")
     expect(each < STEPS_IN, "of %d steps each takes %.2f s" % (LONGEST, each))
+    if os.environ.get("TOLD"):
+        print("of these a step takes %.3f s" % each)
     browser.press("End")
     equal(browser.value("[viewer.now, document.querySelectorAll('#whole li').length]"), [LONGEST, 400], "the last step")
     browser.value("document.getElementById('earlier').click()")
@@ -265,7 +271,8 @@ def with_strange_names(browser, folder):
     names = ["constructor", "__proto__", "2", "1", "toString"]
     table = written(folder, "t.json", '{"vertices": ["%s"], "edges": [["constructor", "__proto__", 1], ["__proto__", "2", 1],'
                     ' ["2", "1", 1], ["1", "toString", 1]], "amounts": [1, -1, 0, 2, 3], "q": "2"}' % '", "'.join(names))
-    page, said, status = script("replay.py", table, written(folder, "s", "1 lend __proto__\n1 script 1=2,constructor=-1\n1 look\n1 commit\n"))
+    steps = written(folder, "s", "1 lend __proto__\n1 script 1=2,constructor=-1\n1 look\n1 commit\n")
+    page, said, status = script("replay.py", table, steps)
     equal((status, said), (0, ""), "replay.py with strange names")
     browser.open(written(folder, "page.html", page.decode()))
     for index in range(5):
@@ -311,7 +318,8 @@ def with_places(browser, folder):
     for text in "a 0 0\nb 1 0\n", "a 0 0\nb 1 0\nc x 1\n", "a 0 0\nb 1 0\nc 1\n", "a 0 0\nb 0 0\nc 1 1\n", "d 0 0\n", "a nan 0\n":
         for name, given in ("replay.py", words), ("draw.py", words[:1]):
             page, said, status = script(name, "--places", written(folder, "places", text), *given)
-            expect((page, status) == (b"", 1) and said.count("\n") == 1, "%s with the places %r: %d, %r" % (name, text, status, said))
+            expect((page, status) == (b"", 1) and said.count("\n") == 1,
+                   "%s with the places %r: %d, %r" % (name, text, status, said))
 
 
 def all_of(browser, folder):
@@ -333,4 +341,5 @@ def all_of(browser, folder):
     with_places(browser, folder)
     of_long_game(browser, folder)
     equal(browser.thrown, [], "what pages have thrown")
-    expect(all(url.startswith(("file://", "data:", "about:")) or url == "x:" for url in browser.asked), "asked for: %r" % browser.asked)
+    outside = [url for url in browser.asked if url != "x:" and not url.startswith(("file://", "data:", "about:"))]
+    equal(outside, [], "what pages have asked of others")

@@ -1,10 +1,9 @@
 """The table of a class in Chromium: pupils' pages and the teacher's, by clicks, keys and touches."""
 import json, os, signal, time
 
-from browser import Browser, SHIFT
 from classes import program_of, taken
-from common import EXAMPLES, equal, expect, played, text_of, written
-from visitors import Place, Pupil, opened
+from common import EXAMPLES, equal, expect, played, text_of
+from visitors import Place, opened
 
 READY = "document.readyState === 'complete' && typeof viewer === 'object' && Boolean(viewer)"
 AT = "#board [data-name='%s']"
@@ -44,11 +43,13 @@ class PagePupil:
 
     def attend(self, lines):
         for start in range(0, len(lines), 25):
-            self.lines += self.value(SEND % json.dumps(lines[start:start + 25]))
+            self.lines += self.value(SEND % json.dumps(lines[start : start + 25]))
 
     @property
     def entries(self):
-        return self.value("viewer.game.steps.map((step, i) => [step.seat, step.line.slice(step.seat.length + 1), viewer.game.replies[i].line])")
+        return self.value(
+            "viewer.game.steps.map((step, i) => [step.seat, step.line.slice(step.seat.length + 1), viewer.game.replies[i].line])"
+        )
 
     def until(self, wanted):
         end = time.monotonic() + 30
@@ -87,11 +88,13 @@ def with_pages(ann, bob, desk, child, room, folder):
     ann.browser.click(AT % "cyd")
     for page in ann, bob:
         page.has(1)
-    bob.browser.touch(AT % "dan", 0.8)
+    bob.browser.touch(AT % "dan", 1.0)
     ann.has(2)
-    equal(ann.text("#asked") + " " + ann.text("#said"), "2 borrow dan 1 moved ann=-2 bob=1 cyd=0 dan=2", "a long touch of another")
+    equal(
+        ann.text("#asked") + " " + ann.text("#said"), "2 borrow dan 1 moved ann=-2 bob=1 cyd=0 dan=2", "a long touch of another"
+    )
     expect(ann.text("#step").startswith("<img src=x onerror=p()>: dan borrows"), "whose move it was: %s" % ann.text("#step"))
-    ann.value("document.querySelector(\"%s\").focus()" % (AT % "bob"))
+    ann.value('document.querySelector("%s").focus()' % (AT % "bob"))
     ann.browser.press("Enter")
     bob.has(3)
     equal(ann.value("document.activeElement.dataset.name"), "bob", "the focus after an entry came")
@@ -100,8 +103,11 @@ def with_pages(ann, bob, desk, child, room, folder):
     equal(bob.text("#said"), "3 joined 1 ann=-1 bob=-2 cyd=1 dan=3", "an edge that another drew")
     bob.browser.click("#commit")
     bob.browser.until("!document.getElementById('refused').hidden")
-    equal([bob.text("#refused span"), bob.text("#refused code")],
-          ["This seat has not looked since its last verdict. It looks first.", "bad look"], "a commit without a look")
+    equal(
+        [bob.text("#refused span"), bob.text("#refused code")],
+        ["This seat has not looked since its last verdict. It looks first.", "bad look"],
+        "a commit without a look",
+    )
     equal(ann.value("document.getElementById('refused').hidden"), True, "another is told of it")
     ann.value("viewer.go(1)")
     bob.browser.click("#look")
@@ -158,11 +164,17 @@ def with_commands(ann, bob, desk, child, room, folder):
     for name in "table.json", "steps.txt", "history.txt":
         desk.click("#take-%s" % name.partition(".")[0])
         until_saved(os.path.join(folder, name))
-    equal([text_of(folder, "steps.txt"), text_of(folder, "history.txt")], [room.get(name)[1] for name in ("steps.txt", "history.txt")], "the saved files")
+    equal(
+        [text_of(folder, "steps.txt"), text_of(folder, "history.txt")],
+        [room.get(name)[1] for name in ("steps.txt", "history.txt")],
+        "the saved files",
+    )
     desk.click("#take-page")
     until_saved(os.path.join(folder, "game.html"))
     steps, history = taken(room, folder)
-    listed = ann.value("[...document.querySelectorAll('#whole li')].map((at) => [...at.querySelectorAll('code')].map((c) => c.textContent))")
+    listed = ann.value(
+        "[...document.querySelectorAll('#whole li')].map((at) => [...at.querySelectorAll('code')].map((c) => c.textContent))"
+    )
     equal(listed, [list(pair) for pair in zip(steps, history)], "the history on a pupil's page")
     ann.value("viewer.go(1)")
     expect(ann.text("#step").startswith("Zo\u00eb: cyd lends"), "whose the first step was: %s" % ann.text("#step"))
@@ -187,10 +199,14 @@ def in_sizes(browser, name):
             expect(browser.value("document.documentElement.scrollWidth <= innerWidth"), "%s is too wide at %d" % (name, wide))
             if pictures and wide in WIDTHS:
                 browser.value("window.scrollTo(0, 0)")
-                browser.picture(os.path.join(pictures, "%s-%d%s.png" % (name, wide, "-dark" if features else "")), whole=wide == 360)
+                browser.picture(
+                    os.path.join(pictures, "%s-%d%s.png" % (name, wide, "-dark" if features else "")), whole=wide == 360
+                )
     browser.media(prefers_reduced_motion="reduce")
-    unnamed = browser.value("[...document.querySelectorAll('button, select, input, [role=button]')].filter((at) => !(at.textContent.trim() ||"
-                            " at.getAttribute('aria-label') || (at.labels && at.labels.length))).map((at) => at.outerHTML)")
+    unnamed = browser.value(
+        "[...document.querySelectorAll('button, select, input, [role=button]')].filter((at) => !(at.textContent.trim() ||"
+        " at.getAttribute('aria-label') || (at.labels && at.labels.length))).map((at) => at.outerHTML)"
+    )
     equal(unnamed, [], "controls of %s without a name" % name)
     browser.size(1280, 800)
 
@@ -216,6 +232,16 @@ def all_of(browsers, folder):
         one.open(pupils)
         one.until(READY)
         in_sizes(one, "entrance")
+        one.click("#watch")
+        one.until("state !== null")
+        equal(
+            one.value(
+                "[document.getElementById('address').textContent, getComputedStyle(document.getElementById('hands')).display]"
+            ),
+            [pupils, "none"],
+            "a page that only watches",
+        )
+        in_sizes(one, "watching")
         ann, bob = PagePupil(one, pupils, "Zo\u00eb"), PagePupil(two, pupils, "<img src=x onerror=p()>")
         teachers(desk, teacher, saved)
         for part in with_pages, with_seats, with_commands:
@@ -226,7 +252,9 @@ def all_of(browsers, folder):
         with_end(ann, desk)
         for browser in browsers:
             equal(browser.thrown, [], "what a page has thrown")
-            outside = [url for url in browser.asked if not url.startswith((pupils, teacher, "data:", "blob:", "about:", "file:"))]
+            outside = [
+                url for url in browser.asked if not url.startswith((pupils, teacher, "data:", "blob:", "about:", "file:"))
+            ]
             equal(outside, [], "what a page has asked of others")
             browser.asked.clear()
     ann.told("There is no connection to the game.")
@@ -234,4 +262,7 @@ def all_of(browsers, folder):
 
 def pages(browsers):
     """For classes.of_many: pupils on pages."""
-    return [lambda address, browser=browser, name=name: PagePupil(browser, address, name) for browser, name in zip(browsers, ("page one", "page two"))]
+    return [
+        lambda address, browser=browser, name=name: PagePupil(browser, address, name)
+        for browser, name in zip(browsers, ("page one", "page two"))
+    ]

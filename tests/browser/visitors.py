@@ -19,8 +19,12 @@ class Place:
         given = {"Content-Type": "application/json", "Origin": self.origin} if body is not None else {}
         given.update(headers)
         try:
-            link.request(method, path if path.startswith("/") else self.path + path, body,
-                         {name: value for name, value in given.items() if value is not None})
+            link.request(
+                method,
+                path if path.startswith("/") else self.path + path,
+                body,
+                {name: value for name, value in given.items() if value is not None},
+            )
             answer = link.getresponse()
             return answer.status, answer.read().decode()
         finally:
@@ -112,5 +116,9 @@ class Pupil:
 def opened(place, key, number=0):
     """A connection on which the events of a seat come from an entry on."""
     link = socket.create_connection((place.host, place.port), PATIENCE)
-    link.sendall(("GET %sevents?key=%s&from=%d HTTP/1.1\r\nHost: %s:%d\r\n\r\n" % (place.path, key, number, place.host, place.port)).encode())
+    link.sendall(
+        (
+            "GET %sevents?key=%s&from=%d HTTP/1.1\r\nHost: %s:%d\r\n\r\n" % (place.path, key, number, place.host, place.port)
+        ).encode()
+    )
     return link
