@@ -51,14 +51,18 @@ def one_line(line: str) -> bytes:
 Work = Tuple[Callable[[], Any], "queue.SimpleQueue[Any]"]
 
 
-def work_on(work: queue.SimpleQueue[Optional[Work]]) -> None:
-    """Does one piece of work after another, until there is a None, and hands on what comes of each."""
+def work_on(work: queue.SimpleQueue[Optional[Work]], child: subprocess.Popen[bytes]) -> None:
+    """Does one piece of work after another, and hands on what comes of each. A None is the last: the session was given up, and the
+    program is ended if it was not closed."""
     while True:
         piece = work.get()
         if piece is None:
+            child.communicate()
             return
         do, done = piece
         done.put(do())
+        # What was done knows its session, which may be given up meanwhile.
+        del piece, do, done
 
 
 class Session:
@@ -111,7 +115,7 @@ class Session:
             self.child = subprocess.Popen([find_program(program), "serve", *names, *words], stdin=subprocess.PIPE,
                                           stdout=subprocess.PIPE, stderr=subprocess.PIPE, pass_fds=descriptors)
         self.work: queue.SimpleQueue[Optional[Work]] = queue.SimpleQueue()
-        threading.Thread(target=work_on, args=(self.work,), daemon=True).start()
+        threading.Thread(target=work_on, args=(self.work, self.child), daemon=True).start()
         weakref.finalize(self, self.work.put, None)
 
     def __enter__(self) -> Session:

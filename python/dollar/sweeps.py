@@ -12,8 +12,8 @@ import warnings
 from collections import deque
 from typing import Any, Callable, Deque, Iterable, Iterator, List, Optional, Sequence, Tuple, TypeVar, Union
 
-from dollar.answers import RankTest, Refused, RefusedRankTest, RefusedRiemannRoch, RefusedVerdict, RiemannRoch, Verdict
-from dollar.answers import rank_test_of, refusal, riemann_roch_of, verdict_of
+from dollar.answers import (
+    RankTest, RefusedRankTest, RefusedRiemannRoch, RefusedVerdict, RiemannRoch, Row, Verdict, rank_test_of, refusal, riemann_roch_of, verdict_of)
 from dollar.commands import option
 from dollar.program import Fault, Place, fault_of, find_program
 from dollar.table import iterate, whole
@@ -124,8 +124,8 @@ def shown(tables: Iterable[Any], progress: bool) -> Iterable[Any]:
     return bar
 
 
-def swept(words: Sequence[str], tables: Iterable[Any], read: Callable[[str, Any], Found], kind: Callable[..., Refused], errors: str,
-          program: Optional[Place]) -> Iterator[Union[Found, Refused]]:
+def swept(words: Sequence[str], tables: Iterable[Any], read: Callable[[str, Any], Found], kind: Callable[..., Row], errors: str,
+          program: Optional[Place]) -> Iterator[Union[Found, Row]]:
     """What is read of each answer, and a row of this kind for each table that is refused."""
     sweep = Sweep(words, tables, program)
     try:
@@ -151,7 +151,7 @@ def sweep_words(command: str, *given: str, workers: Optional[int], errors: str) 
 
 
 def judge_all(tables: Iterable[Any], program: Optional[Place] = None, *, workers: Optional[int] = None, errors: str = "row",
-              progress: bool = False) -> Iterator[Union[Verdict, Refused]]:
+              progress: bool = False) -> Iterator[Union[Verdict, RefusedVerdict]]:
     """The verdicts on the tables, in order, as they come.
 
     The tables may be any number, and come from anywhere: they are taken in the thread of the caller, some ahead of their answers.
@@ -169,7 +169,7 @@ def judge_all(tables: Iterable[Any], program: Optional[Place] = None, *, workers
 
 
 def rank_all(tables: Iterable[Any], degree: int, program: Optional[Place] = None, *, workers: Optional[int] = None,
-             errors: str = "row", progress: bool = False) -> Iterator[Union[RankTest, Refused]]:
+             errors: str = "row", progress: bool = False) -> Iterator[Union[RankTest, RefusedRankTest]]:
     """The rank tests of a degree, as `judge_all` has verdicts. One past the limits that a law settles has no first loss.
 
     >>> from dollar import Table
@@ -182,7 +182,7 @@ def rank_all(tables: Iterable[Any], degree: int, program: Optional[Place] = None
 
 
 def rr_all(tables: Iterable[Any], program: Optional[Place] = None, *, workers: Optional[int] = None, errors: str = "row",
-           progress: bool = False) -> Iterator[Union[RiemannRoch, Refused]]:
+           progress: bool = False) -> Iterator[Union[RiemannRoch, RefusedRiemannRoch]]:
     """The four numbers of the tables, as `judge_all` has verdicts; None for a rank past the limits.
 
     >>> from dollar import Table

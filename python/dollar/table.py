@@ -205,7 +205,7 @@ def place_of(key: Any, places: Dict[Any, int], names: Tuple[str, ...]) -> int:
         pass
     if str(key) in names:
         return names.index(str(key))
-    raise ValueError("no vertex is %r: the vertices are %s" % (key, ", ".join(names)))
+    raise ValueError("there is no vertex %r: the vertices are %s" % (key, ", ".join(names)))
 
 
 def held(amounts: Any, places: Dict[Any, int], names: Tuple[str, ...]) -> Tuple[int, ...]:
@@ -254,7 +254,7 @@ class Table:
     >>> Table(table, {"c": 5})
     Traceback (most recent call last):
         ...
-    ValueError: no vertex is 'c': the vertices are a, b
+    ValueError: there is no vertex 'c': the vertices are a, b
     >>> Table(table, {"a": 1.7})
     Traceback (most recent call last):
         ...
@@ -333,7 +333,7 @@ class Table:
 
     def to_json(self) -> str:
         """The table as a table file has it, in one line without its end."""
-        return json.dumps(self.to_dict())
+        return json.dumps({"vertices": self._vertices, "edges": self._edges, "amounts": self._amounts, "q": self._q})
 
     def write(self, file: Place) -> None:
         """Writes a table file."""
@@ -406,7 +406,8 @@ def one_line(thing: Any) -> bytes:
         return Table(thing).to_json().encode()
     if isinstance(thing, AbstractMapping):
         return json.dumps(dict(thing), default=operator.index).encode()
-    raise TypeError("a table is a Table, a dict or a SandpileDivisor: Table(graph, amounts) makes one of a %s" % type(thing).__name__)
+    raise TypeError("a table is a Table, a dict or a SandpileDivisor, and not of the type %s: Table(graph, amounts) makes one"
+                    % type(thing).__name__)
 
 
 def example(name: str) -> Table:

@@ -108,9 +108,9 @@ def weighted(weight):
 
 PAIR = types.SimpleNamespace(nodes=[0, 1], edges=[(0, 1)])
 REFUSED = [
-    (lambda: Table(PAIR, {7: 1}), ValueError, "no vertex is 7: the vertices are 0, 1"),
-    (lambda: Table(PAIR, {"x": 1}), ValueError, "no vertex is 'x'"),
-    (lambda: Table(PAIR, {1: 1}, 7), ValueError, "no vertex is 7"),
+    (lambda: Table(PAIR, {7: 1}), ValueError, "no vertex 7: the vertices are 0, 1"),
+    (lambda: Table(PAIR, {"x": 1}), ValueError, "no vertex 'x'"),
+    (lambda: Table(PAIR, {1: 1}, 7), ValueError, "no vertex 7"),
     (lambda: Table(PAIR, {0: 1, "0": 1}), ValueError, "two amounts for vertex 0"),
     (lambda: Table(PAIR, {0: 1.7}), TypeError, "the amount of vertex 0 is no whole number: 1.7"),
     (lambda: Table(PAIR, {0: 1.0}), TypeError, "the amount of vertex 0 is no whole number: 1.0"),
@@ -147,7 +147,7 @@ REFUSED = [
     (lambda: Table(dict(PATH, edges=["ab1"])), ValueError, "edge 0 is no list"),
     (lambda: Table(dict(PATH, edges=[["a", "z", 1]])), ValueError, "the edge from a to z has no vertex"),
     (lambda: Table(dict(PATH, edges=[["a", "a", 1]])), ValueError, "the edge from a to a is a loop"),
-    (lambda: Table(dict(PATH, q="z")), ValueError, "no vertex is 'z'"),
+    (lambda: Table(dict(PATH, q="z")), ValueError, "no vertex 'z'"),
     (lambda: Table(dict(PATH, amounts=[1, 2, 3.5])), TypeError, "the amount of vertex c is no whole number: 3.5"),
     (lambda: Table.graph6(""), ValueError, "no line of graph6"),
     (lambda: Table.graph6("Bx"), ValueError, "no line of graph6: 'Bx'"),
@@ -156,7 +156,7 @@ REFUSED = [
     (lambda: Table.graph6("&Bw"), ValueError, "no line of graph6: '&Bw'"),
     (lambda: Table.graph6("~??~"), ValueError, "more than 62 vertices"),
     (lambda: dollar.judge(PAIR), TypeError, r"Table\(graph, amounts\) makes one"),
-    (lambda: dollar.judge(7), TypeError, r"Table\(graph, amounts\) makes one of a int"),
+    (lambda: dollar.judge(7), TypeError, "and not of the type int"),
     (lambda: dollar.judge(dict(PATH, amounts=[fractions.Fraction(1, 2), 0, 0])), TypeError, ""),
     (lambda: dollar.rank(PATH, 1.5), TypeError, "the degree is no whole number: 1.5"),
     (lambda: dollar.greedy(PATH, "3"), TypeError, "the number of turns is no whole number: '3'"),
