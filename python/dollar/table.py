@@ -11,7 +11,7 @@ from collections.abc import Mapping as AbstractMapping
 from typing import TYPE_CHECKING, Any, Callable, Dict, Iterable, Iterator, List, NamedTuple, Optional, Tuple, Union
 
 from dollar import drawing
-from dollar.program import CLONE, Place, is_clone
+from dollar.program import CLONE, Place
 
 if TYPE_CHECKING:
     from dollar.session import Session
@@ -411,10 +411,11 @@ def one_line(thing: Any) -> bytes:
 
 
 def example(name: str) -> Table:
-    """The table of a file in the folder `examples` of the clone in which this package lies."""
-    if not is_clone(CLONE):
-        raise FileNotFoundError("the examples lie in a clone of the repository, and this package in none")
-    return Table.read(CLONE / "examples" / (name + ".json"))
+    """The table of a file in the folder `examples`, of the clone or of the installed files in which this package lies."""
+    file = CLONE / "examples" / (name + ".json")
+    if not file.is_file():
+        raise FileNotFoundError("there is no example %s beside this package: %s" % (name, file))
+    return Table.read(file)
 
 
 def iterate(tables: Iterable[Any]) -> Iterator[Tuple[Any, bytes]]:
