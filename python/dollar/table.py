@@ -32,9 +32,12 @@ def whole(number: Any, what: str) -> int:
     TypeError: the amount of vertex a is no whole number: 1.0
     """
     try:
-        return int(operator.index(number))
+        # What is true or false is a number for Python, and none for the program.
+        if type(number).__name__ not in ("bool", "bool_"):
+            return int(operator.index(number))
     except TypeError:
-        raise TypeError("%s is no whole number: %r" % (what, number)) from None
+        pass
+    raise TypeError("%s is no whole number: %r" % (what, number))
 
 
 class Multigraph(NamedTuple):
@@ -75,6 +78,9 @@ def of_networkx(graph: Any) -> Multigraph:
     if callable(graph.edges):
         edges = [(u, v, edge_weight(u, v, data.get("weight", 1))) for u, v, data in graph.edges(data=True)]
     else:
+        wrong = [edge for edge in graph.edges if len(edge) != 2]
+        if wrong:
+            raise ValueError("an edge is a pair of vertices, and not %r" % (wrong[0],))
         edges = [(u, v, 1) for u, v in graph.edges]
     return Multigraph(vertices, merged(edges, {node: at for at, node in enumerate(vertices)}))
 
@@ -276,9 +282,14 @@ class Table:
 
     @classmethod
     def read(cls, file: Place) -> Table:
-        """The table of a file."""
-        with open(file, encoding="utf-8") as text:
-            return cls(json.load(text))
+        """The table of a file. An error names the file and what is wrong in it."""
+        try:
+            with open(file, encoding="utf-8") as text:
+                return cls(json.load(text))
+        except TypeError as error:
+            raise TypeError("%s: %s" % (os.fspath(file), error)) from None
+        except (ValueError, RecursionError) as error:
+            raise ValueError("%s: %s" % (os.fspath(file), error)) from None
 
     @classmethod
     def graph6(cls, line: Union[str, bytes], amounts: Any = None, q: Any = None) -> Table:

@@ -74,6 +74,11 @@ def test_a_file_comes_back(tmp_path):
     assert dollar.judge(str(tmp_path / "table.json")) == dollar.judge(table) == dollar.judge(PATH)
     with pytest.raises(FileNotFoundError, match="missing.json"):
         dollar.judge(str(tmp_path / "missing.json"))
+    for text, error, said in (("{", ValueError, "Expecting"), ("[" * 100_000, ValueError, "recursion"), ("\ud800", ValueError, "utf-8"),
+                              (json.dumps(dict(PATH, amounts=[1, 2, 0.5])), TypeError, "the amount of vertex c is no whole number: 0.5")):
+        (tmp_path / "bad.json").write_bytes(text.encode("utf-8", "surrogatepass"))
+        with pytest.raises(error, match="bad.json: .*" + said):
+            Table.read(tmp_path / "bad.json")
 
 
 def test_amounts_are_by_vertex_or_by_name():
@@ -119,6 +124,8 @@ REFUSED = [
     (lambda: Table(PAIR, [decimal.Decimal("1.9"), 0]), TypeError, "the amount of vertex 0 is no whole number: Decimal"),
     (lambda: Table(PAIR, [None, 0]), TypeError, "the amount of vertex 0 is no whole number: None"),
     (lambda: Table(PAIR, ["1", 0]), TypeError, "the amount of vertex 0 is no whole number: '1'"),
+    (lambda: Table(PAIR, [True, 0]), TypeError, "the amount of vertex 0 is no whole number: True"),
+    (lambda: Table([[0, True], [True, 0]]), TypeError, "the number of edges from 0 to 1 is no whole number: True"),
     (lambda: Table(PAIR, [1]), ValueError, "there are 1 amounts for 2 vertices"),
     (lambda: Table(PAIR, [1, 0, 0]), ValueError, "there are 3 amounts for 2 vertices"),
     (lambda: Table(PAIR, {1, 2}), TypeError, "amounts are a list in the order of the vertices, or a dict"),
@@ -131,7 +138,8 @@ REFUSED = [
     (lambda: Table(weighted(-2)), ValueError, "the weight of the edge from 0 to 1 is no number of edges: -2"),
     (lambda: Table(types.SimpleNamespace(nodes=[0, 1], edges=[(0, 1), (1, 1)])), ValueError, "the edge from 1 to 1 is a loop"),
     (lambda: Table(types.SimpleNamespace(nodes=[0, 1], edges=[(0, 2)])), ValueError, "the edge from 0 to 2 has no vertex"),
-    (lambda: Table(types.SimpleNamespace(nodes=[0, 1], edges=[(0, 1, 3)])), ValueError, ""),
+    (lambda: Table(types.SimpleNamespace(nodes=[0, 1], edges=[(0, 1, 3)])), ValueError,
+     r"an edge is a pair of vertices, and not \(0, 1, 3\)"),
     (lambda: Table(types.SimpleNamespace(nodes=[0, "0"], edges=[(0, "0")])), ValueError, "the vertices 0 and '0' have the same name"),
     (lambda: Table(types.SimpleNamespace(nodes=[(0, 1)], edges=[])), ValueError, r"vertex \(0, 1\) has no name"),
     (lambda: Table(types.SimpleNamespace(nodes=[], edges=[])), ValueError, "there is no vertex"),
@@ -180,7 +188,7 @@ def test_numbers_that_are_whole_are_taken():
     assert json.loads(table.to_json())["amounts"] == [3, -1]
     given = {"vertices": ["a", "b"], "edges": [["a", "b", numpy.uint8(2)]], "amounts": [numpy.int64(3), numpy.int16(-1)], "q": "a"}
     assert dollar.judge(given) == dollar.judge(Table(given)) == next(dollar.judge_all([given]))
-    for wrong in (numpy.float32(1.7), numpy.float64(2.0)):
+    for wrong in (numpy.float32(1.7), numpy.float64(2.0), numpy.bool_(True)):
         with pytest.raises(TypeError):
             Table(PAIR, {0: wrong})
     with pytest.raises(TypeError, match="table 0: "):
