@@ -259,8 +259,10 @@ class History(List[Entry]):
         return "\n".join(map(str, self))
 
     def _repr_html_(self) -> str:
-        rows = [["" if entry.number is None else entry.number, "" if entry.seat is None else entry.seat, entry.text()] for entry in self]
-        return table_html(("number", "seat", "answer"), rows)
+        def shown(number: Optional[int]) -> object:
+            return "" if number is None else number
+
+        return table_html(("number", "seat", "answer"), ([shown(each.number), shown(each.seat), each.text()] for each in self))
 
 
 @dataclass(frozen=True)

@@ -19,18 +19,23 @@ LONGEST_LINE = 1024
 Got = TypeVar("Got")
 
 
-class Ended(Fault):
-    """The session has ended in place of an answer, or had ended before. `text` says why, and is empty if it was ended well."""
-
-    def __str__(self) -> str:
-        return "the session has ended with status %d: %s" % (self.status, self.text or "nothing was said")
-
-
 class End(NamedTuple):
     """How a session has ended: its status, and what the program said on standard error."""
 
     status: int
     fault: str
+
+
+class Ended(Fault):
+    """The session has ended in place of an answer, or had ended before. `text` says why, and is empty if it was ended well; `fault` is
+    the whole line that the program said."""
+
+    def __init__(self, end: End) -> None:
+        super().__init__(fault_of(end.fault.encode(), end.status).text, end.status)
+        self.args, self.fault = (end,), end.fault
+
+    def __str__(self) -> str:
+        return "the session has ended with status %d: %s" % (self.status, self.text or "nothing was said")
 
 
 def one_line(line: str) -> bytes:
@@ -123,9 +128,9 @@ class Session:
 
     def __exit__(self, kind: Optional[Type[BaseException]], error: Optional[BaseException], trace: Optional[TracebackType]) -> None:
         was_over = self.ended is not None
-        status, fault = self.close()
-        if status and kind is None and not was_over:
-            raise Ended(fault_of(fault.encode(), status).text, status)
+        end = self.close()
+        if end.status and kind is None and not was_over:
+            raise Ended(end)
 
     def ask(self, line: str) -> Entry:
         """The answer to a line, which is given without its newline. A ValueError where it is no line, or has more than 1,024 bytes;
@@ -146,7 +151,7 @@ class Session:
                 if answer.endswith(b"\n"):
                     return answer[:-1].decode()
             end = self.close()
-        raise Ended(fault_of(end.fault.encode(), end.status).text, end.status)
+        raise Ended(end)
 
     def close(self) -> End:
         """Ends the input, which ends the session. Tells how it has ended, the same at each call."""

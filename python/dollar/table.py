@@ -97,6 +97,10 @@ def of_sage_graph(graph: Any) -> Multigraph:
     return Multigraph(vertices, merged(edges, {node: at for at, node in enumerate(vertices)}))
 
 
+def one_way(u: Any, v: Any, there: int, back: int) -> ValueError:
+    return ValueError("a directed graph has no table: from %s to %s there are %d edges, and %d back" % (u, v, there, back))
+
+
 def of_sandpile(sandpile: Any, amounts: Any = None) -> Multigraph:
     """The multigraph of a Sandpile of Sage, which has each edge in both directions; its sink is q."""
     vertices, ways = list(sandpile.vertices()), sandpile.dict()
@@ -104,8 +108,7 @@ def of_sandpile(sandpile: Any, amounts: Any = None) -> Multigraph:
               for u, near in ways.items() for v, count in near.items()}
     for (u, v), count in counts.items():
         if counts.get((v, u), 0) != count:
-            raise ValueError("a directed graph has no table: from %s to %s there are %d edges, and %d back"
-                             % (u, v, count, counts.get((v, u), 0)))
+            raise one_way(u, v, count, counts.get((v, u), 0))
     place = {vertex: at for at, vertex in enumerate(vertices)}
     edges = [(u, v, count) for (u, v), count in counts.items() if place[u] <= place[v] and count]
     return Multigraph(vertices, merged(edges, place), amounts, sandpile.sink())
@@ -125,13 +128,14 @@ def of_matrix(matrix: Any) -> Multigraph:
     rows = [list(row) for row in (matrix.to_numpy() if hasattr(matrix, "to_numpy") else matrix)]
     if any(len(row) != len(rows) for row in rows):
         raise ValueError("an adjacency matrix has as many columns as rows")
-    counts = [[whole(count, "the number of edges from %d to %d" % (u, v)) for v, count in enumerate(row)] for u, row in enumerate(rows)]
+    counts = [[whole(count, "the number of edges from %d to %d" % (u, v)) for v, count in enumerate(row)]
+              for u, row in enumerate(rows)]
     for u, row in enumerate(counts):
         for v, count in enumerate(row):
             if count < 0:
                 raise ValueError("the number of edges from %d to %d is %d" % (u, v, count))
             if count != counts[v][u]:
-                raise ValueError("a directed graph has no table: from %d to %d there are %d edges, and %d back" % (u, v, count, counts[v][u]))
+                raise one_way(u, v, count, counts[v][u])
     edges = [(u, v, count) for u, row in enumerate(counts) for v, count in enumerate(row[:u + 1]) if count]
     return Multigraph(list(range(len(rows))), merged([(v, u, count) for u, v, count in edges], {v: v for v in range(len(rows))}))
 
@@ -273,7 +277,8 @@ class Table:
         made = graph if isinstance(graph, Multigraph) else multigraph(graph)
         self._vertices = tuple(named(made.vertices, names))
         places = {vertex: place for place, vertex in enumerate(made.vertices)}
-        self._edges: Tuple[Edge, ...] = tuple((self._vertices[places[u]], self._vertices[places[v]], count) for u, v, count in made.edges)
+        name = dict(zip(made.vertices, self._vertices))
+        self._edges: Tuple[Edge, ...] = tuple((name[u], name[v], count) for u, v, count in made.edges)
         self._amounts = held(made.amounts if amounts is None else amounts, places, self._vertices)
         q = made.q if q is None else q
         if q is None and not self._vertices:

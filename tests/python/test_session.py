@@ -2,6 +2,7 @@
 import collections
 import gc
 import os
+import pickle
 import random
 import signal
 import subprocess
@@ -151,7 +152,9 @@ def test_ends():
     for _ in range(2):
         with pytest.raises(Ended, match="the history is full") as caught:
             session.ask("claim")
-        assert (caught.value.text, caught.value.status) == ("the history is full", 3)
+        again = pickle.loads(pickle.dumps(caught.value))
+        for ended in caught.value, again:
+            assert (ended.text, ended.status, ended.fault) == ("the history is full", 3, "dollar: the history is full")
     assert session.close() == session.close() == (3, "dollar: the history is full")
     with pytest.raises(Ended, match="the history is full"):
         with Session(TABLE, cap=1) as session:
