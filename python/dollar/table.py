@@ -238,7 +238,7 @@ def held(amounts: Any, places: Dict[Any, int], names: Tuple[str, ...]) -> Tuple[
     return tuple(found.get(place, 0) for place in range(len(names)))
 
 
-class Table:
+class Table(AbstractMapping[str, Any]):
     """A graph, the dollars at its vertices, and the vertex q from which verdicts are reckoned. A table can't be changed.
 
     It is made of a graph of networkx, which may be a MultiGraph; a Graph, a Sandpile or a SandpileDivisor of Sage; an adjacency
@@ -330,11 +330,14 @@ class Table:
         """The amounts by the names of the vertices."""
         return dict(zip(self._vertices, self._amounts))
 
-    def keys(self) -> Tuple[str, ...]:
-        """The members of a table file: so `dict(table, amounts=[..])` is a dict with other amounts."""
-        return MEMBERS
+    def __iter__(self) -> Iterator[str]:
+        return iter(MEMBERS)
+
+    def __len__(self) -> int:
+        return len(MEMBERS)
 
     def __getitem__(self, member: str) -> Any:
+        """A member of the table file: so `dict(table, amounts=[..])` is a dict with other amounts."""
         if member == "q":
             return self._q
         if member == "edges":
