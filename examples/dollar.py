@@ -12,6 +12,8 @@ PACKAGE = os.path.join(os.path.dirname(os.path.abspath(__file__)), "..", "python
 
 def package():
     """The package, which has the name of this file and takes its place."""
+    if not os.path.isdir(os.path.join(PACKAGE, "dollar")):
+        raise ImportError("examples/dollar.py stands for the package in the folder %s, which is not there" % os.path.normpath(PACKAGE))
     here = sys.path[:]
     sys.modules.pop("dollar", None)
     sys.path.insert(0, PACKAGE)

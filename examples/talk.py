@@ -11,7 +11,9 @@ import os
 
 from driver import HERE, program_of, start
 import dollar
-from dollar import Ended
+from dollar import Ended, one_line
+
+__all__ = ["Ended", "Session", "Table", "one_line"]
 
 results = []
 

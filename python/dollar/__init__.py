@@ -16,8 +16,8 @@ many tables, `Session` plays line by line, `flaw` checks a verdict without the p
 
 from dollar import former
 from dollar.answers import (
-    Answer, Entry, History, Party, RankTest, Refused, RefusedRankTest, RefusedRiemannRoch, RefusedVerdict, RiemannRoch, Verdict, answer,
-    history, to_csv)
+    Answer, Entry, History, Party, RankTest, Refused, RefusedRankTest, RefusedRiemannRoch, RefusedVerdict, RiemannRoch, Verdict,
+    answer, history, to_csv)
 from dollar.checks import burnt, edges, fired, flaw, joined
 from dollar.commands import greedy, judge, party, rank, rehearse, rr, run
 from dollar.drawing import picture

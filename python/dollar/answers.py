@@ -7,12 +7,13 @@ import re
 from collections.abc import Mapping as AbstractMapping
 from dataclasses import InitVar, dataclass, fields
 from html import escape
-from typing import IO, Any, Callable, Dict, Iterable, Iterator, List, Optional, Tuple, Union
+from typing import IO, Any, Callable, Dict, Iterable, Iterator, List, Optional, Tuple, TypeVar, Union
 
 from dollar import checks, drawing
 from dollar.program import Fault
 
 Pairs = Dict[str, int]
+Row = TypeVar("Row", bound="Refused")
 
 
 def pairs_text(amounts: Pairs) -> str:
@@ -258,8 +259,10 @@ class History(List[Entry]):
         return "\n".join(map(str, self))
 
     def _repr_html_(self) -> str:
-        rows = [["" if entry.number is None else entry.number, "" if entry.seat is None else entry.seat, entry.text()] for entry in self]
-        return table_html(("number", "seat", "answer"), rows)
+        def shown(number: Optional[int]) -> object:
+            return "" if number is None else number
+
+        return table_html(("number", "seat", "answer"), ([shown(each.number), shown(each.seat), each.text()] for each in self))
 
 
 @dataclass(frozen=True)
@@ -347,7 +350,7 @@ class RefusedRiemannRoch(Refused):
     refused: str = ""
 
 
-def refusal(kind: Callable[..., Refused], text: str, table: Optional[int]) -> Refused:
+def refusal(kind: Callable[..., Row], text: str, table: Optional[int]) -> Row:
     """The row of such a kind for a table that was refused."""
     row = kind(refused=text)
     Fault.__init__(row, text, 3, table)
@@ -439,7 +442,6 @@ def riemann_roch_of(words: List[str]) -> RiemannRoch:
     return RiemannRoch(degree, genus, rank, dual)
 
 
-Row = Union[Verdict, RankTest, RiemannRoch, Refused]
 
 
 def cell(value: Any) -> Any:
@@ -449,7 +451,7 @@ def cell(value: Any) -> Any:
     return str(value).lower() if isinstance(value, bool) else value
 
 
-def to_csv(answers: Iterable[Row], file: Union[str, IO[str]]) -> int:
+def to_csv(answers: Iterable[Union[Verdict, RankTest, RiemannRoch, Refused]], file: Union[str, IO[str]]) -> int:
     """Writes a CSV file of the answers of a sweep, a row for each: the number of the table, from 0, what was found, and in the last
     column why a table was refused. `file` is its place, or a file that is open for writing. Tells how many rows there are.
 

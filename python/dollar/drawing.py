@@ -68,7 +68,8 @@ def vertex(place: Tuple[float, float], name: str, amount: int, is_q: bool, lends
         yield '<text x="%.1f" y="%.1f" font-size="11" font-weight="bold">%s %d</text>' % (x, y + radius + 15, word, abs(lends))
 
 
-def picture(table: Any, script: Optional[Dict[str, int]] = None, order: Sequence[str] = (), places: Optional[Places] = None) -> str:
+def picture(table: Any, script: Optional[Dict[str, int]] = None, order: Sequence[str] = (),
+            places: Optional[Places] = None) -> str:
     """A picture of a table as SVG: each vertex with its name and its dollars, red if it is in debt, and q with a double ring. Below a
     vertex stands what the script has it lend or borrow; the numbers are the order in which vertices burn. `places` tells where the
     vertices stand.

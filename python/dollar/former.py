@@ -22,7 +22,8 @@ def table_of(graph: Any, amounts: Any, q: Any = None) -> Table:
     return Table(graph, amounts, q)
 
 
-def lines_answered(command: str, tables: Iterable[Any], *given: object, program: Optional[Place] = None) -> Iterator[Union[str, Fault]]:
+def lines_answered(command: str, tables: Iterable[Any], *given: object,
+                   program: Optional[Place] = None) -> Iterator[Union[str, Fault]]:
     """`judge_all`, `rank_all` and `rr_all` do it, with the parameter `workers`. The texts of answers, as they come."""
     warnings.warn("judge_all, rank_all and rr_all have all that lines_answered has", DeprecationWarning, stacklevel=2)
     words = sweep_words(command, *map(str, given), workers=None, errors="row")

@@ -14,7 +14,7 @@ from typing import IO, Iterable, List, Optional, Sequence, Tuple, Union
 
 Place = Union[str, "os.PathLike[str]"]
 
-# The folder of the clone that holds this package, if it lies in one.
+# The folder of the clone that holds this package, if it lies in one; with the examples and the board it is installed likewise.
 CLONE = Path(__file__).resolve().parents[2]
 
 

@@ -19,18 +19,23 @@ LONGEST_LINE = 1024
 Got = TypeVar("Got")
 
 
-class Ended(Fault):
-    """The session has ended in place of an answer, or had ended before. `text` says why, and is empty if it was ended well."""
-
-    def __str__(self) -> str:
-        return "the session has ended with status %d: %s" % (self.status, self.text or "nothing was said")
-
-
 class End(NamedTuple):
     """How a session has ended: its status, and what the program said on standard error."""
 
     status: int
     fault: str
+
+
+class Ended(Fault):
+    """The session has ended in place of an answer, or had ended before. `text` says why, and is empty if it was ended well; `fault` is
+    the whole line that the program said."""
+
+    def __init__(self, end: End) -> None:
+        super().__init__(fault_of(end.fault.encode(), end.status).text, end.status)
+        self.args, self.fault = (end,), end.fault
+
+    def __str__(self) -> str:
+        return "the session has ended with status %d: %s" % (self.status, self.text or "nothing was said")
 
 
 def one_line(line: str) -> bytes:
@@ -51,14 +56,18 @@ def one_line(line: str) -> bytes:
 Work = Tuple[Callable[[], Any], "queue.SimpleQueue[Any]"]
 
 
-def work_on(work: queue.SimpleQueue[Optional[Work]]) -> None:
-    """Does one piece of work after another, until there is a None, and hands on what comes of each."""
+def work_on(work: queue.SimpleQueue[Optional[Work]], child: subprocess.Popen[bytes]) -> None:
+    """Does one piece of work after another, and hands on what comes of each. A None is the last: the session was given up, and the
+    program is ended if it was not closed."""
     while True:
         piece = work.get()
         if piece is None:
+            child.communicate()
             return
         do, done = piece
         done.put(do())
+        # What was done knows its session, which may be given up meanwhile.
+        del piece, do, done
 
 
 class Session:
@@ -111,7 +120,7 @@ class Session:
             self.child = subprocess.Popen([find_program(program), "serve", *names, *words], stdin=subprocess.PIPE,
                                           stdout=subprocess.PIPE, stderr=subprocess.PIPE, pass_fds=descriptors)
         self.work: queue.SimpleQueue[Optional[Work]] = queue.SimpleQueue()
-        threading.Thread(target=work_on, args=(self.work,), daemon=True).start()
+        threading.Thread(target=work_on, args=(self.work, self.child), daemon=True).start()
         weakref.finalize(self, self.work.put, None)
 
     def __enter__(self) -> Session:
@@ -119,9 +128,9 @@ class Session:
 
     def __exit__(self, kind: Optional[Type[BaseException]], error: Optional[BaseException], trace: Optional[TracebackType]) -> None:
         was_over = self.ended is not None
-        status, fault = self.close()
-        if status and kind is None and not was_over:
-            raise Ended(fault_of(fault.encode(), status).text, status)
+        end = self.close()
+        if end.status and kind is None and not was_over:
+            raise Ended(end)
 
     def ask(self, line: str) -> Entry:
         """The answer to a line, which is given without its newline. A ValueError where it is no line, or has more than 1,024 bytes;
@@ -142,7 +151,7 @@ class Session:
                 if answer.endswith(b"\n"):
                     return answer[:-1].decode()
             end = self.close()
-        raise Ended(fault_of(end.fault.encode(), end.status).text, end.status)
+        raise Ended(end)
 
     def close(self) -> End:
         """Ends the input, which ends the session. Tells how it has ended, the same at each call."""

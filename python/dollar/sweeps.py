@@ -10,10 +10,11 @@ import tempfile
 import time
 import warnings
 from collections import deque
-from typing import Any, Callable, Deque, Iterable, Iterator, List, Optional, Sequence, Tuple, TypeVar, Union
+from typing import Any, Callable, Deque, Iterable, Iterator, List, Literal, Optional, Sequence, Tuple, TypeVar, Union, overload
 
-from dollar.answers import RankTest, Refused, RefusedRankTest, RefusedRiemannRoch, RefusedVerdict, RiemannRoch, Verdict
-from dollar.answers import rank_test_of, refusal, riemann_roch_of, verdict_of
+from dollar.answers import (
+    RankTest, RefusedRankTest, RefusedRiemannRoch, RefusedVerdict, RiemannRoch, Row, Verdict, rank_test_of, refusal, riemann_roch_of,
+    verdict_of)
 from dollar.commands import option
 from dollar.program import Fault, Place, fault_of, find_program
 from dollar.table import iterate, whole
@@ -28,8 +29,8 @@ class Sweep:
 
     def __init__(self, words: Sequence[str], tables: Iterable[Any], program: Optional[Place]) -> None:
         self.said = tempfile.TemporaryFile()
-        self.child = subprocess.Popen([find_program(program), *words], stdin=subprocess.PIPE, stdout=subprocess.PIPE, stderr=self.said,
-                                      bufsize=0)
+        self.child = subprocess.Popen([find_program(program), *words], bufsize=0, stdin=subprocess.PIPE, stdout=subprocess.PIPE,
+                                      stderr=self.said)
         assert self.child.stdin is not None and self.child.stdout is not None
         self.input, self.output = self.child.stdin, self.child.stdout
         os.set_blocking(self.input.fileno(), False)
@@ -124,8 +125,8 @@ def shown(tables: Iterable[Any], progress: bool) -> Iterable[Any]:
     return bar
 
 
-def swept(words: Sequence[str], tables: Iterable[Any], read: Callable[[str, Any], Found], kind: Callable[..., Refused], errors: str,
-          program: Optional[Place]) -> Iterator[Union[Found, Refused]]:
+def swept(words: Sequence[str], tables: Iterable[Any], read: Callable[[str, Any], Found], kind: Callable[..., Row], errors: str,
+          program: Optional[Place]) -> Iterator[Union[Found, Row]]:
     """What is read of each answer, and a row of this kind for each table that is refused."""
     sweep = Sweep(words, tables, program)
     try:
@@ -150,8 +151,18 @@ def sweep_words(command: str, *given: str, workers: Optional[int], errors: str) 
     return [command, "--lines", "/dev/stdin", *given, *option("--workers", workers)]
 
 
+@overload
+def judge_all(tables: Iterable[Any], program: Optional[Place] = ..., *, workers: Optional[int] = ..., errors: Literal["raise"],
+              progress: bool = ...) -> Iterator[Verdict]: ...
+
+
+@overload
+def judge_all(tables: Iterable[Any], program: Optional[Place] = ..., *, workers: Optional[int] = ..., errors: Literal["row"] = ...,
+              progress: bool = ...) -> Iterator[Union[Verdict, RefusedVerdict]]: ...
+
+
 def judge_all(tables: Iterable[Any], program: Optional[Place] = None, *, workers: Optional[int] = None, errors: str = "row",
-              progress: bool = False) -> Iterator[Union[Verdict, Refused]]:
+              progress: bool = False) -> Iterator[Union[Verdict, RefusedVerdict]]:
     """The verdicts on the tables, in order, as they come.
 
     The tables may be any number, and come from anywhere: they are taken in the thread of the caller, some ahead of their answers.
@@ -168,8 +179,18 @@ def judge_all(tables: Iterable[Any], program: Optional[Place] = None, *, workers
     return swept(words, shown(tables, progress), verdict_of, RefusedVerdict, errors, program)
 
 
+@overload
+def rank_all(tables: Iterable[Any], degree: int, program: Optional[Place] = ..., *, workers: Optional[int] = ...,
+             errors: Literal["raise"], progress: bool = ...) -> Iterator[RankTest]: ...
+
+
+@overload
+def rank_all(tables: Iterable[Any], degree: int, program: Optional[Place] = ..., *, workers: Optional[int] = ...,
+             errors: Literal["row"] = ..., progress: bool = ...) -> Iterator[Union[RankTest, RefusedRankTest]]: ...
+
+
 def rank_all(tables: Iterable[Any], degree: int, program: Optional[Place] = None, *, workers: Optional[int] = None,
-             errors: str = "row", progress: bool = False) -> Iterator[Union[RankTest, Refused]]:
+             errors: str = "row", progress: bool = False) -> Iterator[Union[RankTest, RefusedRankTest]]:
     """The rank tests of a degree, as `judge_all` has verdicts. One past the limits that a law settles has no first loss.
 
     >>> from dollar import Table
@@ -181,8 +202,18 @@ def rank_all(tables: Iterable[Any], degree: int, program: Optional[Place] = None
     return swept(words, shown(tables, progress), lambda text, _: rank_test_of(text), RefusedRankTest, errors, program)
 
 
+@overload
+def rr_all(tables: Iterable[Any], program: Optional[Place] = ..., *, workers: Optional[int] = ..., errors: Literal["raise"],
+           progress: bool = ...) -> Iterator[RiemannRoch]: ...
+
+
+@overload
+def rr_all(tables: Iterable[Any], program: Optional[Place] = ..., *, workers: Optional[int] = ..., errors: Literal["row"] = ...,
+           progress: bool = ...) -> Iterator[Union[RiemannRoch, RefusedRiemannRoch]]: ...
+
+
 def rr_all(tables: Iterable[Any], program: Optional[Place] = None, *, workers: Optional[int] = None, errors: str = "row",
-           progress: bool = False) -> Iterator[Union[RiemannRoch, Refused]]:
+           progress: bool = False) -> Iterator[Union[RiemannRoch, RefusedRiemannRoch]]:
     """The four numbers of the tables, as `judge_all` has verdicts; None for a rank past the limits.
 
     >>> from dollar import Table
@@ -191,4 +222,5 @@ def rr_all(tables: Iterable[Any], program: Optional[Place] = None, *, workers: O
     [0, 1, 1, 2]
     """
     words = sweep_words("rr", workers=workers, errors=errors)
-    return swept(words, shown(tables, progress), lambda text, _: riemann_roch_of(text.split(" ")), RefusedRiemannRoch, errors, program)
+    return swept(words, shown(tables, progress), lambda text, _: riemann_roch_of(text.split(" ")), RefusedRiemannRoch, errors,
+                 program)

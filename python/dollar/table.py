@@ -11,7 +11,7 @@ from collections.abc import Mapping as AbstractMapping
 from typing import TYPE_CHECKING, Any, Callable, Dict, Iterable, Iterator, List, NamedTuple, Optional, Tuple, Union
 
 from dollar import drawing
-from dollar.program import CLONE, Place, is_clone
+from dollar.program import CLONE, Place
 
 if TYPE_CHECKING:
     from dollar.session import Session
@@ -32,9 +32,12 @@ def whole(number: Any, what: str) -> int:
     TypeError: the amount of vertex a is no whole number: 1.0
     """
     try:
-        return int(operator.index(number))
+        # What is true or false is a number for Python, and none for the program.
+        if type(number).__name__ not in ("bool", "bool_"):
+            return int(operator.index(number))
     except TypeError:
-        raise TypeError("%s is no whole number: %r" % (what, number)) from None
+        pass
+    raise TypeError("%s is no whole number: %r" % (what, number))
 
 
 class Multigraph(NamedTuple):
@@ -75,6 +78,9 @@ def of_networkx(graph: Any) -> Multigraph:
     if callable(graph.edges):
         edges = [(u, v, edge_weight(u, v, data.get("weight", 1))) for u, v, data in graph.edges(data=True)]
     else:
+        wrong = [edge for edge in graph.edges if len(edge) != 2]
+        if wrong:
+            raise ValueError("an edge is a pair of vertices, and not %r" % (wrong[0],))
         edges = [(u, v, 1) for u, v in graph.edges]
     return Multigraph(vertices, merged(edges, {node: at for at, node in enumerate(vertices)}))
 
@@ -91,6 +97,10 @@ def of_sage_graph(graph: Any) -> Multigraph:
     return Multigraph(vertices, merged(edges, {node: at for at, node in enumerate(vertices)}))
 
 
+def one_way(u: Any, v: Any, there: int, back: int) -> ValueError:
+    return ValueError("a directed graph has no table: from %s to %s there are %d edges, and %d back" % (u, v, there, back))
+
+
 def of_sandpile(sandpile: Any, amounts: Any = None) -> Multigraph:
     """The multigraph of a Sandpile of Sage, which has each edge in both directions; its sink is q."""
     vertices, ways = list(sandpile.vertices()), sandpile.dict()
@@ -98,8 +108,7 @@ def of_sandpile(sandpile: Any, amounts: Any = None) -> Multigraph:
               for u, near in ways.items() for v, count in near.items()}
     for (u, v), count in counts.items():
         if counts.get((v, u), 0) != count:
-            raise ValueError("a directed graph has no table: from %s to %s there are %d edges, and %d back"
-                             % (u, v, count, counts.get((v, u), 0)))
+            raise one_way(u, v, count, counts.get((v, u), 0))
     place = {vertex: at for at, vertex in enumerate(vertices)}
     edges = [(u, v, count) for (u, v), count in counts.items() if place[u] <= place[v] and count]
     return Multigraph(vertices, merged(edges, place), amounts, sandpile.sink())
@@ -119,13 +128,14 @@ def of_matrix(matrix: Any) -> Multigraph:
     rows = [list(row) for row in (matrix.to_numpy() if hasattr(matrix, "to_numpy") else matrix)]
     if any(len(row) != len(rows) for row in rows):
         raise ValueError("an adjacency matrix has as many columns as rows")
-    counts = [[whole(count, "the number of edges from %d to %d" % (u, v)) for v, count in enumerate(row)] for u, row in enumerate(rows)]
+    counts = [[whole(count, "the number of edges from %d to %d" % (u, v)) for v, count in enumerate(row)]
+              for u, row in enumerate(rows)]
     for u, row in enumerate(counts):
         for v, count in enumerate(row):
             if count < 0:
                 raise ValueError("the number of edges from %d to %d is %d" % (u, v, count))
             if count != counts[v][u]:
-                raise ValueError("a directed graph has no table: from %d to %d there are %d edges, and %d back" % (u, v, count, counts[v][u]))
+                raise one_way(u, v, count, counts[v][u])
     edges = [(u, v, count) for u, row in enumerate(counts) for v, count in enumerate(row[:u + 1]) if count]
     return Multigraph(list(range(len(rows))), merged([(v, u, count) for u, v, count in edges], {v: v for v in range(len(rows))}))
 
@@ -205,7 +215,7 @@ def place_of(key: Any, places: Dict[Any, int], names: Tuple[str, ...]) -> int:
         pass
     if str(key) in names:
         return names.index(str(key))
-    raise ValueError("no vertex is %r: the vertices are %s" % (key, ", ".join(names)))
+    raise ValueError("there is no vertex %r: the vertices are %s" % (key, ", ".join(names)))
 
 
 def held(amounts: Any, places: Dict[Any, int], names: Tuple[str, ...]) -> Tuple[int, ...]:
@@ -228,7 +238,7 @@ def held(amounts: Any, places: Dict[Any, int], names: Tuple[str, ...]) -> Tuple[
     return tuple(found.get(place, 0) for place in range(len(names)))
 
 
-class Table:
+class Table(AbstractMapping[str, Any]):
     """A graph, the dollars at its vertices, and the vertex q from which verdicts are reckoned. A table can't be changed.
 
     It is made of a graph of networkx, which may be a MultiGraph; a Graph, a Sandpile or a SandpileDivisor of Sage; an adjacency
@@ -254,7 +264,7 @@ class Table:
     >>> Table(table, {"c": 5})
     Traceback (most recent call last):
         ...
-    ValueError: no vertex is 'c': the vertices are a, b
+    ValueError: there is no vertex 'c': the vertices are a, b
     >>> Table(table, {"a": 1.7})
     Traceback (most recent call last):
         ...
@@ -267,7 +277,8 @@ class Table:
         made = graph if isinstance(graph, Multigraph) else multigraph(graph)
         self._vertices = tuple(named(made.vertices, names))
         places = {vertex: place for place, vertex in enumerate(made.vertices)}
-        self._edges: Tuple[Edge, ...] = tuple((self._vertices[places[u]], self._vertices[places[v]], count) for u, v, count in made.edges)
+        name = dict(zip(made.vertices, self._vertices))
+        self._edges: Tuple[Edge, ...] = tuple((name[u], name[v], count) for u, v, count in made.edges)
         self._amounts = held(made.amounts if amounts is None else amounts, places, self._vertices)
         q = made.q if q is None else q
         if q is None and not self._vertices:
@@ -276,9 +287,14 @@ class Table:
 
     @classmethod
     def read(cls, file: Place) -> Table:
-        """The table of a file."""
-        with open(file, encoding="utf-8") as text:
-            return cls(json.load(text))
+        """The table of a file. An error names the file and what is wrong in it."""
+        try:
+            with open(file, encoding="utf-8") as text:
+                return cls(json.load(text))
+        except TypeError as error:
+            raise TypeError("%s: %s" % (os.fspath(file), error)) from None
+        except (ValueError, RecursionError) as error:
+            raise ValueError("%s: %s" % (os.fspath(file), error)) from None
 
     @classmethod
     def graph6(cls, line: Union[str, bytes], amounts: Any = None, q: Any = None) -> Table:
@@ -314,11 +330,14 @@ class Table:
         """The amounts by the names of the vertices."""
         return dict(zip(self._vertices, self._amounts))
 
-    def keys(self) -> Tuple[str, ...]:
-        """The members of a table file: so `dict(table, amounts=[..])` is a dict with other amounts."""
-        return MEMBERS
+    def __iter__(self) -> Iterator[str]:
+        return iter(MEMBERS)
+
+    def __len__(self) -> int:
+        return len(MEMBERS)
 
     def __getitem__(self, member: str) -> Any:
+        """A member of the table file: so `dict(table, amounts=[..])` is a dict with other amounts."""
         if member == "q":
             return self._q
         if member == "edges":
@@ -333,7 +352,7 @@ class Table:
 
     def to_json(self) -> str:
         """The table as a table file has it, in one line without its end."""
-        return json.dumps(self.to_dict())
+        return json.dumps({"vertices": self._vertices, "edges": self._edges, "amounts": self._amounts, "q": self._q})
 
     def write(self, file: Place) -> None:
         """Writes a table file."""
@@ -406,14 +425,16 @@ def one_line(thing: Any) -> bytes:
         return Table(thing).to_json().encode()
     if isinstance(thing, AbstractMapping):
         return json.dumps(dict(thing), default=operator.index).encode()
-    raise TypeError("a table is a Table, a dict or a SandpileDivisor: Table(graph, amounts) makes one of a %s" % type(thing).__name__)
+    raise TypeError("a table is a Table, a dict or a SandpileDivisor, and not of the type %s: Table(graph, amounts) makes one"
+                    % type(thing).__name__)
 
 
 def example(name: str) -> Table:
-    """The table of a file in the folder `examples` of the clone in which this package lies."""
-    if not is_clone(CLONE):
-        raise FileNotFoundError("the examples lie in a clone of the repository, and this package in none")
-    return Table.read(CLONE / "examples" / (name + ".json"))
+    """The table of a file in the folder `examples`, of the clone or of the installed files in which this package lies."""
+    file = CLONE / "examples" / (name + ".json")
+    if not file.is_file():
+        raise FileNotFoundError("there is no example %s beside this package: %s" % (name, file))
+    return Table.read(file)
 
 
 def iterate(tables: Iterable[Any]) -> Iterator[Tuple[Any, bytes]]:

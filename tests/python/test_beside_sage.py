@@ -1,7 +1,9 @@
 """Beside Sage, an independent program: reduced divisors, ranks and who can win, and its graphs and divisors as tables."""
 import random
+import re
 
 import pytest
+from conftest import ROOT
 
 import dollar
 from dollar import Table
@@ -58,6 +60,20 @@ def test_graphs():
     weighted = sage_all.Graph([(0, 1, 3)], weighted=True)
     assert Table(weighted).edges == (("0", "1", 3),) and Table(sandpiles.Sandpile(weighted, 0)) == Table(weighted)
     assert Table(sage_all.matrix([[0, 2], [2, 0]]), [1, 2]).edges == (("0", "1", 2),)
+
+
+def test_the_lines_of_the_page(monkeypatch):
+    page = (ROOT / "docs" / "PYTHON.md").read_text(encoding="utf-8")
+    lines = re.findall(r"(?m)^    sage: (.*)\n(?:    (?!sage: )(.*)\n)?", page)
+    monkeypatch.chdir(ROOT)
+    names, shown = dict(vars(sage_all)), 0
+    for line, wanted in lines:
+        if wanted:
+            assert repr(eval(line, names)) == wanted
+            shown += 1
+        else:
+            exec(line, names)
+    assert shown == 2
 
 
 REFUSED = [

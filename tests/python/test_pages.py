@@ -1,4 +1,5 @@
-"""The pipes on docs/SWEEPS.md that take tools which may be missing. tests/pages/check plays the other commands of the pages."""
+"""What docs/SWEEPS.md and docs/PYTHON.md show with tools that may be missing. tests/pages/check plays the other commands of the pages."""
+import csv
 import re
 import shutil
 import subprocess
@@ -8,7 +9,7 @@ from conftest import ROOT
 
 import dollar
 
-PAGE = (ROOT / "docs" / "SWEEPS.md").read_text(encoding="utf-8")
+PAGE, PYTHON = ((ROOT / "docs" / name).read_text(encoding="utf-8") for name in ("SWEEPS.md", "PYTHON.md"))
 
 
 def shown(tool):
@@ -30,5 +31,32 @@ def test_pipes(tool):
 
 
 def test_the_page_has_each_name():
-    page = (ROOT / "docs" / "PYTHON.md").read_text(encoding="utf-8")
-    assert [name for name in dollar.__all__ if not re.search(r"`%s\b" % name, page)] == []
+    assert [name for name in dollar.__all__ if not re.search(r"`%s\b" % name, PYTHON)] == []
+
+
+def block(page, first):
+    """The indented lines of a page from one on, as Python."""
+    return re.search(r"(?m)^    %s\n(?:    .*\n)*" % re.escape(first), page)[0].replace("\n    ", "\n").lstrip()
+
+
+def test_five_lines_with_pandas(tmp_path, monkeypatch):
+    pytest.importorskip("networkx")
+    pandas = pytest.importorskip("pandas")
+    monkeypatch.chdir(tmp_path)
+    lines = block(PYTHON, "import dollar, networkx, pandas")
+    assert lines.count("\n") < 5
+    exec(lines, {})
+    frame = pandas.read_csv("ranks.csv")
+    # Riemann-Roch, and one dollar in all on each of the connected graphs of seven vertices.
+    assert len(frame) == 853 and set(frame.degree) == {1}
+    assert (frame["rank"] - frame.dual == frame.degree + 1 - frame.genus).all()
+
+
+def test_a_csv_file_without_pandas(tmp_path, monkeypatch):
+    if not shutil.which("nauty-geng"):
+        pytest.skip("the lines with nauty-geng, which is not here")
+    monkeypatch.chdir(tmp_path)
+    exec(block(PAGE, "import dollar, subprocess"), {})
+    rows = list(csv.DictReader(open("ranks.csv", newline="")))
+    # There are 11,117 connected graphs of eight vertices.
+    assert len(rows) == 11117 and all(row["degree"] == "2" and not row["refused"] for row in rows)

@@ -102,3 +102,43 @@ def test_graph6(given_graph):
     pairs = [(u, v) for v in range(size) for u in range(v)]
     edges = tuple((str(u), str(v), 1) for (u, v), bit in zip(pairs, bits) if bit)
     assert Table.graph6(line).edges == Table.graph6((">>graph6<<%s\n" % line).encode()).edges == edges
+
+
+JSON = some.recursive(some.none() | some.booleans() | some.integers(-3, 3) | some.floats() | some.text(max_size=3),
+                      lambda inner: some.lists(inner, max_size=3) | some.dictionaries(some.text(max_size=3), inner, max_size=2), max_leaves=8)
+
+
+def taken_or_refused(thing, amounts=None):
+    """A table is made of a thing, or it is a TypeError or ValueError."""
+    try:
+        table = Table(thing, amounts)
+    except (TypeError, ValueError):
+        return
+    assert Table(json.loads(table.to_json())) == table
+
+
+@QUICK
+@given(JSON, JSON)
+def test_nonsense_is_taken_or_refused(thing, amounts):
+    taken_or_refused(thing)
+    taken_or_refused({"vertices": ["a", "b"], "edges": [["a", "b", 1]], "amounts": [0, 0], "q": "a"}, amounts)
+
+
+@QUICK
+@given(some.fixed_dictionaries({"vertices": JSON | some.just(["a", "b"]), "edges": JSON | some.just([["a", "b", 1]]),
+                                "amounts": JSON | some.just([0, 0]), "q": JSON | some.just("a")}))
+def test_members_that_are_nonsense_are_taken_or_refused(members):
+    taken_or_refused(members)
+
+
+@QUICK
+@given(JSON)
+def test_a_sweep_over_nonsense(thing):
+    """What is no dict is a TypeError; what is one, whatever is in it, has a row."""
+    whole = {"vertices": ["a"], "edges": [], "amounts": [0], "q": "a"}
+    if not isinstance(thing, dict):
+        with pytest.raises(TypeError, match="table 1: "):
+            list(dollar.judge_all([whole, thing]))
+        return
+    first, second, third = dollar.judge_all([whole, thing, dict(whole, amounts=thing)])
+    assert first.winnable and isinstance(second, dollar.Refused) and isinstance(third, dollar.Refused)

@@ -1,6 +1,8 @@
 """Sessions: never out of step, whatever is asked and whatever comes in between."""
 import collections
+import gc
 import os
+import pickle
 import random
 import signal
 import subprocess
@@ -150,7 +152,9 @@ def test_ends():
     for _ in range(2):
         with pytest.raises(Ended, match="the history is full") as caught:
             session.ask("claim")
-        assert (caught.value.text, caught.value.status) == ("the history is full", 3)
+        again = pickle.loads(pickle.dumps(caught.value))
+        for ended in caught.value, again:
+            assert (ended.text, ended.status, ended.fault) == ("the history is full", 3, "dollar: the history is full")
     assert session.close() == session.close() == (3, "dollar: the history is full")
     with pytest.raises(Ended, match="the history is full"):
         with Session(TABLE, cap=1) as session:
@@ -213,6 +217,19 @@ def test_standard_streams_may_be_closed(closed, tmp_path):
                           env=dict(os.environ, PYTHONPATH=str(ROOT / "python")))
     verdict = "winnable by 0=0 1=-1 to 0=1 1=0"
     assert done.returncode == 0 and (tmp_path / "said").read_text() == "%s|%s|0 not won" % (verdict, verdict)
+
+
+def test_a_session_that_is_given_up_ends():
+    threads, sessions = threading.active_count(), [Session(TABLE) for _ in range(10)]
+    for session in sessions:
+        session.ask("claim")
+    children = ["/proc/%d" % session.child.pid for session in sessions]
+    del session, sessions
+    gc.collect()
+    until = time.monotonic() + 10
+    while (threading.active_count() > threads or any(map(os.path.exists, children))) and time.monotonic() < until:
+        time.sleep(0.01)
+    assert threading.active_count() <= threads and not any(map(os.path.exists, children))
 
 
 def test_nothing_is_left_behind():

@@ -74,6 +74,11 @@ def test_a_file_comes_back(tmp_path):
     assert dollar.judge(str(tmp_path / "table.json")) == dollar.judge(table) == dollar.judge(PATH)
     with pytest.raises(FileNotFoundError, match="missing.json"):
         dollar.judge(str(tmp_path / "missing.json"))
+    for text, error, said in (("{", ValueError, "Expecting"), ("[" * 100_000, ValueError, "recursion"), ("\ud800", ValueError, "utf-8"),
+                              (json.dumps(dict(PATH, amounts=[1, 2, 0.5])), TypeError, "the amount of vertex c is no whole number: 0.5")):
+        (tmp_path / "bad.json").write_bytes(text.encode("utf-8", "surrogatepass"))
+        with pytest.raises(error, match="bad.json: .*" + said):
+            Table.read(tmp_path / "bad.json")
 
 
 def test_amounts_are_by_vertex_or_by_name():
@@ -108,9 +113,9 @@ def weighted(weight):
 
 PAIR = types.SimpleNamespace(nodes=[0, 1], edges=[(0, 1)])
 REFUSED = [
-    (lambda: Table(PAIR, {7: 1}), ValueError, "no vertex is 7: the vertices are 0, 1"),
-    (lambda: Table(PAIR, {"x": 1}), ValueError, "no vertex is 'x'"),
-    (lambda: Table(PAIR, {1: 1}, 7), ValueError, "no vertex is 7"),
+    (lambda: Table(PAIR, {7: 1}), ValueError, "no vertex 7: the vertices are 0, 1"),
+    (lambda: Table(PAIR, {"x": 1}), ValueError, "no vertex 'x'"),
+    (lambda: Table(PAIR, {1: 1}, 7), ValueError, "no vertex 7"),
     (lambda: Table(PAIR, {0: 1, "0": 1}), ValueError, "two amounts for vertex 0"),
     (lambda: Table(PAIR, {0: 1.7}), TypeError, "the amount of vertex 0 is no whole number: 1.7"),
     (lambda: Table(PAIR, {0: 1.0}), TypeError, "the amount of vertex 0 is no whole number: 1.0"),
@@ -119,6 +124,8 @@ REFUSED = [
     (lambda: Table(PAIR, [decimal.Decimal("1.9"), 0]), TypeError, "the amount of vertex 0 is no whole number: Decimal"),
     (lambda: Table(PAIR, [None, 0]), TypeError, "the amount of vertex 0 is no whole number: None"),
     (lambda: Table(PAIR, ["1", 0]), TypeError, "the amount of vertex 0 is no whole number: '1'"),
+    (lambda: Table(PAIR, [True, 0]), TypeError, "the amount of vertex 0 is no whole number: True"),
+    (lambda: Table([[0, True], [True, 0]]), TypeError, "the number of edges from 0 to 1 is no whole number: True"),
     (lambda: Table(PAIR, [1]), ValueError, "there are 1 amounts for 2 vertices"),
     (lambda: Table(PAIR, [1, 0, 0]), ValueError, "there are 3 amounts for 2 vertices"),
     (lambda: Table(PAIR, {1, 2}), TypeError, "amounts are a list in the order of the vertices, or a dict"),
@@ -131,7 +138,8 @@ REFUSED = [
     (lambda: Table(weighted(-2)), ValueError, "the weight of the edge from 0 to 1 is no number of edges: -2"),
     (lambda: Table(types.SimpleNamespace(nodes=[0, 1], edges=[(0, 1), (1, 1)])), ValueError, "the edge from 1 to 1 is a loop"),
     (lambda: Table(types.SimpleNamespace(nodes=[0, 1], edges=[(0, 2)])), ValueError, "the edge from 0 to 2 has no vertex"),
-    (lambda: Table(types.SimpleNamespace(nodes=[0, 1], edges=[(0, 1, 3)])), ValueError, ""),
+    (lambda: Table(types.SimpleNamespace(nodes=[0, 1], edges=[(0, 1, 3)])), ValueError,
+     r"an edge is a pair of vertices, and not \(0, 1, 3\)"),
     (lambda: Table(types.SimpleNamespace(nodes=[0, "0"], edges=[(0, "0")])), ValueError, "the vertices 0 and '0' have the same name"),
     (lambda: Table(types.SimpleNamespace(nodes=[(0, 1)], edges=[])), ValueError, r"vertex \(0, 1\) has no name"),
     (lambda: Table(types.SimpleNamespace(nodes=[], edges=[])), ValueError, "there is no vertex"),
@@ -147,7 +155,7 @@ REFUSED = [
     (lambda: Table(dict(PATH, edges=["ab1"])), ValueError, "edge 0 is no list"),
     (lambda: Table(dict(PATH, edges=[["a", "z", 1]])), ValueError, "the edge from a to z has no vertex"),
     (lambda: Table(dict(PATH, edges=[["a", "a", 1]])), ValueError, "the edge from a to a is a loop"),
-    (lambda: Table(dict(PATH, q="z")), ValueError, "no vertex is 'z'"),
+    (lambda: Table(dict(PATH, q="z")), ValueError, "no vertex 'z'"),
     (lambda: Table(dict(PATH, amounts=[1, 2, 3.5])), TypeError, "the amount of vertex c is no whole number: 3.5"),
     (lambda: Table.graph6(""), ValueError, "no line of graph6"),
     (lambda: Table.graph6("Bx"), ValueError, "no line of graph6: 'Bx'"),
@@ -156,7 +164,7 @@ REFUSED = [
     (lambda: Table.graph6("&Bw"), ValueError, "no line of graph6: '&Bw'"),
     (lambda: Table.graph6("~??~"), ValueError, "more than 62 vertices"),
     (lambda: dollar.judge(PAIR), TypeError, r"Table\(graph, amounts\) makes one"),
-    (lambda: dollar.judge(7), TypeError, r"Table\(graph, amounts\) makes one of a int"),
+    (lambda: dollar.judge(7), TypeError, "and not of the type int"),
     (lambda: dollar.judge(dict(PATH, amounts=[fractions.Fraction(1, 2), 0, 0])), TypeError, ""),
     (lambda: dollar.rank(PATH, 1.5), TypeError, "the degree is no whole number: 1.5"),
     (lambda: dollar.greedy(PATH, "3"), TypeError, "the number of turns is no whole number: '3'"),
@@ -180,7 +188,7 @@ def test_numbers_that_are_whole_are_taken():
     assert json.loads(table.to_json())["amounts"] == [3, -1]
     given = {"vertices": ["a", "b"], "edges": [["a", "b", numpy.uint8(2)]], "amounts": [numpy.int64(3), numpy.int16(-1)], "q": "a"}
     assert dollar.judge(given) == dollar.judge(Table(given)) == next(dollar.judge_all([given]))
-    for wrong in (numpy.float32(1.7), numpy.float64(2.0)):
+    for wrong in (numpy.float32(1.7), numpy.float64(2.0), numpy.bool_(True)):
         with pytest.raises(TypeError):
             Table(PAIR, {0: wrong})
     with pytest.raises(TypeError, match="table 0: "):
