@@ -1,12 +1,12 @@
 """The board for one player, by clicks, keys and touches. Each answer on the page is compared with what the program prints for the
 table and the steps that the page saves."""
-import json, os, re, time
+import json, os, random, re, time
 
 from browser import CTRL, SHIFT
 from common import EXAMPLES, asked, equal, expect, played, text_of, written
 
 READY = "document.readyState === 'complete' && typeof viewer === 'object' && Boolean(viewer)"
-WIDTHS = 360, 1280, 1920
+WIDTHS, RANDOM_LINES = (360, 1280, 1920), 80
 AT = "#board [data-name='%s']"
 
 
@@ -222,6 +222,41 @@ def with_refusals(player):
         equal(said, (words, own), "the line %.20r" % line)
     equal(player.refused(player.value, "void play('look\\n1 claim')")[0], "A line has no newline in it.", "two lines")
     equal(player.value("document.querySelectorAll('#refused b').length"), 0, "elements made of what was typed")
+
+
+def with_many_lines(player):
+    """Lines of all kinds in a fixed random order, good and bad: the page keeps just those that the program takes."""
+    draw, names = random.Random(5), ("ann", "bob", "cyd", "dan")
+    lines = [random_line(draw, *draw.sample(names, 2)) for _ in range(RANDOM_LINES)]
+    before = player.length()
+    player.value("(async () => { for (const line of %s) await play(line); })()" % json.dumps(lines))
+    expect(
+        RANDOM_LINES / 2 < player.length() - before < RANDOM_LINES, "%d of %d lines" % (player.length() - before, RANDOM_LINES)
+    )
+    player.compare("many lines")
+    now = written(player.folder, "now", player.saved("#take-now", "now.json"))
+    equal(asked("rr", now), ("", "dollar: too many trials\n", 3), "the four numbers of a table with millions")
+    equal(player.told("#ask-rr"), ("That rank test is too large.", "dollar: too many trials\n"), "what the page says of them")
+    player.value("hands.tell('')")
+
+
+def random_line(draw, one, other):
+    """A line that somebody may play."""
+    kinds = (
+        "lend %s",
+        "borrow %s",
+        "fire %s",
+        "gift %s 1",
+        "gift %s -2",
+        "gift %s 0",
+        "gift %s 1000000",
+        "script %s=3",
+        "lend %s.",
+        "look",
+        "claim",
+    )
+    kind = draw.choice(kinds + ("join %s %s", "fire %s,%s", "script %s=1,%s=-2", "join %s %s", "commit"))
+    return kind % (one, other)[: kind.count("%s")]
 
 
 def with_questions(player):
@@ -499,7 +534,7 @@ def all_of(browser, folder):
         with_focus(player)
         in_sizes(player, folder)
         browser.size(1280, 800)
-        for part in by_mouse, by_touch, by_keys, by_seats, with_refusals, with_questions:
+        for part in by_mouse, by_touch, by_keys, by_seats, with_refusals, with_questions, with_many_lines:
             part(player)
         player.compare("houses")
         with_script(player)
