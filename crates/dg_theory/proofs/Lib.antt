@@ -62,3 +62,4 @@ pub mod BurningPlaces
 pub mod DualityLaws
 pub mod RankNumbers
 pub mod RankSums
+pub mod RankExists

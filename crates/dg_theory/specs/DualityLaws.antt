@@ -10,6 +10,7 @@
 --                   can't bear that of some effective divisor of degree k
 --   HighRank     == where k is at least the genus, a divisor with a rank of at least k has a degree
 --                   of at least the genus and k more
+--   RankExists   == every divisor has a rank
 --   RankOnce     == a divisor has at most one rank
 --   RankOfSum    == the rank of a sum is at least the sum of the ranks, where neither is -1 (lemma
 --                   2.1)
@@ -46,6 +47,9 @@ LossOfDual = (g : Multigraph) (D F : Amounts) (k l : ℕ) → IsMultigraph g →
 abbrev pub HighRank : Type 0
 HighRank = (g : Multigraph) (D : Amounts) (k : ℕ) → IsMultigraph g → 0 < g.size → genus g ≤ℤ pos k →
     HasRankAtLeast g D k → (genus g +ℤ pos k) ≤ℤ degree g.size D
+
+abbrev pub RankExists : Type 0
+RankExists = (g : Multigraph) (D : Amounts) → IsMultigraph g → 0 < g.size → (r : ℤ) × IsRank g D r
 
 abbrev pub RankOnce : Type 0
 RankOnce = (g : Multigraph) (D : Amounts) (r s : ℤ) → IsRank g D r → IsRank g D s → r ≡ s

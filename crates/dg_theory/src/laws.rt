@@ -9,7 +9,7 @@ ghost use Rattle.dg_theory.specs.GenusLaws.{ReducedBelowGenus};
 ghost use Rattle.dg_theory.specs.ExistenceLaws.{ReducedExists, RichIsWinnable};
 ghost use Rattle.dg_theory.specs.JoinLaws.{EdgeIsAdded, JoinedIsMultigraph, ValenceGrows, SizeStays};
 ghost use Rattle.dg_theory.specs.RankLaws.{EquivalentRank, EquivalentLoss, RankBelow, RankZero, RichRank, PoorRank, LossOnce, LossBoundsRank};
-ghost use Rattle.dg_theory.specs.DualityLaws.{RiemannRoch, RankOfDual, DualTests, LossOfDual, HighRank, RankOnce, RankOfSum, Clifford};
+ghost use Rattle.dg_theory.specs.DualityLaws.{RiemannRoch, RankOfDual, DualTests, LossOfDual, HighRank, RankExists, RankOnce, RankOfSum, Clifford};
 
 /// Firing by one script and then by another is firing by their sum, and keeps the degree. A constant script changes
 /// nothing; two scripts do the same exactly where they differ by a constant.
@@ -94,7 +94,7 @@ pub fn laws_of_joining()
 /// The theorem of Riemann and Roch: the rank of a divisor less that of its dual, which is the canonical divisor less it, is
 /// the degree, plus 1, less the genus. So one rank tells the other; a rank test of one passes exactly where that of the other
 /// does, at degrees that differ by as much; and a loss that one can't bear shows that the other can't bear all. From the genus
-/// on, only rich divisors pass. A divisor has at most one rank; that of a sum is at least the sum of the ranks, where neither
+/// on, only rich divisors pass. Every divisor has a rank, and just one; that of a sum is at least the sum of the ranks, where neither
 /// is -1; and by Clifford's theorem it is at most half of the degree, where the dual is winnable.
 pub fn laws_of_duality()
     ensures ranks { RiemannRoch }
@@ -102,6 +102,7 @@ pub fn laws_of_duality()
     ensures tests { DualTests }
     ensures loss { LossOfDual }
     ensures high { HighRank }
+    ensures exists { RankExists }
     ensures once { RankOnce }
     ensures sum { RankOfSum }
     ensures clifford { Clifford }

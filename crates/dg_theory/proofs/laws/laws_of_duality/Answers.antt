@@ -1,5 +1,6 @@
 use Rattle.dg_theory.proofs.DualityLaws.{dual_tests, loss_of_dual, high_rank}
 use Rattle.dg_theory.proofs.RankNumbers.{rank_once, rank_of_dual, riemann_roch}
+use Rattle.dg_theory.proofs.RankExists.{rank_exists}
 use Rattle.dg_theory.proofs.RankSums.{rank_of_sum, clifford}
 use Rattle.dg_theory.proofs.laws.laws_of_duality.Goals as goal
 
@@ -17,6 +18,9 @@ returns-clause-loss c = loss_of_dual
 
 pub returns-clause-high : goal.returns-clause-high
 returns-clause-high c = high_rank
+
+pub returns-clause-exists : goal.returns-clause-exists
+returns-clause-exists c = rank_exists
 
 pub returns-clause-once : goal.returns-clause-once
 returns-clause-once c = rank_once
