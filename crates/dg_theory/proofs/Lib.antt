@@ -6,6 +6,7 @@ pub mod SumSwap
 pub mod SumBounds
 pub mod SumTotals
 pub mod TotalLaws
+pub mod Searching
 -- Graphs and firing.
 pub mod Chains
 pub mod Agreement

@@ -4,7 +4,6 @@
 --   lost v D            D after a dollar was lost at v
 --   pass_after_each     where D passes the test of k after a dollar was lost, at any vertex, it passes that of k + 1
 --   each_passes         and the other way round
---   decided_below       what is decided of each number below n is decided of all of them
 --   rank_decided        a divisor passes a rank test or not
 --   last_pass           between a test that passes and one that fails there is a last one that passes
 --   rank_exists         every divisor has a rank
@@ -18,6 +17,7 @@ use Rattle.dg_theory.specs.Firing.{Amounts, degree, fired, only_at, IsEffective}
 use Rattle.dg_theory.specs.Play.{IsWinnable}
 use Rattle.dg_theory.specs.Rank.{less, HasRankAtLeast}
 use Rattle.dg_theory.specs.DualityLaws.{RankExists}
+use Rattle.dg_theory.proofs.Searching.{AllBelow, FirstOf, first_or_all}
 use Rattle.dg_theory.proofs.SumLaws.{sum_below-add}
 use Rattle.dg_theory.proofs.Agreement.{winnable-cong}
 use Rattle.dg_theory.proofs.Equivalence.{equivalent-fired}
@@ -73,25 +73,6 @@ each_passes g D k v inside rank E effective of_degree =
     (rank more (λ w below. omega (arith, ints, paid w below, effective w below))
     (omega (arith, ints, sum_below-add g.size E dollar, degree-only_at g.size v (pos 1) inside, of_degree)))
 
-abbrev AllBelow : ℕ → (ℕ → Type 0) → Type 0
-AllBelow n P = (v : ℕ) → v < n → P v
-
-decided_below : (n : ℕ) (P : ℕ → Type 0) → ((v : ℕ) → v < n → P v ⊎ (¬ P v)) →
-    AllBelow n P ⊎ (¬ AllBelow n P)
-decided_below zero P each = inl (λ v below. absurd (omega arith))
-decided_below (suc n) P each =
-    ⊎_elim
-    (λ (last : P n).
-    ⊎_elim
-    (λ (before : AllBelow n P). inl (λ v below. ⊎_elim
-    (λ (same : n ≡ v). subst P same last)
-    (λ (other : n ≡ v → ⊥). before v (omega arith))
-    (cases_eq n v)))
-    (λ (fails : ¬ AllBelow n P). inr (λ all. fails (λ v below. all v (omega arith))))
-    (decided_below n P (λ v below. each v (omega arith))))
-    (λ (fails : ¬ P n). inr (λ all. fails (all n (omega arith))))
-    (each n (omega arith))
-
 rank_decided : (g : Multigraph) (D : Amounts) (k : ℕ) → IsMultigraph g → 0 < g.size →
     HasRankAtLeast g D k ⊎ (¬ HasRankAtLeast g D k)
 rank_decided g D zero graph some =
@@ -102,13 +83,13 @@ rank_decided g D zero graph some =
 rank_decided g D (suc k) graph some =
     let more : k + 1 ≡ suc k = omega arith in
     let less_more : suc k ≡ k + 1 = omega arith in
+    let Passes : ℕ → Type 0 = λ v. HasRankAtLeast g (lost v D) k in
+    let Fails : ℕ → Type 0 = λ v. ¬ HasRankAtLeast g (lost v D) k in
     ⊎_elim
-    (λ (each : AllBelow g.size (λ v. HasRankAtLeast g (lost v D) k)).
-    inl (subst (HasRankAtLeast g D) more (pass_after_each g D k each)))
-    (λ (fails : ¬ AllBelow g.size (λ v. HasRankAtLeast g (lost v D) k)).
-    inr (λ rank. fails (λ v below. each_passes g D k v below (subst (HasRankAtLeast g D) less_more rank))))
-    (decided_below g.size (λ v. HasRankAtLeast g (lost v D) k)
-    (λ v below. rank_decided g (lost v D) k graph some))
+    (λ (each : AllBelow g.size Passes). inl (subst (HasRankAtLeast g D) more (pass_after_each g D k each)))
+    (λ (first : FirstOf g.size Passes Fails).
+    inr (λ rank. first.2 (each_passes g D k first.0 first.1 (subst (HasRankAtLeast g D) less_more rank))))
+    (first_or_all g.size Passes Fails (λ v below. rank_decided g (lost v D) k graph some))
 
 last_pass : (g : Multigraph) (D : Amounts) (m k : ℕ) → IsMultigraph g → 0 < g.size → HasRankAtLeast g D k →
     (¬ HasRankAtLeast g D (k + m)) → (r : ℕ) × HasRankAtLeast g D r × (¬ HasRankAtLeast g D (r + 1))
