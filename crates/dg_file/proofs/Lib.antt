@@ -8,3 +8,7 @@ mod OneName
 mod OneGraph
 mod OneTable
 mod OneFile
+-- Files have a meaning.
+mod SomeShape
+mod SomeTable
+mod SomeFile

@@ -1,9 +1,8 @@
 -- A law of table files.
 --   AreSameOpenings o p == the openings have the same graph, the same amounts and the same vertex q
---   FilesHaveOneMeaning == bytes that describe a table describe no other, and none where they are
---                          refused; and there is one fault for which they are refused, want of
---                          memory aside
-use Rattle.std.specs.Prelude.{◌≡◌, ◌≢◌, ℕ, List}
+--   FilesHaveOneMeaning == bytes describe a table, or there is a fault for which they are refused,
+--                          want of memory aside; not both, and no other table and no other fault
+use Rattle.std.specs.Prelude.{◌≡◌, ◌≢◌, ◌⊎◌, ℕ, List}
 use Rattle.dg_theory.specs.Multigraph.{edges_between}
 use Rattle.dg_chips.specs.Opening.{Opening}
 use Rattle.dg_chips.specs.Vector.{at}
@@ -19,6 +18,8 @@ pub record AreSameOpenings (o p : Opening) : Type 0 where
   pub vertex : o.q ≡ p.q
 
 pub record FilesHaveOneMeaning : Type 0 where
+  pub some : (bytes : List ℕ) → ((o : Opening) × (names : List (List ℕ)) × IsTableFile bytes o names)
+      ⊎ ((fault : FileFault) × (fault ≢ OutOfMemory) × RefusesFile bytes fault)
   pub table : (bytes : List ℕ) (o p : Opening) (names others : List (List ℕ))
       → IsTableFile bytes o names → IsTableFile bytes p others → AreSameOpenings o p ×
       (names ≡ others)

@@ -9,6 +9,7 @@
 --   next_or_settled   some vertex that is not reached is next to one that is, or none is
 --   search_on         the search from vertex 0 tells whether every two vertices are joined
 --   joined_or_apart   they are, or some vertex is joined to vertex 0 by no chain
+--   size_or_not       the number of vertices is within the limits, or not
 --   graph_or_fault    a graph, or the first fault
 use Rattle.std.proofs.Common.{◌≡◌, ◌≢◌, ℕ, zero, suc, ◌<◌, ◌≤◌, ◌⊎◌, inl, inr, min, Bool, true, false, not, List, [], ◌∷◌, length, set, replicate, count_by, slice_get, Some, get_or, MatchBool, arith, refl, sym, ap, rules, ◌∙◌, length-set, ⊎_elim}
 use Rattle.std.proofs.lemmas.Bool.{cases_Bool, cases_eq, cases_lt, false≢true}
@@ -30,16 +31,18 @@ listing zero f = []
 listing (suc n) f = f zero ∷ listing n (λ k. f (suc k))
 
 listing-here : {A : Type 0} (n : ℕ) (f : ℕ → A) (v : ℕ) (d : A) → v < n → get_or (listing n f) v d ≡ f v
+unfolding listing
 listing-here zero f v d below = absurd (omega arith)
 listing-here (suc n) f zero d below = refl
 listing-here (suc n) f (suc v) d below = listing-here n (λ k. f (suc k)) v d (omega arith)
 
 listing-past : {A : Type 0} (n : ℕ) (f : ℕ → A) (v : ℕ) (d : A) → n ≤ v → get_or (listing n f) v d ≡ d
+unfolding listing
 listing-past zero f v d past = refl
 listing-past (suc n) f zero d past = absurd (omega arith)
 listing-past (suc n) f (suc v) d past = listing-past n (λ k. f (suc k)) v d (omega arith)
 
-cells : ℕ → (ℕ → ℕ → ℕ) → List (List ℕ)
+abbrev cells : ℕ → (ℕ → ℕ → ℕ) → List (List ℕ)
 cells n f = listing n (λ u. listing n (f u))
 
 cells-entry : (n : ℕ) (f : ℕ → ℕ → ℕ) → ((u v : ℕ) → n ≤ u → f u v ≡ 0) → ((u v : ℕ) → n ≤ v → f u v ≡ 0) →
@@ -68,9 +71,17 @@ right_or_wrong n item =
     (λ (same : item.0 ≡ item.1). inr (inr (inl (record { vertex = first; same = same }))))
     (λ (different : item.0 ≡ item.1 → ⊥). ⊎_elim
     (λ (none : item.2 ≡ 0). inr (inr (inr (record {
-      first = first; second = second; different = different; none = none }))))
+      first = first;
+      second = second;
+      different = different;
+      none = none;
+    }))))
     (λ (some : item.2 ≡ 0 → ⊥). inl (record {
-      first = first; second = second; different = different; edges = omega arith }))
+      first = first;
+      second = second;
+      different = different;
+      edges = omega arith;
+    }))
     (cases_eq item.2 0))
     (cases_eq item.0 item.1))
     (λ (past : n ≤ item.1). inr (inl (inr past)))
@@ -200,7 +211,7 @@ module _ (n : ℕ) (e : ℕ → ℕ → ℕ) (symmetric : (a b : ℕ) → e a b 
       refl (reached-first n e 15)
 
 module _ (n : ℕ) (items : List Item) (size : IsSize n) (right : IsItems n items) where
-  table : List (List ℕ)
+  abbrev table : List (List ℕ)
   table = cells n (λ u v. min 255 (edges_listed items u v))
 
   table-entry : (u v : ℕ) → entry table u v ≡ min 255 (edges_listed items u v)
@@ -252,7 +263,7 @@ module _ (n : ℕ) (items : List Item) (size : IsSize n) (right : IsItems n item
       (λ (high : (v : ℕ) × IsFirstHigh n items v). inr (Valence high.0, (size, right, high.1)))
       valences_or_high
 
-size_or_not : (n : ℕ) → IsSize n ⊎ (¬ IsSize n)
+pub size_or_not : (n : ℕ) → IsSize n ⊎ (¬ IsSize n)
 size_or_not n =
     ⊎_elim
     (λ (some : 0 < n). ⊎_elim

@@ -8,6 +8,7 @@ use Rattle.dg_file.specs.FileLaws.{AreSameOpenings}
 use Rattle.dg_file.proofs.OneContent.{found-once, same-value, same-content}
 use Rattle.dg_file.proofs.OneTable.{at-one}
 use Rattle.dg_file.proofs.OneFile.{file-none, file-one}
+use Rattle.dg_file.proofs.SomeFile.{some-file}
 use Rattle.dg_file.proofs.laws.files_have_one_meaning.Goals as goal
 
 alike : (content : Content) (o p : Opening) (names others : List (List ℕ)) → IsTable content o names
@@ -31,4 +32,4 @@ one-table bytes o p names others a b =
     alike b.content o p names others (rw content at a.describes) b.describes
 
 pub returns : goal.returns
-returns c = record { table = one-table; refused = file-none; fault = file-one }
+returns c = record { some = some-file; table = one-table; refused = file-none; fault = file-one }
