@@ -95,18 +95,18 @@ module _ (value : Data) where
         },
       ))
       (λ (none : get_member (codes "q") members ≡ None).
-      inr (λ parts has. none-found _ parts.q (rw own parts has at has.q) none))
+      inr (λ parts has. none-found _ parts.q (rw (own parts has) at has.q) none))
       (found-or-none (get_member (codes "q") members)))
       (λ (none : get_member (codes "amounts") members ≡ None).
-      inr (λ parts has. none-found _ parts.amounts (rw own parts has at has.amounts) none))
+      inr (λ parts has. none-found _ parts.amounts (rw (own parts has) at has.amounts) none))
       (found-or-none (get_member (codes "amounts") members)))
       (λ (none : get_member (codes "edges") members ≡ None).
-      inr (λ parts has. none-found _ parts.edges (rw own parts has at has.edges) none))
+      inr (λ parts has. none-found _ parts.edges (rw (own parts has) at has.edges) none))
       (found-or-none (get_member (codes "edges") members)))
       (λ (none : get_member (codes "vertices") members ≡ None).
-      inr (λ parts has. none-found _ parts.vertices (rw own parts has at has.vertices) none))
+      inr (λ parts has. none-found _ parts.vertices (rw (own parts has) at has.vertices) none))
       (found-or-none (get_member (codes "vertices") members)))
-      (λ (other : member_count members ≡ 4 → ⊥). inr (λ parts has. other (rw own parts has at has.four)))
+      (λ (other : member_count members ≡ 4 → ⊥). inr (λ parts has. other (rw (own parts has) at has.four)))
       (cases_eq (member_count members) 4)
 
   parts-or-none : ((parts : Parts) × HasParts value parts) ⊎ NoParts
