@@ -2,7 +2,7 @@
 --   value-or-none     bytes have a value, or none
 --   refused-table     a fault of the content is one of the bytes
 --   some-file         a table, or a fault
-use Rattle.std.proofs.Common.{◌≡◌, ◌≢◌, ℕ, ◌⊎◌, inl, inr, List, refl, sym, ◌∙◌}
+use Rattle.std.proofs.Common.{◌≢◌, ℕ, ◌⊎◌, inl, inr, List, sym, ◌∙◌}
 use Rattle.std.proofs.lemmas.Bool.{cases_Bool, false≢true}
 use Rattle.std.proofs.lemmas.Str.{IsUtf8-from_is_utf8, is_utf8-from_IsUtf8}
 use Rattle.std.specs.Str.{is_utf8}
@@ -47,8 +47,17 @@ pub some-file : (bytes : List ℕ) → ((o : Opening) × (names : List (List ℕ
 some-file bytes = elim (value-or-none bytes) [
   | inl found ↦ elim (says-or-refuses found.0) [
     | inl said ↦ elim (table-or-fault said.0) [
-      | inl table ↦ inl (table.0, said.0.vertices, record {
-        value = found.0; reads = found.1; content = said.0; says = said.1; describes = table.1 })
+      | inl table ↦ inl (
+        table.0,
+        said.0.vertices,
+        record {
+          value = found.0;
+          reads = found.1;
+          content = said.0;
+          says = said.1;
+          describes = table.1;
+        },
+      )
       | inr fault ↦
           inr (fault.0, fault.1, refused-table bytes found.0 found.1 said.0 said.1 fault.0 fault.2)
     ]

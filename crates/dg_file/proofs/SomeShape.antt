@@ -4,13 +4,13 @@
 --   no-item           items that are not all read have a first that is not
 --   parts-or-none     a value has its four parts, or it has not
 --   says-or-refuses   a value says a content, or has a shape at fault
-use Rattle.std.proofs.Common.{◌≡◌, ◌≢◌, ℕ, zero, suc, ◌<◌, ◌⊎◌, inl, inr, Option, Some, None, codes, arith, refl, sym, ap, ◌∙◌, List, ⊎_elim}
+use Rattle.std.proofs.Common.{◌≡◌, ℕ, zero, suc, ◌<◌, ◌⊎◌, inl, inr, Option, Some, None, codes, arith, refl, sym, ap, ◌∙◌, List, ⊎_elim}
 use Rattle.std.specs.Prelude.{IsSome, option_and_then}
 use Rattle.std.proofs.lemmas.Bool.{cases_eq}
 use Rattle.serde_json.specs.Data.{Data, Items, no_items, item, Members}
 use Rattle.serde_json.specs.Find.{get_item, get_member, as_object, as_array, as_str}
 use Rattle.dg_file.specs.Content.{Content, Edge, Parts, HasParts, IsContent, put_first, each, edge_in, member_count, texts_in, edges_in, numbers_in}
-use Rattle.dg_file.specs.FileFaults.{IsEdgeFault, IsShapeFault, IsShapeFaultOf}
+use Rattle.dg_file.specs.FileFaults.{IsEdgeFault, IsShapeFault}
 use Rattle.dg_file.specs.declared.fault.Shape.{Shape}
 use Rattle.dg_file.specs.declared.fault.Shape.TheVariants.{Top, Vertices, Edges, Edge as EdgeAt, Amounts, Q}
 use Rattle.dg_file.proofs.OneContent.{found-once, none-found}

@@ -6,20 +6,16 @@
 --   names-or-fault    the names are names, or there is a first that is bad
 --   divisor-or-fault  the amounts are those of a divisor, or have a first fault
 --   table-or-fault    a table, or a fault
-use Rattle.std.proofs.Common.{◌≡◌, ◌≢◌, ℕ, zero, suc, ◌<◌, ◌≤◌, ◌⊎◌, inl, inr, true, false, ℤ, pos, List, [], ◌∷◌, ◌++◌, length, take, slice_get, Some, None, get_or, arith, refl, sym, subst, ◌∙◌, take-suc, take_all, ⊎_elim}
+use Rattle.std.proofs.Common.{◌≡◌, ◌≢◌, ℕ, zero, suc, ◌<◌, ◌≤◌, ◌⊎◌, inl, inr, true, false, ℤ, pos, List, [], ◌∷◌, ◌++◌, length, take, slice_get, Some, get_or, arith, refl, sym, subst, ◌∙◌, take-suc, take_all, ⊎_elim}
 use Rattle.std.specs.Int.RustNames.{unsigned_abs}
 use Rattle.std.proofs.lemmas.Bool.{cases_Bool, cases_eq, cases_lt, false≢true}
 use Rattle.std.proofs.lemmas.List.{get_or_past}
 use Rattle.std.proofs.lemmas.Option.{slice_get-get_or, get_or_from_slice_get}
-use Rattle.dg_theory.specs.Multigraph.{Multigraph}
 use Rattle.dg_theory.proofs.Searching.{AllBelow, FirstOf, first_or_all}
-use Rattle.dg_graph.specs.Faults.{IsSize, IsFirstGraphFault}
-use Rattle.dg_graph.specs.Items.{IsGiven}
-use Rattle.dg_graph.specs.declared.fault.GraphFault.{GraphFault}
+use Rattle.dg_graph.specs.Faults.{IsSize}
 use Rattle.dg_graph.specs.declared.fault.GraphFault.TheVariants.{Size}
 use Rattle.dg_graph.proofs.GivenOrNot.{graph_or_fault, size_or_not}
 use Rattle.dg_chips.specs.Opening.{Opening}
-use Rattle.dg_chips.specs.Vector.{Vector}
 use Rattle.dg_chips.specs.DivisorFaults.{IsFirstChipFault}
 use Rattle.dg_chips.specs.declared.divisor.ChipFault.{ChipFault}
 use Rattle.dg_chips.specs.declared.divisor.ChipFault.TheVariants.{Length, Range}
@@ -27,7 +23,7 @@ use Rattle.dg_names.specs.Names.{IsName, AreNames, is_name, has, place_of}
 use Rattle.dg_names.proofs.NamesLaws.{IsName-tested, is_name-IsName, AreNames-nil, AreNames-push}
 use Rattle.dg_file.specs.Content.{Content}
 use Rattle.dg_file.specs.TableFiles.{items_of, IsTable}
-use Rattle.dg_file.specs.FileFaults.{HasText, IsNameFault, IsTwiceFault, IsGraphFault, GivesGraph, GivesDivisor, RefusesTable}
+use Rattle.dg_file.specs.FileFaults.{HasText, GivesGraph, GivesDivisor, RefusesTable}
 use Rattle.dg_file.specs.declared.fault.FileFault.{FileFault}
 use Rattle.dg_file.specs.declared.fault.FileFault.TheVariants.{Graph, Name, Twice, Chip, NoQ, OutOfMemory}
 use Rattle.dg_file.proofs.SomeShape.{found-or-none}
