@@ -1,6 +1,5 @@
 -- That every divisor has a rank.
 --   winnable_or_not     a divisor is winnable or not, as the divisor that it can be reduced to tells
---   dollar_somewhere    of an effective divisor of degree 1 or more some vertex holds a dollar
 --   lost v D            D after a dollar was lost at v
 --   pass_after_each     where D passes the test of k after a dollar was lost, at any vertex, it passes that of k + 1
 --   each_passes         and the other way round
@@ -27,6 +26,7 @@ use Rattle.dg_theory.proofs.ExistenceLaws.{reduced_exists}
 use Rattle.dg_theory.proofs.Giving.{degree-less, degree-only_at, effective-only_at, degree-winnable}
 use Rattle.dg_theory.proofs.RankLaws.{rank_zero, poor_rank}
 use Rattle.dg_theory.proofs.DualityLaws.{natural}
+use Rattle.dg_theory.proofs.RankSums.{some_left}
 
 winnable_or_not : (g : Multigraph) (D : Amounts) → IsMultigraph g → 0 < g.size → IsWinnable g D ⊎ (¬ IsWinnable g D)
 winnable_or_not g D graph some =
@@ -37,24 +37,13 @@ winnable_or_not g D graph some =
     absurd (omega (arith, ints))))
     (λ (paid : pos 0 ≤ℤ fired g D s 0). inl (decides.1 paid))
 
-dollar_somewhere : (n : ℕ) (E : Amounts) → IsEffective n E → pos 1 ≤ℤ degree n E →
-    (v : ℕ) × (v < n) × (pos 1 ≤ℤ E v)
-dollar_somewhere zero E effective rich = absurd (omega (arith, ints, rich))
-dollar_somewhere (suc n) E effective rich =
-    by_lt_z (E n) (pos 1)
-    (λ (poor : E n <ℤ pos 1).
-    let (v, inside, dollar) =
-    dollar_somewhere n E (λ w below. effective w (omega arith)) (omega (arith, ints, rich)) in
-    (v, omega arith, dollar))
-    (λ (dollar : pos 1 ≤ℤ E n). (n, omega arith, dollar))
-
 abbrev lost : ℕ → Amounts → Amounts
 lost v D = less D (only_at v (pos 1))
 
 pass_after_each : (g : Multigraph) (D : Amounts) (k : ℕ) →
     ((v : ℕ) → v < g.size → HasRankAtLeast g (lost v D) k) → HasRankAtLeast g D (k + 1)
 pass_after_each g D k each E effective of_degree =
-    let (v, inside, dollar) = dollar_somewhere g.size E effective (omega (arith, ints)) in
+    let (v, inside, dollar) = some_left g.size E (omega (arith, ints)) in
     winnable-cong g (less (lost v D) (lost v E)) (less D E) (λ w below. omega (arith, ints))
     (each v inside (lost v E)
     (λ w below. ⊎_elim

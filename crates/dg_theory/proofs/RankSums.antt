@@ -28,7 +28,7 @@ use Rattle.dg_theory.proofs.RankLaws.{equivalent-rank}
 use Rattle.dg_theory.proofs.OrderDegrees.{canonical-degree}
 use Rattle.dg_theory.proofs.DualityLaws.{IsDual, dual_tests, natural, high_rank}
 
-some_left : (n : ℕ) (D : Amounts) → pos 0 <ℤ degree n D → (v : ℕ) × (v < n) × (pos 1 ≤ℤ D v)
+pub some_left : (n : ℕ) (D : Amounts) → pos 0 <ℤ degree n D → (v : ℕ) × (v < n) × (pos 1 ≤ℤ D v)
 some_left n D high =
     ⊎_elim
     (λ (some : (u : ℕ) × (u < n) × (level D (pos 1) u ≡ true)). (some.0, some.1, level_in D (pos 1) some.0 some.2))
