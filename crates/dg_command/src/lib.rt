@@ -2,6 +2,8 @@
 #![tactic(auto)]
 
 mod command_line;
+mod commands;
 mod help_texts;
+mod reading;
 
 pub use command_line::{CommandLine, words_of};
