@@ -6,3 +6,4 @@ pub mod Refusals
 pub mod Faults
 pub mod Building
 pub mod Telling
+pub mod CommandLines
