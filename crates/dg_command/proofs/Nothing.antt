@@ -41,11 +41,11 @@ no_given low high text never (Some n) h = never n h
 pub zero_first : (low high : ℕ) (c : ℕ) → high < 2 ^ 64 → (n : ℕ) → IsNumber low high (48 ∷ c ∷ []) n → ⊥
 zero_first low high c fits n h = elim (Rattle.std.proofs.lemmas.Bool.cases_lt 0 n) [
   | inl some ↦
-    let first = first_decimal n some (omega (arith, h.not_more)) in
-    absurd (omega (arith, first, ap (λ ds. get_or ds 0 0) h.spelled))
+      let first = first_decimal n some (omega (arith, h.not_more)) in
+      absurd (omega (arith, first, ap (λ ds. get_or ds 0 0) h.spelled))
   | inr none ↦
-    let is : n ≡ 0 = omega arith in
-    absurd (omega (arith, ap length (h.spelled ∙ ap decimal is ∙ decimal_digit 0 (omega arith))))
+      let is : n ≡ 0 = omega arith in
+      absurd (omega (arith, ap length (h.spelled ∙ ap decimal is ∙ decimal_digit 0 (omega arith))))
 ]
 
 asks_rank : (rows : List Row) → ((n : ℕ) → HasDegree rows n → ⊥) → (question : Question) → AsksQuestion (codes "rank") rows question → ⊥
@@ -56,10 +56,10 @@ asks_rank rows never RiemannRoch h = absurd (omega (arith, ap (λ t. slice_index
 pub only_rank : (rows : List Row) → (((n : ℕ) → HasWorkers rows n → ⊥) ⊎ ((n : ℕ) → HasDegree rows n → ⊥)) → (it : Asked) → AsksFor (codes "rank") rows it → ⊥
 only_rank rows out (asked.Task (task.Judge f)) h = absurd (omega (arith, ap (λ t. slice_index t 0) h.0))
 only_rank rows out (asked.Task (task.RiemannRoch f)) h = absurd (omega (arith, ap (λ t. slice_index t 1) h.0))
-only_rank rows out (asked.Task (task.Rank t)) h = elim out [ | inl never ↦ never t.workers h.1.workers | inr never ↦ never t.degree h.1.degree ]
+only_rank rows out (asked.Task (task.Rank t)) h = elim out [ inl never ↦ never t.workers h.1.workers | inr never ↦ never t.degree h.1.degree ]
 only_rank rows out (asked.Task (task.Greedy t)) h = absurd (omega (arith, ap (λ t. slice_index t 0) h.0))
 only_rank rows out (asked.Task (task.Rehearse f steps)) h = absurd (omega (arith, ap (λ t. slice_index t 1) h.0))
-only_rank rows out (asked.Sweep t) h = elim out [ | inl never ↦ never t.workers h.workers | inr never ↦ asks_rank rows never t.question h.question ]
+only_rank rows out (asked.Sweep t) h = elim out [ inl never ↦ never t.workers h.workers | inr never ↦ asks_rank rows never t.question h.question ]
 only_rank rows out (asked.Serve t) h = absurd (omega (arith, ap (λ t. slice_index t 0) h.0))
 only_rank rows out (asked.Party t) h = absurd (omega (arith, ap (λ t. slice_index t 0) h.0))
 only_rank rows out (asked.Text text) h = h
@@ -119,7 +119,7 @@ only_serve rows out (asked.Task (task.Rank t)) h = absurd (omega (arith, ap (λ 
 only_serve rows out (asked.Task (task.Greedy t)) h = absurd (omega (arith, ap (λ t. slice_index t 0) h.0))
 only_serve rows out (asked.Task (task.Rehearse f steps)) h = absurd (omega (arith, ap (λ t. slice_index t 0) h.0))
 only_serve rows out (asked.Sweep t) h = asks_serve rows t.question h.question
-only_serve rows out (asked.Serve t) h = elim out [ | inl never ↦ never t.capacity h.1.capacity | inr never ↦ never t.seats h.1.seats ]
+only_serve rows out (asked.Serve t) h = elim out [ inl never ↦ never t.capacity h.1.capacity | inr never ↦ never t.seats h.1.seats ]
 only_serve rows out (asked.Party t) h = absurd (omega (arith, ap (λ t. slice_index t 0) h.0))
 only_serve rows out (asked.Text text) h = h
 
