@@ -5,7 +5,7 @@ use Rattle.std.proofs.lemmas.Fmt.{decimal_step}
 use Rattle.clap.proofs.CountText.{decimal-count_text}
 use Rattle.clap.proofs.OnLiterals.{clap_on_literals}
 use Rattle.clap.specs.Words.{Text}
-use Rattle.clap.specs.declared.error.kind.ErrorKind.TheVariants.{ArgumentConflict, DisplayHelp, DisplayHelpOnMissingArgumentOrSubcommand, DisplayVersion, InvalidSubcommand, InvalidValue, MissingRequiredArgument, TooManyValues, UnknownArgument}
+use Rattle.clap.specs.declared.error.kind.ErrorKind.TheVariants.{ArgumentConflict, DisplayHelp, DisplayHelpOnMissingArgumentOrSubcommand, InvalidSubcommand, InvalidValue, MissingRequiredArgument, TooManyValues, UnknownArgument}
 use Rattle.dg_asked.specs.declared.question.Question.TheVariants.{Judge, Rank, RiemannRoch}
 use Rattle.dg_command.specs.Commands.{dollar}
 use Rattle.dg_command.specs.Numbers.{IsGiven, IsNumber}
@@ -13,7 +13,12 @@ use Rattle.dg_command.specs.CommandLines.{CommandLinesAsk, IsFault, IsGreedy, Is
 use Rattle.dg_command.proofs.Nothing.{no_given, nothing_by, only_greedy, only_judge, only_party, only_rank, only_riemann_roch, only_serve, past, zero_first}
 
 number : (low high n : ℕ) (text : Text) → text ≡ decimal n → low ≤ n → n ≤ high → (m : ℕ) → m ≡ n → IsNumber low high text m
-number low high n text is least most m same = record { spelled = is ∙ ap decimal (sym same); not_less = omega arith; not_more = omega arith }
+number low high n text is least most m same = record {
+  spelled = is ∙ ap decimal (sym same);
+  not_less = omega arith;
+  not_more =
+      omega arith;
+}
 
 not_set : Some (codes "false") ≡ Some (codes "true") → ⊥
 not_set e = absurd (omega (arith, ap (λ (o : Option Text). slice_index (unwrap_or o []) 0) e))
@@ -78,51 +83,188 @@ rehearse f s file steps = (refl, (refl, ap Some (sym file), ap Some (sym steps))
 
 rank : IsRank (codes "rank" ∷ codes "t" ∷ codes "2" ∷ []) (codes "t") 2 1
 unfolding dollar clap_on_literals
-rank t file degree workers = (refl, (refl, record { file = ap Some (sym file); degree = number _ _ 2 _ d2 (omega arith) (omega arith) _ degree; workers = workers }, not_set))
+rank t file degree workers = (
+  refl,
+  (
+    refl,
+    record {
+      file = ap Some (sym file);
+      degree = number _ _ 2 _ d2 (omega arith)
+          (omega arith) _ degree;
+      workers = workers;
+    },
+    not_set,
+  ),
+)
 
 rank_workers : IsRank (codes "rank" ∷ codes "--workers=3" ∷ codes "t" ∷ codes "2" ∷ []) (codes "t") 2 3
 unfolding dollar clap_on_literals
-rank_workers t file degree workers = (refl, (refl, record { file = ap Some (sym file); degree = number _ _ 2 _ d2 (omega arith) (omega arith) _ degree; workers = number _ _ 3 _ d3 (omega arith) (omega arith) _ workers }, not_set))
+rank_workers t file degree workers = (
+  refl,
+  (
+    refl,
+    record {
+      file = ap Some (sym file);
+      degree = number _ _ 2 _ d2 (omega arith)
+          (omega arith) _ degree;
+      workers = number _ _ 3 _ d3 (omega arith) (omega arith) _ workers;
+    },
+    not_set,
+  ),
+)
 
 rank_most_workers : IsRank (codes "rank" ∷ codes "t" ∷ codes "1" ∷ codes "--workers" ∷ codes "16" ∷ []) (codes "t") 1 16
 unfolding dollar clap_on_literals
-rank_most_workers t file degree workers = (refl, (refl, record { file = ap Some (sym file); degree = number _ _ 1 _ d1 (omega arith) (omega arith) _ degree; workers = number _ _ 16 _ d16 (omega arith) (omega arith) _ workers }, not_set))
+rank_most_workers t file degree workers = (
+  refl,
+  (
+    refl,
+    record {
+      file = ap Some (sym file);
+      degree = number _ _ 1 _ d1
+          (omega arith) (omega arith) _ degree;
+      workers = number _ _ 16 _ d16 (omega arith) (omega arith) _ workers;
+    },
+    not_set,
+  ),
+)
 
 greedy : IsGreedy (codes "greedy" ∷ codes "t" ∷ codes "10" ∷ []) (codes "t") 10
 unfolding dollar clap_on_literals
-greedy t file turns = (refl, (refl, record { file = ap Some (sym file); turns = number _ _ 10 _ d10 (omega arith) (omega arith) _ turns }))
+greedy t file turns = (
+  refl,
+  (
+    refl,
+    record {
+      file = ap Some (sym file);
+      turns = number _ _ 10 _ d10 (omega arith)
+          (omega arith) _ turns;
+    },
+  ),
+)
 
 judge_lines : IsSweep (codes "judge" ∷ codes "--lines" ∷ codes "t" ∷ []) (codes "t") Judge 1
 unfolding dollar clap_on_literals
-judge_lines t file question workers = (refl, record { lines = refl; file = ap Some (sym file); question = rw question refl; workers = workers })
+judge_lines t file question workers = (
+  refl,
+  record {
+    lines = refl;
+    file = ap Some (sym file);
+    question = rw question refl;
+    workers = workers;
+  },
+)
 
 rank_lines : IsSweep (codes "rank" ∷ codes "t" ∷ codes "--lines" ∷ codes "1" ∷ []) (codes "t") (Rank 1) 1
 unfolding dollar clap_on_literals
-rank_lines t file question workers = (refl, record { lines = refl; file = ap Some (sym file); question = rw question (refl, number _ _ 1 _ d1 (omega arith) (omega arith) _ refl); workers = workers })
+rank_lines t file question workers = (
+  refl,
+  record {
+    lines = refl;
+    file = ap Some (sym file);
+    question = rw question (
+      refl,
+      number _ _ 1 _ d1 (omega arith) (omega arith) _ refl,
+    );
+    workers = workers;
+  },
+)
 
-riemann_roch_lines : IsSweep (codes "rr" ∷ codes "--workers" ∷ codes "2" ∷ codes "--lines" ∷ codes "t" ∷ []) (codes "t") RiemannRoch 2
+riemann_roch_lines : IsSweep (codes "rr" ∷ codes "--workers" ∷ codes "2" ∷ codes "--lines" ∷ codes "t" ∷ [])
+    (codes "t") RiemannRoch 2
 unfolding dollar clap_on_literals
-riemann_roch_lines t file question workers = (refl, record { lines = refl; file = ap Some (sym file); question = rw question refl; workers = number _ _ 2 _ d2 (omega arith) (omega arith) _ workers })
+riemann_roch_lines t file question workers = (
+  refl,
+  record {
+    lines = refl;
+    file = ap Some (sym file);
+    question =
+        rw question refl;
+    workers = number _ _ 2 _ d2 (omega arith) (omega arith) _ workers;
+  },
+)
 
 serve : IsServe (codes "serve" ∷ codes "t" ∷ []) (codes "t") None 65536 1
 unfolding dollar clap_on_literals
-serve t file seats capacity workers = (refl, (refl, record { file = ap Some (sym file); seats = subst (λ s. IsGiven 1 64 None s) (sym seats) tt; capacity = capacity; workers = workers }))
+serve t file seats capacity workers = (
+  refl,
+  (
+    refl,
+    record {
+      file = ap Some (sym file);
+      seats = subst (λ s. IsGiven 1 64 None s)
+          (sym seats) tt;
+      capacity = capacity;
+      workers = workers;
+    },
+  ),
+)
 
-serve_options : IsServe (codes "serve" ∷ codes "--cap" ∷ codes "1" ∷ codes "--workers" ∷ codes "16" ∷ codes "t" ∷ []) (codes "t") None 1 16
+serve_options : IsServe (codes "serve" ∷ codes "--cap" ∷ codes "1" ∷ codes "--workers" ∷ codes "16" ∷ codes "t" ∷ [])
+    (codes "t") None 1 16
 unfolding dollar clap_on_literals
-serve_options t file seats capacity workers = (refl, (refl, record { file = ap Some (sym file); seats = subst (λ s. IsGiven 1 64 None s) (sym seats) tt; capacity = number _ _ 1 _ d1 (omega arith) (omega arith) _ capacity; workers = number _ _ 16 _ d16 (omega arith) (omega arith) _ workers }))
+serve_options t file seats capacity workers = (
+  refl,
+  (
+    refl,
+    record {
+      file = ap Some (sym file);
+      seats = subst
+          (λ s. IsGiven 1 64 None s) (sym seats) tt;
+      capacity = number _ _ 1 _ d1 (omega arith) (omega arith) _ capacity;
+      workers =
+          number _ _ 16 _ d16 (omega arith) (omega arith) _ workers;
+    },
+  ),
+)
 
-serve_seats : IsServe (codes "serve" ∷ codes "t" ∷ codes "--seats" ∷ codes "64" ∷ codes "--cap=65536" ∷ []) (codes "t") (Some 64) 65536 1
+serve_seats : IsServe (codes "serve" ∷ codes "t" ∷ codes "--seats" ∷ codes "64" ∷ codes "--cap=65536" ∷ []) (codes "t")
+    (Some 64) 65536 1
 unfolding dollar clap_on_literals
-serve_seats t file seats capacity workers = (refl, (refl, record { file = ap Some (sym file); seats = subst (λ s. IsGiven 1 64 (Some (codes "64")) s) (sym seats) (number _ _ 64 _ d64 (omega arith) (omega arith) _ refl); capacity = number _ _ 65536 _ d65536 (omega arith) (omega arith) _ capacity; workers = workers }))
+serve_seats t file seats capacity workers = (
+  refl,
+  (
+    refl,
+    record {
+      file = ap Some (sym file);
+      seats = subst (λ s. IsGiven 1 64
+          (Some (codes "64")) s) (sym seats) (number _ _ 64 _ d64 (omega arith) (omega arith) _ refl);
+      capacity =
+          number _ _ 65536 _ d65536 (omega arith) (omega arith) _ capacity;
+      workers = workers;
+    },
+  ),
+)
 
 party : IsParty (codes "party" ∷ codes "t" ∷ codes "s" ∷ []) (codes "t") (codes "s" ∷ []) 65536
 unfolding dollar clap_on_literals
-party t file scripts capacity = (refl, (refl, record { file = ap Some (sym file); scripts = ap Some (sym scripts); capacity = capacity }))
+party t file scripts capacity = (
+  refl,
+  (
+    refl,
+    record {
+      file = ap Some (sym file);
+      scripts = ap Some (sym scripts);
+      capacity =
+          capacity;
+    },
+  ),
+)
 
-party_capacity : IsParty (codes "party" ∷ codes "t" ∷ codes "s" ∷ codes "t" ∷ codes "--cap" ∷ codes "1" ∷ []) (codes "t") (codes "s" ∷ codes "t" ∷ []) 1
+party_capacity : IsParty (codes "party" ∷ codes "t" ∷ codes "s" ∷ codes "t" ∷ codes "--cap" ∷ codes "1" ∷ []) (codes "t")
+    (codes "s" ∷ codes "t" ∷ []) 1
 unfolding dollar clap_on_literals
-party_capacity t file scripts capacity = (refl, (refl, record { file = ap Some (sym file); scripts = ap Some (sym scripts); capacity = number _ _ 1 _ d1 (omega arith) (omega arith) _ capacity }))
+party_capacity t file scripts capacity = (
+  refl,
+  (
+    refl,
+    record {
+      file = ap Some (sym file);
+      scripts = ap Some (sym scripts);
+      capacity = number _ _ 1 _ d1 (omega arith) (omega arith) _ capacity;
+    },
+  ),
+)
 
 help : IsHelp (codes "--help" ∷ [])
 unfolding dollar clap_on_literals
@@ -208,7 +350,9 @@ rank_no_workers : IsFault (codes "rank" ∷ codes "t" ∷ codes "1" ∷ codes "-
 unfolding dollar clap_on_literals
 rank_no_workers = refl
 
-rank_two_workers : IsFault (codes "rank" ∷ codes "t" ∷ codes "1" ∷ codes "--workers" ∷ codes "1" ∷ codes "--workers" ∷ codes "2" ∷ []) (ArgumentConflict ∷ [])
+rank_two_workers : IsFault
+    (codes "rank" ∷ codes "t" ∷ codes "1" ∷ codes "--workers" ∷ codes "1" ∷ codes "--workers" ∷ codes "2" ∷ [])
+    (ArgumentConflict ∷ [])
 unfolding dollar clap_on_literals
 rank_two_workers = refl
 
@@ -282,11 +426,13 @@ rank_many_workers = nothing_by _ _ _ only_rank refl refl (inl (past _ _ 17 _ d17
 
 rank_lines_many_workers : IsNothing (codes "rank" ∷ codes "t" ∷ codes "1" ∷ codes "--lines" ∷ codes "--workers" ∷ codes "17" ∷ [])
 unfolding dollar clap_on_literals
-rank_lines_many_workers = nothing_by _ _ _ only_rank refl refl (inl (past _ _ 17 _ d17 (omega arith) (omega arith) (inr (omega arith))))
+rank_lines_many_workers = nothing_by _ _ _ only_rank refl refl (inl (past _ _ 17 _ d17 (omega arith) (omega arith) (inr
+    (omega arith))))
 
 greedy_many_turns : IsNothing (codes "greedy" ∷ codes "t" ∷ codes "65537" ∷ [])
 unfolding dollar clap_on_literals
-greedy_many_turns = nothing_by _ _ _ only_greedy refl refl (past _ _ 65537 _ d65537 (omega arith) (omega arith) (inr (omega arith)))
+greedy_many_turns = nothing_by _ _ _ only_greedy refl refl (past _ _ 65537 _ d65537 (omega arith) (omega arith) (inr
+    (omega arith)))
 
 serve_no_entry : IsNothing (codes "serve" ∷ codes "t" ∷ codes "--cap" ∷ codes "0" ∷ [])
 unfolding dollar clap_on_literals
@@ -294,11 +440,13 @@ serve_no_entry = nothing_by _ _ _ only_serve refl refl (inl (past _ _ 0 _ d0 (om
 
 serve_many_entries : IsNothing (codes "serve" ∷ codes "t" ∷ codes "--cap" ∷ codes "65537" ∷ [])
 unfolding dollar clap_on_literals
-serve_many_entries = nothing_by _ _ _ only_serve refl refl (inl (past _ _ 65537 _ d65537 (omega arith) (omega arith) (inr (omega arith))))
+serve_many_entries = nothing_by _ _ _ only_serve refl refl (inl (past _ _ 65537 _ d65537 (omega arith) (omega arith) (inr
+    (omega arith))))
 
 serve_many_seats : IsNothing (codes "serve" ∷ codes "t" ∷ codes "--seats" ∷ codes "65" ∷ [])
 unfolding dollar clap_on_literals
-serve_many_seats = nothing_by _ _ _ only_serve refl refl (inr (no_given _ _ _ (past _ _ 65 _ d65 (omega arith) (omega arith) (inr (omega arith)))))
+serve_many_seats = nothing_by _ _ _ only_serve refl refl (inr (no_given _ _ _ (past _ _ 65 _ d65 (omega arith) (omega arith)
+    (inr (omega arith)))))
 
 party_no_entry : IsNothing (codes "party" ∷ codes "t" ∷ codes "s" ∷ codes "--cap" ∷ codes "0" ∷ [])
 unfolding dollar clap_on_literals

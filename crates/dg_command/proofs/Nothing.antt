@@ -1,5 +1,5 @@
 -- When the words of a command ask for nothing.
-use Rattle.std.proofs.Common.{◌≡◌, ◌∙◌, ◌⊎◌, ◌<◌, ◌≤◌, ◌^◌, ℕ, List, [], ◌∷◌, length, get_or, Option, None, Some, codes, decimal, IsSomeAnd, inl, inr, refl, sym, ap, subst, arith}
+use Rattle.std.proofs.Common.{◌≡◌, ◌∙◌, ◌⊎◌, ◌<◌, ◌^◌, ℕ, List, [], ◌∷◌, length, get_or, Option, None, Some, codes, decimal, IsSomeAnd, inl, inr, sym, ap, subst, arith}
 use Rattle.std.specs.Prelude.{slice_index}
 use Rattle.std.specs.Option.{option_map_or}
 use Rattle.std.proofs.lemmas.Fmt.{decimal_digit, decimal_injective, first_decimal}
@@ -19,13 +19,16 @@ use Rattle.dg_command.proofs.Parsing.{ask_nothing}
 abbrev pub rows_for : List Text → List Row
 rows_for words = option_map_or (λ p. p.1) (subcommand_of dollar words) []
 
-pub nothing_by : (words : List Text) (name : Text) (Out : List Row → Type 0) → ((rows : List Row) → Out rows → (it : Asked) → AsksFor name rows it → ⊥)
-    → fault_of dollar words ≡ [] → subcommand_of dollar words ≡ Some (name, rows_for words) → Out (rows_for words) → AskNothing words
+pub nothing_by : (words : List Text) (name : Text) (Out : List Row → Type 0) → ((rows : List Row) → Out rows → (it : Asked)
+    → AsksFor name rows it → ⊥)
+    → fault_of dollar words ≡ [] → subcommand_of dollar words ≡ Some (name, rows_for words) → Out (rows_for words)
+    → AskNothing words
 nothing_by words name Out only none is out =
     ask_nothing words none (λ it h. only (rows_for words) out it (subst (λ o. IsSomeAnd o (λ p. AsksFor p.0 p.1 it)) is h))
 
 -- a text that spells a number out of the range spells none of the range
-pub past : (low high k : ℕ) (text : Text) → text ≡ decimal k → k < 2 ^ 64 → high < 2 ^ 64 → ((k < low) ⊎ (high < k)) → (n : ℕ) → IsNumber low high text n → ⊥
+pub past : (low high k : ℕ) (text : Text) → text ≡ decimal k → k < 2 ^ 64 → high < 2 ^ 64 → ((k < low) ⊎ (high < k)) → (n : ℕ)
+    → IsNumber low high text n → ⊥
 past low high k text is small fits out n h =
     let same : n ≡ k = decimal_injective n k (omega (arith, h.not_more)) small (sym h.spelled ∙ is) in
     elim out [
@@ -33,7 +36,8 @@ past low high k text is small fits out n h =
       | inr above ↦ absurd (omega (arith, h.not_more))
     ]
 
-pub no_given : (low high : ℕ) (text : Text) → ((n : ℕ) → IsNumber low high text n → ⊥) → (g : Option ℕ) → IsGiven low high (Some text) g → ⊥
+pub no_given : (low high : ℕ) (text : Text) → ((n : ℕ) → IsNumber low high text n → ⊥) → (g : Option ℕ) → IsGiven low high
+    (Some text) g → ⊥
 no_given low high text never None h = h
 no_given low high text never (Some n) h = never n h
 
@@ -48,23 +52,34 @@ zero_first low high c fits n h = elim (Rattle.std.proofs.lemmas.Bool.cases_lt 0 
       absurd (omega (arith, ap length (h.spelled ∙ ap decimal is ∙ decimal_digit 0 (omega arith))))
 ]
 
-asks_rank : (rows : List Row) → ((n : ℕ) → HasDegree rows n → ⊥) → (question : Question) → AsksQuestion (codes "rank") rows question → ⊥
+asks_rank : (rows : List Row) → ((n : ℕ) → HasDegree rows n → ⊥) → (question : Question) → AsksQuestion
+    (codes "rank") rows question → ⊥
 asks_rank rows never Judge h = absurd (omega (arith, ap (λ t. slice_index t 0) h))
 asks_rank rows never (Rank degree) h = never degree h.1
 asks_rank rows never RiemannRoch h = absurd (omega (arith, ap (λ t. slice_index t 1) h))
 
-pub only_rank : (rows : List Row) → (((n : ℕ) → HasWorkers rows n → ⊥) ⊎ ((n : ℕ) → HasDegree rows n → ⊥)) → (it : Asked) → AsksFor (codes "rank") rows it → ⊥
+pub only_rank : (rows : List Row) → (((n : ℕ) → HasWorkers rows n → ⊥) ⊎ ((n : ℕ) → HasDegree rows n → ⊥)) → (it : Asked)
+    → AsksFor (codes "rank") rows it → ⊥
 only_rank rows out (asked.Task (task.Judge f)) h = absurd (omega (arith, ap (λ t. slice_index t 0) h.0))
 only_rank rows out (asked.Task (task.RiemannRoch f)) h = absurd (omega (arith, ap (λ t. slice_index t 1) h.0))
-only_rank rows out (asked.Task (task.Rank t)) h = elim out [ inl never ↦ never t.workers h.1.workers | inr never ↦ never t.degree h.1.degree ]
+only_rank rows out (asked.Task (task.Rank t)) h = elim out [
+  | inl never ↦ never t.workers h.1.workers
+  | inr never ↦
+      never t.degree h.1.degree
+]
 only_rank rows out (asked.Task (task.Greedy t)) h = absurd (omega (arith, ap (λ t. slice_index t 0) h.0))
 only_rank rows out (asked.Task (task.Rehearse f steps)) h = absurd (omega (arith, ap (λ t. slice_index t 1) h.0))
-only_rank rows out (asked.Sweep t) h = elim out [ inl never ↦ never t.workers h.workers | inr never ↦ asks_rank rows never t.question h.question ]
+only_rank rows out (asked.Sweep t) h = elim out [
+  | inl never ↦ never t.workers h.workers
+  | inr never ↦
+      asks_rank rows never t.question h.question
+]
 only_rank rows out (asked.Serve t) h = absurd (omega (arith, ap (λ t. slice_index t 0) h.0))
 only_rank rows out (asked.Party t) h = absurd (omega (arith, ap (λ t. slice_index t 0) h.0))
 only_rank rows out (asked.Text text) h = h
 
-pub only_judge : (rows : List Row) → ((HasLines rows → ⊥) × (word_of (codes "workers") rows ≡ None → ⊥)) → (it : Asked) → AsksFor (codes "judge") rows it → ⊥
+pub only_judge : (rows : List Row) → ((HasLines rows → ⊥) × (word_of (codes "workers") rows ≡ None → ⊥)) → (it : Asked)
+    → AsksFor (codes "judge") rows it → ⊥
 only_judge rows out (asked.Task (task.Judge f)) h = out.1 h.2.1
 only_judge rows out (asked.Task (task.RiemannRoch f)) h = absurd (omega (arith, ap (λ t. slice_index t 0) h.0))
 only_judge rows out (asked.Task (task.Rank t)) h = absurd (omega (arith, ap (λ t. slice_index t 0) h.0))
@@ -75,7 +90,8 @@ only_judge rows out (asked.Serve t) h = absurd (omega (arith, ap (λ t. slice_in
 only_judge rows out (asked.Party t) h = absurd (omega (arith, ap (λ t. slice_index t 0) h.0))
 only_judge rows out (asked.Text text) h = h
 
-pub only_riemann_roch : (rows : List Row) → ((HasLines rows → ⊥) × (word_of (codes "workers") rows ≡ None → ⊥)) → (it : Asked) → AsksFor (codes "rr") rows it → ⊥
+pub only_riemann_roch : (rows : List Row) → ((HasLines rows → ⊥) × (word_of (codes "workers") rows ≡ None → ⊥)) → (it : Asked)
+    → AsksFor (codes "rr") rows it → ⊥
 only_riemann_roch rows out (asked.Task (task.Judge f)) h = absurd (omega (arith, ap (λ t. slice_index t 0) h.0))
 only_riemann_roch rows out (asked.Task (task.RiemannRoch f)) h = out.1 h.2.1
 only_riemann_roch rows out (asked.Task (task.Rank t)) h = absurd (omega (arith, ap (λ t. slice_index t 1) h.0))
@@ -101,7 +117,8 @@ asks_party rows Judge h = absurd (omega (arith, ap (λ t. slice_index t 0) h))
 asks_party rows (Rank degree) h = absurd (omega (arith, ap (λ t. slice_index t 0) h.0))
 asks_party rows RiemannRoch h = absurd (omega (arith, ap (λ t. slice_index t 0) h))
 
-pub only_greedy : (rows : List Row) → ((n : ℕ) → HasNumber (codes "turns") 0 MAX_TURNS rows n → ⊥) → (it : Asked) → AsksFor (codes "greedy") rows it → ⊥
+pub only_greedy : (rows : List Row) → ((n : ℕ) → HasNumber (codes "turns") 0 MAX_TURNS rows n → ⊥) → (it : Asked) → AsksFor
+    (codes "greedy") rows it → ⊥
 only_greedy rows out (asked.Task (task.Judge f)) h = absurd (omega (arith, ap (λ t. slice_index t 0) h.0))
 only_greedy rows out (asked.Task (task.RiemannRoch f)) h = absurd (omega (arith, ap (λ t. slice_index t 0) h.0))
 only_greedy rows out (asked.Task (task.Rank t)) h = absurd (omega (arith, ap (λ t. slice_index t 0) h.0))
@@ -112,14 +129,19 @@ only_greedy rows out (asked.Serve t) h = absurd (omega (arith, ap (λ t. slice_i
 only_greedy rows out (asked.Party t) h = absurd (omega (arith, ap (λ t. slice_index t 0) h.0))
 only_greedy rows out (asked.Text text) h = h
 
-pub only_serve : (rows : List Row) → (((n : ℕ) → HasCapacity rows n → ⊥) ⊎ ((g : Option ℕ) → IsGiven 1 MAX_SEATS (word_of (codes "seats") rows) g → ⊥)) → (it : Asked) → AsksFor (codes "serve") rows it → ⊥
+pub only_serve : (rows : List Row) → (((n : ℕ) → HasCapacity rows n → ⊥) ⊎ ((g : Option ℕ) → IsGiven 1 MAX_SEATS (word_of
+    (codes "seats") rows) g → ⊥)) → (it : Asked) → AsksFor (codes "serve") rows it → ⊥
 only_serve rows out (asked.Task (task.Judge f)) h = absurd (omega (arith, ap (λ t. slice_index t 0) h.0))
 only_serve rows out (asked.Task (task.RiemannRoch f)) h = absurd (omega (arith, ap (λ t. slice_index t 0) h.0))
 only_serve rows out (asked.Task (task.Rank t)) h = absurd (omega (arith, ap (λ t. slice_index t 0) h.0))
 only_serve rows out (asked.Task (task.Greedy t)) h = absurd (omega (arith, ap (λ t. slice_index t 0) h.0))
 only_serve rows out (asked.Task (task.Rehearse f steps)) h = absurd (omega (arith, ap (λ t. slice_index t 0) h.0))
 only_serve rows out (asked.Sweep t) h = asks_serve rows t.question h.question
-only_serve rows out (asked.Serve t) h = elim out [ inl never ↦ never t.capacity h.1.capacity | inr never ↦ never t.seats h.1.seats ]
+only_serve rows out (asked.Serve t) h = elim out [
+  | inl never ↦ never t.capacity h.1.capacity
+  | inr never ↦
+      never t.seats h.1.seats
+]
 only_serve rows out (asked.Party t) h = absurd (omega (arith, ap (λ t. slice_index t 0) h.0))
 only_serve rows out (asked.Text text) h = h
 

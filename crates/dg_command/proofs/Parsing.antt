@@ -1,18 +1,16 @@
 -- What a parse of the words tells.
-use Rattle.std.proofs.Common.{◌≡◌, ◌≢◌, ◌∙◌, ◌⊎◌, List, [], ◌∷◌, Option, Some, None, Result, Ok, Err, IsSomeAnd, IfErr, true, inl, inr, refl, sym, ap, subst}
+use Rattle.std.proofs.Common.{◌≡◌, ◌∙◌, List, [], Option, Some, None, Result, Ok, Err, IsSomeAnd, IfErr, true, inl, inr, refl, ap, subst}
 use Rattle.clap.specs.Words.{App, HasKind, IsAmong, Kinds, Row, Text, fault_of, is_simple, is_simple_and_free, kind_of, subcommand_of}
 use Rattle.clap.specs.declared.error.Error.{Error}
 use Rattle.clap.specs.declared.error.kind.ErrorKind.{ErrorKind}
-use Rattle.clap.specs.declared.error.kind.ErrorKind.TheVariants.{DisplayHelp, DisplayVersion}
-use Rattle.clap.specs.declared.error.kind.ErrorKind.TheVariants as error
 use Rattle.dg_asked.specs.declared.asked.Asked.{Asked}
 use Rattle.dg_asked.specs.declared.asked.Asked.TheVariants as asked
 use Rattle.dg_asked.specs.declared.words.WordsFault.{WordsFault}
 use Rattle.dg_asked.specs.declared.words.WordsFault.TheVariants.{CommandLine, NotText, OutOfMemory}
 use Rattle.dg_command.specs.Commands.{dollar}
 use Rattle.dg_command.specs.Asks.{Asks, AsksFor}
-use Rattle.dg_command.specs.Refusals.{AskNothing, HasFault, Refuses}
-use Rattle.dg_command.specs.Faults.{IsNoCall, IsSaid, IsWhy}
+use Rattle.dg_command.specs.Refusals.{AskNothing, Refuses}
+use Rattle.dg_command.specs.Faults.{IsSaid, IsWhy}
 
 pub free : is_simple_and_free dollar ≡ true
 unfolding dollar
@@ -22,14 +20,16 @@ pub simple : is_simple dollar ≡ true
 unfolding dollar
 simple = refl
 
-pub faultless : (program : App) (words : List Text) → program ≡ dollar → (is_simple_and_free program ≡ true → fault_of program words ≡ []) → fault_of dollar words ≡ []
+pub faultless : (program : App) (words : List Text) → program ≡ dollar → (is_simple_and_free program ≡ true
+    → fault_of program words ≡ []) → fault_of dollar words ≡ []
 faultless program words is told = subst (λ a. fault_of a words ≡ []) is (told (ap is_simple_and_free is ∙ free))
 
 pub entered : (program : App) (words : List Text) (rows : Option (Text × List Row)) (X : Type 0) → program ≡ dollar
     → (is_simple program ≡ true → X × (rows ≡ subcommand_of program words)) → rows ≡ subcommand_of dollar words
 entered program words rows X is told = (told (ap is_simple is ∙ simple)).1 ∙ ap (λ a. subcommand_of a words) is
 
-pub why : (program : App) (words : List Text) (e : Error) → program ≡ dollar → (is_simple_and_free program ≡ true → HasKind (fault_of program words) e) → IsWhy words (kind_of e)
+pub why : (program : App) (words : List Text) (e : Error) → program ≡ dollar → (is_simple_and_free program ≡ true → HasKind
+    (fault_of program words) e) → IsWhy words (kind_of e)
 why program words e is told = elim (subst (λ a. HasKind (fault_of a words) e) is (told (ap is_simple_and_free is ∙ free))) [
   | inl m ↦ inl m
   | inr k ↦ inr (inl k)
@@ -39,7 +39,8 @@ no_text : (o : Option (Text × List Row)) → IsSomeAnd o (λ _. ⊥) → ⊥
 no_text None h = h
 no_text (Some p) h = h
 
-pub asks : (words : List Text) (it : Asked) → fault_of dollar words ≡ [] → IsSomeAnd (subcommand_of dollar words) (λ p. AsksFor p.0 p.1 it) → Asks words it
+pub asks : (words : List Text) (it : Asked) → fault_of dollar words ≡ [] → IsSomeAnd (subcommand_of dollar words)
+    (λ p. AsksFor p.0 p.1 it) → Asks words it
 asks words (asked.Task task) none h = (none, h)
 asks words (asked.Sweep task) none h = (none, h)
 asks words (asked.Serve task) none h = (none, h)
@@ -49,7 +50,8 @@ asks words (asked.Text text) none h = absurd (no_text (subcommand_of dollar word
 no_kind : (k : ErrorKind) (kinds : Kinds) → kinds ≡ [] → IsAmong k kinds → ⊥
 no_kind k kinds none h = subst (λ ks. IsAmong k ks) none h
 
-pub ask_nothing : (words : List Text) → fault_of dollar words ≡ [] → ((it : Asked) → IsSomeAnd (subcommand_of dollar words) (λ p. AsksFor p.0 p.1 it) → ⊥) → AskNothing words
+pub ask_nothing : (words : List Text) → fault_of dollar words ≡ [] → ((it : Asked) → IsSomeAnd (subcommand_of dollar words)
+    (λ p. AsksFor p.0 p.1 it) → ⊥) → AskNothing words
 ask_nothing words none h = record { faultless = none; nothing = nothing }
   where
     nothing : (it : Asked) → Asks words it → ⊥
@@ -62,7 +64,8 @@ ask_nothing words none h = record { faultless = none; nothing = nothing }
       | inr version ↦ no_kind _ _ none version
     ]
 
-pub refuses : (words : List Text) (kind : ErrorKind) (r : Result Asked WordsFault) → IsWhy words kind → IsSaid kind r → IfErr r (λ fault. Refuses words fault)
+pub refuses : (words : List Text) (kind : ErrorKind) (r : Result Asked WordsFault) → IsWhy words kind → IsSaid kind r → IfErr r
+    (λ fault. Refuses words fault)
 refuses words kind (Ok it) why said = tt
 refuses words kind (Err OutOfMemory) why said = tt
 refuses words kind (Err NotText) why said = said

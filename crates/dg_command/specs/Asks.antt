@@ -3,20 +3,26 @@
 -- for which of its arguments. It also tells which faults the words have.
 --   word_of name rows                == the word of the argument of that name, where there is one
 --   words_of name rows               == all its words
+--   HasFile rows file                == the file is the word for `file`
 --   HasLines rows                    == the flag `--lines` is there
---   AsksRank, AsksGreedy, AsksSweep, AsksServe, AsksParty rows task
---                                    == the rows have the words and the numbers of the task, each
---                                       number in its range; an option that is not there has its
---                                       default
+--   HasNumber name low high rows n   == the word of that argument is there, and is n, from low to high
+--   HasDegree rows n                 == so many dollars are lost, from 0 to 2^32 - 1
+--   HasWorkers rows n                == so many workers are given, from 1 to 16; or 1, where none are
+--   HasCapacity rows n               == so many entries are given, from 1 to 65,536; or the most
+--   AsksRank, AsksGreedy, AsksSweep, AsksServe, AsksParty
+--                                    == the rows have the file and the numbers of the task, and what
+--                                       else it has
+--   IsAlone rows                     == the command reads one table: there are no lines, and no
+--                                       workers, which share lines
 --   AsksQuestion name rows question  == the command of that name asks this of each line
 --   AsksTask name rows task          == the command of that name asks for the task
 --   AsksFor name rows asked          == the command of that name asks for this
---   IsShown faults                   == the words call for help, or for the version
+--   CallsForHelp faults              == the words call for help, or for the version
 --   Asks words asked                 == the words ask for this: for a text where they call for help
 --                                       or the version, and else for what their command asks for,
 --                                       if the library finds no fault
-use Rattle.std.specs.Prelude.{◌≡◌, ◌≤◌, ◌-◌, ◌^◌, ◌⊎◌, ℕ, List, [], Option, None, Some, IsSomeAnd, IsFalse, codes, map, ⊤}
-use Rattle.clap.specs.Words.{FailsBy, IsAmong, Kinds, Row, Text, all_of, fault_of, first_of, subcommand_of}
+use Rattle.std.specs.Prelude.{◌≡◌, ◌-◌, ◌^◌, ◌⊎◌, ℕ, List, [], Option, None, Some, IsSomeAnd, codes, map}
+use Rattle.clap.specs.Words.{IsAmong, Kinds, Row, Text, all_of, fault_of, first_of, subcommand_of}
 use Rattle.clap.specs.declared.error.kind.ErrorKind.TheVariants.{DisplayHelp, DisplayVersion}
 use Rattle.dg_asked.specs.declared.asked.Asked.{Asked}
 use Rattle.dg_asked.specs.declared.asked.Asked.TheVariants as asked
@@ -108,10 +114,10 @@ AsksFor name rows (asked.Serve task) = (name ≡ codes "serve") × AsksServe row
 AsksFor name rows (asked.Party task) = (name ≡ codes "party") × AsksParty rows task
 AsksFor name rows (asked.Text text) = ⊥
 
-abbrev pub IsShown : Kinds → Type 0
-IsShown faults = IsAmong DisplayHelp faults ⊎ IsAmong DisplayVersion faults
+abbrev pub CallsForHelp : Kinds → Type 0
+CallsForHelp faults = IsAmong DisplayHelp faults ⊎ IsAmong DisplayVersion faults
 
 abbrev pub Asks : List Text → Asked → Type 0
-Asks words (asked.Text text) = IsShown (fault_of dollar words)
+Asks words (asked.Text text) = CallsForHelp (fault_of dollar words)
 Asks words asked = (fault_of dollar words ≡ [])
     × IsSomeAnd (subcommand_of dollar words) (λ entered. AsksFor entered.0 entered.1 asked)

@@ -81,12 +81,16 @@ pub record CommandLinesAsk : Type 0 where
   pub greedy : IsGreedy (codes "greedy" ∷ codes "t" ∷ codes "10" ∷ []) (codes "t") 10
   pub judge_lines : IsSweep (codes "judge" ∷ codes "--lines" ∷ codes "t" ∷ []) (codes "t") Judge 1
   pub rank_lines : IsSweep (codes "rank" ∷ codes "t" ∷ codes "--lines" ∷ codes "1" ∷ []) (codes "t") (Rank 1) 1
-  pub riemann_roch_lines : IsSweep (codes "rr" ∷ codes "--workers" ∷ codes "2" ∷ codes "--lines" ∷ codes "t" ∷ []) (codes "t") RiemannRoch 2
+  pub riemann_roch_lines : IsSweep (codes "rr" ∷ codes "--workers" ∷ codes "2" ∷ codes "--lines" ∷ codes "t" ∷ [])
+      (codes "t") RiemannRoch 2
   pub serve : IsServe (codes "serve" ∷ codes "t" ∷ []) (codes "t") None 65536 1
-  pub serve_options : IsServe (codes "serve" ∷ codes "--cap" ∷ codes "1" ∷ codes "--workers" ∷ codes "16" ∷ codes "t" ∷ []) (codes "t") None 1 16
-  pub serve_seats : IsServe (codes "serve" ∷ codes "t" ∷ codes "--seats" ∷ codes "64" ∷ codes "--cap=65536" ∷ []) (codes "t") (Some 64) 65536 1
+  pub serve_options : IsServe (codes "serve" ∷ codes "--cap" ∷ codes "1" ∷ codes "--workers" ∷ codes "16" ∷ codes "t" ∷ [])
+      (codes "t") None 1 16
+  pub serve_seats : IsServe (codes "serve" ∷ codes "t" ∷ codes "--seats" ∷ codes "64" ∷ codes "--cap=65536" ∷ []) (codes "t")
+      (Some 64) 65536 1
   pub party : IsParty (codes "party" ∷ codes "t" ∷ codes "s" ∷ []) (codes "t") (codes "s" ∷ []) 65536
-  pub party_capacity : IsParty (codes "party" ∷ codes "t" ∷ codes "s" ∷ codes "t" ∷ codes "--cap" ∷ codes "1" ∷ []) (codes "t") (codes "s" ∷ codes "t" ∷ []) 1
+  pub party_capacity : IsParty (codes "party" ∷ codes "t" ∷ codes "s" ∷ codes "t" ∷ codes "--cap" ∷ codes "1" ∷ []) (codes "t")
+      (codes "s" ∷ codes "t" ∷ []) 1
   pub help : IsHelp (codes "--help" ∷ [])
   pub short_help : IsHelp (codes "-h" ∷ [])
   pub help_of_judge : IsHelp (codes "judge" ∷ codes "--help" ∷ [])
@@ -108,7 +112,9 @@ pub record CommandLinesAsk : Type 0 where
   pub rank_no_degree : IsFault (codes "rank" ∷ codes "t" ∷ []) (MissingRequiredArgument ∷ [])
   pub rank_hyphen : IsFault (codes "rank" ∷ codes "t" ∷ codes "-1" ∷ []) (UnknownArgument ∷ [])
   pub rank_no_workers : IsFault (codes "rank" ∷ codes "t" ∷ codes "1" ∷ codes "--workers" ∷ []) (InvalidValue ∷ [])
-  pub rank_two_workers : IsFault (codes "rank" ∷ codes "t" ∷ codes "1" ∷ codes "--workers" ∷ codes "1" ∷ codes "--workers" ∷ codes "2" ∷ []) (ArgumentConflict ∷ [])
+  pub rank_two_workers : IsFault
+      (codes "rank" ∷ codes "t" ∷ codes "1" ∷ codes "--workers" ∷ codes "1" ∷ codes "--workers" ∷ codes "2" ∷ [])
+      (ArgumentConflict ∷ [])
   pub riemann_roch_no_file : IsFault (codes "rr" ∷ []) (MissingRequiredArgument ∷ [])
   pub riemann_roch_number : IsFault (codes "rr" ∷ codes "t" ∷ codes "1" ∷ []) (UnknownArgument ∷ [])
   pub greedy_no_turns : IsFault (codes "greedy" ∷ codes "t" ∷ []) (MissingRequiredArgument ∷ [])
@@ -126,7 +132,8 @@ pub record CommandLinesAsk : Type 0 where
   pub rank_zero_first : IsNothing (codes "rank" ∷ codes "t" ∷ codes "01" ∷ [])
   pub rank_no_worker : IsNothing (codes "rank" ∷ codes "t" ∷ codes "1" ∷ codes "--workers" ∷ codes "0" ∷ [])
   pub rank_many_workers : IsNothing (codes "rank" ∷ codes "t" ∷ codes "1" ∷ codes "--workers" ∷ codes "17" ∷ [])
-  pub rank_lines_many_workers : IsNothing (codes "rank" ∷ codes "t" ∷ codes "1" ∷ codes "--lines" ∷ codes "--workers" ∷ codes "17" ∷ [])
+  pub rank_lines_many_workers : IsNothing
+      (codes "rank" ∷ codes "t" ∷ codes "1" ∷ codes "--lines" ∷ codes "--workers" ∷ codes "17" ∷ [])
   pub greedy_many_turns : IsNothing (codes "greedy" ∷ codes "t" ∷ codes "65537" ∷ [])
   pub serve_no_entry : IsNothing (codes "serve" ∷ codes "t" ∷ codes "--cap" ∷ codes "0" ∷ [])
   pub serve_many_entries : IsNothing (codes "serve" ∷ codes "t" ∷ codes "--cap" ∷ codes "65537" ∷ [])

@@ -1,11 +1,11 @@
 -- Why words are refused.
 --   HasFault words      == the library of command lines finds a fault, which is no call for help or
 --                          the version
---   AskNothing words    == it finds none, and yet the words ask for nothing: a number is not in its
---                          range, or `--workers` stands without `--lines`
+--   AskNothing words    == it finds none, and yet there is nothing that the words ask for, as where a
+--                          number is not in its range, or `--workers` stands without `--lines`
 --   Refuses words fault == the words may be refused so: for want of memory, or else because they
 --                          have a fault or ask for nothing
-use Rattle.std.specs.Prelude.{◌≡◌, ◌≢◌, ◌⊎◌, List, [], Result, Ok, Err, ⊤}
+use Rattle.std.specs.Prelude.{◌≡◌, ◌≢◌, ◌⊎◌, List, [], ⊤}
 use Rattle.clap.specs.Words.{IsAmong, Text, fault_of}
 use Rattle.clap.specs.declared.error.kind.ErrorKind.{ErrorKind}
 use Rattle.clap.specs.declared.error.kind.ErrorKind.TheVariants.{DisplayHelp, DisplayVersion}

@@ -84,7 +84,9 @@ fn error_of(
     name: Option<&str>,
     refusal: Refusal<'_>,
 ) -> Result<clap::Error, AllocError>
-    ensures { IfOk result (λ error. (refusal.entry ≡ Refusal.Memory → kind_of error ≡ ErrorKind.OutOfMemory) × IsNoCall (kind_of error)) }
+    ensures { IfOk result (λ error.
+        (refusal.entry ≡ Refusal.Memory → kind_of error ≡ ErrorKind.OutOfMemory)
+        × IsNoCall (kind_of error)) }
 {
     match refusal {
         Refusal::Command => {

@@ -217,7 +217,10 @@ fn rehearsal_in<'a>(inner: &ArgMatches<'a>) -> Result<Task<'a>, Refusal<'a>>
 
 /// The table file of a command that has workers for lines alone.
 fn file_alone_in<'a>(inner: &ArgMatches<'a>) -> Result<&'a str, Refusal<'a>>
-    ensures { Tells (λ file. (word_of (codes "file") (rows_in inner.now) ≡ Some file.now) × (word_of (codes "workers") (rows_in inner.now) ≡ None)) result }
+    ensures { Tells
+        (λ file. (word_of (codes "file") (rows_in inner.now) ≡ Some file.now)
+        × (word_of (codes "workers") (rows_in inner.now) ≡ None))
+        result }
 {
     let file = word_in(inner, "file")?;
     match text_in(inner, "workers") {
@@ -345,7 +348,10 @@ fn number_of(argument: NumberArgument, word: &str) -> Result<u32, Refusal<'_>>
 
 /// The names of the scripts.
 fn scripts_in<'a>(alloc: Global, inner: &ArgMatches<'a>) -> Result<Vec<&'a str>, Refusal<'a>>
-    ensures { Tells (λ scripts. (words_of (codes "script") (rows_in inner.now) ≡ Some (map (λ script. script.now) scripts.items)) × (1 ≤ vec_len scripts)) result }
+    ensures { Tells
+        (λ scripts. (words_of (codes "script") (rows_in inner.now)
+        ≡ Some (map (λ script. script.now) scripts.items)) × (1 ≤ vec_len scripts))
+        result }
 {
     let Some(names) = texts_in(inner, "script") else {
         return Err(Refusal::Command);

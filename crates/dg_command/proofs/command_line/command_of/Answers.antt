@@ -1,9 +1,6 @@
 use Rattle.std.proofs.Common.{Result, Err, Ok, ◌≡◌, IsErrAnd, IfErr, inl, inr, sym, ap, subst}
-use Rattle.clap.specs.Words.{Text, kind_of}
 use Rattle.clap.specs.declared.error.Error.{Error}
-use Rattle.dg_asked.specs.declared.asked.Asked.{Asked}
 use Rattle.dg_command.specs.Asks.{AsksFor}
-use Rattle.dg_command.specs.Faults.{IsWhy}
 use Rattle.dg_command.proofs.Parsing.{ask_nothing, asks, entered, faultless, why}
 use Rattle.dg_command.proofs.command_line.command_of.Goals as goal
 
@@ -12,7 +9,8 @@ handed P (Ok x) e h is = tt
 handed P (Err x) e h is = subst P (sym is) h
 
 pub returns-in_err-matches-clause-refused : goal.returns-in_err-matches-clause-refused
-returns-in_err-matches-clause-refused c = handed _ _ _ (why _ _ c.in_err-matches.field-0.0 c.in_ok-dollar.ensures c.in_err-matches.ensures.kinds) c.from_residual-in_err-matches.ensures.1
+returns-in_err-matches-clause-refused c = handed _ _ _
+    (why _ _ c.in_err-matches.field-0.0 c.in_ok-dollar.ensures c.in_err-matches.ensures.kinds) c.from_residual-in_err-matches.ensures.1
 
 pub returns-in-Ok-clause-asked : goal.returns-in-Ok-clause-asked
 returns-in-Ok-clause-asked c =
@@ -27,7 +25,8 @@ returns-clause-refused c =
     elim c.in-Err.ensures [
       | inl memory ↦ inl (c.in_ok-error_of-in-Err.ensures.0 memory)
       | inr nothing ↦ inr (inr (
-        ask_nothing _ none (λ it h. nothing it (subst (λ o. Rattle.std.proofs.Common.IsSomeAnd o (λ p. AsksFor p.0 p.1 it)) (sym rows) h)),
+        ask_nothing _ none (λ it h. nothing it (subst (λ o. Rattle.std.proofs.Common.IsSomeAnd o (λ p. AsksFor p.0 p.1 it))
+            (sym rows) h)),
         c.in_ok-error_of-in-Err.ensures.1,
       ))
     ]

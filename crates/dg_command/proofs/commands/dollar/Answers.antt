@@ -1,6 +1,5 @@
-use Rattle.std.proofs.Common.{◌≡◌, ◌∙◌, ap, codes, true}
+use Rattle.std.proofs.Common.{◌∙◌, ap, true}
 use Rattle.std.proofs.lemmas.Result.{IfOk-weaker}
-use Rattle.clap.specs.Words.{App, app_of, new_app}
 use Rattle.clap.specs.Simple.{app_of_fields, on_top}
 use Rattle.dg_command.specs.Commands.{dollar}
 use Rattle.dg_command.proofs.Adding.{adds_command}
@@ -12,8 +11,14 @@ returns c =
     let named = ap app_of_fields c.about.ensures ∙ c.new.ensures.app in
     let versioned = ap app_of_fields c.version.ensures ∙ ap (on_top (λ s. record s { has_version = true })) named in
     let told = ap app_of_fields c.after_help.ensures ∙ versioned in
-    let required = ap app_of_fields c.subcommand_required.ensures ∙ ap (on_top (λ s. record s { subcommand_required = true })) told in
-    let helped = ap app_of_fields c.arg_required_else_help.ensures ∙ ap (on_top (λ s. record s { arg_required_else_help = true })) required in
+    let required = ap app_of_fields c.subcommand_required.ensures ∙ ap (on_top (λ s. record s {
+      subcommand_required =
+          true;
+    })) told in
+    let helped = ap app_of_fields c.arg_required_else_help.ensures ∙ ap (on_top (λ s. record s {
+      arg_required_else_help =
+          true;
+    })) required in
     let one = adds_command _ _ _ _ _ c.in_ok-subcommand.ensures helped c.in_ok-judge.ensures in
     let two = adds_command _ _ _ _ _ c.in_ok-subcommand-2.ensures one c.in_ok-rank.ensures in
     let three = adds_command _ _ _ _ _ c.in_ok-subcommand-3.ensures two c.in_ok-riemann_roch.ensures in
