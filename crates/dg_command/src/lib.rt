@@ -2,6 +2,10 @@
 #![tactic(auto)]
 
 mod command_line;
+mod commands;
 mod help_texts;
+mod laws;
+mod reading;
 
 pub use command_line::{CommandLine, words_of};
+pub use laws::command_lines_ask;

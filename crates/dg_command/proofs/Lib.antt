@@ -1,0 +1,5 @@
+mod Telling
+mod Adding
+mod Parsing
+mod Nothing
+mod CommandLines
