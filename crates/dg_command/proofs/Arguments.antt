@@ -1,5 +1,5 @@
 -- An argument as each call that makes it leaves it.
-use Rattle.std.proofs.Common.{◌≡◌, ◌∙◌, Option, Some, ap, false, true}
+use Rattle.std.proofs.Common.{◌≡◌, ◌∙◌, Some, ap, false, true}
 use Rattle.std.specs.Borrow.{Bor}
 use Rattle.clap.specs.Words.{Rule, Text, new_rule, rule_of}
 use Rattle.clap.specs.declared.builder.texts.Texts.TheVariants.{One}
