@@ -10,7 +10,7 @@ ghost use Rattle.dg_table.specs.Seats.{Keeps, Meets};
 use dg_game::{Entry, LookData, Reply, Request};
 use dg_log::{Digest, Log, Name, Past, Receipt, Seating};
 use std::alloc::{AllocError, Global};
-use std::marker::Model;
+use std::marker::{Model, PhantomData};
 
 /// What is in the box of an entry before it is answered.
 const BLANK: Entry = Entry {
@@ -31,6 +31,8 @@ pub struct Seat<N: Name> {
     pub(crate) met: Past<N>,
     pub(crate) told_digest: Digest<N>,
     pub(crate) look: Option<LookData>,
+    // Private: so a seat is made here alone, with the leave to make it.
+    of: PhantomData<N>,
 }
 
 impl<N: Name> Model for Seat<N> {
@@ -93,6 +95,7 @@ impl<N: Name> Seat<N> {
             met: Past::new(),
             told_digest: Digest::new(),
             look: None,
+            of: PhantomData,
         }
     }
 
