@@ -7,7 +7,7 @@
 --   full_at_close   which is full, where the session ended so
 use Rattle.std.proofs.Common.{◌≡◌, ℕ, zero, suc, ◌+◌, ◌<◌, ◌≤◌, inl, inr, List, [], ◌∷◌, ◌++◌, length, length-append, map, Option, Some, sum, get_or, slice_get, Result, Err, refl, sym, ap, subst, ◌∙◌, arith, append_assoc}
 use Rattle.std.specs.List.{enumerate_from}
-use Rattle.std.proofs.lemmas.Option.{slice_get_within, slice_get-map, same_Some}
+use Rattle.std.proofs.lemmas.Option.{same_Some}
 use Rattle.std.proofs.lemmas.List.{length-map, nil_from_length}
 use Rattle.std.proofs.lemmas.List.Sums.{sum_by-cons}
 use Rattle.dg_chips.specs.Opening.{Opening}
@@ -26,7 +26,7 @@ use Rattle.dg_session.specs.Ends.{EndsBy, IsOver}
 use Rattle.dg_session.specs.declared.ends.SessionEnd.{SessionEnd}
 use Rattle.dg_session.specs.declared.ends.SessionEnd.TheVariants.{Table}
 use Rattle.dg_session.proofs.Coming.{below_stand, stand_on}
-use Rattle.dg_session.proofs.InOrder.{calls_of, get_set, Fits, fits_all}
+use Rattle.dg_session.proofs.InOrder.{calls_of, get_set, fits_all}
 use Rattle.std.specs.Io.KnownBytes.{IsAtEnd}
 
 few_between : (a b : ℕ) (ps : List (ℕ × Entry)) → AscendFrom a ps → AreBelow b ps → a ≤ b → a + length ps ≤ b

@@ -1,4 +1,4 @@
-use Rattle.std.proofs.Common.{◌≡◌, ◌<◌, ◌++◌, [], ◌∷◌, length, ap, ◌∙◌, arith, rules}
+use Rattle.std.proofs.Common.{◌<◌, ◌++◌, [], ◌∷◌, length, ap, ◌∙◌, rules}
 use Rattle.dg_session.specs.Course.{CourseView}
 use Rattle.dg_session.proofs.Coming.{last_made}
 use Rattle.dg_session.proofs.course.Course.follow.Goals as goal
