@@ -13,12 +13,14 @@
 --   cells_more     the cells of one item more
 --   stands         what a digest says stands in the history, where it agrees with what the pen knows
 --   began          a history that a pen wrote once is the beginning of a longer one, where they agree
-use Rattle.std.proofs.Common.{◌≡◌, ℕ, zero, suc, ◌+◌, ◌<◌, ◌≤◌, List, [], ◌∷◌, ◌++◌, length, map, take, slice_get, Some, arith, refl, sym, ap, ◌∙◌, length-append}
+--   begins_itself  a history begins with itself
+--   longer_second, longer_first   of a history and its beginning, it is the longer
+use Rattle.std.proofs.Common.{◌≡◌, ℕ, zero, suc, ◌+◌, ◌<◌, ◌≤◌, List, [], ◌∷◌, ◌++◌, length, map, take, slice_get, Some, arith, refl, sym, ap, subst, ◌∙◌, length-append}
 use Rattle.std.proofs.lemmas.Option.{slice_get_within}
-use Rattle.std.proofs.lemmas.List.{length-map}
+use Rattle.std.proofs.lemmas.List.{length-map, append-nil}
 use Rattle.dg_game.specs.declared.entry.Entry.{Entry}
 use Rattle.dg_known.specs.Facts.{AgreesWith, Agree}
-use Rattle.dg_log.specs.Numbered.{AreBelow, StandIn, IsBeginning}
+use Rattle.dg_log.specs.Numbered.{AreBelow, StandIn, IsBeginning, IsLonger}
 use Rattle.dg_log.specs.Digests.{said_by, AreNamed, IsEnd}
 
 pub below_up : (m n : ℕ) (ps : List (ℕ × Entry)) → m ≤ n → AreBelow m ps → AreBelow n ps
@@ -127,3 +129,22 @@ began (c ∷ row) (x ∷ items) (y ∷ others) agree cells more few =
     let same : x.1 ≡ y.1 = cc in
     begins_more x.2 y.2 _ _ (first_agrees x y others agree.0 same)
     (began row items others (agree_past items y others agree.1) (cc) (cc) (omega arith))
+
+pub begins_itself : (H : List Entry) → IsBeginning H H
+begins_itself H = ([], sym (append-nil H))
+
+pub longer_second : (K H M : List Entry) → IsBeginning K H → M ≡ H → length K ≤ length H → IsLonger K H M
+longer_second K H M begins is few = record {
+  first = subst (IsBeginning K) (sym is) begins;
+  second = subst (IsBeginning H) (sym is) (begins_itself H);
+  second_longer = λ more. is;
+  first_longer = λ more. absurd (omega (arith, few, more));
+}
+
+pub longer_first : (K H M : List Entry) → IsBeginning H K → M ≡ K → length H < length K → IsLonger K H M
+longer_first K H M begins is few = record {
+  first = subst (IsBeginning K) (sym is) (begins_itself K);
+  second = subst (IsBeginning H) (sym is) begins;
+  second_longer = λ more. absurd (omega (arith, few, more));
+  first_longer = λ more. is;
+}

@@ -2,7 +2,8 @@
 --   AreBelow n ps   == the numbers of the entries ps are less than n
 --   StandIn H ps    == each of the entries ps stands in the history H at its number
 --   IsBeginning K H == the history H begins with the entries K
-use Rattle.std.specs.Prelude.{◌≡◌, ℕ, ◌<◌, List, [], ◌∷◌, ◌++◌, slice_get, Some, ⊤}
+--   IsLonger K H M  == M is the longer of the histories K and H, and begins with both
+use Rattle.std.specs.Prelude.{◌≡◌, ℕ, ◌<◌, ◌≤◌, List, [], ◌∷◌, ◌++◌, length, slice_get, Some, ⊤}
 use Rattle.dg_game.specs.declared.entry.Entry.{Entry}
 
 abbrev pub AreBelow : ℕ → List (ℕ × Entry) → Type 0
@@ -15,3 +16,9 @@ StandIn H (p ∷ ps) = (slice_get H p.0 ≡ Some p.1) × StandIn H ps
 
 abbrev pub IsBeginning : List Entry → List Entry → Type 0
 IsBeginning K H = (rest : List Entry) × (H ≡ K ++ rest)
+
+pub record IsLonger (K H M : List Entry) : Type 0 where
+  pub first : IsBeginning K M
+  pub second : IsBeginning H M
+  pub second_longer : length K ≤ length H → M ≡ H
+  pub first_longer : length H < length K → M ≡ K

@@ -9,6 +9,7 @@ mod past;
 mod pen;
 mod receipt;
 mod row;
+mod seating;
 
 pub use digest::Digest;
 pub use log::Log;
@@ -17,3 +18,4 @@ pub use past::Past;
 pub use pen::Pen;
 pub use receipt::Receipt;
 pub use row::{LogFault, Row};
+pub use seating::Seating;

@@ -8,6 +8,7 @@ use crate::name::Name;
 use crate::pen::Pen;
 use crate::receipt::Receipt;
 use crate::row::Row;
+use crate::seating::Seating;
 use dg_game::Entry;
 use dg_known::{Facts, Known};
 use once_cell::race::OnceBox;
@@ -23,8 +24,9 @@ pub struct Log<N: Name> {
 }
 
 impl<N: Name> Log<N> {
-    /// The log of an empty history, and the one pen that writes it. The condition is that N names the row.
-    pub fn new(row: Row) -> (Log<N>, Pen<N>)
+    /// The log of an empty history, the one pen that writes it, and the leave to make its seats. The condition is that N names
+    /// the row.
+    pub fn new(row: Row) -> (Log<N>, Pen<N>, Seating<N>)
         requires { row ≡ N.cells }
         ensures { result.1 ≡ record { entries = []; stuck = false } }
     {
@@ -32,7 +34,7 @@ impl<N: Name> Log<N> {
             cells: row.cells,
             of: PhantomData,
         };
-        (log, Pen::new())
+        (log, Pen::new(), Seating::new())
     }
 
     /// How many entries the history may have, at most 65,536.

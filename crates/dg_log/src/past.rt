@@ -1,7 +1,8 @@
 //! How a history began.
 ghost use Rattle.std.specs.Prelude.{◌≡◌, ◌⊎◌, [], length, map, take};
-ghost use Rattle.dg_log.specs.Numbered.{IsBeginning};
+ghost use Rattle.dg_log.specs.Numbered.{AreBelow, StandIn, IsBeginning, IsLonger};
 
+use crate::digest::Digest;
 use crate::name::Name;
 use dg_game::Entry;
 use dg_known::Facts;
@@ -58,6 +59,38 @@ impl<N: Name> Past<N> {
         ensures { result ≡ length self.now }
     {
         self.len
+    }
+
+    /// The same once more.
+    pub fn again(&self) -> Past<N>
+        ensures { result ≡ self.now }
+    {
+        Past {
+            facts: self.facts.again(),
+            len: self.len,
+            of: PhantomData,
+        }
+    }
+
+    /// The longer of two histories of one table, which begins with the other.
+    pub fn longer(&self, other: &Past<N>) -> Past<N>
+        ensures { IsLonger self.now other.now result }
+    {
+        if self.len <= other.len {
+            self.facts.agree(&other.facts);
+            other.again()
+        } else {
+            other.facts.agree(&self.facts);
+            self.again()
+        }
+    }
+
+    /// What receipts say stands in the history. It does nothing. The condition is that their numbers are less than its length.
+    pub fn holds(&self, digest: &Digest<N>)
+        requires { AreBelow (length self.now) digest.now }
+        ensures { StandIn self.now digest.now }
+    {
+        digest.facts.agree(&self.facts);
     }
 
     /// Of two histories of one table, one is the beginning of the other. It does nothing.

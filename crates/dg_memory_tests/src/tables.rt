@@ -163,7 +163,7 @@ fn shown<N: Name, R: Threads + Wait + Abort + Print>(
 fn writes<N: Name, R: Abort + Print>(rt: &R, alloc: Global, row: Row) -> Result<Outcome, Fail>
     requires { row ≡ N.cells }
 {
-    let (log, mut pen) = Log::<N>::new(row);
+    let (log, mut pen, _) = Log::<N>::new(row);
     let claim = Entry {
         seat: 1,
         request: Request::Claim,

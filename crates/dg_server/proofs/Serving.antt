@@ -2,6 +2,7 @@
 --   seats_back     seats that were lent whole come back whole
 --   held_count     files that are held are as many as their names
 --   may_play       scripts that are held are as many as may have seats
+--   served         a session whose table is closed served it
 --   party_on       a party over files that are held is that of the table that one of them describes
 use Rattle.std.proofs.Common.{◌≡◌, ℕ, suc, ◌≤◌, List, [], ◌∷◌, ◌++◌, length, take, map, refl, sym, ap, ◌∙◌, Bor, Vec, Global}
 use Rattle.std.proofs.lemmas.List.{length-map}
@@ -11,7 +12,12 @@ use Rattle.dg_table.specs.Opened.{MayHaveSeats}
 use Rattle.dg_table.specs.Seats.{SeatView}
 use Rattle.dg_sources.specs.Held.{Held}
 use Rattle.dg_chips.specs.Opening.{Opening}
-use Rattle.std.specs.Prelude.{Result}
+use Rattle.std.specs.Prelude.{Result, Option}
+use Rattle.dg_game.specs.declared.entry.Entry.{Entry}
+use Rattle.dg_table.specs.Closing.{IsClosed}
+use Rattle.dg_session.proofs.Entered.{entered_all, full_at_close}
+use Rattle.dg_session.specs.declared.addressing.Addressing.{Addressing}
+use Rattle.dg_server.specs.Sessions.{IsHeard, IsServed}
 use Rattle.dg_session.specs.declared.ends.SessionEnd.{SessionEnd}
 use Rattle.dg_party.specs.Sessions.{contents}
 use Rattle.dg_party.specs.Parties.{IsParty}
@@ -48,6 +54,18 @@ may_play held n names all known count least most =
     length-map names (λ (name : Bor (List ℕ)). name.now) in
     let total : length all ≡ n = sym scripts ∙ same ∙ given ∙ sym count in
     rw total (least, most)
+
+pub served : {how : Addressing} {o : Opening} {n cap : ℕ} {names : List (List ℕ)} {input old new : Option (List ℕ)}
+    {end : Result ℕ SessionEnd} (heard : IsHeard how o n cap names input old new end) (H : List Entry)
+    → map (λ (x : SeatView). x.number) heard.after ≡ map (λ (x : SeatView). x.number) heard.seats
+    → IsClosed o n cap heard.after H → IsServed how o n cap names input old new end
+served heard H same closed = record {
+  heard = heard;
+  history = H;
+  closed = closed;
+  full = full_at_close heard.session closed;
+  whole = entered_all heard.session heard.fresh same closed;
+}
 
 pub party_on : (held : List ℕ → Held) (task : PartyTask) (o : Opening) (names : List (List ℕ))
     (all : List (Vec ℕ Global))

@@ -6,7 +6,9 @@
 --                            came to this end; and the output has grown by what it said
 --   IsServed how o n cap names input old new end == so it did; and there is one history of the
 --                            table, in which the entries of each seat are just those of its own
---                            calls, each once and in order
+--                            calls, each once and in order; and what the lines entered, one line
+--                            after another, is all of it, numbered from 0; and it is full, if the
+--                            end is that of a full table
 --   Serves held input task old new == such a session came to the end of the input, on the table of
 --                         the file that is named
 --   EndsEarly how o n cap names input fault old new == such a session ended early, for that fault;
@@ -14,10 +16,11 @@
 --                            began, and the output is as it was
 --   RefusesServing held input task fault old new == the table file is refused so, and the output is
 --                            as it was; or the session on its table ended so
-use Rattle.std.specs.Prelude.{◌≡◌, ℕ, List, Option, None, Some, ◌⊎◌}
+use Rattle.std.specs.Prelude.{◌≡◌, ℕ, List, length, Option, None, Some, ◌⊎◌}
 use Rattle.std.specs.declared.result.Result.{Result}
 use Rattle.std.specs.declared.result.Result.TheVariants.{Ok, Err}
 use Rattle.std.specs.Io.KnownBytes.{Keeps}
+use Rattle.std.specs.List.{enumerate_from}
 use Rattle.dg_chips.specs.Opening.{Opening}
 use Rattle.dg_game.specs.declared.entry.Entry.{Entry}
 use Rattle.dg_table.specs.Opened.{AreFresh}
@@ -27,6 +30,8 @@ use Rattle.dg_session.specs.Ends.{IsSessionOf}
 use Rattle.dg_session.specs.declared.addressing.Addressing.{Addressing}
 use Rattle.dg_session.specs.declared.addressing.Addressing.TheVariants.{OneSeat, BySeat}
 use Rattle.dg_session.specs.declared.ends.SessionEnd.{SessionEnd}
+use Rattle.dg_session.specs.declared.ends.SessionEnd.TheVariants.{Table}
+use Rattle.dg_table.specs.declared.fault.Fault.TheVariants.{Full}
 use Rattle.dg_sources.specs.Held.{Held}
 use Rattle.dg_tasks.specs.Tasks.{IsOnTable, RefusesItsTable}
 use Rattle.dg_server.specs.OfTasks.{IsOfTask}
@@ -54,6 +59,8 @@ pub record IsServed (how : Addressing) (o : Opening) (n cap : ℕ) (names : List
   pub heard : IsHeard how o n cap names input old new end
   pub history : List Entry
   pub closed : IsClosed o n cap heard.after history
+  pub full : end ≡ Err (Table Full) → length history ≡ cap
+  pub whole : heard.session.end.entered ≡ enumerate_from 0 history
 
 abbrev pub Serves : (List ℕ → Held) → Option (List ℕ) → ServeTask → Option (List ℕ)
     → Option (List ℕ) → Type 0

@@ -1,5 +1,8 @@
 -- The lemmas that the proofs cite, each file over plain variables.
 pub mod Cutting
+pub mod Coming
+pub mod InOrder
+pub mod Entered
 pub mod Made
 pub mod Lines
 pub mod Seated

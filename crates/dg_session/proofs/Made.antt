@@ -12,7 +12,7 @@
 --       refuses
 --   with_look, with_none   so it is with the look that is kept, and with none
 --   call_keeps      a call that is no look keeps the look
-use Rattle.std.proofs.Common.{◌≡◌, ◌≢◌, ℕ, inl, inr, List, [], ◌∷◌, ◌++◌, length, Option, Some, None, Result, Ok, Err, OnOk, refl, sym, ap, subst, ◌∙◌, append-nil, append_assoc, codes, arith}
+use Rattle.std.proofs.Common.{◌≡◌, ◌≢◌, ℕ, inl, inr, List, [], ◌∷◌, ◌++◌, length, Option, Some, None, slice_get, Result, Ok, Err, OnOk, refl, sym, ap, subst, ◌∙◌, append-nil, codes, arith}
 use Rattle.dg_chips.specs.Opening.{Opening}
 use Rattle.dg_rank.specs.Ranks.{IsWithin}
 use Rattle.dg_rank.specs.Limits.{IsPastLimits}
@@ -34,7 +34,7 @@ use Rattle.dg_lines.specs.Texts.{HasNames, entry_text}
 use Rattle.dg_game.specs.LegalLaws.{HasSize}
 use Rattle.dg_game.proofs.LegalLaws.{legal_sized}
 use Rattle.dg_game.proofs.ListLaws.{slice_get-seam}
-use Rattle.dg_log.specs.Numbered.{IsBeginning}
+use Rattle.dg_table.proofs.Numbered.{begins_on, begins_length}
 use Rattle.dg_table.specs.Seats.{SeatView, Keeps}
 use Rattle.dg_table.specs.Faults.{RefusesCall}
 use Rattle.dg_table.specs.declared.fault.Fault.{Fault}
@@ -55,13 +55,12 @@ gains_none x y keeps = record {
   heard = [];
   told = keeps.told ∙ sym (append-nil x.told);
   past = ([], keeps.past ∙ sym (append-nil x.past));
+  order = record { begins = keeps.met; stand = tt; after = tt };
+  still = λ none. (keeps.told, keeps.past);
 }
 
 pub gains_same : (x : SeatView) → Gains x x []
-gains_same x = gains_none x x (record { number = refl; mine = refl; told = refl; past = refl })
-
-begun_twice : (K L H : List Entry) → IsBeginning K L → IsBeginning L H → IsBeginning K H
-begun_twice K L H (first, p) (second, q) = (first ++ second, q ∙ ap (λ l. l ++ second) p ∙ append_assoc K first second)
+gains_same x = gains_none x x (record { number = refl; mine = refl; told = refl; past = refl; met = ([], sym (append-nil x.met)) })
 
 pub record Stands (o : Opening) (request : Request) (r : ℕ × Entry) (x y : SeatView) : Type 0 where
   pub asked' : r.1.request ≡ request
@@ -79,7 +78,16 @@ entry_made o seats cap H request known heard r x y told e = record {
     mine = e.mine;
     heard = heard;
     told = e.told ∙ told;
-    past = begun_twice x.past H y.past e.before.past (r.1 ∷ [], e.past);
+    past = begins_on x.past H y.past e.before.past (r.1 ∷ [], e.past);
+    order = record {
+      begins = begins_on x.met H y.met e.before.met (r.1 ∷ [], e.met);
+      stand = (
+        ap (λ K. slice_get K r.0) e.met ∙ ap (slice_get (H ++ r.1 ∷ [])) e.place ∙ slice_get-seam H r.1 [],
+        tt,
+      );
+      after = (omega (arith, begins_length x.met H e.before.met, e.place), tt);
+    };
+    still = λ none. absurd (cc);
   };
 }
 

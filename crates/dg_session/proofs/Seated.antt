@@ -5,17 +5,20 @@
 --   sizes_kept    a line leaves as many seats, and as many looks
 --   numbers       the numbers of the seats
 --   numbers_said, numbers_left   a line leaves each seat its number
-use Rattle.std.proofs.Common.{◌≡◌, ℕ, zero, suc, ◌+◌, ◌<◌, ◌≤◌, inl, inr, List, [], ◌∷◌, length, length-set, map, Option, Some, Result, Ok, Err, refl, sym, ap, ◌∙◌, arith, slice_get}
+use Rattle.std.proofs.Common.{◌≡◌, ℕ, zero, suc, ◌+◌, ◌<◌, ◌≤◌, inl, inr, List, [], ◌∷◌, ◌++◌, length, length-set, map, Option, Some, Result, Ok, Err, refl, sym, ap, ◌∙◌, arith, slice_get}
 use Rattle.std.specs.Prelude.{⊤}
 use Rattle.std.specs.List.{slice_set, slice_index_or}
 use Rattle.std.proofs.lemmas.List.{map-set}
-use Rattle.dg_table.specs.Seats.{SeatView}
+use Rattle.dg_game.specs.declared.entry.Entry.{Entry}
+use Rattle.dg_table.specs.Seats.{SeatView, Meets}
 use Rattle.dg_analyst.specs.Views.{LookView}
 use Rattle.dg_lines.specs.Steps.{IsSeated}
 use Rattle.dg_lines.proofs.Stepping.{seated_parts}
 use Rattle.dg_session.specs.Refusing.{RefusesLine}
+use Rattle.dg_session.specs.Saying.{Gains}
+use Rattle.dg_session.proofs.Coming.{comes_from, gained_met, line_met, line_one, refused_made}
 use Rattle.dg_session.specs.Setup.{Setup}
-use Rattle.dg_session.specs.Speakers.{Speakers, speakers, kept_number, IsFor, IsForNone, Becomes, AnswersLineOf, RefusesLineOf}
+use Rattle.dg_session.specs.Speakers.{Speakers, speakers, kept_number, IsFor, IsForNone, Becomes, GoesOn, AnswersLineOf, RefusesLineOf}
 use Rattle.dg_session.specs.SoFar.{Hears, Handles}
 use Rattle.dg_session.specs.declared.addressing.Addressing.TheVariants.{BySeat}
 use Rattle.dg_session.specs.declared.ends.SessionEnd.{SessionEnd}
@@ -41,10 +44,10 @@ get_at (y ∷ xs) zero d low = refl
 get_at (y ∷ xs) (suc i) d low = get_at xs i d (omega (arith, low))
 
 turned : (xs : List SeatView) (ks : List (Option LookView)) (i : ℕ) (d y : SeatView) (e l : Option LookView)
-    → i < length xs → length ks ≡ length xs
-    → Becomes i (speakers xs ks) (speakers (slice_set xs i y) (slice_set ks i l)) (slice_index_or xs i d) y
+    (H L : List Entry) (ps qs : List (ℕ × Entry)) → i < length xs → length ks ≡ length xs
+    → Becomes i (speakers xs ks H ps) (speakers (slice_set xs i y) (slice_set ks i l) L qs) (slice_index_or xs i d) y
     (kept_number (slice_index_or ks i e)) (kept_number l)
-turned xs ks i d y e l low size = record {
+turned xs ks i d y e l H L ps qs low size = record {
   seat = get_at xs i d low;
   look = get_map kept_number ks i (slice_index_or ks i e) (get_at ks i e (omega (arith, low, size)));
   seats = refl;
@@ -68,14 +71,30 @@ numbers_set (w ∷ xs) zero x y at same = let is : w ≡ x = cc in ap (λ n. n �
     (same ∙ sym (ap (λ (x : SeatView). x.number) is))
 numbers_set (w ∷ xs) (suc i) x y at same = ap (λ l. w.number ∷ l) (numbers_set xs i x y at same)
 
-pub spoken : {B : Type 0} {t : Setup} {line text : List ℕ} {old new : Option (List ℕ)} {result : Result B SessionEnd} (xs : List SeatView)
-    (ks : List (Option LookView)) (i : ℕ) (d y : SeatView) (e l : Option LookView) → IsFor t.how (length xs) line i text
-    → i < length xs → length ks ≡ length xs
-    → Hears t text (record { seat = slice_index_or xs i d; kept = kept_number (slice_index_or ks i e); said = old })
+-- the entries after those of the seat are what is put to what all lines entered
+abbrev Follows : SeatView → SeatView → List (ℕ × Entry) → List (ℕ × Entry) → Type 0
+Follows x y ps qs = (before made : List (ℕ × Entry)) → length before ≡ length x.mine → y.mine ≡ before ++ made
+    → length made ≤ 1 → qs ≡ ps ++ made
+
+went_on : {H L : List Entry} {ps qs : List (ℕ × Entry)} {x m y : SeatView} (xs ys : List SeatView)
+    (ks ls : List (Option LookView)) (made : List (ℕ × Entry)) → Meets H x m → L ≡ y.met → Follows x y ps qs
+    → Gains m y made → length made ≤ 1 → GoesOn (speakers xs ks H ps) (speakers ys ls L qs) y made
+went_on {H} {x = x} {m} {y} xs ys ks ls made meets latest follows gained one = record {
+  order = comes_from H m.met y.met made meets.met.second gained.order;
+  latest = latest;
+  entered = follows m.mine made (ap length meets.mine) gained.mine one;
+}
+
+pub spoken : {B : Type 0} {t : Setup} {line text : List ℕ} {old new : Option (List ℕ)} {result : Result B SessionEnd}
+    (xs : List SeatView) (ks : List (Option LookView)) (i : ℕ) (d m y : SeatView) (e l : Option LookView)
+    (H L : List Entry) (ps qs : List (ℕ × Entry)) → IsFor t.how (length xs) line i text
+    → i < length xs → length ks ≡ length xs → Meets H (slice_index_or xs i d) m → L ≡ y.met
+    → Follows (slice_index_or xs i d) y ps qs
+    → Hears t text (record { seat = m; kept = kept_number (slice_index_or ks i e); said = old })
     (record { seat = y; kept = kept_number l; said = new }) result
-    → Handles t line (record { who = speakers xs ks; said = old })
-    (record { who = speakers (slice_set xs i y) (slice_set ks i l); said = new }) result
-spoken {result = Ok b} xs ks i d y e l for low size h = record {
+    → Handles t line (record { who = speakers xs ks H ps; said = old })
+    (record { who = speakers (slice_set xs i y) (slice_set ks i l) L qs; said = new }) result
+spoken {t = t} {text = text} {result = Ok b} xs ks i d m y e l H L ps qs for low size meets latest follows h = record {
   done = record {
     text = h.done.text;
     holds = inr (
@@ -87,10 +106,12 @@ spoken {result = Ok b} xs ks i d y e l for low size h = record {
         y = y;
         kept = kept_number (slice_index_or ks i e);
         after = kept_number l;
-        turn = turned xs ks i d y e l low size;
+        turn = turned xs ks i d y e l H L ps qs low size;
         made = h.done.made;
         answers = h.done.answers;
-        gained = h.done.gained;
+        gained = gained_met meets y h.done.made h.done.gained;
+        goes_on = went_on xs (slice_set xs i y) ks (slice_set ks i l) h.done.made meets latest follows h.done.gained
+            (line_one t _ text h.done.made _ h.done.text h.done.answers);
       },
     );
     said = h.done.said;
@@ -98,23 +119,28 @@ spoken {result = Ok b} xs ks i d y e l for low size h = record {
   refused = tt;
   unsaid = tt;
 }
-spoken {result = Err end} xs ks i d y e l for low size h = record {
-  done = tt;
-  refused = inr (
-    i,
-    _,
-    for,
+spoken {t = t} {text = text} {result = Err end} xs ks i d m y e l H L ps qs for low size meets latest follows h =
+    let (made, gained, one) = refused_made t (kept_number (slice_index_or ks i e)) text m y end h.refused in
     record {
-      x = slice_index_or xs i d;
-      y = y;
-      kept = kept_number (slice_index_or ks i e);
-      after = kept_number l;
-      turn = turned xs ks i d y e l low size;
-      refused = h.refused;
-    },
-  );
-  unsaid = h.unsaid;
-}
+      done = tt;
+      refused = inr (
+        i,
+        _,
+        for,
+        record {
+          x = slice_index_or xs i d;
+          y = y;
+          kept = kept_number (slice_index_or ks i e);
+          after = kept_number l;
+          turn = turned xs ks i d y e l H L ps qs low size;
+          refused = line_met meets t (kept_number (slice_index_or ks i e)) text y end h.refused;
+          made = made;
+          gained = gained_met meets y made gained;
+          goes_on = went_on xs (slice_set xs i y) ks (slice_set ks i l) made meets latest follows gained one;
+        },
+      );
+      unsaid = h.unsaid;
+    }
 
 -- a line that is refused ends a session for what the table, the memory or a thread refused
 pub ends_by : (t : Setup) (s z : Speakers) (line : List ℕ) (end : SessionEnd) → RefusesLineOf t s line z end

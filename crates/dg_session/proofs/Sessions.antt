@@ -22,6 +22,7 @@ use Rattle.std.proofs.lemmas.List.Elements.{All-nil, All-head, All-tail, All-pus
 use Rattle.std.proofs.lemmas.List.{length-map}
 use Rattle.std.specs.List.{slice_index_or}
 use Rattle.std.specs.Io.KnownBytes.{Appends, Consumes, Keeps, IsAtEnd}
+use Rattle.dg_game.specs.declared.entry.Entry.{Entry}
 use Rattle.dg_table.specs.Seats.{SeatView}
 use Rattle.dg_lines.specs.Streams.{Begins, with_newline, last_line}
 use Rattle.dg_lines.proofs.Streams.{begins_then, begins_more, one_cutting}
@@ -38,6 +39,7 @@ use Rattle.dg_session.specs.declared.ends.SessionEnd.{SessionEnd}
 use Rattle.dg_session.specs.declared.ends.SessionEnd.TheVariants.{Read, Write, LongLine, Turns, Table, Memory, Spawn}
 use Rattle.dg_session.proofs.Cutting.{plain, lines_then, lines_end}
 use Rattle.dg_session.proofs.Going.{answers_none, goes_none, goes_more, empty_line}
+use Rattle.dg_session.proofs.InOrder.{fits_all}
 use Rattle.dg_session.proofs.Seated.{ends_by, numbers, numbers_said, numbers_left}
 
 pub record IsSoFar (t : Setup) (input rest old new : Option (List ℕ)) (xs : List SeatView) (at : SoFar) : Type 0 where
@@ -48,10 +50,11 @@ pub record IsSoFar (t : Setup) (input rest old new : Option (List ℕ)) (xs : Li
   pub written : Appends old new text
 
 pub so_far_new : {t : Setup} {input old : Option (List ℕ)} {xs : List SeatView} (kept : List (Option ℕ))
-    (p : List ℕ) (c : ℕ) → p ≡ [] → c ≡ 0 → kept ≡ map (λ x. None) xs → 1 ≤ length xs
+    (H : List Entry) (ps : List (ℕ × Entry)) (p : List ℕ) (c : ℕ) → H ≡ [] → ps ≡ [] → p ≡ [] → c ≡ 0
+    → kept ≡ map (λ x. None) xs → 1 ≤ length xs
     → IsSoFar t input input old old xs
-    (record { pending = p; count = c; who = record { seats = xs; kept = kept } })
-so_far_new {t} {input} {old} {xs} kept p c none begun unkept some =
+    (record { pending = p; count = c; who = record { seats = xs; kept = kept; latest = H; entered = ps } })
+so_far_new {t} {input} {old} {xs} kept H ps p c unmet unmade none begun unkept some =
     let none_of : SeatView → Option ℕ = λ x. None in record {
       stream = [];
       read = consumes_none input;
@@ -60,8 +63,13 @@ so_far_new {t} {input} {old} {xs} kept p c none begun unkept some =
         ls = [];
         came = record { whole = sym (append-nil p ∙ none); each = All-nil IsLine };
         counted = omega (arith, begun);
-        answered = subst (λ (k : List (Option ℕ)). Answers t (newcomers xs) [] (record { seats = xs; kept = k }) [])
-            (sym unkept) (answers_none t (newcomers xs));
+        answered = subst (λ (k : List (Option ℕ)). Answers t (newcomers xs) []
+            (record { seats = xs; kept = k; latest = H; entered = ps }) []) (sym unkept)
+            (subst (λ (K : List Entry). Answers t (newcomers xs) []
+            (record { seats = xs; kept = map (λ x. None) xs; latest = K; entered = ps }) []) (sym unmet)
+            (subst (λ (qs : List (ℕ × Entry)). Answers t (newcomers xs) []
+            (record { seats = xs; kept = map (λ x. None) xs; latest = []; entered = qs }) []) (sym unmade)
+            (answers_none t (newcomers xs))));
         ready = record {
           line = empty_line p none;
           few = omega (arith, begun);
@@ -155,6 +163,8 @@ module _ {t : Setup} {input rest old mid : Option (List ℕ)} {xs : List SeatVie
     written = written;
     ends = ends;
     seats = refl;
+    order = (fits_all t (IsAtEnd rest') (far.stream ++ bytes) far.goes.ls last (far.goes.ls ++ last) xs at.who w z
+        far.text text _ far.goes.answered answered ends).order;
   }
 
   over_goes : {rest' new : Option (List ℕ)} {result : Result ℕ SessionEnd} {bytes text back : List ℕ} {to : SoFar}

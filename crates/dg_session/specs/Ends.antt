@@ -11,24 +11,29 @@
 --                            lines; a line is too long, or one too many; it stops at a line for
 --                            what the table or a thread refused; or for memory, or before; or the
 --                            writer took no more
+--   AreInOrder s          == the numbers of what the lines have entered ascend; the entries stand in
+--                            the history as the last line left it; and that is the one that a seat
+--                            has met, or there was no line of a seat
 --   Writes result old new said text == the writer took what was said and the text, or, where it
 --                            took no more, all that was said and a front of the text
 --   IsOver t input rest old new xs ys result == the session of the seats xs is over, and they are
 --                            ys. A stream was read, by which the reader's bytes, where known, have
 --                            become the rest. The lines of `told` are answered with what was said,
 --                            and then those of `last` with the text; these have no more bytes than
---                            one read and one line
+--                            one read and one line. What they enter comes in their order
 --   IsSessionOf how o seats cap names .. == the same
 --   IsSession ..          == that of one seat, whose lines name none
-use Rattle.std.specs.Prelude.{◌≡◌, ℕ, ◌+◌, ◌<◌, ◌≤◌, ◌⊎◌, List, [], ◌∷◌, ◌++◌, length, Option, flat_map, Result, Ok, Err}
+use Rattle.std.specs.Prelude.{◌≡◌, ℕ, ◌+◌, ◌<◌, ◌≤◌, ◌⊎◌, List, [], ◌∷◌, ◌++◌, length, slice_get, Option, Some, flat_map, Result, Ok, Err}
 use Rattle.std.specs.Io.KnownBytes.{Appends, Consumes, IsAtEnd}
 use Rattle.dg_chips.specs.Opening.{Opening}
+use Rattle.dg_log.specs.Numbered.{StandIn}
 use Rattle.dg_table.specs.Seats.{SeatView}
 use Rattle.dg_lines.specs.Cuts.{lines}
 use Rattle.dg_lines.specs.Streams.{HasNoNewline, Begins, with_newline}
 use Rattle.dg_streams.specs.Streams.{AppendsFront}
 use Rattle.dg_session.specs.Setup.{Setup, setup}
 use Rattle.dg_session.specs.Streams.{IsLine, AreLines}
+use Rattle.dg_session.specs.Order.{AscendFrom}
 use Rattle.dg_session.specs.Speakers.{Speakers, newcomers, AnswersLineOf, RefusesLineOf}
 use Rattle.dg_session.specs.declared.addressing.Addressing.{Addressing}
 use Rattle.dg_session.specs.declared.addressing.Addressing.TheVariants.{OneSeat}
@@ -70,6 +75,12 @@ EndsBy t ended stream ls s z (Err Write) =
 EndsBy t ended stream ls s z (Err Memory) = (z ≡ s) ⊎ StopsAt t ended stream ls s z Memory
 EndsBy t ended stream ls s z (Err end) = StopsAt t ended stream ls s z end
 
+pub record AreInOrder (s : Speakers) : Type 0 where
+  pub ascend : AscendFrom 0 s.entered
+  pub stand : StandIn s.latest s.entered
+  pub met : (s.latest ≡ [])
+      ⊎ ((i : ℕ) × (x : SeatView) × (slice_get s.seats i ≡ Some x) × (s.latest ≡ x.met))
+
 abbrev pub Writes : Result ℕ SessionEnd → Option (List ℕ) → Option (List ℕ) → List ℕ → List ℕ
     → Type 0
 Writes (Err Write) old new said text = AppendsFront old new said text
@@ -93,6 +104,7 @@ pub record IsOver (t : Setup) (input rest old new : Option (List ℕ)) (xs ys : 
   pub written : Writes result old new said text
   pub ends : EndsBy t (IsAtEnd rest) stream (told ++ last) after end result
   pub seats : end.seats ≡ ys
+  pub order : AreInOrder end
 
 abbrev pub IsSessionOf : Addressing → Opening → ℕ → ℕ → List (List ℕ) → Option (List ℕ)
     → Option (List ℕ) → Option (List ℕ) → Option (List ℕ) → List SeatView → List SeatView

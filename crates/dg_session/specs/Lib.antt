@@ -2,9 +2,11 @@
 -- whom lines are for, and how a session ends.
 pub mod Streams
 pub mod Setup
+pub mod Order
 pub mod Saying
 pub mod Refusing
 pub mod Speakers
 pub mod Ends
 -- What serves the steps of a session alone.
+pub mod Course
 pub mod SoFar

@@ -15,7 +15,9 @@
 --                         command
 --   Gains x y made       == the seat is the same, has made these entries, and was told of what it
 --                           was told, and perhaps more; the history that it has found begins with
---                           the one that it had
+--                           the one that it had; the one that it has met has these entries after
+--                           the one that it had met; and where it made none, it was told of no
+--                           entry, and found no history
 use Rattle.std.specs.Prelude.{◌≡◌, ℕ, ◌⊎◌, List, [], ◌∷◌, ◌++◌, Option, Some, None, codes}
 use Rattle.dg_rank.specs.Ranks.{IsWithin}
 use Rattle.dg_game.specs.Requests.{asked}
@@ -30,6 +32,7 @@ use Rattle.dg_lines.specs.Commands.{IsCommandLine}
 use Rattle.dg_lines.specs.LineFaults.{IsLineFault}
 use Rattle.dg_lines.specs.Texts.{entry_text}
 use Rattle.dg_session.specs.Setup.{Setup}
+use Rattle.dg_session.specs.Order.{ComeAfter}
 use Rattle.dg_lines.specs.declared.line.LineFault.{LineFault}
 use Rattle.dg_lines.specs.declared.line.LineFault.TheVariants.{Seat, Word, Form, Name, Number}
 
@@ -83,3 +86,5 @@ pub record Gains (x y : SeatView) (made : List (ℕ × Entry)) : Type 0 where
   pub heard : List (ℕ × Entry)
   pub told : y.told ≡ x.told ++ heard
   pub past : IsBeginning x.past y.past
+  pub order : ComeAfter x.met made y.met
+  pub still : made ≡ [] → (y.told ≡ x.told) × (y.past ≡ x.past)

@@ -40,6 +40,7 @@ use Rattle.dg_analyst.specs.Views.{LookView}
 use Rattle.dg_streams.specs.Streams.{Writing, AppendsFront}
 use Rattle.dg_lines.specs.Streams.{Begins, last_line}
 use Rattle.dg_session.specs.Setup.{Setup}
+use Rattle.dg_session.specs.Course.{CourseView}
 use Rattle.dg_session.specs.Streams.{IsLine, AreLines}
 use Rattle.dg_session.specs.Saying.{Gains, AnswersCommand, AnswersLine}
 use Rattle.dg_session.specs.Refusing.{RefusesCommand, RefusesLine}
@@ -67,8 +68,9 @@ pub record Talk : Type 0 where
   pub who : Speakers
   pub said : Option (List ℕ)
 
-abbrev pub talk : List SeatView → List (Option LookView) → Said → Talk
-talk xs looks said = record { who = speakers xs looks; said = heard said.text }
+abbrev pub talk : List SeatView → List (Option LookView) → CourseView → Said → Talk
+talk xs looks course said =
+    record { who = speakers xs looks course.latest course.entered; said = heard said.text }
 
 pub record SoFar : Type 0 where
   pub pending : List ℕ
@@ -76,7 +78,11 @@ pub record SoFar : Type 0 where
   pub who : Speakers
 
 abbrev pub so_far : {N : Type 0} → Progress N → List SeatView → SoFar
-so_far p xs = record { pending = p.pending.items; count = p.count; who = speakers xs p.kept.items }
+so_far p xs = record {
+  pending = p.pending.items;
+  count = p.count;
+  who = speakers xs p.kept.items p.course.latest p.course.entered;
+}
 
 abbrev pub beginning : List SeatView → SoFar
 beginning xs = record { pending = []; count = 0; who = newcomers xs }

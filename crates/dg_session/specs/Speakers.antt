@@ -1,8 +1,9 @@
 -- Who speaks in a session: its seats, in order, and for each the number of the look that it keeps,
 -- if it keeps one. A seat that is not spoken for stays as it is.
---   Speakers           == the seats, and the looks that they keep
---   speakers xs looks  == those of these seats and looks
---   newcomers xs       == the seats, and no look is kept
+--   Speakers           == the seats, and the looks that they keep; the history as the last line left
+--                         it; and what all lines have entered, in their order
+--   speakers xs looks H ps   == those of these seats and looks, with that history and these entries
+--   newcomers xs       == the seats, and no look is kept; there was no line
 --   IsFor how n line i text   == of n seats, the line is for that at the place i, from 0, and the
 --                                text is its command line: the line begins with the number i + 1
 --                                and a space; or it names no seat, and is for the first
@@ -10,6 +11,9 @@
 --   Becomes i s z x y kept after == of the seats s, the one at the place i was x and keeps that
 --                                look; it is y now and keeps this one; and the seats z are those,
 --                                all others as in s
+--   GoesOn s z y made  == the line of a seat, which is y then, has entered these entries, after all
+--                         that the lines before it left: the history as it leaves it is that which y
+--                         has met
 --   AnswersIn t i text s z said == the seat at the place i is answered its command line so, and
 --                         says nothing else
 --   AnswersLineOf t s line z text == the line, with the seats s, is answered with the text, and the
@@ -18,13 +22,14 @@
 --   RefusesLineOf t s line z end == at the line the session ends so, and the seats are z then:
 --                                memory is refused to it, or its command is refused to the seat
 --                                that it is for
-use Rattle.std.specs.Prelude.{◌≡◌, ℕ, ◌+◌, ◌<◌, ◌⊎◌, List, length, map, Option, None, Some, codes, slice_get}
+use Rattle.std.specs.Prelude.{◌≡◌, ℕ, ◌+◌, ◌<◌, ◌⊎◌, List, [], ◌++◌, length, map, Option, None, Some, codes, slice_get}
 use Rattle.std.specs.List.{slice_set}
 use Rattle.dg_game.specs.declared.entry.Entry.{Entry}
 use Rattle.dg_table.specs.Seats.{SeatView}
 use Rattle.dg_analyst.specs.Views.{LookView}
 use Rattle.dg_lines.specs.Steps.{IsSeated}
 use Rattle.dg_session.specs.Setup.{Setup}
+use Rattle.dg_session.specs.Order.{ComeAfter}
 use Rattle.dg_session.specs.Saying.{Gains, AnswersLine}
 use Rattle.dg_session.specs.Refusing.{RefusesLine}
 use Rattle.dg_session.specs.declared.addressing.Addressing.{Addressing}
@@ -35,16 +40,20 @@ use Rattle.dg_session.specs.declared.ends.SessionEnd.TheVariants.{Memory}
 pub record Speakers : Type 0 where
   pub seats : List SeatView
   pub kept : List (Option ℕ)
+  pub latest : List Entry
+  pub entered : List (ℕ × Entry)
 
 abbrev pub kept_number : Option LookView → Option ℕ
 kept_number None = None
 kept_number (Some look) = Some look.receipt.0
 
-abbrev pub speakers : List SeatView → List (Option LookView) → Speakers
-speakers xs looks = record { seats = xs; kept = map kept_number looks }
+abbrev pub speakers : List SeatView → List (Option LookView) → List Entry → List (ℕ × Entry)
+    → Speakers
+speakers xs looks H ps =
+    record { seats = xs; kept = map kept_number looks; latest = H; entered = ps }
 
 abbrev pub newcomers : List SeatView → Speakers
-newcomers xs = record { seats = xs; kept = map (λ x. None) xs }
+newcomers xs = record { seats = xs; kept = map (λ x. None) xs; latest = []; entered = [] }
 
 abbrev pub IsFor : Addressing → ℕ → List ℕ → ℕ → List ℕ → Type 0
 IsFor OneSeat n line i text = (i ≡ 0) × (text ≡ line)
@@ -59,6 +68,11 @@ pub record Becomes (i : ℕ) (s z : Speakers) (x y : SeatView) (kept after : Opt
   pub seats : z.seats ≡ slice_set s.seats i y
   pub looks : z.kept ≡ slice_set s.kept i after
 
+pub record GoesOn (s z : Speakers) (y : SeatView) (made : List (ℕ × Entry)) : Type 0 where
+  pub order : ComeAfter s.latest made y.met
+  pub latest : z.latest ≡ y.met
+  pub entered : z.entered ≡ s.entered ++ made
+
 pub record AnswersIn (t : Setup) (i : ℕ) (text : List ℕ) (s z : Speakers) (said : List ℕ)
     : Type 0 where
   pub x : SeatView
@@ -69,6 +83,7 @@ pub record AnswersIn (t : Setup) (i : ℕ) (text : List ℕ) (s z : Speakers) (s
   pub made : List (ℕ × Entry)
   pub answers : AnswersLine t kept text made after said
   pub gained : Gains x y made
+  pub goes_on : GoesOn s z y made
 
 abbrev pub AnswersLineOf : Setup → Speakers → List ℕ → Speakers → List ℕ → Type 0
 AnswersLineOf t s line z said =
@@ -84,6 +99,9 @@ pub record RefusesIn (t : Setup) (i : ℕ) (text : List ℕ) (s z : Speakers) (e
   pub after : Option ℕ
   pub turn : Becomes i s z x y kept after
   pub refused : RefusesLine t kept text x y end
+  pub made : List (ℕ × Entry)
+  pub gained : Gains x y made
+  pub goes_on : GoesOn s z y made
 
 abbrev pub RefusesLineOf : Setup → Speakers → List ℕ → Speakers → SessionEnd → Type 0
 RefusesLineOf t s line z end =

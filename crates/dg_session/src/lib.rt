@@ -3,6 +3,7 @@
 
 mod addressing;
 mod answering;
+mod course;
 mod ends;
 mod laws;
 mod serving;

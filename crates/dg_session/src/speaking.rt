@@ -5,6 +5,7 @@ ghost use Rattle.dg_session.specs.SoFar.{talk, Handles};
 
 use crate::addressing::addressed;
 use crate::answering::{Said, Shared, answer_seat};
+use crate::course::Course;
 use crate::ends::SessionEnd;
 use dg_analyst::Look;
 use dg_log::Name;
@@ -12,11 +13,13 @@ use dg_table::Seat;
 use std::sync::Wait;
 use std::thread::Threads;
 
-/// Answers a line: as that of the seat that it is for, or by saying that there is none.
+/// Answers a line: as that of the seat that it is for, which is first told of the history as the last line left it; or by saying
+/// that there is none.
 #[inline(always)]
 pub(crate) fn answer_line<N: Name, R: Threads + Wait>(
     shared: &Shared<N, R>,
     kept: &mut [Option<Look<N>>],
+    course: &mut Course<N>,
     said: &mut Said,
     seats: &mut [Seat<N>],
     line: &[u8],
@@ -24,10 +27,16 @@ pub(crate) fn answer_line<N: Name, R: Threads + Wait>(
     requires some { 1 ≤ length seats.old }
     requires each { length kept.old ≡ length seats.old }
     ensures { Handles (setup shared.now.how N.start N.seats (length N.cells) shared.now.names.now)
-        line.now (talk seats.old kept.old said.old) (talk seats.new kept.new said.new) result }
+        line.now (talk seats.old kept.old course.old said.old)
+        (talk seats.new kept.new course.new said.new) result }
 {
     let Some((place, text)) = addressed(shared.how, seats.len(), line) else {
         return said.say(b"bad seat\n");
     };
-    answer_seat(shared, &mut kept[place], said, &mut seats[place], text)
+    let seat = &mut seats[place];
+    let calls = seat.calls();
+    course.tell(seat);
+    let ended = answer_seat(shared, &mut kept[place], said, seat, text);
+    course.follow(seat, calls);
+    ended
 }

@@ -5,6 +5,7 @@ ghost use Rattle.dg_session.specs.Setup.{setup};
 ghost use Rattle.dg_session.specs.SoFar.{heard, talk, so_far, Handles, IsReady, RefusesPart, Takes, TakesEnd};
 
 use crate::answering::{Said, Shared};
+use crate::course::Course;
 use crate::ends::{MAX_LINE, MAX_LINES, SessionEnd};
 use crate::speaking::answer_line;
 use dg_analyst::Look;
@@ -24,6 +25,8 @@ pub(crate) struct Progress<N: Name> {
     pub(crate) count: u32,
     /// The look that each seat keeps.
     pub(crate) kept: Vec<Option<Look<N>>>,
+    /// What the lines have come to.
+    pub(crate) course: Course<N>,
     pub(crate) said: Said,
 }
 
@@ -39,6 +42,8 @@ impl<N: Name> Progress<N> {
         ensures count { IfSome result (λ p. p.count ≡ 0) }
         ensures kept { IfSome result (λ p.
             map kept_number p.kept.items ≡ map (λ x. None) seats.now) }
+        ensures latest { IfSome result (λ p. p.course.latest ≡ []) }
+        ensures entered { IfSome result (λ p. p.course.entered ≡ []) }
         ensures said { IfSome result (λ p. p.said.text ≡ text) }
     {
         let kept = match no_looks(alloc, seats) {
@@ -49,6 +54,7 @@ impl<N: Name> Progress<N> {
             pending: Vec::new(alloc),
             count: 0,
             kept,
+            course: Course::new(),
             said: Said {
                 text,
                 line: Vec::new(alloc),
@@ -99,14 +105,15 @@ fn answer_pending<N: Name, R: Threads + Wait>(
     ensures handled { Handles
         (setup shared.now.how N.start N.seats (length N.cells) shared.now.names.now)
         (progress.old.pending.items ++ part.now)
-        (talk seats.old progress.old.kept.items progress.old.said)
-        (talk seats.new progress.new.kept.items progress.new.said) result }
+        (talk seats.old progress.old.kept.items progress.old.course progress.old.said)
+        (talk seats.new progress.new.kept.items progress.new.course progress.new.said) result }
     ensures count { progress.new.count ≡ progress.old.count }
 {
     if progress.pending.is_empty() {
         return answer_line(
             shared,
             progress.kept.as_mut_slice(),
+            &mut progress.course,
             &mut progress.said,
             seats,
             part,
@@ -116,6 +123,7 @@ fn answer_pending<N: Name, R: Threads + Wait>(
         Ok(()) => answer_line(
             shared,
             progress.kept.as_mut_slice(),
+            &mut progress.course,
             &mut progress.said,
             seats,
             &progress.pending,
@@ -137,8 +145,8 @@ fn end_line<N: Name, R: Threads + Wait>(
     ensures handled { Handles
         (setup shared.now.how N.start N.seats (length N.cells) shared.now.names.now)
         (progress.old.pending.items ++ part.now)
-        (talk seats.old progress.old.kept.items progress.old.said)
-        (talk seats.new progress.new.kept.items progress.new.said) result }
+        (talk seats.old progress.old.kept.items progress.old.course progress.old.said)
+        (talk seats.new progress.new.kept.items progress.new.course progress.new.said) result }
     ensures pending { OnOk result (progress.new.pending.items ≡ []) }
     ensures count { OnOk result (progress.new.count ≡ progress.old.count + 1) }
 {

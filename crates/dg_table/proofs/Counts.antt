@@ -4,6 +4,7 @@
 --                    history with one more entry of that seat
 --   counted_none     no entry is counted in the empty history
 --   none_past        a history of the seats 1 to n has no entry of a seat past n
+--   seats_counted    the numbers of the entries of the seats 1 to n add up to the length of their history
 --   all_counted      the counts of all seats add up to the length of the history
 use Rattle.std.proofs.Common.{◌≡◌, ◌≢◌, ℕ, zero, suc, ◌+◌, ◌<◌, ◌≤◌, ◌==◌, Bool, true, false, cond, List, [], ◌∷◌, ◌++◌, length, get_or, set, slice_get, Some, sum, arith, refl, sym, ap, ◌∙◌, inl, inr, eq-eqb}
 use Rattle.std.proofs.lemmas.List.{get_or-set_same, get_or-set_other, length_push}
@@ -124,10 +125,14 @@ counted_from m n (e ∷ H) seated =
     let rest = counted_from m (n + 1) H (λ k x at. seated (suc k) x at) in
     omega arith
 
-pub all_counted : (counts : List ℕ) (H : List Entry) → AreCountsOf counts H → length counts ≡ MAX_SEATS →
-    AreSeated MAX_SEATS H → sum counts ≡ length H
-all_counted counts H counted places seated =
+pub seats_counted : (n : ℕ) (counts : List ℕ) (H : List Entry) → length counts ≡ n →
+    ((i : ℕ) → i < n → get_or counts i 0 ≡ length (entries_of (i + 1) H)) → AreSeated n H → sum counts ≡ length H
+seats_counted n counts H places counted seated =
     let own : ℕ → ℕ = λ s. length (entries_of (s + 1) H) in
     let start : (i : ℕ) → 0 + i ≡ i = λ i. omega arith in
     sum_is-total own 0 counts (λ i below. counted i (omega arith) ∙ ap own (sym (start i)))
-    ∙ ap (total own 0) places ∙ counted_from MAX_SEATS 0 H seated
+    ∙ ap (total own 0) places ∙ counted_from n 0 H seated
+
+pub all_counted : (counts : List ℕ) (H : List Entry) → AreCountsOf counts H → length counts ≡ MAX_SEATS →
+    AreSeated MAX_SEATS H → sum counts ≡ length H
+all_counted counts H counted places seated = seats_counted MAX_SEATS counts H places counted seated

@@ -40,9 +40,11 @@ use Rattle.dg_table.proofs.Numbered.{stand_more, stand_longer}
 use Rattle.dg_table.proofs.Counts.{seated_more, counted_more, counted_none}
 
 pub holds_more : (H : List Entry) (e : Entry) (x y : SeatView) → Holds H x → e.seat ≡ x.number → y.number ≡ x.number →
-    y.mine ≡ x.mine ++ (length H, e) ∷ [] → y.told ≡ x.told → y.past ≡ H ++ e ∷ [] → Holds (H ++ e ∷ []) y
-holds_more H e x y holds own number mine told past = record {
+    y.mine ≡ x.mine ++ (length H, e) ∷ [] → y.told ≡ x.told → y.past ≡ H ++ e ∷ [] → y.met ≡ H ++ e ∷ [] →
+    Holds (H ++ e ∷ []) y
+holds_more H e x y holds own number mine told past met = record {
   past = ([], sym (append-nil (H ++ e ∷ [])) ∙ ap (λ K. K ++ []) (sym past));
+  met = ([], sym (append-nil (H ++ e ∷ [])) ∙ ap (λ K. K ++ []) (sym met));
   mine = ap (λ s. entries_of s (H ++ e ∷ [])) number ∙ own_more x.number H e own
       ∙ ap (λ ps. ps ++ (length H, e) ∷ []) holds.mine ∙ sym mine;
   told = rw told (stand_longer H (e ∷ []) x.told holds.told);
@@ -57,16 +59,18 @@ history_more o n cap H e seated least most room legal = record {
 }
 
 pub kept_more : {o : Opening} {n cap s : ℕ} {mine told second : List
-    (ℕ × Entry)} {past : List Entry} {look : Option LookData}
-    (H : List Entry) (e : Entry) (next : Option LookData) → IsSeatState o n cap s mine told past second look →
+    (ℕ × Entry)} {past met : List Entry} {look : Option LookData}
+    (H : List Entry) (e : Entry) (next : Option LookData) → IsSeatState o n cap s mine told past met second look →
     IsHistoryOf o n cap (H ++ e ∷ []) → entries_of s H ≡ mine → e.seat ≡ s →
     IsKeptLook o (mine ++ (length H, e) ∷ []) next →
-    IsSeatState o n cap s (mine ++ (length H, e) ∷ []) told (H ++ e ∷ []) second next
-kept_more {o} {n} {cap} {s} {mine} {told} {second} {past} {look} H e next seated found held own last = record {
+    IsSeatState o n cap s (mine ++ (length H, e) ∷ []) told (H ++ e ∷ []) (H ++ e ∷ []) second next
+kept_more {o} {n} {cap} {s} {mine} {told} {second} {past} {met} {look} H e next seated found held own last = record {
   least = seated.least;
   most = seated.most;
   found = found;
   own = own_more s H e own ∙ ap (λ ps. ps ++ (length H, e) ∷ []) held;
+  met = found;
+  since = ([], sym (append-nil (H ++ e ∷ [])));
   told_said = seated.told_said;
   look_kept = last;
 }
@@ -74,20 +78,21 @@ kept_more {o} {n} {cap} {s} {mine} {told} {second} {past} {look} H e next seated
 pub answered : {o : Opening} {n cap : ℕ} {H : List Entry} {x : SeatView} (e : Entry) (y : SeatView) →
     Replies o H e.request e.reply → IsHistoryOf o n cap (H ++ e ∷ []) → Holds H x → e.seat ≡ x.number →
     y.number ≡ x.number →
-    y.mine ≡ x.mine ++ (length H, e) ∷ [] → y.told ≡ x.told → y.past ≡ H ++ e ∷ [] →
+    y.mine ≡ x.mine ++ (length H, e) ∷ [] → y.told ≡ x.told → y.past ≡ H ++ e ∷ [] → y.met ≡ H ++ e ∷ [] →
     IsAnsweredAfter o n cap H e.request (length H, e) x y
-answered {o} {n} {cap} {H} {x} e y replies history holds own number mine told past = record {
+answered {o} {n} {cap} {H} {x} e y replies history holds own number mine told past met = record {
   place = refl;
   seat = own;
   request' = refl;
   reply = replies;
   before = holds;
   history = history;
-  holds = holds_more H e x y holds own number mine told past;
+  holds = holds_more H e x y holds own number mine told past met;
   number = number;
   mine = mine;
   told = told;
   past = past;
+  met = met;
 }
 
 pub settled : (o : Opening) (n cap : ℕ) (H : List Entry) (look : ℕ × Entry) (x : LookData) (f : Finding) (r : ℕ × Entry)
@@ -95,8 +100,9 @@ pub settled : (o : Opening) (n cap : ℕ) (H : List Entry) (look : ℕ × Entry)
     IsAnsweredAfter o n cap H (asked_for x.number f) r s m → IsLookOf look x → slice_get H look.0 ≡ Some look.1 →
     KeepsFinding f r.1.reply →
     t.number ≡ m.number → t.mine ≡ m.mine → t.told ≡ m.told ++ look ∷ [] → t.past ≡ m.past →
+    t.met ≡ m.met →
     IsSettledAfter o n cap H look x f r s t
-settled o n cap H look x f r s m t answered of stands kept number mine told past =
+settled o n cap H look x f r s m t answered of stands kept number mine told past met =
     let hears : t.told ≡ s.told ++ look ∷ [] = told ∙ ap (λ ps. ps ++ look ∷ []) answered.told in
     let there : slice_get (H ++ r.1 ∷ []) look.0 ≡ Some look.1 =
     slice_get-append H (r.1 ∷ []) look.0 (slice_get_within H look.0 look.1 stands) ∙ stands in
@@ -112,6 +118,7 @@ settled o n cap H look x f r s m t answered of stands kept number mine told past
         history = answered.history;
         holds = record {
           past = subst (λ K. IsBeginning K (H ++ r.1 ∷ [])) (sym past) answered.holds.past;
+          met = subst (λ K. IsBeginning K (H ++ r.1 ∷ [])) (sym met) answered.holds.met;
           mine = ap (λ n. entries_of n (H ++ r.1 ∷ [])) number ∙ answered.holds.mine ∙ sym mine;
           told = rw told (stand_more (H ++ r.1 ∷ []) m.told look answered.holds.told there);
         };
@@ -119,6 +126,7 @@ settled o n cap H look x f r s m t answered of stands kept number mine told past
         mine = mine ∙ answered.mine;
         told = hears;
         past = past ∙ answered.past;
+        met = met ∙ answered.met;
       };
       stands = stands;
       kept = kept;

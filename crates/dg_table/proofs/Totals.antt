@@ -1,13 +1,15 @@
 -- What is counted at the close of a table.
 --   totals       the counts of what the lock holds are those of the seats, and add up to the number of entries
 --   history_of   the history of what the lock holds is legal, and its entries are of the table's seats
-use Rattle.std.proofs.Common.{◌≡◌, ℕ, ◌+◌, ◌≤◌, List, length, get_or, arith, sym, ap, ◌∙◌, inl, inr}
+--   longer_history   the longer of two histories of a table is one
+use Rattle.std.proofs.Common.{◌≡◌, ℕ, ◌+◌, ◌≤◌, List, length, get_or, arith, sym, ap, subst, ◌∙◌, inl, inr}
 use Rattle.std.proofs.lemmas.List.{get_or_past}
 use Rattle.std.proofs.lemmas.Bool.{cases_lt}
 use Rattle.dg_chips.specs.Opening.{Opening}
 use Rattle.dg_game.specs.State.{State}
 use Rattle.dg_game.specs.declared.entry.Entry.{Entry}
 use Rattle.dg_game.specs.declared.entry.TheConstants.{MAX_SEATS}
+use Rattle.dg_log.specs.Numbered.{IsLonger}
 use Rattle.dg_table.specs.Closing.{AllHeld, AreTotals}
 use Rattle.dg_table.specs.Histories.{IsHistoryOf}
 use Rattle.dg_table.specs.Lock.{IsUnderLock}
@@ -43,3 +45,10 @@ totals {o} {seats} {H} {game} {counts} xs held all =
 pub history_of : {o : Opening} {seats : ℕ} {H : List Entry} {game : State} {counts : List ℕ} (cap : ℕ) →
     IsUnderLock o seats H game counts → length H ≤ cap → IsHistoryOf o seats cap H
 history_of cap held few = record { legal = held.legal; few = few; seated = held.seated }
+
+pub longer_history : {o : Opening} {n cap : ℕ} {K H M : List Entry} → IsHistoryOf o n cap K → IsHistoryOf o n cap H →
+    IsLonger K H M → IsHistoryOf o n cap M
+longer_history {o} {n} {cap} {K} {H} {M} first second longer = elim (cases_lt (length H) (length K)) [
+  | inl shorter ↦ subst (IsHistoryOf o n cap) (sym (longer.first_longer shorter)) first
+  | inr more ↦ subst (IsHistoryOf o n cap) (sym (longer.second_longer (omega (arith, more)))) second
+]

@@ -30,6 +30,7 @@ pub record IsEnteredAfter (o : Opening) (n cap : ℕ) (H : List Entry) (request 
   pub mine : y.mine ≡ x.mine ++ r ∷ []
   pub told : y.told ≡ known
   pub past : y.past ≡ H ++ r.1 ∷ []
+  pub met : y.met ≡ H ++ r.1 ∷ []
 
 abbrev pub IsAnsweredAfter : Opening → ℕ → ℕ → List Entry → Request → ℕ × Entry → SeatView →
     SeatView → Type 0

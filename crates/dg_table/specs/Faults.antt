@@ -7,7 +7,9 @@
 --                                    it, and is after it
 --   RefusesSettling o n cap H i x b c f   == so is the step by which the seat x enters a finding on
 --                                            the look of number i
---   RefusesCall o n cap x f       == what is known where the call of the seat x was refused with f
+--   RefusesCall o n cap x f       == what is known where the call of the seat x was refused with f:
+--                                    if with `Full`, the history that it has met then fills the
+--                                    table; if with `Log`, that has room
 use Rattle.std.specs.Prelude.{◌≡◌, ℕ, ◌<◌, ◌≤◌, List, Bool, true, length, ⊤, ◌⊎◌}
 use Rattle.dg_chips.specs.Opening.{Opening}
 use Rattle.dg_game.specs.declared.entry.Entry.{Entry}
@@ -39,5 +41,6 @@ RefusesSettling o n cap H i x b c Log = (length H < cap) ×
     (IsAdmissible H x × (i < length H) × (c ≡ true)))
 
 abbrev pub RefusesCall : Opening → ℕ → ℕ → SeatView → Fault → Type 0
-RefusesCall o n cap x Full = (H : List Entry) × StandsFull o n cap H x
-RefusesCall o n cap x fault = ⊤
+RefusesCall o n cap x OutOfMemory = ⊤
+RefusesCall o n cap x Full = StandsFull o n cap x.met x
+RefusesCall o n cap x Log = length x.met < cap

@@ -3,8 +3,11 @@
 --                              entries, of the seats 1 to n alone
 --   HasPast o n cap x       == the history that the seat x found at its last call is such a
 --                              history, and the seat's entries in it are just those of its own
---                              calls, each once and in order; before its first call it is empty
+--                              calls, each once and in order; before its first call it is empty.
+--                              The longest history that the seat has met begins with it, and is
+--                              such a history too
 use Rattle.std.specs.Prelude.{◌≡◌, ℕ, ◌≤◌, List, length}
+use Rattle.dg_log.specs.Numbered.{IsBeginning}
 use Rattle.dg_chips.specs.Opening.{Opening}
 use Rattle.dg_game.specs.Legal.{IsLegal}
 use Rattle.dg_game.specs.declared.entry.Entry.{Entry}
@@ -18,3 +21,5 @@ pub record IsHistoryOf (o : Opening) (n cap : ℕ) (H : List Entry) : Type 0 whe
 pub record HasPast (o : Opening) (n cap : ℕ) (x : SeatView) : Type 0 where
   pub history : IsHistoryOf o n cap x.past
   pub own : entries_of x.number x.past ≡ x.mine
+  pub met : IsHistoryOf o n cap x.met
+  pub since : IsBeginning x.past x.met

@@ -8,11 +8,11 @@
 --                                 admissible, and holds what it knows
 --   IsKeptLook o ps look       == the look that is kept is the last of the entries ps, and has the
 --                                 vertices of the opening o
---   IsSeatState o n cap s ps qs H d look == what the seat s of n keeps fits together: the history H
---                                           that it found is one of the
---                                      table, with the entries ps as its own; the digest d is of
---                                      the entries qs that it was told of, and look is its last
---                                      look
+--   IsSeatState o n cap s ps qs H M d look == what the seat s of n keeps fits together: the history
+--                                      H that it found is one of the table, with the entries ps as
+--                                      its own; so is the history M that it has met, which begins
+--                                      with H; the digest d is of the entries qs that it was told
+--                                      of, and look is its last look
 use Rattle.std.specs.Prelude.{◌≡◌, ℕ, ◌+◌, ◌<◌, ◌≤◌, List, length, Option, IfSome}
 use Rattle.std.specs.List.{slice_index}
 use Rattle.dg_chips.specs.Opening.{Opening}
@@ -22,6 +22,7 @@ use Rattle.dg_game.specs.declared.entry.Entry.{Entry}
 use Rattle.dg_game.specs.declared.entry.TheConstants.{MAX_SEATS}
 use Rattle.dg_game.specs.declared.game.TheConstants.{MAX_ENTRIES}
 use Rattle.dg_game.specs.declared.look.LookData.{LookData}
+use Rattle.dg_log.specs.Numbered.{IsBeginning}
 use Rattle.dg_table.specs.Histories.{IsHistoryOf}
 use Rattle.dg_table.specs.Looks.{HasVertices, IsLastLook}
 use Rattle.dg_table.specs.Seats.{SeatView, Holds, IsAdmissible, AreSeated, entries_of}
@@ -50,12 +51,14 @@ pub record IsKeptLook (o : Opening) (ps : List (ℕ × Entry)) (look : Option Lo
   pub last : IsLastLook ps look
   pub vertices : IfSome look (HasVertices o.graph.size)
 
-pub record IsSeatState (o : Opening) (n cap s : ℕ) (ps qs : List (ℕ × Entry)) (H : List Entry)
+pub record IsSeatState (o : Opening) (n cap s : ℕ) (ps qs : List (ℕ × Entry)) (H M : List Entry)
     (d : List (ℕ × Entry))
     (look : Option LookData) : Type 0 where
   pub least : 1 ≤ s
   pub most : s ≤ n
   pub found : IsHistoryOf o n cap H
   pub own : entries_of s H ≡ ps
+  pub met : IsHistoryOf o n cap M
+  pub since : IsBeginning H M
   pub told_said : d ≡ qs
   pub look_kept : IsKeptLook o ps look

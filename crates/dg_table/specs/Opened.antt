@@ -18,6 +18,7 @@ pub record AreFresh (n : ℕ) (xs : List SeatView) : Type 0 where
   pub mine : (i : ℕ) (x : SeatView) → slice_get xs i ≡ Some x → x.mine ≡ []
   pub told : (i : ℕ) (x : SeatView) → slice_get xs i ≡ Some x → x.told ≡ []
   pub past : (i : ℕ) (x : SeatView) → slice_get xs i ≡ Some x → x.past ≡ []
+  pub met : (i : ℕ) (x : SeatView) → slice_get xs i ≡ Some x → x.met ≡ []
 
 abbrev pub RefusesOpening : ℕ → TableFault → Type 0
 RefusesOpening n Seats = ¬ MayHaveSeats n

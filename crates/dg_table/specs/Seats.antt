@@ -3,19 +3,24 @@
 --                         order
 --   AreSeated n H      == each entry of the history H is one of the seats 1 to n
 --   SeatView           == a seat's number, the entries of its own calls, the entries that it was
---                         told of, the history as it found it at its last call, whether it has
---                         space for one more call, and whether it has space to be told of one more
---                         entry
---   Holds H x          == the history H holds what the seat x knows: H begins with the history that
---                         it found; its entries in H are just those of its own calls, each once and
---                         in order; and every entry that it was told of stands in H at its number
---   IsAdmissible H x   == H has as many entries as the seat x found, or more, an entry of each
---                         number that it was told of, and as many of the seat's entries as it keeps
---   Keeps x y          == the seat y is the seat x and knows the same
+--                         told of, the history as it found it at its last call, the longest history
+--                         that it has met, whether it has space for one more call, and whether it
+--                         has space to be told of one more entry
+--   Holds H x          == the history H holds what the seat x knows: H begins with the histories
+--                         that it found and has met; its entries in H are just those of its own
+--                         calls, each once and in order; and every entry that it was told of stands
+--                         in H at its number
+--   IsAdmissible H x   == H has as many entries as the history that the seat x has met, or more, an
+--                         entry of each number that it was told of, and as many of the seat's
+--                         entries as it keeps
+--   Keeps x y          == the seat y is the seat x and knows the same, but that it may have met a
+--                         longer history
+--   Meets H x y        == the seat y is the seat x as it was, but that it has met the history H: of
+--                         H and what it had met it keeps the longer
 use Rattle.std.specs.Prelude.{◌≡◌, ℕ, ◌==◌, ◌≤◌, List, Bool, Some, length, slice_get}
 use Rattle.std.specs.List.{filter, enumerate_from}
 use Rattle.dg_game.specs.declared.entry.Entry.{Entry}
-use Rattle.dg_log.specs.Numbered.{AreBelow, StandIn, IsBeginning}
+use Rattle.dg_log.specs.Numbered.{AreBelow, StandIn, IsBeginning, IsLonger}
 
 abbrev pub entries_of : ℕ → List Entry → List (ℕ × Entry)
 entries_of s H = filter (λ p. p.1.seat == s) (enumerate_from 0 H)
@@ -28,16 +33,18 @@ pub record SeatView : Type 0 where
   pub mine : List (ℕ × Entry)
   pub told : List (ℕ × Entry)
   pub past : List Entry
+  pub met : List Entry
   pub space : Bool
   pub hears : Bool
 
 pub record Holds (H : List Entry) (x : SeatView) : Type 0 where
   pub past : IsBeginning x.past H
+  pub met : IsBeginning x.met H
   pub mine : entries_of x.number H ≡ x.mine
   pub told : StandIn H x.told
 
 pub record IsAdmissible (H : List Entry) (x : SeatView) : Type 0 where
-  pub past : length x.past ≤ length H
+  pub met : length x.met ≤ length H
   pub told : AreBelow (length H) x.told
   pub count : length x.mine ≡ length (entries_of x.number H)
 
@@ -46,3 +53,13 @@ pub record Keeps (x y : SeatView) : Type 0 where
   pub mine : y.mine ≡ x.mine
   pub told : y.told ≡ x.told
   pub past : y.past ≡ x.past
+  pub met : IsBeginning x.met y.met
+
+pub record Meets (H : List Entry) (x y : SeatView) : Type 0 where
+  pub number : y.number ≡ x.number
+  pub mine : y.mine ≡ x.mine
+  pub told : y.told ≡ x.told
+  pub past : y.past ≡ x.past
+  pub met : IsLonger x.met H y.met
+  pub space : y.space ≡ x.space
+  pub hears : y.hears ≡ x.hears

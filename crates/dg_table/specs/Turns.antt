@@ -16,7 +16,8 @@
 --                                    say whether the pen was stuck before it, and is after it. Only
 --                                    where the cell refuses the entry was f asked
 --   RefusesTurn c o n cap x f f' e  == what is known where the turn of the seat x was refused with
---                                      e
+--                                      e: as of a call; and f was not asked, or, if the cell refused
+--                                      the entry, after the history that the seat has met then
 use Rattle.std.specs.Prelude.{◌≡◌, ℕ, ◌<◌, List, length, Bool, true, Option, Some, None, ◌⊎◌}
 use Rattle.std.specs.Fn.{Mut, Called, Takes}
 use Rattle.std.specs.Borrow.{Bor}
@@ -75,6 +76,6 @@ module _ {F : Type 0} (c : Mut F (Bor Multigraph × (Bor Vector × Unit {0})) (O
 
   abbrev pub RefusesTurn : ℕ → ℕ → SeatView → F → F → Fault → Type 0
   RefusesTurn n cap x f f' OutOfMemory = f' ≡ f
-  RefusesTurn n cap x f f' Full = (f' ≡ f) × ((H : List Entry) × StandsFull o n cap H x)
+  RefusesTurn n cap x f f' Full = (f' ≡ f) × StandsFull o n cap x.met x
   RefusesTurn n cap x f f' Log =
-      (f' ≡ f) ⊎ ((H : List Entry) × (m : Option Move) × IsAskedAfter H f m f')
+      (length x.met < cap) × ((f' ≡ f) ⊎ ((m : Option Move) × IsAskedAfter x.met f m f'))

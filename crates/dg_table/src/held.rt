@@ -15,7 +15,7 @@ ghost use Rattle.dg_table.specs.Histories.{IsHistoryOf};
 ghost use Rattle.dg_table.specs.Lock.{IsReady, IsKeptLook};
 ghost use Rattle.dg_table.specs.Looks.{IsLookOf};
 ghost use Rattle.dg_table.specs.Opened.{MayHaveSeats};
-ghost use Rattle.dg_table.specs.Seats.{SeatView, Holds, IsAdmissible};
+ghost use Rattle.dg_table.specs.Seats.{SeatView, Holds, IsAdmissible, Meets};
 ghost use Rattle.dg_table.specs.Settled.{IsSettledAfter};
 ghost use Rattle.dg_table.specs.Turns.{MayBeAsked, request_for, IsTurnAfter, RefusesTurnAfter};
 
@@ -68,8 +68,8 @@ impl<N: Name> Held<N> {
         }
     }
 
-    /// Whether the history has as many entries as the seat found at its last call, or more, an entry of each number that it was
-    /// told of, and as many entries of the seat as it keeps. Then the history holds what the seat knows.
+    /// Whether the history has as many entries as the one that the seat has met, or more, an entry of each number that it was told
+    /// of, and as many entries of the seat as it keeps. Then the history holds what the seat knows.
     pub fn admits(&self, seat: &Seat<N>) -> bool
         ensures admits { IsTrue result ↔ IsAdmissible self.now.entries seat.now }
         ensures holds { IsTrue result → Holds self.now.entries seat.now }
@@ -77,15 +77,20 @@ impl<N: Name> Held<N> {
     {
         let count = self.counts[usize::from(seat.number - 1)];
         let len = self.pen.len();
-        if seat.mine.len() as u64 != count
-            || seat.past.len() > len
-            || !seat.told_digest.below(len)
-        {
+        if seat.mine.len() as u64 != count || seat.met.len() > len || !seat.told_digest.below(len) {
             return false;
         }
-        self.pen.began(&seat.past);
+        self.pen.began(&seat.met);
         self.pen.holds(&seat.told_digest);
         true
+    }
+
+    /// Tells the seat of the history as it stands.
+    fn meet(&self, seat: &mut Seat<N>)
+        ensures { Meets self.now.entries seat.old seat.new }
+    {
+        let _len = self.pen.len();
+        seat.meet(&self.pen.past());
     }
 
     /// Whether the history has room for an entry of the seat, and holds what the seat knows; or why not.
@@ -99,7 +104,7 @@ impl<N: Name> Held<N> {
     {
         let len = self.pen.len();
         if len == log.len() {
-            self.pen.began(&seat.past);
+            self.pen.began(&seat.met);
             if seat.told_digest.below(len) {
                 self.pen.holds(&seat.told_digest);
             }
@@ -116,7 +121,7 @@ impl<N: Name> Held<N> {
     /// that the seat has the space; the box is used for the entry.
     ///
     /// Refused with `Full` where the history has as many entries as it may have; then with `Log` where the seat is not
-    /// admitted, and where the cell refuses the entry.
+    /// admitted, and where the cell refuses the entry. Then the seat has met the history.
     pub fn call(
         &mut self,
         log: &Log<N>,
@@ -130,10 +135,16 @@ impl<N: Name> Held<N> {
             (asked plain.now) r seat.old seat.new ×
             (self.new ≡ record { entries = self.old.entries ++ r.1 ∷ []; stuck = false })) }
         ensures refused { IfErr result
-            (λ f. (self.new.entries ≡ self.old.entries) × (seat.new ≡ seat.old) ×
+            (λ f. (self.new.entries ≡ self.old.entries) × Meets self.old.entries seat.old seat.new ×
             RefusesStep N.start N.seats (length N.cells) self.old.entries seat.old self.old.stuck self.new.stuck f) }
     {
-        self.ready(log, seat)?;
+        match self.ready(log, seat) {
+            Ok(()) => {}
+            Err(fault) => {
+                self.meet(seat);
+                return Err(fault);
+            }
+        }
         let mut slot = slot;
         let entry = &mut *slot;
         entry.seat = seat.number();
@@ -160,11 +171,17 @@ impl<N: Name> Held<N> {
             IsTurnAfter F.FnMut N.start N.seats (length N.cells) self.old.entries choose.old choose.new r seat.old seat.new ×
             (self.new ≡ record { entries = self.old.entries ++ r.1 ∷ []; stuck = false })) }
         ensures refused { IfErr result
-            (λ f. (self.new.entries ≡ self.old.entries) × (seat.new ≡ seat.old) ×
+            (λ f. (self.new.entries ≡ self.old.entries) × Meets self.old.entries seat.old seat.new ×
             RefusesTurnAfter F.FnMut N.start N.seats (length N.cells) self.old.entries seat.old
             self.old.stuck self.new.stuck choose.old choose.new f) }
     {
-        self.ready(log, seat)?;
+        match self.ready(log, seat) {
+            Ok(()) => {}
+            Err(fault) => {
+                self.meet(seat);
+                return Err(fault);
+            }
+        }
         let chosen = call_for(choose(self.game.graph(), self.game.position()));
         let mut slot = slot;
         let entry = &mut *slot;
@@ -195,11 +212,17 @@ impl<N: Name> Held<N> {
             IsSettledAfter N.start N.seats (length N.cells) self.old.entries look.now shown.now finding.now r seat.old seat.new ×
             (self.new ≡ record { entries = self.old.entries ++ r.1 ∷ []; stuck = false })) }
         ensures refused { IfErr result
-            (λ f. (self.new.entries ≡ self.old.entries) × (seat.new ≡ seat.old) ×
+            (λ f. (self.new.entries ≡ self.old.entries) × Meets self.old.entries seat.old seat.new ×
             RefusesSettling N.start N.seats (length N.cells) self.old.entries look.now.0 seat.old
             self.old.stuck self.new.stuck f) }
     {
-        self.ready_on(log, seat, look)?;
+        match self.ready_on(log, seat, look) {
+            Ok(()) => {}
+            Err(fault) => {
+                self.meet(seat);
+                return Err(fault);
+            }
+        }
         let mut slot = slot;
         let entry = &mut *slot;
         entry.seat = seat.number();
@@ -248,10 +271,11 @@ impl<N: Name> Held<N> {
         ensures hears { IfOk result (λ _. seat.new.hears ≡ true) }
         ensures refused { IfErr result
             (λ f. (self.new ≡ record { entries = self.old.entries; stuck = true }) ×
-            (seat.new ≡ seat.old) ×
+            Meets self.old.entries seat.old seat.new ×
             RefusesStep N.start N.seats (length N.cells) self.old.entries seat.old self.old.stuck self.new.stuck f) }
     {
         let Ok(receipt) = self.pen.put(log, slot) else {
+            seat.meet(&self.pen.past());
             return Err(Fault::Log);
         };
         let place = usize::from(seat.number - 1);
@@ -260,6 +284,7 @@ impl<N: Name> Held<N> {
         self.game.follow(entry);
         self.counts[place] += 1;
         seat.past = self.pen.past();
+        seat.met = self.pen.past();
         seat.mine.push(receipt.again()).unwrap();
         Ok(receipt)
     }

@@ -1,14 +1,16 @@
 //! Seats: who calls a table, and what they know of its history.
-ghost use Rattle.std.specs.Prelude.{◌≡◌, ◌≤◌, [], ◌∷◌, ◌++◌, length, true, None, Some, IfOk, IfSome, MatchOption, MatchResult};
-ghost use Rattle.dg_table.specs.Histories.{HasPast};
+ghost use Rattle.std.specs.Prelude.{◌≡◌, ◌-◌, ◌<◌, ◌≤◌, [], ◌∷◌, ◌++◌, length, slice_get, true, None, Some, IfOk, IfSome, MatchBool, MatchOption, MatchResult};
+ghost use Rattle.std.specs.Vec.{vec_capacity};
+ghost use Rattle.dg_table.specs.Faults.{StandsFull};
+ghost use Rattle.dg_table.specs.Histories.{HasPast, IsHistoryOf};
 ghost use Rattle.dg_table.specs.Looks.{HasVertices, IsLastLook};
 ghost use Rattle.dg_table.specs.Opened.{MayHaveSeats, AreFresh};
-ghost use Rattle.dg_table.specs.Seats.{Keeps};
+ghost use Rattle.dg_table.specs.Seats.{Keeps, Meets};
 
 use dg_game::{Entry, LookData, Reply, Request};
-use dg_log::{Digest, Name, Past, Receipt};
+use dg_log::{Digest, Log, Name, Past, Receipt, Seating};
 use std::alloc::{AllocError, Global};
-use std::marker::Model;
+use std::marker::{Model, PhantomData};
 
 /// What is in the box of an entry before it is answered.
 const BLANK: Entry = Entry {
@@ -17,17 +19,20 @@ const BLANK: Entry = Entry {
     reply: Reply::Won,
 };
 
-/// A seat of the table N: the receipts of its own calls, and of the entries that it was told of, and the history as it found
-/// it at its last call. A contract sees its number, these entries with their numbers, that history, whether it has space for one
-/// more call, and whether it has space to be told of one more entry.
+/// A seat of the table N: the receipts of its own calls, and of the entries that it was told of, the history as it found it at
+/// its last call, and the longest history that it has met. A contract sees its number, these entries with their numbers, these
+/// histories, whether it has space for one more call, and whether it has space to be told of one more entry.
 #[derive(Drop)]
 pub struct Seat<N: Name> {
     pub(crate) number: u8,
     pub(crate) mine: Vec<Receipt<N>>,
     pub(crate) told: Vec<Receipt<N>>,
     pub(crate) past: Past<N>,
+    pub(crate) met: Past<N>,
     pub(crate) told_digest: Digest<N>,
     pub(crate) look: Option<LookData>,
+    // Private: so a seat is made here alone, with the leave to make it.
+    of: PhantomData<N>,
 }
 
 impl<N: Name> Model for Seat<N> {
@@ -43,25 +48,34 @@ impl<N: Name> Model for Seat<N> {
       mine = x.mine.items;
       told = x.told.items;
       past = x.past;
+      met = x.met;
       space = nat_lt (vec_len x.mine) (vec_capacity x.mine) && nat_lt (vec_len x.told) (vec_capacity x.told);
       hears = nat_lt (vec_len x.told) (vec_capacity x.told);
     } };
 
-    ghost invariant = { λ x. IsSeatState N.start N.seats (length N.cells) x.number x.mine.items x.told.items x.past x.told_digest x.look };
+    ghost invariant = { λ x. IsSeatState N.start N.seats (length N.cells) x.number x.mine.items x.told.items x.past x.met x.told_digest x.look };
 }
 
 impl<N: Name> Seat<N> {
-    /// The seats 1 to `count`, which know of no entry.
-    pub(crate) fn all(alloc: Global, count: u8) -> Result<Vec<Seat<N>>, AllocError>
+    /// The seats 1 to `count`, which know of no entry; the leave to make them is used up. The conditions are that they are those
+    /// of the table, and that there is space for them, which has none.
+    pub(crate) fn all(
+        alloc: Global,
+        space: Vec<Seat<N>>,
+        count: u8,
+        _seating: Seating<N>,
+    ) -> Vec<Seat<N>>
         requires count { count ≡ N.seats }
         requires seats { MayHaveSeats count }
-        ensures { IfOk result (λ v. AreFresh count v.items) }
+        requires empty { space.items ≡ [] }
+        requires room { count ≤ vec_capacity space }
+        ensures { AreFresh count result.items }
     {
-        let mut seats = Vec::with_capacity(alloc, usize::from(count))?;
+        let mut seats = space;
         for i in 0..count {
-            seats.push(Seat::new(alloc, i + 1))?;
+            seats.push(Seat::new(alloc, i + 1)).unwrap();
         }
-        Ok(seats)
+        seats
     }
 
     /// The seat with this number, which knows of no entry.
@@ -71,14 +85,17 @@ impl<N: Name> Seat<N> {
         ensures mine { result.mine ≡ [] }
         ensures told { result.told ≡ [] }
         ensures past { result.past ≡ [] }
+        ensures met { result.met ≡ [] }
     {
         Seat {
             number,
             mine: Vec::new(alloc),
             told: Vec::new(alloc),
             past: Past::new(),
+            met: Past::new(),
             told_digest: Digest::new(),
             look: None,
+            of: PhantomData,
         }
     }
 
@@ -103,6 +120,49 @@ impl<N: Name> Seat<N> {
         ensures found { HasPast N.start N.seats (length N.cells) self.now }
     {
         &self.past
+    }
+
+    /// The longest history that the seat has met: the one that it found, or a longer one, which a refused call met or the seat
+    /// was told of. It is a history of the table.
+    pub fn met(&self) -> &Past<N>
+        ensures met { result.now ≡ self.now.met }
+        ensures found { HasPast N.start N.seats (length N.cells) self.now }
+    {
+        &self.met
+    }
+
+    /// Tells the seat of a history; each later call then comes after all its entries. It takes no memory. The condition is
+    /// that it is a history of the table, as what a seat has met is.
+    pub fn meet(&mut self, met: &Past<N>)
+        requires { IsHistoryOf N.start N.seats (length N.cells) met.now }
+        ensures { Meets met.now self.old self.new }
+    {
+        self.met = self.met.longer(met);
+    }
+
+    /// Whether the history that the seat has met has as many entries as there may be.
+    pub(crate) fn has_met_full(&self, log: &Log<N>) -> bool
+        ensures { MatchBool result
+            (StandsFull N.start N.seats (length N.cells) self.now.met self.now)
+            (length self.now.met < length N.cells) }
+    {
+        let len = self.met.len();
+        if len < log.len() {
+            return false;
+        }
+        if self.told_digest.below(len) {
+            self.met.holds(&self.told_digest);
+        }
+        true
+    }
+
+    /// The receipt of the seat's last call; `None` before its first.
+    pub fn last_call(&self) -> Option<&Receipt<N>>
+        ensures last { IfSome result
+            (λ r. slice_get self.now.mine (length self.now.mine - 1) ≡ Some r.now) }
+        ensures none { result ≡ None → self.now.mine ≡ [] }
+    {
+        self.mine.last()
     }
 
     /// What the seat keeps of the last look that it took; `None` where it took none. Its graph has the
@@ -132,6 +192,7 @@ impl<N: Name> Seat<N> {
             (λ _. self.new.told ≡ self.old.told ++ receipt.now ∷ [])
             (λ _. self.new.told ≡ self.old.told) }
         ensures past { self.new.past ≡ self.old.past }
+        ensures met { self.new.met ≡ self.old.met }
     {
         self.told.push(receipt.again())?;
         self.told_digest = self.told_digest.and(receipt);
@@ -145,6 +206,7 @@ impl<N: Name> Seat<N> {
         ensures mine { self.new.mine ≡ self.old.mine }
         ensures told { self.new.told ≡ self.old.told ++ receipt.now ∷ [] }
         ensures past { self.new.past ≡ self.old.past }
+        ensures met { self.new.met ≡ self.old.met }
     {
         self.told_digest = self.told_digest.and(receipt);
         self.told.push(receipt.again()).unwrap();
@@ -155,6 +217,7 @@ impl<N: Name> Seat<N> {
     /// Refused where there is not enough memory.
     pub fn room(&mut self, alloc: Global) -> Result<Box<Entry>, AllocError>
         ensures kept { Keeps self.old self.new }
+        ensures met { self.new.met ≡ self.old.met }
         ensures space { IfOk result (λ _. self.new.space ≡ true) }
     {
         self.mine.reserve(1)?;

@@ -1,5 +1,5 @@
 //! The table that seats call.
-ghost use Rattle.std.specs.Prelude.{◌≡◌, length, IfOk, IfErr, MatchResult};
+ghost use Rattle.std.specs.Prelude.{◌≡◌, ◌≢◌, ◌<◌, length, true, IfOk, IfErr, MatchResult};
 ghost use Rattle.dg_game.specs.Look.{IsFoundFor};
 ghost use Rattle.dg_game.specs.Requests.{asked};
 ghost use Rattle.dg_table.specs.Answered.{IsAnswered};
@@ -10,13 +10,14 @@ ghost use Rattle.dg_table.specs.Opened.{AreFresh, RefusesOpening};
 ghost use Rattle.dg_table.specs.Seats.{Keeps};
 ghost use Rattle.dg_table.specs.Settled.{IsSettled};
 ghost use Rattle.dg_table.specs.Turns.{MayBeAsked, IsTurn, RefusesTurn};
+ghost use Rattle.dg_table.specs.declared.fault.Fault.TheVariants.{Log as LogFault};
 
 use crate::audit::Audit;
 use crate::fault::{Fault, TableFault};
 use crate::held::Held;
 use crate::seat::Seat;
 use dg_chips::{Divisor, Move, Start};
-use dg_game::{Finding, LookData, MAX_SEATS, Plain};
+use dg_game::{Entry, Finding, LookData, MAX_SEATS, Plain};
 use dg_graph::Graph;
 use dg_log::{Log, Name, Receipt, Row};
 use dg_reduce::Aim;
@@ -66,10 +67,11 @@ impl<N: Name> Table<N> {
         if seats < 1 || seats > MAX_SEATS {
             return Err((row, TableFault::Seats));
         }
-        let Ok(all) = Seat::all(alloc, seats) else {
+        let Ok(space) = Vec::with_capacity(alloc, usize::from(seats)) else {
             return Err((row, TableFault::OutOfMemory));
         };
-        let (log, pen) = Log::new(row);
+        let (log, pen, seating) = Log::new(row);
+        let all = Seat::all(alloc, space, seats, seating);
         let held = Mutex::new(Held::new(pen, start, seats));
         let table = Table {
             held,
@@ -80,12 +82,32 @@ impl<N: Name> Table<N> {
         Ok((table, all))
     }
 
+    /// Makes space for a call of the seat, and a box for its entry. Refused with `OutOfMemory`, and with `Full` where the seat has
+    /// met a history of as many entries as there may be.
+    fn room(&self, alloc: Global, seat: &mut Seat<N>) -> Result<Box<Entry>, Fault>
+        ensures kept { Keeps seat.old seat.new }
+        ensures met { seat.new.met ≡ seat.old.met }
+        ensures space { IfOk result (λ _. seat.new.space ≡ true) }
+        ensures room { IfOk result (λ _. length seat.new.met < length N.cells) }
+        ensures refused { IfErr result (λ f. (f ≢ LogFault) ×
+            RefusesCall N.start N.seats (length N.cells) seat.new f) }
+    {
+        let Ok(slot) = seat.room(alloc) else {
+            return Err(Fault::OutOfMemory);
+        };
+        if seat.has_met_full(&self.log) {
+            return Err(Fault::Full);
+        }
+        Ok(slot)
+    }
+
     /// Every call that a seat makes is answered as the one-player dollar game answers it at the call's place in one
     /// legal history, which holds each of the seat's calls once, in order, and every entry it was told of.
     ///
     /// It waits for the lock. Refused with `OutOfMemory`, before it waits; with `Full` where the history has as many
-    /// entries as it may have; and with `Log` where the seat keeps more than the history holds, or less of its own, or
-    /// the cell refuses the entry. A refused call is no entry, and the seat knows what it knew.
+    /// entries as it may have, which the seat has met then; and with `Log`, where it has room, if the seat keeps more than the
+    /// history holds, or less of its own, or the cell refuses the entry. A refused call is no entry, and the seat knows what it
+    /// knew, and what history it met.
     pub fn call(
         &self,
         rt: &impl Wait,
@@ -98,9 +120,7 @@ impl<N: Name> Table<N> {
         ensures fault { IfErr result (λ f. Keeps seat.old seat.new ×
             RefusesCall N.start N.seats (length N.cells) seat.new f) }
     {
-        let Ok(slot) = seat.room(alloc) else {
-            return Err(Fault::OutOfMemory);
-        };
+        let slot = self.room(alloc, seat)?;
         self.held.lock(rt).call(&self.log, seat, slot, &plain)
     }
 
@@ -123,9 +143,7 @@ impl<N: Name> Table<N> {
         ensures fault { IfErr result (λ f. Keeps seat.old seat.new ×
             RefusesTurn F.FnMut N.start N.seats (length N.cells) seat.new choose.old choose.new f) }
     {
-        let Ok(slot) = seat.room(alloc) else {
-            return Err(Fault::OutOfMemory);
-        };
+        let slot = self.room(alloc, seat)?;
         self.held.lock(rt).turn(&self.log, seat, slot, choose)
     }
 
@@ -153,9 +171,7 @@ impl<N: Name> Table<N> {
         ensures fault { IfErr result (λ f. Keeps seat.old seat.new ×
             RefusesCall N.start N.seats (length N.cells) seat.new f) }
     {
-        let Ok(slot) = seat.room(alloc) else {
-            return Err(Fault::OutOfMemory);
-        };
+        let slot = self.room(alloc, seat)?;
         self.held
             .lock(rt)
             .settle(&self.log, seat, slot, look, shown, finding)

@@ -11,7 +11,7 @@ use std::test::Fail;
 pub(crate) fn writes<N: Name>(rt: &impl Abort, alloc: Global, row: Row) -> Result<(), Fail>
     requires { row ≡ N.cells }
 {
-    let (log, mut pen) = Log::<N>::new(row);
+    let (log, mut pen, _) = Log::<N>::new(row);
     assert!(rt; pen.len() == 0 && !pen.stuck());
     let claim = Entry {
         seat: 1,

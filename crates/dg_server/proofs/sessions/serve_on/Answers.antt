@@ -1,45 +1,39 @@
 use Rattle.std.proofs.Common.{rules, length, sym, subst}
 use Rattle.dg_table.specs.Opened.{AreFresh}
 use Rattle.dg_table.specs.Closing.{IsClosed}
-use Rattle.dg_server.proofs.Serving.{seats_back}
+use Rattle.dg_server.proofs.Serving.{seats_back, served}
 use Rattle.dg_server.proofs.sessions.serve_on.Goals as goal
 
 pub returns-in-Ok-ended-clause-done : goal.returns-in-Ok-ended-clause-done
 returns-in-Ok-ended-clause-done g c = (
   c.in-Ok-ended.field-0,
-  record {
-    heard = record {
+  served (record {
+    rest = c.serve_seats-ended.new.reader.remaining;
+    seats = c.deref_mut.result.now;
+    fresh = subst (AreFresh c.args.seats) (sym c.deref_mut.ensures.value) c.in-Ok.ensures;
+    after = c.serve_seats-ended.new.seats;
+    session = rw (c.requires.start, c.requires.row, c.requires.seats, ← c.names.ensures.value)
+        (rw (← c.new-reader.ensures.remaining) c.in-Ok-ended.ensures.session);
+  }) c.in-Ok-close.history.pen.entries c.serve_seats-ended.ensures.numbers
+      (rw (c.requires.start, c.requires.row, c.requires.seats)
+      (subst (λ ys. IsClosed g.N.Name.start g.N.Name.seats (length g.N.Name.cells) ys
+      c.in-Ok-close.history.pen.entries)
+      (seats_back c.in-Ok.opened.1.len c.deref_mut.result.now c.serve_seats-ended.new.seats _ (search rules)
+      c.serve_seats-ended.ensures.numbers) c.in-Ok-close.ensures.0)),
+)
+
+pub returns-in-Ok-close-clause-early : goal.returns-in-Ok-close-clause-early
+returns-in-Ok-close-clause-early g c =
+    served (record {
       rest = c.serve_seats-ended.new.reader.remaining;
       seats = c.deref_mut.result.now;
       fresh = subst (AreFresh c.args.seats) (sym c.deref_mut.ensures.value) c.in-Ok.ensures;
       after = c.serve_seats-ended.new.seats;
       session = rw (c.requires.start, c.requires.row, c.requires.seats, ← c.names.ensures.value)
-          (rw (← c.new-reader.ensures.remaining) c.in-Ok-ended.ensures.session);
-    };
-    history = c.in-Ok-close.history.pen.entries;
-    closed = rw (c.requires.start, c.requires.row, c.requires.seats)
-        (subst (λ ys. IsClosed g.N.Name.start g.N.Name.seats (length g.N.Name.cells) ys
-        c.in-Ok-close.history.pen.entries)
-        (seats_back c.in-Ok.opened.1.len c.deref_mut.result.now c.serve_seats-ended.new.seats _ (search rules)
-        c.serve_seats-ended.ensures.numbers) c.in-Ok-close.ensures.0);
-  },
-)
-
-pub returns-in-Ok-close-clause-early : goal.returns-in-Ok-close-clause-early
-returns-in-Ok-close-clause-early g c =
-    record {
-      heard = record {
-        rest = c.serve_seats-ended.new.reader.remaining;
-        seats = c.deref_mut.result.now;
-        fresh = subst (AreFresh c.args.seats) (sym c.deref_mut.ensures.value) c.in-Ok.ensures;
-        after = c.serve_seats-ended.new.seats;
-        session = rw (c.requires.start, c.requires.row, c.requires.seats, ← c.names.ensures.value)
-            (rw (← c.new-reader.ensures.remaining) c.in-Err-ended.ensures.session);
-      };
-      history = c.in-Ok-close.history.pen.entries;
-      closed = rw (c.requires.start, c.requires.row, c.requires.seats)
-          (subst (λ ys. IsClosed g.N.Name.start g.N.Name.seats (length g.N.Name.cells) ys
-          c.in-Ok-close.history.pen.entries)
-          (seats_back c.in-Ok.opened.1.len c.deref_mut.result.now c.serve_seats-ended.new.seats _ (search rules)
-          c.serve_seats-ended.ensures.numbers) c.in-Ok-close.ensures.0);
-    }
+          (rw (← c.new-reader.ensures.remaining) c.in-Err-ended.ensures.session);
+    }) c.in-Ok-close.history.pen.entries c.serve_seats-ended.ensures.numbers
+    (rw (c.requires.start, c.requires.row, c.requires.seats)
+    (subst (λ ys. IsClosed g.N.Name.start g.N.Name.seats (length g.N.Name.cells) ys
+    c.in-Ok-close.history.pen.entries)
+    (seats_back c.in-Ok.opened.1.len c.deref_mut.result.now c.serve_seats-ended.new.seats _ (search rules)
+    c.serve_seats-ended.ensures.numbers) c.in-Ok-close.ensures.0))

@@ -8,16 +8,17 @@ use Rattle.dg_session.proofs.serving.serve_lines.Goals as goal
 
 pub returns-in_default-clause-session : goal.returns-in_default-clause-session
 returns-in_default-clause-session g c =
-    session_unsaid (so_far_new (map (λ x. None) c.args.seats.now) [] 0 refl refl refl c.requires.some)
+    session_unsaid (so_far_new (map (λ x. None) c.args.seats.now) [] [] [] 0 refl refl refl refl refl c.requires.some)
 
 pub returns-in_default-new-clause-session : goal.returns-in_default-new-clause-session
 returns-in_default-new-clause-session g c =
-    session_unsaid (so_far_new (map (λ x. None) c.args.seats.now) [] 0 refl refl refl c.requires.some)
+    session_unsaid (so_far_new (map (λ x. None) c.args.seats.now) [] [] [] 0 refl refl refl refl refl c.requires.some)
 
 pub reads-init : goal.reads-init
 reads-init g c = (
-  so_far_new (map kept_number c.in-Some.progress.kept.items) c.in-Some.progress.pending.items c.in-Some.progress.count
-      c.in-Some.ensures.pending c.in-Some.ensures.count c.in-Some.ensures.kept c.requires.some,
+  so_far_new (map kept_number c.in-Some.progress.kept.items) c.in-Some.progress.course.latest
+      c.in-Some.progress.course.entered c.in-Some.progress.pending.items c.in-Some.progress.count
+      c.in-Some.ensures.latest c.in-Some.ensures.entered c.in-Some.ensures.pending c.in-Some.ensures.count c.in-Some.ensures.kept c.requires.some,
   ap heard c.in-Some.ensures.said,
   λ none. refl,
   omega (arith, c.in-Ok.ensures.len, c.in-Ok.buffer.ok.0),

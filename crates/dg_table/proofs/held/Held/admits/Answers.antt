@@ -1,6 +1,7 @@
 use Rattle.std.proofs.Common.{rules}
 use Rattle.dg_table.specs.Seats.{IsAdmissible}
 use Rattle.dg_table.proofs.Entries.{all_own}
+use Rattle.dg_table.proofs.Numbered.{begins_on}
 use Rattle.dg_table.proofs.held.Held.admits.Goals as goal
 
 pub returns-clause-holds : goal.returns-clause-holds
@@ -9,9 +10,10 @@ returns-clause-holds g c = λ is.
     let count = rw (← c.seat.view_is, ← c.self.view_is) at admissible.count in
     let seated = c.seat.invariant in
     rw (← c.seat.view_is, ← c.self.view_is) (record {
-      past = c.began.ensures;
+      past = begins_on _ _ _ seated.since c.began.ensures;
+      met = c.began.ensures;
       mine = all_own c.seat.inside.number c.seat.inside.past c.self.inside.pen.entries c.seat.inside.mine.items
-          c.began.ensures
+          (begins_on _ _ _ seated.since c.began.ensures)
           seated.own count;
       told = rw seated.told_said at c.holds.ensures;
     })

@@ -5,4 +5,4 @@ enter-requires-clause-legal g c =
     let held = rw c.self.view_is at c.self.invariant.0 in
     rw (c.ask.ensures, c.number-entry.ensures)
     (c.answer.ensures.legal g.N.Name.start c.args.self.now.entries c.args.seat.now.number
-    held.game' held.legal c.in_ok-ready.ensures.stands.seat)
+    held.game' held.legal c.in-Ok.ensures.stands.seat)

@@ -1,10 +1,11 @@
 use Rattle.std.proofs.Common.{◌≡◌, length, arith, refl}
 use Rattle.dg_table.proofs.Entries.{own_stand}
+use Rattle.dg_table.proofs.Numbered.{begins_on}
 use Rattle.dg_table.proofs.Totals.{history_of}
 use Rattle.dg_table.proofs.held.Held.ready.Goals as goal
 
 pub began-requires : goal.began-requires
-began-requires g c = omega (arith, c.seat.invariant.found.few, c.len-len.ensures.length, c.len.ensures.length)
+began-requires g c = omega (arith, c.seat.invariant.met.few, c.len-len.ensures.length, c.len.ensures.length)
 
 pub returns-then-below-clause-stands : goal.returns-then-below-clause-stands
 returns-then-below-clause-stands g c =
@@ -15,9 +16,9 @@ returns-then-below-clause-stands g c =
       record {
         full = size;
         history = history_of (length g.N.Name.cells) c.self.invariant.0 (omega arith);
-        past = c.began.ensures;
+        past = begins_on _ _ _ seated.since c.began.ensures;
         mine = own_stand c.seat.inside.number c.seat.inside.past c.self.inside.pen.entries c.seat.inside.mine.items
-            c.began.ensures seated.own;
+            (begins_on _ _ _ seated.since c.began.ensures) seated.own;
         told = rw seated.told_said at c.holds.ensures;
       },
       refl,

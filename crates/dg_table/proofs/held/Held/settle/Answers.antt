@@ -10,7 +10,7 @@ answer_finding-requires-clause-look g c =
     let H = c.args.self.now.entries in
     let held = rw c.self.view_is at c.self.invariant.0 in
     let look = look_stands g.N.Name.start H c.args.look.now c.args.shown.now held.legal c.requires.look
-    c.in_ok-ready_on.ensures.1 in
+    c.in-Ok.ensures.1 in
     (g.N.Name.start, H, held.game', look)
 
 pub answer_finding-requires-clause-found : goal.answer_finding-requires-clause-found
@@ -23,7 +23,7 @@ enter-requires-clause-replies g c =
     let H = c.args.self.now.entries in
     let held = rw c.self.view_is at c.self.invariant.0 in
     let look = look_stands g.N.Name.start H c.args.look.now c.args.shown.now held.legal c.requires.look
-    c.in_ok-ready_on.ensures.1 in
+    c.in-Ok.ensures.1 in
     rw c.request-entry.ensures (c.answer_finding.ensures.replies g.N.Name.start H held.game' look)
 
 pub enter-requires-clause-legal : goal.enter-requires-clause-legal
@@ -31,16 +31,16 @@ enter-requires-clause-legal g c =
     let H = c.args.self.now.entries in
     let held = rw c.self.view_is at c.self.invariant.0 in
     let look = look_stands g.N.Name.start H c.args.look.now c.args.shown.now held.legal c.requires.look
-    c.in_ok-ready_on.ensures.1 in
+    c.in-Ok.ensures.1 in
     rw (c.request-entry.ensures, c.number-entry.ensures)
     (c.answer_finding.ensures.legal g.N.Name.start H c.args.seat.now.number held.game' look held.legal
-    c.in_ok-ready_on.ensures.0.seat)
+    c.in-Ok.ensures.0.seat)
 
 pub returns-in_err-receipt-clause-refused : goal.returns-in_err-receipt-clause-refused
 returns-in_err-receipt-clause-refused g c =
     let H = c.args.self.now.entries in
-    let ready = c.in_ok-ready_on.ensures.0 in
-    let stands = c.in_ok-ready_on.ensures.1 in
+    let ready = c.in-Ok.ensures.0 in
+    let stands = c.in-Ok.ensures.1 in
     let read : c.args.look.now.0 < length H = slice_get_within H c.args.look.now.0 c.args.look.now.1 stands in
     let step = c.in_err-receipt.ensures.refused in
     let refused = settling_refused g.N.Name.start g.N.Name.seats
@@ -57,7 +57,7 @@ returns-clause-settled g c =
       settled g.N.Name.start g.N.Name.seats
           (length g.N.Name.cells) H c.args.look.now c.args.shown.now c.args.finding.now c.in_ok-receipt.receipt
           c.args.seat.now c.enter.new.seat
-          c.hear.new.self (rw c.request-entry.ensures at entered.0) c.requires.look c.in_ok-ready_on.ensures.1
-          kept c.hear.ensures.number c.hear.ensures.mine c.hear.ensures.told c.hear.ensures.past,
+          c.hear.new.self (rw c.request-entry.ensures at entered.0) c.requires.look c.in-Ok.ensures.1
+          kept c.hear.ensures.number c.hear.ensures.mine c.hear.ensures.told c.hear.ensures.past c.hear.ensures.met,
       entered.1,
     )

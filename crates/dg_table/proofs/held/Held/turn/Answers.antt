@@ -2,10 +2,10 @@ use Rattle.std.proofs.Common.{rules}
 use Rattle.dg_table.proofs.Turning.{barred_turn}
 use Rattle.dg_table.proofs.held.Held.turn.Goals as goal
 
-pub returns-in_err-ready-clause-refused : goal.returns-in_err-ready-clause-refused
-returns-in_err-ready-clause-refused g c =
-    let barred = barred_turn g.F.FnMut c.args.choose.now _ _ _ _ _ _ _ c.in_err-ready.ensures.stands
-    c.in_err-ready.ensures.barred in
+pub returns-in-Err-clause-refused : goal.returns-in-Err-clause-refused
+returns-in-Err-clause-refused g c =
+    let barred = barred_turn g.F.FnMut c.args.choose.now _ _ _ _ _ _ _ c.in-Err.ensures.stands
+    c.in-Err.ensures.barred in
     search rules
 
 pub enter-requires-clause-legal : goal.enter-requires-clause-legal
@@ -13,4 +13,4 @@ enter-requires-clause-legal g c =
     let held = rw c.self.view_is at c.self.invariant.0 in
     rw (c.ask.ensures, c.number-entry.ensures)
     (c.answer.ensures.legal g.N.Name.start c.args.self.now.entries c.args.seat.now.number
-    held.game' held.legal c.in_ok-ready.ensures.stands.seat)
+    held.game' held.legal c.in-Ok.ensures.stands.seat)

@@ -1,4 +1,5 @@
-use Rattle.std.proofs.Common.{◌≡◌, ◌+◌, ℕ, [], length, slice_get, Some}
+use Rattle.std.proofs.Common.{◌≡◌, ◌+◌, ◌≤◌, ℕ, [], length, slice_get, Some}
+use Rattle.std.specs.Vec.{vec_capacity}
 use Rattle.dg_table.specs.Seats.{SeatView}
 use Rattle.dg_table.proofs.seat.Seat.all.Given as goal
 
@@ -6,5 +7,6 @@ abbrev pub invariant-loop-i : goal.invariant-loop-i
 invariant-loop-i g l = record {
   count : length l.seats.items ≡ l.i;
   fresh : (k : ℕ) (x : SeatView) → slice_get l.seats.items k ≡ Some x →
-      (x.number ≡ k + 1) × (x.mine ≡ []) × (x.told ≡ []) × (x.past ≡ []);
+      (x.number ≡ k + 1) × (x.mine ≡ []) × (x.told ≡ []) × (x.past ≡ []) × (x.met ≡ []);
+  room : l.count ≤ vec_capacity l.seats;
 }

@@ -1,0 +1,135 @@
+-- Entries that lines make, one line after another.
+--   history_none   no entry is a history of a table
+--   ascend_from    numbers that are b or more are a or more, where that is less
+--   ascend_more    numbers that ascend, and greater ones after them, ascend
+--   below_stand    entries that stand in a history have numbers below its length
+--   stand_on       they stand in what begins with it
+--   stand_both     so do two lists of them, one after the other
+--   comes_from     what comes after a history comes after its beginning
+--   gained_met     what a seat gained after it met a history, it gained
+--   line_met       a line that was refused to it then, was
+--   line_one       a line makes at most one entry
+--   refused_made   so does one that is refused
+--   last_made      what was made is the last entry, where there is one more
+--   none_made      and none, where there is none
+use Rattle.std.proofs.Common.{◌≡◌, ℕ, ◌+◌, ◌-◌, ◌<◌, ◌≤◌, inl, inr, List, [], ◌∷◌, ◌++◌, length, length-append, Option, Some, None, slice_get, refl, sym, ap, subst, ◌∙◌, arith}
+use Rattle.std.proofs.lemmas.Option.{slice_get_within, same_Some}
+use Rattle.std.proofs.lemmas.List.{nil_from_length}
+use Rattle.dg_chips.specs.Opening.{Opening}
+use Rattle.dg_game.proofs.LegalLaws.{legal_none}
+use Rattle.dg_game.specs.declared.entry.Entry.{Entry}
+use Rattle.dg_table.specs.Histories.{IsHistoryOf}
+use Rattle.dg_game.specs.declared.step.Command.{Command}
+use Rattle.dg_game.specs.declared.step.Command.TheVariants.{Call, Commit, Rank}
+use Rattle.dg_log.specs.Numbered.{AreBelow, StandIn, IsBeginning}
+use Rattle.dg_table.specs.Seats.{SeatView, Meets}
+use Rattle.dg_table.proofs.Numbered.{begins_on, begins_length, stand_longer}
+use Rattle.dg_session.specs.Order.{AscendFrom, ComeAfter}
+use Rattle.dg_session.specs.Setup.{Setup}
+use Rattle.dg_session.specs.Saying.{Gains, AnswersCommand, AnswersLine}
+use Rattle.dg_session.specs.Refusing.{RefusesLine}
+use Rattle.dg_session.specs.declared.ends.SessionEnd.{SessionEnd}
+use Rattle.dg_session.specs.declared.ends.SessionEnd.TheVariants.{Table, Memory, Spawn}
+
+pub history_none : (o : Opening) (n cap : ℕ) → IsHistoryOf o n cap []
+history_none o n cap = record { legal = legal_none o; few = omega arith; seated = λ k e at. absurd (cc) }
+
+pub ascend_from : (a b : ℕ) (ps : List (ℕ × Entry)) → a ≤ b → AscendFrom b ps → AscendFrom a ps
+ascend_from a b [] few up = tt
+ascend_from a b (p ∷ ps) few up = (omega (arith, few, up.0), up.1)
+
+pub ascend_more : (a n : ℕ) (ps qs : List (ℕ × Entry)) → a ≤ n → AscendFrom a ps → AreBelow n ps → AscendFrom n qs
+    → AscendFrom a (ps ++ qs)
+ascend_more a n [] qs few up below more = ascend_from a n qs few more
+ascend_more a n (p ∷ ps) qs few up below more =
+    (up.0, ascend_more (p.0 + 1) n ps qs (omega (arith, below.0)) up.1 below.1 more)
+
+pub below_stand : (H : List Entry) (ps : List (ℕ × Entry)) → StandIn H ps → AreBelow (length H) ps
+below_stand H [] stand = tt
+below_stand H (p ∷ ps) stand = (slice_get_within H p.0 p.1 stand.0, below_stand H ps stand.1)
+
+pub stand_on : (K H : List Entry) (ps : List (ℕ × Entry)) → IsBeginning K H → StandIn K ps → StandIn H ps
+stand_on K H ps (rest, is) stand = subst (λ L. StandIn L ps) (sym is) (stand_longer K rest ps stand)
+
+pub stand_both : (H : List Entry) (ps qs : List (ℕ × Entry)) → StandIn H ps → StandIn H qs → StandIn H (ps ++ qs)
+stand_both H [] qs first second = second
+stand_both H (p ∷ ps) qs first second = (first.0, stand_both H ps qs first.1 second)
+
+pub comes_from : (K M H : List Entry) (made : List (ℕ × Entry)) → IsBeginning K M → ComeAfter M made H
+    → ComeAfter K made H
+comes_from K M H made begins comes = record {
+  begins = begins_on K M H begins comes.begins;
+  stand = comes.stand;
+  after = ascend_from (length K) (length M) made (begins_length K M begins) comes.after;
+}
+
+module _ {L : List Entry} {x m : SeatView} (meets : Meets L x m) where
+  pub gained_met : (y : SeatView) (made : List (ℕ × Entry)) → Gains m y made → Gains x y made
+  gained_met y made g = record {
+    number = g.number ∙ meets.number;
+    mine = g.mine ∙ ap (λ ps. ps ++ made) meets.mine;
+    heard = g.heard;
+    told = g.told ∙ ap (λ ps. ps ++ g.heard) meets.told;
+    past = subst (λ K. IsBeginning K y.past) meets.past g.past;
+    order = comes_from x.met m.met y.met made meets.met.first g.order;
+    still = λ none. let kept = g.still none in (kept.0 ∙ meets.told, kept.1 ∙ meets.past);
+  }
+
+  pub line_met : (t : Setup) (k : Option ℕ) (line : List ℕ) (y : SeatView) (end : SessionEnd)
+      → RefusesLine t k line m y end → RefusesLine t k line x y end
+  line_met t k line y (Table fault) h = (h.0, h.1, (h.2.0, h.2.1, gained_met y [] h.2.2))
+  line_met t k line y Spawn h = (h.0, h.1, (h.2.0, gained_met y [] h.2.1))
+  line_met t k line y Memory h =
+      record { more = h.more; next = h.next; gained = gained_met y h.more h.gained }
+  line_met t k line y end h = absurd h.2
+
+command_one : (t : Setup) (k : Option ℕ) (command : Command) (made : List (ℕ × Entry)) (after : Option ℕ)
+    (said : List ℕ) → AnswersCommand t k command made after said → length made ≤ 1
+command_one t k (Call plain) made after said a = omega (arith, ap length a.2)
+command_one t None Commit made after said a = omega (arith, ap length a.0)
+command_one t (Some i) Commit made after said a = omega (arith, ap length a.2)
+command_one t None (Rank n) made after said a = omega (arith, ap length a.0)
+command_one t (Some i) (Rank n) made after said a = elim a [
+  | inl past ↦ omega (arith, ap length past.1.0)
+  | inr within ↦ omega (arith, ap length within.1.2)
+]
+
+pub line_one : (t : Setup) (k : Option ℕ) (line : List ℕ) (made : List (ℕ × Entry)) (after : Option ℕ) (said : List ℕ)
+    → AnswersLine t k line made after said → length made ≤ 1
+line_one t k line made after said a = elim a [
+  | inl bad ↦ omega (arith, ap length bad.2.0)
+  | inr good ↦ command_one t k good.0 made after said good.2
+]
+
+pub refused_made : (t : Setup) (k : Option ℕ) (line : List ℕ) (x y : SeatView) (end : SessionEnd)
+    → RefusesLine t k line x y end → (made : List (ℕ × Entry)) × Gains x y made × (length made ≤ 1)
+refused_made t k line x y (Table fault) h = ([], h.2.2, omega arith)
+refused_made t k line x y Spawn h = ([], h.2.1, omega arith)
+refused_made t k line x y Memory h = (
+  h.more,
+  h.gained,
+  elim h.next [
+    | inl none ↦ omega (arith, ap length none)
+    | inr a ↦ line_one t k line h.more a.0 a.1 a.2
+  ],
+)
+refused_made t k line x y end h = absurd h.2
+
+pub last_made : (before made all : List (ℕ × Entry)) (r : ℕ × Entry) → all ≡ before ++ made
+    → length before < length all → length made ≤ 1 → slice_get all (length all - 1) ≡ Some r → made ≡ r ∷ []
+last_made before [] all r is more few at = absurd (omega (arith, ap length is, length-append before [], more))
+last_made before (p ∷ []) all r is more few at =
+    let size = length-append before (p ∷ []) in
+    let place : length all - 1 ≡ length before = omega (arith, ap length is, size) in
+    let there : slice_get all (length all - 1) ≡ Some p =
+    ap (slice_get all) place ∙ ap (λ l. slice_get l (length before)) is ∙ seam before p in
+    ap (λ q. q ∷ []) (same_Some p r (sym there ∙ at))
+  where
+    seam : (ps : List (ℕ × Entry)) (p : ℕ × Entry) → slice_get (ps ++ p ∷ []) (length ps) ≡ Some p
+    seam [] p = refl
+    seam (q ∷ ps) p = seam ps p
+last_made before (p ∷ q ∷ made) all r is more few at = absurd (omega (arith, few))
+
+pub none_made : (before made all : List (ℕ × Entry)) → all ≡ before ++ made → length all ≤ length before → made ≡ []
+none_made before made all is few =
+    nil_from_length made (omega (arith, ap length is, length-append before made, few))

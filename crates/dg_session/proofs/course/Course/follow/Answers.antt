@@ -1,0 +1,11 @@
+use Rattle.std.proofs.Common.{◌<◌, ◌++◌, [], ◌∷◌, length, ap, ◌∙◌, rules}
+use Rattle.dg_session.specs.Course.{CourseView}
+use Rattle.dg_session.proofs.Coming.{last_made}
+use Rattle.dg_session.proofs.course.Course.follow.Goals as goal
+
+pub returns-in-Some-clause-entered : goal.returns-in-Some-clause-entered
+returns-in-Some-clause-entered g c = λ before made sized is few.
+    let more : length before < length c.args.seat.now.mine = search rules in
+    let last = last_made before made c.args.seat.now.mine c.in-Some.receipt.now is more few c.in-Some.ensures.last in
+    rw last (c.and-self-inside.ensures
+    ∙ ap (λ (v : CourseView). v.entered ++ c.in-Some.receipt.now ∷ []) c.self.view_is)
