@@ -25,8 +25,8 @@ pub struct GreedyGame {
 /// The game of one seat that lets the least vertex in debt borrow, until it claims that nobody is in debt, or for so many
 /// turns. The condition is at most 65,536 turns.
 ///
-/// Refused with `OutOfMemory`, and with `Log` as a turn is, and where the table is not closed. The history has room for all turns,
-/// so that it is never full.
+/// Refused with `OutOfMemory`, and with `Log` as a turn is, and where the table is not closed. The history has room for all
+/// turns, so that it is never full.
 pub fn greedy(rt: &impl Wait, alloc: Global, start: &Start, turns: u32) -> Result<GreedyGame, Fault>
     requires { turns ≤ MAX_ENTRIES }
     ensures game { IfOk result

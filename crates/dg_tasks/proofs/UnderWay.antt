@@ -67,7 +67,8 @@ played_none o names r text playing empty = record {
 
 pub played_more : (o : Opening) (names : List (List ℕ)) (steps : List Step) (step : Step) (e : Entry) (r t : Rehearsal)
     (text longer : List ℕ) (number : ℕ)
-    → PlaysOn r step e t → r.game.entries < MAX_ENTRIES → number ≡ r.game.entries → longer ≡ text ++ entry_text names number e.reply
+    → PlaysOn r step e t → r.game.entries < MAX_ENTRIES → number ≡ r.game.entries
+    → longer ≡ text ++ entry_text names number e.reply
     → IsPlayed o names steps r text → IsPlayed o names (steps ++ step ∷ []) t longer
 played_more o names steps step e r t text longer number plays room counted written known =
     let H : List Entry = known.history in
