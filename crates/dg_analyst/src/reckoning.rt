@@ -114,8 +114,7 @@ pub fn reckon_aimed<N: Name>(look: Look<N>, aim: &Aim) -> Reckoned<N>
 /// the start, with so many workers and this gate. It takes no lock of a table.
 ///
 /// Refused with `TooMany` where the degree is above 1,000 or there are more than 200,000 trials; then with `Workers`
-/// where their number is not 1 to 16; then with `OutOfMemory`, and with `Spawn` where a thread could not be started.
-/// The look comes back.
+/// where their number is not 1 to 16; and with `Spawn` where a thread could not be started. The look comes back.
 pub fn try_rank<N: Name, R: Threads + Wait, G: Gate>(
     rt: &R,
     look: Look<N>,

@@ -1,48 +1,60 @@
--- Sessions that began, one seat more.
+-- Why sessions are not told, with one seat more.
 --   none_begun     where the seats are as they were, none has begun
---   more_begun     the session of a first seat, and those that began after it
---   all_begun      sessions of all seats have begun
-use Rattle.std.proofs.Common.{◌≡◌, ℕ, suc, List, [], ◌∷◌, sym, ap, ◌∙◌, refl, Result}
+--   more_begun     the session of a first seat, and what became of those after it
+--   all_begun      the session of a first seat, and those of all others
+--   party_lacks    a party whose sessions are not told is refused for what they lack
+use Rattle.std.proofs.Common.{◌≡◌, ℕ, suc, List, ◌∷◌, length, arith, refl, sym, ap, subst, ◌∙◌, Result}
 use Rattle.std.specs.Global.{Vec}
 use Rattle.dg_chips.specs.Opening.{Opening}
+use Rattle.dg_table.specs.Opened.{AreFresh}
 use Rattle.dg_table.specs.Seats.{SeatView}
 use Rattle.dg_session.specs.declared.ends.SessionEnd.{SessionEnd}
-use Rattle.dg_party.specs.Sessions.{IsSessionOver, AreSessions, HaveBegun, contents}
+use Rattle.dg_party.specs.Sessions.{IsSessionOver, AreSessions, HaveBegun, RefusesSessions, contents}
+use Rattle.dg_party.specs.declared.fault.PartyFault.{PartyFault}
+use Rattle.dg_party.specs.declared.fault.PartyFault.TheVariants.{OutOfMemory, Spawn}
+use Rattle.dg_party.specs.declared.ending.PartyRefusal.{PartyRefusal}
+use Rattle.dg_party.specs.declared.ending.PartyRefusal.TheVariants as party
+use Rattle.dg_party.specs.Parties.{IsPartyRefused}
 
-pub none_begun : (o : Opening) (seats cap : ℕ) (names scripts : List (List ℕ)) (xs rest ys : List SeatView)
-    (x y : SeatView)
-    → xs ≡ x ∷ rest → y ≡ x → ys ≡ rest → (k : ℕ) × HaveBegun o seats cap names k scripts xs (y ∷ ys)
+pub none_begun : (o : Opening) (seats cap : ℕ) (names : List (List ℕ)) (scripts left : List (Vec ℕ)) (script : Vec ℕ)
+    (xs rest ys : List SeatView) (x y : SeatView)
+    → scripts ≡ script ∷ left → xs ≡ x ∷ rest → y ≡ x → ys ≡ rest
+    → RefusesSessions o seats cap names (contents scripts) xs (y ∷ ys) Spawn
 unfolding HaveBegun
-none_begun o seats cap names scripts xs rest ys x y e f h = (0, ap (λ z. z ∷ ys) f ∙ ap (λ zs. x ∷ zs) h ∙ sym e)
+none_begun o seats cap names scripts left script xs rest ys x y d e f h =
+    (0, rw d (omega arith), ap (λ z. z ∷ ys) f ∙ ap (λ zs. x ∷ zs) h ∙ sym e)
 
 pub more_begun : (o : Opening) (seats cap : ℕ) (names : List (List ℕ)) (scripts left : List (Vec ℕ)) (script : Vec ℕ)
-    (xs rest ys : List SeatView) (x y : SeatView) (end : Result ℕ SessionEnd)
+    (xs rest ys : List SeatView) (x y : SeatView) (end : Result ℕ SessionEnd) (fault : PartyFault)
     → scripts ≡ script ∷ left → xs ≡ x ∷ rest → IsSessionOver o seats cap names script.items x y end
-    → (k : ℕ) × HaveBegun o seats cap names k (contents left) rest ys
-    → (k : ℕ) × HaveBegun o seats cap names k (contents scripts) xs (y ∷ ys)
-unfolding HaveBegun
-more_begun o seats cap names scripts left script xs rest ys x y end e f session begun =
-    (suc begun.0, rw (e, f) ((end, session), begun.1))
-
-begun_of : (o : Opening) (seats cap : ℕ) (names scripts : List (List ℕ)) (xs ys : List SeatView)
-    (ends : List (Result ℕ SessionEnd))
-    → AreSessions o seats cap names scripts xs ys ends → (k : ℕ) × HaveBegun o seats cap names k scripts xs ys
+    → RefusesSessions o seats cap names (contents left) rest ys fault
+    → RefusesSessions o seats cap names (contents scripts) xs (y ∷ ys) fault
 unfolding AreSessions HaveBegun
-begun_of o seats cap names (script ∷ scripts) (x ∷ xs) (y ∷ ys) (end ∷ ends) are =
-    let rest = begun_of o seats cap names scripts xs ys ends are.1 in (suc rest.0, ((end, are.0), rest.1))
-begun_of o seats cap names [] [] [] [] are = (0, refl)
-begun_of o seats cap names [] [] [] (end ∷ ends) are = elim are [ ]
-begun_of o seats cap names [] [] (y ∷ ys) ends are = elim are [ ]
-begun_of o seats cap names [] (x ∷ xs) ys ends are = elim are [ ]
-begun_of o seats cap names (script ∷ scripts) [] ys ends are = elim are [ ]
-begun_of o seats cap names (script ∷ scripts) (x ∷ xs) [] ends are = elim are [ ]
-begun_of o seats cap names (script ∷ scripts) (x ∷ xs) (y ∷ ys) [] are = elim are [ ]
+more_begun o seats cap names scripts left script xs rest ys x y end OutOfMemory e f session (ends, are) =
+    (end ∷ ends, rw (e, f) (session, are))
+more_begun o seats cap names scripts left script xs rest ys x y end Spawn e f session (k, some, begun) =
+    (suc k, rw e (omega (arith, some)), rw (e, f) ((end, session), begun))
 
 pub all_begun : (o : Opening) (seats cap : ℕ) (names : List (List ℕ)) (scripts left : List (Vec ℕ)) (script : Vec ℕ)
     (xs rest ys : List SeatView) (x y : SeatView) (end : Result ℕ SessionEnd) (ends : List (Result ℕ SessionEnd))
+    (fault : PartyFault)
     → scripts ≡ script ∷ left → xs ≡ x ∷ rest → IsSessionOver o seats cap names script.items x y end
-    → AreSessions o seats cap names (contents left) rest ys ends
-    → (k : ℕ) × HaveBegun o seats cap names k (contents scripts) xs (y ∷ ys)
-all_begun o seats cap names scripts left script xs rest ys x y end ends e f session are =
-    more_begun o seats cap names scripts left script xs rest ys x y end e f session
-    (begun_of o seats cap names (contents left) rest ys ends are)
+    → AreSessions o seats cap names (contents left) rest ys ends → fault ≡ OutOfMemory
+    → RefusesSessions o seats cap names (contents scripts) xs (y ∷ ys) fault
+all_begun o seats cap names scripts left script xs rest ys x y end ends fault e f session are told =
+    rw told (more_begun o seats cap names scripts left script xs rest ys x y end OutOfMemory e f session (ends, are))
+
+pub party_lacks : (o : Opening) (n m cap : ℕ) (names scripts : List (List ℕ)) (opened xs ys : List SeatView)
+    (fault : PartyFault) (refusal : PartyRefusal)
+    → length scripts ≡ n → n ≡ m → AreFresh n opened → xs ≡ opened
+    → (fault ≡ OutOfMemory → refusal ≡ party.OutOfMemory) → (fault ≡ Spawn → refusal ≡ party.Spawn)
+    → RefusesSessions o m cap names scripts xs ys fault → IsPartyRefused o cap names scripts refusal
+party_lacks o n m cap names scripts opened xs ys OutOfMemory refusal many same fresh lent memory spawn refused =
+    rw (memory refl) tt
+party_lacks o n m cap names scripts opened xs ys Spawn refusal many same fresh lent memory spawn refused =
+    rw (spawn refl) (record {
+      before = xs;
+      after = ys;
+      fresh = rw (many, lent) fresh;
+      holds = subst (λ (seats : ℕ). RefusesSessions o seats cap names scripts xs ys Spawn) (sym (many ∙ same)) refused;
+    })

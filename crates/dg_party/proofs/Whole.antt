@@ -6,7 +6,8 @@
 --   shown_size       the amounts after a history are as many as the graph's vertices
 --   whole            sessions of fresh seats, which a table was closed with, are a party
 --   whole_lent       so are they where the seats were lent as the front of a list
-use Rattle.std.proofs.Common.{◌≡◌, ℕ, zero, suc, ◌+◌, ◌<◌, ◌≤◌, List, [], ◌∷◌, ◌++◌, length, take, slice_get, Some, arith, refl, sym, ap, ◌∙◌, Result, codes, decimal, unwrap_or}
+--   party_unclosed   where the table was not closed with them, there is no party for that
+use Rattle.std.proofs.Common.{◌≡◌, ℕ, zero, suc, ◌+◌, ◌<◌, ◌≤◌, List, [], ◌∷◌, ◌++◌, length, take, slice_get, Some, arith, refl, sym, ap, subst, ◌∙◌, Result, codes, decimal, unwrap_or}
 use Rattle.std.specs.List.{slice_index}
 use Rattle.std.specs.Global.{Vec}
 use Rattle.std.proofs.lemmas.Option.{none-some}
@@ -21,11 +22,12 @@ use Rattle.dg_game.specs.declared.entry.Entry.{Entry}
 use Rattle.dg_game.proofs.StepLaw.{vertices_stay}
 use Rattle.dg_table.specs.Seats.{SeatView, entries_of}
 use Rattle.dg_table.specs.Opened.{AreFresh}
-use Rattle.dg_table.specs.Closing.{IsClosed, AreTotals}
+use Rattle.dg_table.specs.Closing.{IsClosed, AreTotals, IsCloseRefused}
 use Rattle.dg_session.specs.declared.ends.SessionEnd.{SessionEnd}
 use Rattle.dg_party.specs.Sessions.{IsSessionOver, AreSessions, contents}
 use Rattle.dg_totals.specs.Printed.{entries_text, seat_text, seats_text, calls_text, totals_text}
-use Rattle.dg_party.specs.Parties.{IsParty}
+use Rattle.dg_party.specs.Parties.{IsParty, IsPartyRefused}
+use Rattle.dg_party.specs.declared.ending.PartyRefusal.TheVariants.{Log}
 
 record IsSessionAt (o : Opening) (seats cap : ℕ) (names : List (List ℕ)) (xs ys : List SeatView) (i : ℕ)
     (script : List ℕ)
@@ -178,3 +180,27 @@ whole_lent o cap names scripts n m len opened xs ys rest ends H entries gifts gr
     let front : take len (ys ++ rest) ≡ ys = ap (λ k. take k (ys ++ rest)) (sym all) ∙ take-append_seam ys rest in
     whole o cap names scripts n xs ys ends H entries gifts graph position calls text many (rw lent fresh) (rw same are)
     (rw (same, ← front) closed.0) (rw (same, ← front) closed.1) enough printed
+
+pub party_unclosed : (o : Opening) (cap : ℕ) (names scripts : List (List ℕ)) (n m len : ℕ)
+    (opened xs ys rest : List SeatView)
+    (ends : List (Result ℕ SessionEnd)) (seat : ℕ)
+    → length scripts ≡ n → n ≡ m → AreFresh n opened → xs ≡ opened → len ≡ length opened
+    → AreSessions o m cap names scripts xs ys ends → IsCloseRefused o m cap (take len (ys ++ rest)) seat
+    → IsPartyRefused o cap names scripts Log
+party_unclosed o cap names scripts n m len opened xs ys rest ends seat many same fresh lent counted are refused =
+    let all : length ys ≡ len = seats_kept o m cap names scripts xs ys ends are ∙ ap length lent ∙ sym counted in
+    let front : take len (ys ++ rest) ≡ ys = ap (λ k. take k (ys ++ rest)) (sym all) ∙ take-append_seam ys rest in
+    let seats : length scripts ≡ m = many ∙ same in
+    record {
+      before = xs;
+      after = ys;
+      fresh = rw (many, lent) fresh;
+      holds = (
+        (ends, subst (λ (k : ℕ). AreSessions o k cap names scripts xs ys ends) (sym seats) are),
+        (
+          seat,
+          subst (λ (k : ℕ). IsCloseRefused o k cap ys seat) (sym seats)
+              (subst (λ (zs : List SeatView). IsCloseRefused o m cap zs seat) front refused),
+        ),
+      );
+    }

@@ -6,17 +6,26 @@
 --                        entries; for each script, in order, a session over it, which came to the
 --                        end at its place, made just the entries of its seat in that history; and
 --                        the text is that of the history and of its totals
-use Rattle.std.specs.Prelude.{◌≡◌, ℕ, ◌+◌, List, [], ◌++◌, length, slice_get, Some, Result}
+--   IsOfSeats n P     == P holds of n seats as they were at first, and of what they were then
+--   IsPartyRefused o cap names scripts refusal == so is the party: memory is wanting; or a thread
+--                        was not started, and some first scripts had sessions, not all; or all had,
+--                        and then the table was not closed
+use Rattle.std.specs.Prelude.{◌≡◌, ℕ, ◌+◌, List, [], ◌++◌, length, slice_get, Some, ⊤, Result}
 use Rattle.dg_chips.specs.Opening.{Opening}
 use Rattle.dg_chips.specs.Vector.{Vector}
 use Rattle.dg_game.specs.Position.{Shows}
 use Rattle.dg_game.specs.History.{position_after}
 use Rattle.dg_game.specs.declared.entry.Entry.{Entry}
 use Rattle.dg_log.specs.Numbered.{IsBeginning}
+use Rattle.dg_table.specs.Opened.{AreFresh}
+use Rattle.dg_table.specs.Closing.{IsCloseRefused}
 use Rattle.dg_table.specs.Histories.{IsHistoryOf}
 use Rattle.dg_table.specs.Seats.{SeatView, entries_of}
 use Rattle.dg_session.specs.declared.ends.SessionEnd.{SessionEnd}
-use Rattle.dg_party.specs.Sessions.{IsSessionOver}
+use Rattle.dg_party.specs.Sessions.{IsSessionOver, AreSessions, RefusesSessions}
+use Rattle.dg_party.specs.declared.ending.PartyRefusal.{PartyRefusal}
+use Rattle.dg_party.specs.declared.ending.PartyRefusal.TheVariants.{OutOfMemory, Spawn, Log}
+use Rattle.dg_party.specs.declared.fault.PartyFault.TheVariants as sessions
 use Rattle.dg_totals.specs.Printed.{entries_text, audit_text}
 
 pub record IsSessionIn (o : Opening) (seats cap : ℕ) (names : List (List ℕ)) (H : List Entry)
@@ -44,3 +53,18 @@ pub record IsParty (o : Opening) (cap : ℕ) (names : List (List ℕ)) (scripts 
   pub shown : Shows (position_after o history) position
   pub printed : text ≡ entries_text names 0 history
       ++ audit_text names (length scripts) history position
+
+pub record IsOfSeats (n : ℕ) (P : List SeatView → List SeatView → Type 0) : Type 0 where
+  pub before : List SeatView
+  pub after : List SeatView
+  pub fresh : AreFresh n before
+  pub holds : P before after
+
+abbrev pub IsPartyRefused : Opening → ℕ → List (List ℕ) → List (List ℕ) → PartyRefusal → Type 0
+IsPartyRefused o cap names scripts OutOfMemory = ⊤
+IsPartyRefused o cap names scripts Spawn = IsOfSeats (length scripts) (λ xs ys.
+    RefusesSessions o (length scripts) cap names scripts xs ys sessions.Spawn)
+IsPartyRefused o cap names scripts Log = IsOfSeats (length scripts) (λ xs ys.
+    ((ends : List (Result ℕ SessionEnd))
+    × AreSessions o (length scripts) cap names scripts xs ys ends)
+    × ((seat : ℕ) × IsCloseRefused o (length scripts) cap ys seat))

@@ -3,18 +3,25 @@
 --   contents scripts       == the bytes of each of the scripts
 --   IsSessionOver o seats cap names script x y end == a session of the seat over the bytes of the
 --                             script came to this end, on a table of so many seats and cap cells,
---                             of which it found one history; what it wrote nobody kept
+--                             of which it found one history; nobody heard what it had to say, so
+--                             that no writer failed
 --   AreSessions .. scripts xs ys ends == so did, one beside another, a session of each seat over
 --                         the script at its place
 --   HaveBegun .. k scripts xs ys == the first k seats had such sessions, and the others are as they
 --                         were
-use Rattle.std.specs.Prelude.{◌≡◌, ℕ, zero, suc, List, [], ◌∷◌, Option, Some, ⊤, Result, map}
+--   RefusesSessions .. scripts xs ys fault == memory was refused after all seats had such sessions;
+--                         or a thread was not started, and some first seats had them, not all, and
+--                         the others are as they were
+use Rattle.std.specs.Prelude.{◌≡◌, ◌≢◌, ℕ, zero, suc, ◌<◌, List, [], ◌∷◌, length, Option, Some, ⊤, Result, Err, map}
 use Rattle.std.specs.Global.{Vec}
 use Rattle.dg_chips.specs.Opening.{Opening}
 use Rattle.dg_table.specs.Histories.{HasPast}
 use Rattle.dg_table.specs.Seats.{SeatView}
 use Rattle.dg_session.specs.Ends.{IsSession}
 use Rattle.dg_session.specs.declared.ends.SessionEnd.{SessionEnd}
+use Rattle.dg_session.specs.declared.ends.SessionEnd.TheVariants.{Write}
+use Rattle.dg_party.specs.declared.fault.PartyFault.{PartyFault}
+use Rattle.dg_party.specs.declared.fault.PartyFault.TheVariants.{OutOfMemory, Spawn}
 
 abbrev pub contents : List (Vec ℕ) → List (List ℕ)
 contents scripts = map (λ (script : Vec ℕ). script.items) scripts
@@ -28,6 +35,7 @@ pub record IsSessionOver (o : Opening) (seats cap : ℕ) (names : List (List ℕ
   pub number : y.number ≡ x.number
   pub found : HasPast o seats cap y
   pub session : IsSession o seats cap names (Some script) rest old new x y end
+  pub heard : end ≢ Err Write
 
 unfoldable pub AreSessions : Opening → ℕ → ℕ → List (List ℕ) → List (List ℕ) → List SeatView
     → List SeatView → List (Result ℕ SessionEnd) → Type 0
@@ -44,3 +52,10 @@ HaveBegun o seats cap names (suc k) (script ∷ scripts) (x ∷ xs) (y ∷ ys) =
     ((end : Result ℕ SessionEnd) × IsSessionOver o seats cap names script x y end)
     × HaveBegun o seats cap names k scripts xs ys
 HaveBegun o seats cap names k scripts xs ys = ⊥
+
+abbrev pub RefusesSessions : Opening → ℕ → ℕ → List (List ℕ) → List (List ℕ) → List SeatView
+    → List SeatView → PartyFault → Type 0
+RefusesSessions o seats cap names scripts xs ys OutOfMemory =
+    (ends : List (Result ℕ SessionEnd)) × AreSessions o seats cap names scripts xs ys ends
+RefusesSessions o seats cap names scripts xs ys Spawn =
+    (k : ℕ) × (k < length scripts) × HaveBegun o seats cap names k scripts xs ys

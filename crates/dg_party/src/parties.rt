@@ -1,17 +1,17 @@
 //! Parties: a table is opened, played by many seats at once, and closed.
-ghost use Rattle.std.specs.Prelude.{◌≡◌, length, IfOk};
+ghost use Rattle.std.specs.Prelude.{◌≡◌, length, IfOk, IfErr};
 ghost use Rattle.dg_log.specs.Rows.{IsCapacity};
 ghost use Rattle.dg_table.specs.Opened.{MayHaveSeats};
 ghost use Rattle.dg_party.specs.Sessions.{contents};
-ghost use Rattle.dg_party.specs.Parties.{IsParty};
+ghost use Rattle.dg_party.specs.Parties.{IsParty, IsPartyRefused};
 
 use crate::ending::{PartyRefusal, Played};
 use crate::threads::sessions;
 use dg_chips::Start;
-use dg_log::{Name, Row};
+use dg_log::{LogFault, Name, Row};
 use dg_names::Names;
 use dg_rank::Gate;
-use dg_table::Table;
+use dg_table::{Table, TableFault};
 use dg_totals::closing_text;
 use std::alloc::Global;
 use std::marker::Brand;
@@ -22,8 +22,8 @@ use std::thread::Threads;
 /// session makes just its seat's entries in that history. The conditions are 1 to 64 scripts, 1 to 65,536 cells, and one name
 /// per vertex.
 ///
-/// Each thread enters the gate with its seat's number before its first line. Refused with `OutOfMemory`, with `Spawn` where a
-/// thread could not be started, and with `Log` where the table is not closed.
+/// Each thread enters the gate with its seat's number before its first line. Refused with `OutOfMemory`; with `Spawn` where a
+/// thread could not be started, so that not all scripts had sessions; and with `Log` where all had, and the table is not closed.
 pub fn party<R: Threads + Wait + Sync, G: Gate>(
     rt: &R,
     alloc: Global,
@@ -36,11 +36,15 @@ pub fn party<R: Threads + Wait + Sync, G: Gate>(
     requires cap { IsCapacity cap }
     requires scripts { MayHaveSeats (length scripts.now) }
     requires names { length names.now ≡ start.now.graph.size }
-    ensures { IfOk result
+    ensures played { IfOk result
         (λ p. IsParty start.now cap names.now (contents scripts.now) p.ends.items p.text.items) }
+    ensures refused { IfErr result
+        (IsPartyRefused start.now cap names.now (contents scripts.now)) }
 {
-    let Ok(row) = Row::new(alloc, cap) else {
-        return Err(PartyRefusal::OutOfMemory);
+    let row = match Row::new(alloc, cap) {
+        Ok(row) => row,
+        Err(LogFault::Capacity) => unreachable!(),
+        Err(LogFault::OutOfMemory) => return Err(PartyRefusal::OutOfMemory),
     };
     match party_of::<Brand, R, G>(rt, alloc, row, start, names, scripts, gate) {
         Ok(played) => Ok(played),
@@ -63,14 +67,17 @@ fn party_of<N: Name + Send + Sync, R: Threads + Wait + Sync, G: Gate>(
     requires seats { length scripts.now ≡ N.seats }
     requires scripts { MayHaveSeats (length scripts.now) }
     requires names { length names.now ≡ start.now.graph.size }
-    ensures { IfOk result
+    ensures played { IfOk result
         (λ p. IsParty N.start (length N.cells) names.now (contents scripts.now) p.ends.items
         p.text.items) }
+    ensures refused { IfErr result
+        (IsPartyRefused N.start (length N.cells) names.now (contents scripts.now)) }
 {
     let count = scripts.len();
     let (table, mut seats) = match Table::<N>::open(alloc, row, start, count as u8) {
         Ok(opened) => opened,
-        Err(_) => return Err(PartyRefusal::OutOfMemory),
+        Err((_, TableFault::Seats)) => unreachable!(),
+        Err((_, TableFault::OutOfMemory)) => return Err(PartyRefusal::OutOfMemory),
     };
     let ends = match sessions(rt, alloc, &table, &mut seats, names, scripts, gate) {
         Ok(ends) => ends,

@@ -1,6 +1,6 @@
 //! Sessions side by side, each with a seat and a thread of its own.
 ghost use Rattle.std.specs.Prelude.{◌≡◌, ℕ, ◌∷◌, length, IfOk, IfErr};
-ghost use Rattle.dg_party.specs.Sessions.{IsSessionOver, AreSessions, HaveBegun, contents};
+ghost use Rattle.dg_party.specs.Sessions.{IsSessionOver, AreSessions, RefusesSessions, contents};
 
 use crate::fault::PartyFault;
 use dg_beside::{NotStarted, beside};
@@ -39,8 +39,8 @@ impl<'a, N: Name, R, G> Drop for Room<'a, N, R, G> {
 /// the seat's number, and then answers the lines of its script. What they came to is told in the order of the scripts. The
 /// conditions are as many scripts as seats, and one name per vertex.
 ///
-/// Refused with `OutOfMemory`, and with `Spawn` where a thread could not be started. Then some first seats had their sessions,
-/// and the others know what they knew.
+/// Refused with `OutOfMemory`, after all sessions, and with `Spawn` where a thread could not be started: then some first seats
+/// had their sessions, not all, and the others know what they knew.
 pub fn sessions<N: Name + Send + Sync, R: Threads + Wait + Sync, G: Gate>(
     rt: &R,
     alloc: Global,
@@ -55,8 +55,8 @@ pub fn sessions<N: Name + Send + Sync, R: Threads + Wait + Sync, G: Gate>(
     ensures ok { IfOk result
         (λ v. AreSessions N.start N.seats (length N.cells) names.now (contents scripts.now)
         seats.old seats.new v.items) }
-    ensures fault { IfErr result (λ _. (k : ℕ) ×
-        HaveBegun N.start N.seats (length N.cells) names.now k (contents scripts.now) seats.old
+    ensures fault { IfErr result
+        (RefusesSessions N.start N.seats (length N.cells) names.now (contents scripts.now) seats.old
         seats.new) }
 {
     let room = Room {
@@ -84,8 +84,8 @@ fn play<'a, N: Name + Send + Sync, R: Threads + Wait + Sync, G: Gate>(
     ensures ok { IfOk result
         (λ v. AreSessions N.start N.seats (length N.cells) room.now.names.now (contents scripts.now)
         seats.old seats.new v.items) }
-    ensures fault { IfErr result (λ _. (k : ℕ) ×
-        HaveBegun N.start N.seats (length N.cells) room.now.names.now k (contents scripts.now)
+    ensures fault { IfErr result
+        (RefusesSessions N.start N.seats (length N.cells) room.now.names.now (contents scripts.now)
         seats.old seats.new) }
 {
     let Some((seat, rest)) = seats.split_first_mut() else {
@@ -106,8 +106,8 @@ fn play<'a, N: Name + Send + Sync, R: Threads + Wait + Sync, G: Gate>(
         ensures { IfOk result
             (λ v. AreSessions N.start N.seats (length N.cells) room.entry.now.names.now
             (contents left.entry.now) rest.entry.now rest.exit.now v.items)
-            × IfErr result (λ _. (k : ℕ) ×
-            HaveBegun N.start N.seats (length N.cells) room.entry.now.names.now k
+            × IfErr result
+            (RefusesSessions N.start N.seats (length N.cells) room.entry.now.names.now
             (contents left.entry.now) rest.entry.now rest.exit.now) }
     { play(room, left, rest) };
     match beside(room.rt, &mut first, &mut others) {
@@ -145,7 +145,8 @@ fn with_first(
     first: Result<u32, SessionEnd>,
     mut ends: Vec<Result<u32, SessionEnd>>,
 ) -> Result<Vec<Result<u32, SessionEnd>>, PartyFault>
-    ensures { IfOk result (λ all. all.items ≡ first ∷ ends.items) }
+    ensures all { IfOk result (λ all. all.items ≡ first ∷ ends.items) }
+    ensures memory { IfErr result (λ fault. fault ≡ PartyFault.OutOfMemory) }
 {
     match ends.insert(0, first) {
         Ok(()) => Ok(ends),

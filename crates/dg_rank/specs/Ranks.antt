@@ -15,8 +15,8 @@
 --   FailsFirstAt g D k     == k is the least degree of the rank tests that D fails
 --   MayHaveWorkers w       == a rank test may have w workers
 --   IsRankFault n k w e    == a rank test with w workers is refused for this cause, and for no
---                             earlier one; whether memory was really wanting, or a thread did not
---                             start, no definition can say
+--                             earlier one, and never for want of memory; whether a thread really
+--                             did not start, no definition can say
 use Rattle.std.specs.Prelude.{◌≡◌, ℕ, ◌<◌, ◌≤◌, ◌⊎◌, ℤ, pos, ◌+ℤ◌, ◌-ℤ◌, ◌≤ℤ◌, ◌<ℤ◌}
 use Rattle.dg_theory.specs.Multigraph.{Multigraph, genus}
 use Rattle.dg_theory.specs.Firing.{Amounts, degree}
@@ -70,5 +70,5 @@ MayHaveWorkers w = (1 ≤ w) × (w ≤ MAX_WORKERS)
 abbrev pub IsRankFault : ℕ → ℕ → ℕ → RankFault → Type 0
 IsRankFault n k w TooMany = IsPastLimits n k
 IsRankFault n k w Workers = IsWithin n k × (¬ MayHaveWorkers w)
-IsRankFault n k w OutOfMemory = IsWithin n k × MayHaveWorkers w
+IsRankFault n k w OutOfMemory = ⊥
 IsRankFault n k w Spawn = IsWithin n k × MayHaveWorkers w

@@ -7,7 +7,7 @@ pub enum RankFault {
     TooMany,
     /// The number of workers is not 1 to 16.
     Workers,
-    /// There is not enough memory.
+    /// There is not enough memory. No call of this crate is refused so.
     OutOfMemory,
     /// A thread could not be started.
     Spawn,

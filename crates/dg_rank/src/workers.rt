@@ -41,8 +41,8 @@ impl Gate for OpenGate {
 /// of the dual, made before any thread starts, may have told the answer.
 ///
 /// Refused with `TooMany` as there, then with `Workers` where their number is not 1 to 16; then no gate is entered. Refused
-/// with `Spawn` where a thread could not be started; those that were have ended then. `OutOfMemory` does not come, since
-/// only threads take memory.
+/// with `Spawn` where a thread could not be started; those that were have ended then. `OutOfMemory` never comes: only threads
+/// take memory.
 pub fn rank_with<R: Threads + Wait, G: Gate>(
     rt: &R,
     graph: &Graph,

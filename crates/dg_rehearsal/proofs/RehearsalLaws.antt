@@ -22,8 +22,8 @@ use Rattle.dg_game.specs.Legal.{IsSeat, IsLegal}
 use Rattle.dg_game.specs.Look.{asked_for}
 use Rattle.dg_rehearsal.specs.Rehearsal.{KeepsLook, IsPlaying}
 use Rattle.dg_game.specs.Requests.{asked}
-use Rattle.dg_rehearsal.specs.Schedule.{UsesUp, UsesLook, IsKept, IsAsked, IsEntryOf}
-use Rattle.dg_rehearsal.specs.ScheduleFaults.{HasLook, HasTrials, IsGood, AreGoodBefore, IsFirstFault}
+use Rattle.dg_rehearsal.specs.Schedule.{UsesUp, UsesLook, IsKept, IsAsked, IsEntryOf, HasLook, HasTrials, IsGood, AreGoodBefore}
+use Rattle.dg_rehearsal.specs.ScheduleFaults.{IsFirstFault}
 use Rattle.dg_game.specs.State.{LeadsTo}
 use Rattle.dg_game.specs.declared.entry.Entry.{Entry}
 use Rattle.dg_game.specs.declared.entry.Plain.{Plain}

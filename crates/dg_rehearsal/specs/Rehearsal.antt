@@ -7,19 +7,20 @@
 --   PlaysOn r step e t          == wherever r is come to and the step is next, it gives the entry e
 --                                  and comes to t
 --   StopsPlay r step fault      == wherever r is come to and the step is next, the fault is the
---                                  first of the schedule
-use Rattle.std.specs.Prelude.{◌≡◌, ℕ, List, [], ◌∷◌, ◌++◌, length, slice_get, Option, Some, None}
+--                                  first of the schedule, and not want of memory
+use Rattle.std.specs.Prelude.{◌≡◌, ◌≢◌, ℕ, List, [], ◌∷◌, ◌++◌, length, slice_get, Option, Some, None}
 use Rattle.std.specs.List.{slice_index_or}
 use Rattle.dg_chips.specs.Opening.{Opening}
 use Rattle.dg_game.specs.Legal.{IsSeat, IsLegal}
 use Rattle.dg_game.specs.Look.{IsLookAt}
 use Rattle.dg_game.specs.State.{LeadsTo}
-use Rattle.dg_rehearsal.specs.Schedule.{IsKept, IsEntryOf}
-use Rattle.dg_rehearsal.specs.ScheduleFaults.{AreGoodBefore, IsFirstFault}
+use Rattle.dg_rehearsal.specs.Schedule.{IsKept, IsEntryOf, AreGoodBefore}
+use Rattle.dg_rehearsal.specs.ScheduleFaults.{IsFirstFault}
 use Rattle.dg_game.specs.declared.entry.Entry.{Entry}
 use Rattle.dg_game.specs.declared.look.LookData.{LookData}
 use Rattle.dg_rehearsal.specs.declared.schedule.Rehearsal.{Rehearsal}
 use Rattle.dg_rehearsal.specs.declared.schedule.RehearseFault.{RehearseFault}
+use Rattle.dg_rehearsal.specs.declared.schedule.RehearseFault.TheVariants.{OutOfMemory}
 use Rattle.dg_game.specs.declared.step.Step.{Step}
 
 abbrev pub KeepsLook : Opening → List Entry → List Step → ℕ → Option LookData → Type 0
@@ -45,6 +46,6 @@ PlaysOn r step e t = (o : Opening) (H : List Entry) (steps : List Step) → IsPl
     slice_get steps (length H) ≡ Some step → IsPlaying o steps (H ++ e ∷ []) t
 
 abbrev pub StopsPlay : Rehearsal → Step → RehearseFault → Type 0
-StopsPlay r step fault =
-    (o : Opening) (H : List Entry) (steps : List Step) → IsPlaying o steps H r →
-    slice_get steps (length H) ≡ Some step → IsFirstFault o.graph.size steps fault
+StopsPlay r step fault = (fault ≢ OutOfMemory) ×
+    ((o : Opening) (H : List Entry) (steps : List Step) → IsPlaying o steps H r →
+    slice_get steps (length H) ≡ Some step → IsFirstFault o.graph.size steps fault)

@@ -8,17 +8,27 @@
 --                                    step j
 --   IsEntryOf steps j step e      == the entry has the seat of step j, and the request of its
 --                                    command
+--   HasLook steps seat j c        == if the command c enters what was reckoned on a look, the seat
+--                                    keeps one before step j
+--   HasTrials n c                 == if the command c is a rank test, it is within the limits on n
+--                                    vertices
+--   IsGood n steps j step         == step j has a seat, a look if it needs one, and no trials past
+--                                    the limits
+--   AreGoodBefore n steps j       == all steps before step j are good
 --   IsRehearsal o steps H         == H is a legal history from the opening o, whose entries are
---                                    those of the steps, in order
-use Rattle.std.specs.Prelude.{◌≡◌, ℕ, ◌<◌, List, length, slice_get, Some, ⊤}
+--                                    those of the steps, in order; these are all good, and no more
+--                                    than a history has room for
+use Rattle.std.specs.Prelude.{◌≡◌, ℕ, ◌<◌, ◌≤◌, List, length, slice_get, Some, ⊤}
 use Rattle.dg_chips.specs.Opening.{Opening}
+use Rattle.dg_rank.specs.Ranks.{IsWithin}
 use Rattle.dg_game.specs.Requests.{asked}
-use Rattle.dg_game.specs.Legal.{IsLegal}
+use Rattle.dg_game.specs.Legal.{IsSeat, IsLegal}
 use Rattle.dg_game.specs.declared.entry.Entry.{Entry}
 use Rattle.dg_game.specs.declared.entry.Plain.{Plain}
 use Rattle.dg_game.specs.declared.entry.Plain.TheVariants as plain
 use Rattle.dg_game.specs.declared.entry.Request.{Request}
 use Rattle.dg_game.specs.declared.entry.Request.TheVariants as request
+use Rattle.dg_game.specs.declared.game.TheConstants.{MAX_ENTRIES}
 use Rattle.dg_game.specs.declared.step.Command.{Command}
 use Rattle.dg_game.specs.declared.step.Command.TheVariants.{Call, Commit, Rank}
 use Rattle.dg_game.specs.declared.step.Step.{Step}
@@ -52,8 +62,28 @@ pub record IsEntryOf (steps : List Step) (j : ℕ) (step : Step) (e : Entry) : T
   pub seat : e.seat ≡ step.seat
   pub request : IsAsked steps step.seat j step.command e.request
 
+abbrev pub HasLook : List Step → ℕ → ℕ → Command → Type 0
+HasLook steps seat j (Call p) = ⊤
+HasLook steps seat j Commit = (i : ℕ) × IsKept steps seat j i
+HasLook steps seat j (Rank k) = (i : ℕ) × IsKept steps seat j i
+
+abbrev pub HasTrials : ℕ → Command → Type 0
+HasTrials n (Call p) = ⊤
+HasTrials n Commit = ⊤
+HasTrials n (Rank k) = IsWithin n k
+
+abbrev pub IsGood : ℕ → List Step → ℕ → Step → Type 0
+IsGood n steps j step =
+    IsSeat step.seat × HasLook steps step.seat j step.command × HasTrials n step.command
+
+abbrev pub AreGoodBefore : ℕ → List Step → ℕ → Type 0
+AreGoodBefore n steps j =
+    (k : ℕ) (step : Step) → k < j → slice_get steps k ≡ Some step → IsGood n steps k step
+
 pub record IsRehearsal (o : Opening) (steps : List Step) (H : List Entry) : Type 0 where
   pub legal : IsLegal o H
   pub length' : length H ≡ length steps
+  pub few : length steps ≤ MAX_ENTRIES
+  pub good : AreGoodBefore o.graph.size steps (length steps)
   pub entries : (j : ℕ) (step : Step) (e : Entry) → slice_get steps j ≡ Some step →
       slice_get H j ≡ Some e → IsEntryOf steps j step e

@@ -4,8 +4,8 @@ ghost use Rattle.dg_chips.specs.Opening.{Opening};
 ghost use Rattle.dg_game.specs.Legal.{IsSeat};
 ghost use Rattle.dg_game.specs.Look.{IsFoundFor, asked_for};
 ghost use Rattle.dg_game.specs.Outcomes.{entry_of};
-ghost use Rattle.dg_rehearsal.specs.Schedule.{UsesUp, IsKept, IsAsked, IsRehearsal};
-ghost use Rattle.dg_rehearsal.specs.ScheduleFaults.{HasTrials, AreGoodBefore, IsFirstFault};
+ghost use Rattle.dg_rehearsal.specs.Schedule.{UsesUp, IsKept, IsAsked, HasTrials, IsRehearsal};
+ghost use Rattle.dg_rehearsal.specs.ScheduleFaults.{IsFirstFault};
 ghost use Rattle.dg_rehearsal.specs.Rehearsal.{KeepsLook, IsPlaying, IsInPlay, PlaysOn, StopsPlay};
 ghost use Rattle.dg_game.specs.declared.entry.Entry.{Entry};
 ghost use Rattle.dg_game.specs.declared.step.Command.{Command};
@@ -61,9 +61,7 @@ pub fn rehearse<A: Allocator + Drop>(
     steps: &[Step],
 ) -> Result<Vec<Entry, A>, RehearseFault>
     ensures { MatchResult result
-        (λ history. IsRehearsal start.now steps.now history.items ×
-        (length steps.now ≤ MAX_ENTRIES) ×
-        AreGoodBefore start.now.graph.size steps.now (length steps.now))
+        (λ history. IsRehearsal start.now steps.now history.items)
         (IsFirstFault start.now.graph.size steps.now) }
 {
     let Ok(mut history) = Vec::with_capacity(alloc, steps.len().min(MAX_ENTRIES)) else {

@@ -6,7 +6,7 @@ use anyhow::Result;
 use dg_command::CommandLine;
 use dg_server::run;
 use dg_sources::Shelf;
-use dg_streams::Output;
+use dg_streams::{Input, Output};
 use std::alloc::{AllocError, Global};
 use std::rt::Files;
 use std::str;
@@ -28,13 +28,13 @@ where
     let mut output = Output::new(Vec::new(rt.alloc()));
     let mut faults = Vec::new(rt.alloc());
     let words = row.words.as_slice();
-    let input = row.input.as_slice();
+    let mut input = Input::new(row.input.as_slice());
     let status = run(
         rt,
         &CommandLine,
         words,
         &shelf,
-        input,
+        &mut input,
         &mut output,
         &mut faults,
     );

@@ -3,7 +3,7 @@
 use dg_asked::{Asked, Task};
 use dg_server::{Fault, perform};
 use dg_sources::Shelf;
-use dg_streams::Output;
+use dg_streams::{Input, Output};
 use std::process::Abort;
 use std::rt::Files;
 use std::sync::Wait;
@@ -32,7 +32,8 @@ where
     let mut page = [0; 26];
     assert!(rt; size <= 26);
     let mut output = Output::new(&mut page[..size]);
-    let got = perform(rt, asked, &shelf, b"".as_slice(), &mut output);
+    let mut input = Input::new(b"".as_slice());
+    let got = perform(rt, asked, &shelf, &mut input, &mut output);
     assert!(rt; matches!(&got, Ok(())) == (size == 26));
     assert!(rt; matches!(&got, Err(Fault::Write)) == (size != 26));
 }

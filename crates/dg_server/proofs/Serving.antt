@@ -4,7 +4,9 @@
 --   may_play       scripts that are held are as many as may have seats
 --   served         a session whose table is closed served it
 --   party_on       a party over files that are held is that of the table that one of them describes
-use Rattle.std.proofs.Common.{◌≡◌, ℕ, suc, ◌≤◌, List, [], ◌∷◌, ◌++◌, length, take, map, refl, sym, ap, ◌∙◌, Bor, Vec, Global}
+--   refused_on     so is one that is refused
+--   as_it_was      what nobody writes to is as it was
+use Rattle.std.proofs.Common.{◌≡◌, ℕ, suc, ◌≤◌, List, [], ◌∷◌, ◌++◌, length, take, map, Option, None, Some, refl, sym, ap, ◌∙◌, Bor, Vec, Global}
 use Rattle.std.proofs.lemmas.List.{length-map}
 use Rattle.std.proofs.Math.Seq.{take-append_seam}
 use Rattle.dg_game.specs.declared.entry.TheConstants.{MAX_SEATS}
@@ -20,11 +22,13 @@ use Rattle.dg_session.specs.declared.addressing.Addressing.{Addressing}
 use Rattle.dg_server.specs.Sessions.{IsHeard, IsServed}
 use Rattle.dg_session.specs.declared.ends.SessionEnd.{SessionEnd}
 use Rattle.dg_party.specs.Sessions.{contents}
-use Rattle.dg_party.specs.Parties.{IsParty}
+use Rattle.dg_party.specs.Parties.{IsParty, IsPartyRefused}
+use Rattle.dg_party.specs.declared.ending.PartyRefusal.{PartyRefusal}
 use Rattle.dg_asked.specs.declared.asked.PartyTask.{PartyTask}
 use Rattle.dg_tasks.specs.Tasks.{DescribesTable}
 use Rattle.dg_sources.specs.AllHeld.{MayHoldAll}
-use Rattle.dg_server.specs.Parties.{names_in, IsPartyOn}
+use Rattle.std.specs.Io.KnownBytes.{Keeps}
+use Rattle.dg_server.specs.Parties.{names_in, IsPartyOn, IsRefusedOn}
 
 pub seats_back : (len : ℕ) (xs ys rest : List SeatView) → length xs ≡ len
     → map (λ (x : SeatView). x.number) ys ≡ map (λ (x : SeatView). x.number) xs → take len (ys ++ rest) ≡ ys
@@ -75,3 +79,14 @@ pub party_on : (held : List ℕ → Held) (task : PartyTask) (o : Opening) (name
     IsPartyOn held task ends text
 party_on held task o names all ends text table known party =
     record { opening = o; names = names; table = table; holds = (contents all, known, party) }
+
+pub refused_on : (held : List ℕ → Held) (task : PartyTask) (o : Opening) (names : List (List ℕ))
+    (all : List (Vec ℕ Global)) (refusal : PartyRefusal) → DescribesTable (held task.file.now) o names →
+    MayHoldAll held (names_in task) (map (λ script. script.items) all)
+    → IsPartyRefused o task.capacity names (contents all) refusal → IsRefusedOn held task refusal
+refused_on held task o names all refusal table known refused =
+    record { opening = o; names = names; table = table; holds = (contents all, known, refused) }
+
+pub as_it_was : (held : Option (List ℕ)) → Keeps held held
+as_it_was None = tt
+as_it_was (Some bytes) = refl

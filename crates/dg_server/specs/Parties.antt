@@ -12,20 +12,27 @@
 --                         refused
 --   IsPrintedWith ends text fault old new == the output has grown by the text, and the fault tells
 --                             of the sessions that ended early, of which there is one, least being
---                             the end of the first; or memory was refused before
+--                             the end of the first; or the output failed, and has grown by a
+--                             beginning of the text; or memory was refused before
 --   EndsSome held task fault old new == so did a party
---   IsWanting fault        == memory is wanting, or a thread, or the table is not closed
+--   IsRefusedOn held task refusal == a party over the scripts, on the table of the file that is
+--                             named, is refused so
+--   IsWanting held task fault == memory is wanting; or a party on this table lacks a thread; or its
+--                             table is not closed
 --   RefusesParty held task fault old new == so is the party: there are too many scripts; or a file
 --                             is not read; or the table file is refused, where all are; or memory,
 --                             a thread or the history is refused. The output is as it was, unless
---                             sessions ended early
+--                             sessions ended early, or it failed
 use Rattle.std.specs.Prelude.{◌≡◌, ℕ, ◌+◌, ◌<◌, ◌≤◌, List, [], ◌∷◌, length, map, Option, ⊤, ◌⊎◌}
 use Rattle.std.specs.declared.result.Result.{Result}
 use Rattle.std.specs.declared.result.Result.TheVariants.{Ok, Err}
 use Rattle.std.specs.Io.KnownBytes.{Appends, Keeps}
 use Rattle.dg_game.specs.declared.entry.TheConstants.{MAX_SEATS}
 use Rattle.dg_session.specs.declared.ends.SessionEnd.{SessionEnd}
-use Rattle.dg_party.specs.Parties.{IsParty}
+use Rattle.dg_streams.specs.Streams.{AppendsFront}
+use Rattle.dg_party.specs.Parties.{IsParty, IsPartyRefused}
+use Rattle.dg_party.specs.declared.ending.PartyRefusal.{PartyRefusal}
+use Rattle.dg_party.specs.declared.ending.PartyRefusal.TheVariants as party
 use Rattle.dg_sources.specs.Held.{Held, MayHold, RefusesHeld}
 use Rattle.dg_sources.specs.AllHeld.{MayHoldAll, IsFirstUnread}
 use Rattle.dg_tasks.specs.declared.fault.TaskFault.{TaskFault}
@@ -35,7 +42,7 @@ use Rattle.dg_tasks.specs.Tasks.{IsOnTable, RefusesContents}
 use Rattle.dg_sources.specs.declared.sources.SourceFault.{SourceFault}
 use Rattle.dg_asked.specs.declared.asked.PartyTask.{PartyTask}
 use Rattle.dg_server.specs.declared.fault.Fault.{Fault}
-use Rattle.dg_server.specs.declared.fault.Fault.TheVariants.{Sessions, Seats, OutOfMemory, NoThread, History}
+use Rattle.dg_server.specs.declared.fault.Fault.TheVariants.{Sessions, Seats, OutOfMemory, NoThread, History, Write}
 
 abbrev pub names_in : PartyTask → List (List ℕ)
 names_in task = map (λ name. name.now) task.scripts.items
@@ -74,6 +81,7 @@ abbrev pub IsPrintedWith : List (Result ℕ SessionEnd) → List ℕ → Fault �
 IsPrintedWith ends text (Sessions least all) old new = (early 1 ends ≡ all.items)
     × ((seat : ℕ) × (others : List (ℕ × SessionEnd)) × (all.items ≡ (seat, least) ∷ others))
     × Appends old new text
+IsPrintedWith ends text Write old new = AppendsFront old new [] text
 IsPrintedWith ends text fault old new = (fault ≡ OutOfMemory) × Keeps old new
 
 pub record EndsSome (held : List ℕ → Held) (task : PartyTask) (fault : Fault)
@@ -83,11 +91,16 @@ pub record EndsSome (held : List ℕ → Held) (task : PartyTask) (fault : Fault
   pub party : IsPartyOn held task ends text
   pub printed : IsPrintedWith ends text fault old new
 
-abbrev pub IsWanting : Fault → Type 0
-IsWanting OutOfMemory = ⊤
-IsWanting NoThread = ⊤
-IsWanting History = ⊤
-IsWanting fault = ⊥
+abbrev pub IsRefusedOn : (List ℕ → Held) → PartyTask → PartyRefusal → Type 0
+IsRefusedOn held task refusal = IsOnTable (held task.file.now) (λ o names.
+    (scripts : List (List ℕ)) × MayHoldAll held (names_in task) scripts
+    × IsPartyRefused o task.capacity names scripts refusal)
+
+abbrev pub IsWanting : (List ℕ → Held) → PartyTask → Fault → Type 0
+IsWanting held task OutOfMemory = ⊤
+IsWanting held task NoThread = IsRefusedOn held task party.Spawn
+IsWanting held task History = IsRefusedOn held task party.Log
+IsWanting held task fault = ⊥
 
 abbrev pub RefusesParty : (List ℕ → Held) → PartyTask → Fault → Option (List ℕ) → Option (List ℕ)
     → Type 0
@@ -95,5 +108,5 @@ RefusesParty held task fault old new =
     ((fault ≡ Seats) × (MAX_SEATS < length task.scripts.items) × Keeps old new)
     ⊎ ((length task.scripts.items ≤ MAX_SEATS)
     × IsOfTask (RefusesFiles held task.file.now (names_in task)) fault × Keeps old new)
-    ⊎ ((length task.scripts.items ≤ MAX_SEATS) × IsWanting fault × Keeps old new)
+    ⊎ ((length task.scripts.items ≤ MAX_SEATS) × IsWanting held task fault × Keeps old new)
     ⊎ EndsSome held task fault old new

@@ -5,13 +5,14 @@
 --                                    answer to the task, by the text of a call for help, by what a
 --                                    session said, by the history and the totals of a party, or by
 --                                    the answers to the lines of a file
---   Refuses held input asked fault old new == what is asked for is refused so, or ended so; a call
---                         for help never is
-use Rattle.std.specs.Prelude.{ℕ, List, Option, string_bytes}
+--   Refuses held input asked fault old new == what is asked for is refused so, or ended so; or the
+--                         output failed at the text of the answer, or of the help
+use Rattle.std.specs.Prelude.{◌⊎◌, ℕ, List, Option, string_bytes}
 use Rattle.std.specs.Io.KnownBytes.{Appends, Keeps}
 use Rattle.dg_sources.specs.Held.{Held}
 use Rattle.dg_tasks.specs.Tasks.{IsAnswer, RefusesTask}
 use Rattle.dg_server.specs.OfTasks.{IsOfTask}
+use Rattle.dg_server.specs.Streams.{BreaksOff}
 use Rattle.dg_server.specs.Sessions.{Serves, RefusesServing}
 use Rattle.dg_server.specs.Parties.{PlaysParty, RefusesParty}
 use Rattle.dg_server.specs.Sweeping.{Sweeps, RefusesSweeping}
@@ -30,9 +31,10 @@ Performs held input (Text help) old new = Appends old new (string_bytes help)
 
 abbrev pub Refuses : (List ℕ → Held) → Option (List ℕ) → Asked → Fault → Option (List ℕ)
     → Option (List ℕ) → Type 0
-Refuses held input (Task task) fault old new = IsOfTask (RefusesTask held task) fault
-    × Keeps old new
+Refuses held input (Task task) fault old new =
+    (IsOfTask (RefusesTask held task) fault × Keeps old new)
+    ⊎ ((text : List ℕ) × IsAnswer held task text × BreaksOff fault old new text)
 Refuses held input (Serve task) fault old new = RefusesServing held input task fault old new
 Refuses held input (Party task) fault old new = RefusesParty held task fault old new
 Refuses held input (Sweep task) fault old new = RefusesSweeping held task fault old new
-Refuses held input (Text help) fault old new = ⊥
+Refuses held input (Text help) fault old new = BreaksOff fault old new (string_bytes help)

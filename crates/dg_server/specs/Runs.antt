@@ -1,22 +1,26 @@
 -- Runs of the program: how a run ends. `asks` and `refuses` say what the words of the command line
 -- may ask for, and why they may ask for nothing, as their reader has it; `held` tells what is known
--- of the file of each name; input stands for the bytes that the reader gives, and old and new for
--- what the output held and holds, and whether it has failed.
+-- of the file of each name; input and rest stand for the bytes that the input gives before and
+-- after, and old and new for what the output held and holds; of each it is told whether it failed.
 --   Succeeds asks held words input old new == what the words ask for is done
---   IsCause asks refuses held words input fault old new == the words are refused so, and the output
---                         is as it was; or what the words ask for is refused so, or ended so; a
---                         fault in writing tells that the output has failed
---   Fails asks refuses held words input n old new == n is the status of a fault that has its cause
-use Rattle.std.specs.Prelude.{◌≡◌, ◌≢◌, ◌⊎◌, ℕ, List, Option, true}
+--   IsOfWords refuses words fault old new == the words are refused so, and the output is as it was
+--   IsOfAsked asks held words input rest fault old new == what the words ask for is refused so, or
+--                         ended so; a fault in reading the input, or in writing, tells that the
+--                         input, or the output, has failed
+--   IsCause asks refuses held words input rest fault old new == one of the two
+--   Fails asks refuses held words input rest n old new == n is the status of a fault that has its
+--                         cause
+use Rattle.std.specs.Prelude.{◌≡◌, ◌⊎◌, ℕ, List, Option, true}
 use Rattle.std.specs.Io.KnownBytes.{Keeps}
 use Rattle.dg_asked.specs.declared.asked.Asked.{Asked}
 use Rattle.dg_asked.specs.declared.words.WordsFault.{WordsFault}
-use Rattle.dg_streams.specs.Streams.{Writing}
+use Rattle.dg_streams.specs.Streams.{Reading, Writing}
 use Rattle.dg_sources.specs.Held.{Held}
+use Rattle.dg_server.specs.Streams.{IsOfInput, IsOfOutput}
 use Rattle.dg_server.specs.Performed.{Performs, Refuses}
 use Rattle.dg_server.specs.Status.{status}
 use Rattle.dg_server.specs.declared.fault.Fault.{Fault}
-use Rattle.dg_server.specs.declared.fault.Fault.TheVariants.{Words, Write}
+use Rattle.dg_server.specs.declared.fault.Fault.TheVariants.{Words}
 
 pub record Succeeds (asks : List (List ℕ) → Asked → Type 0) (held : List ℕ → Held)
     (words : List (List ℕ)) (input : Option (List ℕ))
@@ -33,22 +37,23 @@ pub record IsOfWords (refuses : List (List ℕ) → WordsFault → Type 0) (word
   pub kept : Keeps old.contents new.contents
 
 pub record IsOfAsked (asks : List (List ℕ) → Asked → Type 0) (held : List ℕ → Held)
-    (words : List (List ℕ)) (input : Option (List ℕ))
+    (words : List (List ℕ)) (input rest : Reading)
     (fault : Fault) (old new : Writing) : Type 0 where
   pub asked : Asked
   pub wanted : asks words asked
-  pub refused : fault ≢ Write → Refuses held input asked fault old.contents new.contents
-  pub unwritten : fault ≡ Write → new.has_failed ≡ true
+  pub refused : Refuses held input.remaining asked fault old.contents new.contents
+  pub read : IsOfInput fault → rest.has_failed ≡ true
+  pub write : IsOfOutput fault → new.has_failed ≡ true
 
 abbrev pub IsCause : (List (List ℕ) → Asked → Type 0) → (List (List ℕ) → WordsFault → Type 0)
-    → (List ℕ → Held) → List (List ℕ) → Option (List ℕ)
+    → (List ℕ → Held) → List (List ℕ) → Reading → Reading
     → Fault → Writing → Writing → Type 0
-IsCause asks refuses held words input fault old new =
-    IsOfWords refuses words fault old new ⊎ IsOfAsked asks held words input fault old new
+IsCause asks refuses held words input rest fault old new =
+    IsOfWords refuses words fault old new ⊎ IsOfAsked asks held words input rest fault old new
 
 pub record Fails (asks : List (List ℕ) → Asked → Type 0)
     (refuses : List (List ℕ) → WordsFault → Type 0) (held : List ℕ → Held)
-    (words : List (List ℕ)) (input : Option (List ℕ)) (n : ℕ) (old new : Writing) : Type 0 where
+    (words : List (List ℕ)) (input rest : Reading) (n : ℕ) (old new : Writing) : Type 0 where
   pub fault : Fault
   pub tells : status fault ≡ n
-  pub cause : IsCause asks refuses held words input fault old new
+  pub cause : IsCause asks refuses held words input rest fault old new

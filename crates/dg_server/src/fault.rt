@@ -1,11 +1,9 @@
 //! The faults that end a run, what is said of each, and the exit statuses.
 ghost use Rattle.std.specs.Prelude.{◌≡◌};
-ghost use Rattle.dg_server.specs.Parties.{IsWanting};
 ghost use Rattle.dg_server.specs.Status.{status};
 
 use dg_asked::WordsFault;
 use dg_file::FileFault;
-use dg_party::PartyRefusal;
 use dg_session::SessionEnd;
 use dg_sources::SourceFault;
 use dg_streams::WriteFailed;
@@ -62,21 +60,6 @@ impl From<WriteFailed> for Fault {
 
     fn from(_error: WriteFailed) -> Fault {
         Fault::Write
-    }
-}
-
-impl From<PartyRefusal> for Fault {
-    fn from(refusal: PartyRefusal) -> Fault
-        ensures memory { refusal ≡ PartyRefusal.OutOfMemory → result ≡ Fault.OutOfMemory }
-        ensures thread { refusal ≡ PartyRefusal.Spawn → result ≡ Fault.NoThread }
-        ensures history { refusal ≡ PartyRefusal.Log → result ≡ Fault.History }
-        ensures wanting { IsWanting result }
-    {
-        match refusal {
-            PartyRefusal::OutOfMemory => Fault::OutOfMemory,
-            PartyRefusal::Spawn => Fault::NoThread,
-            PartyRefusal::Log => Fault::History,
-        }
     }
 }
 

@@ -1,16 +1,17 @@
 //! Parties: scripts that are played side by side, and what is printed of them.
-ghost use Rattle.std.specs.Prelude.{◌≡◌, ◌≢◌, [], map, Err, true, IfOk, IfErr, OnOk};
+ghost use Rattle.std.specs.Prelude.{◌≡◌, [], map, true, IfOk, IfErr, OnOk};
 ghost use Rattle.std.specs.Io.KnownBytes.{Appends};
 ghost use Rattle.dg_tasks.specs.Tasks.{DescribesTable};
 ghost use Rattle.dg_sources.specs.AllHeld.{MayHoldAll};
 ghost use Rattle.dg_server.specs.OfTasks.{IsOfTask};
 ghost use Rattle.dg_server.specs.Parties.{early, PlaysParty, names_in, RefusesFiles, IsPrintedWith, RefusesParty};
+ghost use Rattle.dg_server.specs.Streams.{IsOfInput, IsOfOutput};
 
 use crate::fault::Fault;
 use dg_asked::PartyTask;
 use dg_file::{TableFile, read_table};
 use dg_game::MAX_SEATS;
-use dg_party::{Played, party};
+use dg_party::{PartyRefusal, Played, party};
 use dg_rank::OpenGate;
 use dg_session::SessionEnd;
 use dg_sources::{Sources, read_all};
@@ -35,9 +36,11 @@ where
     O: Write,
     ensures done { OnOk result
         (PlaysParty (S.held sources.now) task.now output.old.contents output.new.contents) }
-    ensures refused { IfErr result (λ fault. fault ≢ Fault.Write →
-        RefusesParty (S.held sources.now) task.now fault output.old.contents output.new.contents) }
-    ensures failed { result ≡ Err Fault.Write → output.new.has_failed ≡ true }
+    ensures refused { IfErr result
+        (λ fault. RefusesParty (S.held sources.now) task.now fault output.old.contents
+        output.new.contents) }
+    ensures read { IfErr result (λ fault. ¬ IsOfInput fault) }
+    ensures write { IfErr result (λ fault. IsOfOutput fault → output.new.has_failed ≡ true) }
 {
     if task.scripts.len() > usize::from(MAX_SEATS) {
         return Err(Fault::Seats);
@@ -56,7 +59,9 @@ where
         &OpenGate,
     ) {
         Ok(played) => played,
-        Err(refusal) => return Err(Fault::from(refusal)),
+        Err(PartyRefusal::OutOfMemory) => return Err(Fault::OutOfMemory),
+        Err(PartyRefusal::Spawn) => return Err(Fault::NoThread),
+        Err(PartyRefusal::Log) => return Err(Fault::History),
     };
     match print_played(rt.alloc(), &played, output) {
         Ok(()) => Ok(()),
@@ -103,10 +108,10 @@ fn print_played<O: Write>(
     ensures whole { OnOk result ((early 1 played.now.ends.items ≡ []) ×
         Appends output.old.contents output.new.contents played.now.text.items) }
     ensures refused { IfErr result
-        (λ fault. fault ≢ Fault.Write
-        → IsPrintedWith played.now.ends.items played.now.text.items fault
+        (λ fault. IsPrintedWith played.now.ends.items played.now.text.items fault
         output.old.contents output.new.contents) }
-    ensures failed { result ≡ Err Fault.Write → output.new.has_failed ≡ true }
+    ensures read { IfErr result (λ fault. ¬ IsOfInput fault) }
+    ensures write { IfErr result (λ fault. IsOfOutput fault → output.new.has_failed ≡ true) }
 {
     let all = match early_ends(alloc, played.ends.as_slice()) {
         Ok(all) => all,

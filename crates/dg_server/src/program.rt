@@ -1,46 +1,44 @@
 //! What is asked for is done.
-ghost use Rattle.std.specs.Prelude.{◌≡◌, ◌≢◌, Err, true, IfErr, OnOk};
+ghost use Rattle.std.specs.Prelude.{◌≡◌, true, IfErr, OnOk};
 ghost use Rattle.dg_server.specs.Performed.{Performs, Refuses};
+ghost use Rattle.dg_server.specs.Streams.{IsOfInput, IsOfOutput};
 
 use crate::fault::Fault;
 use crate::parties::play_party;
 use crate::sessions::serve_input;
 use crate::sweeps::sweep_file;
 use dg_asked::Asked;
-use dg_session::SessionEnd;
 use dg_sources::Sources;
-use dg_streams::Output;
-use dg_sweep::SweepEnd;
+use dg_streams::{Input, Output};
 use dg_tasks::answer;
-use std::io::{BufRead, Write};
+use std::io::{Read, Write};
 use std::rt::Files;
 use std::sync::Wait;
 use std::thread::Threads;
 
 /// Does what is asked for. The whole text of an answer is made before its first byte is written, so that `output` gets
-/// nothing where another fault than `Write` comes; but a session and a sweep answer as their lines come, and the history of a
-/// party is printed also where sessions of it ended early.
+/// nothing where another fault than `Write` comes, and then a beginning of the text; but a session and a sweep answer as their
+/// lines come, and the history of a party is printed also where sessions of it ended early. Only a session reads the input.
 pub fn perform<R, S, I, O>(
     rt: &R,
     asked: Asked<'_>,
     sources: &S,
-    input: I,
+    input: &mut Input<I>,
     output: &mut Output<O>,
 ) -> Result<(), Fault>
 where
     R: Files + AllocGlobal + Threads + Wait + Sync,
     S: Sources,
-    I: BufRead + Drop,
+    I: Read,
     O: Write,
     ensures done { OnOk result
-        (Performs (S.held sources.now) (I.remaining input) asked.entry output.old.contents
+        (Performs (S.held sources.now) input.old.remaining asked.entry output.old.contents
         output.new.contents) }
-    ensures refused { IfErr result (λ fault. fault ≢ Fault.Write →
-        Refuses (S.held sources.now) (I.remaining input) asked.entry fault output.old.contents
-        output.new.contents) }
-    ensures failed { result ≡ Err Fault.Write → output.new.has_failed ≡ true }
-    ensures unswept { result ≡ Err (Fault.Sweep SweepEnd.Write) → output.new.has_failed ≡ true }
-    ensures unheard { result ≡ Err (Fault.Session SessionEnd.Write) → output.new.has_failed ≡ true }
+    ensures refused { IfErr result
+        (λ fault. Refuses (S.held sources.now) input.old.remaining asked.entry fault
+        output.old.contents output.new.contents) }
+    ensures read { IfErr result (λ fault. IsOfInput fault → input.new.has_failed ≡ true) }
+    ensures write { IfErr result (λ fault. IsOfOutput fault → output.new.has_failed ≡ true) }
 {
     match asked {
         Asked::Text(text) => Ok(output.write_whole(text.as_bytes())?),

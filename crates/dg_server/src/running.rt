@@ -7,8 +7,8 @@ use crate::fault::{Fault, report};
 use crate::program::perform;
 use dg_asked::Words;
 use dg_sources::Sources;
-use dg_streams::Output;
-use std::io::{BufRead, Write};
+use dg_streams::{Input, Output};
+use std::io::{Read, Write};
 use std::rt::Files;
 use std::sync::Wait;
 use std::thread::Threads;
@@ -21,7 +21,7 @@ pub fn run<R, W, S, I, O, F>(
     reader: &W,
     words: &[String],
     sources: &S,
-    input: I,
+    input: &mut Input<I>,
     output: &mut Output<O>,
     faults: &mut F,
 ) -> u8
@@ -29,16 +29,16 @@ where
     R: Files + AllocGlobal + Threads + Wait + Sync,
     W: Words,
     S: Sources,
-    I: BufRead + Drop,
+    I: Read,
     O: Write,
     F: Write,
     ensures status { IsStatus result }
     ensures done { result ≡ 0 →
         Succeeds (W.asks reader.now) (S.held sources.now) (map string_bytes words.now)
-        (I.remaining input) output.old output.new }
+        input.old.remaining output.old output.new }
     ensures failed { result ≢ 0 →
         Fails (W.asks reader.now) (W.refuses reader.now) (S.held sources.now)
-        (map string_bytes words.now) (I.remaining input) result
+        (map string_bytes words.now) input.old input.new result
         output.old output.new }
 {
     match reader.asked(rt.alloc(), words) {

@@ -1,15 +1,16 @@
 //! Sessions over the input of the program.
-ghost use Rattle.std.specs.Prelude.{◌≡◌, ◌≢◌, ℕ, length, Ok, Err, true, IfErr, OnOk};
+ghost use Rattle.std.specs.Prelude.{◌≡◌, ℕ, length, Ok, true, IfErr, OnOk};
 ghost use Rattle.dg_asked.specs.Seats.{count_of};
 ghost use Rattle.dg_rank.specs.Ranks.{MayHaveWorkers};
 ghost use Rattle.dg_table.specs.Opened.{MayHaveSeats};
 ghost use Rattle.dg_server.specs.Sessions.{how_of, Serves, EndsEarly, IsServed, RefusesServing};
+ghost use Rattle.dg_server.specs.Streams.{IsOfInput, IsOfOutput};
 
 use crate::fault::Fault;
 use dg_asked::ServeTask;
 use dg_file::TableFile;
-use dg_log::{Name, Row};
-use dg_session::{Addressing, SessionEnd, serve_seats};
+use dg_log::{LogFault, Name, Row};
+use dg_session::{Addressing, serve_seats};
 use dg_sources::Sources;
 use dg_streams::{Input, Output};
 use dg_table::Table;
@@ -26,21 +27,21 @@ pub(crate) fn serve_input<R, S, I, O>(
     rt: &R,
     task: &ServeTask<'_>,
     sources: &S,
-    input: I,
+    input: &mut Input<I>,
     output: &mut Output<O>,
 ) -> Result<(), Fault>
 where
     R: Files + AllocGlobal + Threads + Wait,
     S: Sources,
-    I: Read + Drop,
+    I: Read,
     O: Write,
     ensures done { OnOk result
-        (Serves (S.held sources.now) (I.remaining input) task.now output.old.contents
+        (Serves (S.held sources.now) input.old.remaining task.now output.old.contents
         output.new.contents) }
-    ensures no_write { IfErr result (λ fault. fault ≢ Fault.Write) }
-    ensures failed { result ≡ Err (Fault.Session SessionEnd.Write) → output.new.has_failed ≡ true }
+    ensures read { IfErr result (λ fault. IsOfInput fault → input.new.has_failed ≡ true) }
+    ensures write { IfErr result (λ fault. IsOfOutput fault → output.new.has_failed ≡ true) }
     ensures refused { IfErr result
-        (λ fault. RefusesServing (S.held sources.now) (I.remaining input) task.now fault
+        (λ fault. RefusesServing (S.held sources.now) input.old.remaining task.now fault
         output.old.contents output.new.contents) }
 {
     let table = match table_in(rt, sources, task.file) {
@@ -49,7 +50,8 @@ where
     };
     let row = match Row::new(rt.alloc(), task.capacity) {
         Ok(row) => row,
-        Err(_) => return Err(Fault::OutOfMemory),
+        Err(LogFault::Capacity) => unreachable!(),
+        Err(LogFault::OutOfMemory) => return Err(Fault::OutOfMemory),
     };
     let (seats, how) = places_of(task.seats);
     match serve_on::<Brand, R, I, O>(rt, row, &table, seats, how, task.workers, input, output) {
@@ -77,13 +79,13 @@ fn serve_on<N, R, I, O>(
     seats: u8,
     how: Addressing,
     workers: u32,
-    input: I,
+    input: &mut Input<I>,
     output: &mut Output<O>,
 ) -> Result<(), Fault>
 where
     N: Name,
     R: AllocGlobal + Threads + Wait,
-    I: Read + Drop,
+    I: Read,
     O: Write,
     requires row { row ≡ N.cells }
     requires start { table.now.start ≡ N.start }
@@ -91,26 +93,25 @@ where
     requires some { MayHaveSeats seats }
     requires workers { MayHaveWorkers workers }
     ensures done { OnOk result ((count : ℕ)
-        × IsServed how table.now.start seats (length row) table.now.names (I.remaining input)
+        × IsServed how table.now.start seats (length row) table.now.names input.old.remaining
         output.old.contents output.new.contents (Ok count)) }
-    ensures no_write { IfErr result (λ fault. fault ≢ Fault.Write) }
-    ensures failed { result ≡ Err (Fault.Session SessionEnd.Write) → output.new.has_failed ≡ true }
+    ensures read { IfErr result (λ fault. IsOfInput fault → input.new.has_failed ≡ true) }
+    ensures write { IfErr result (λ fault. IsOfOutput fault → output.new.has_failed ≡ true) }
     ensures early { IfErr result (λ fault. EndsEarly how table.now.start seats (length row)
-        table.now.names (I.remaining input) fault output.old.contents output.new.contents) }
+        table.now.names input.old.remaining fault output.old.contents output.new.contents) }
 {
     let alloc = rt.alloc();
     let (opened, mut all) = match Table::<N>::open(alloc, row, table.start(), seats) {
         Ok(opened) => opened,
         Err(_) => return Err(Fault::OutOfMemory),
     };
-    let mut reader = Input::new(input);
     let ended = serve_seats(
         rt,
         alloc,
         &opened,
         &mut all,
         table.names(),
-        &mut reader,
+        input,
         output,
         workers,
         how,

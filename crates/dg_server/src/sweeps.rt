@@ -1,12 +1,13 @@
 //! Sweeps over the lines of a file.
-ghost use Rattle.std.specs.Prelude.{◌≡◌, ◌≢◌, Err, true, IfErr, OnOk};
+ghost use Rattle.std.specs.Prelude.{◌≡◌, true, IfErr, OnOk};
 ghost use Rattle.dg_server.specs.Sweeping.{Sweeps, RefusesSweeping};
+ghost use Rattle.dg_server.specs.Streams.{IsOfInput, IsOfOutput};
 
 use crate::fault::Fault;
 use dg_asked::SweepTask;
 use dg_sources::Sources;
 use dg_streams::{Input, Output};
-use dg_sweep::{SweepEnd, sweep};
+use dg_sweep::sweep;
 use dg_tasks::TaskFault;
 use std::io::Write;
 use std::rt::Files;
@@ -26,8 +27,8 @@ where
     O: Write,
     ensures done { OnOk result
         (Sweeps (S.held sources.now) task.now output.old.contents output.new.contents) }
-    ensures no_write { IfErr result (λ fault. fault ≢ Fault.Write) }
-    ensures failed { result ≡ Err (Fault.Sweep SweepEnd.Write) → output.new.has_failed ≡ true }
+    ensures read { IfErr result (λ fault. ¬ IsOfInput fault) }
+    ensures write { IfErr result (λ fault. IsOfOutput fault → output.new.has_failed ≡ true) }
     ensures refused { IfErr result (λ fault. RefusesSweeping (S.held sources.now) task.now fault
         output.old.contents output.new.contents) }
 {

@@ -1,14 +1,14 @@
 //! A game of the greedy settler, played to its end on a table of its own.
-ghost use Rattle.std.specs.Prelude.{◌≡◌, ◌≤◌, IfOk};
+ghost use Rattle.std.specs.Prelude.{◌≡◌, ◌≢◌, ◌≤◌, IfOk, IfErr};
 ghost use Rattle.dg_game.specs.declared.game.TheConstants.{MAX_ENTRIES};
 ghost use Rattle.dg_strategy.specs.Greedy.{IsGreedyGame};
 
 use crate::least_debtor::greedy_settler;
 use crate::playing::settle_out;
 use dg_chips::Start;
-use dg_game::Entry;
-use dg_log::{Name, Row};
-use dg_table::{Fault, Table};
+use dg_game::{Entry, MAX_ENTRIES};
+use dg_log::{LogFault, Name, Row};
+use dg_table::{Fault, Table, TableFault};
 use std::alloc::Global;
 use std::marker::Brand;
 use std::sync::Wait;
@@ -25,13 +25,18 @@ pub struct GreedyGame {
 /// The game of one seat that lets the least vertex in debt borrow, until it claims that nobody is in debt, or for so many
 /// turns. The condition is at most 65,536 turns.
 ///
-/// Refused with `OutOfMemory`, and as a turn is; with `Log` also where the table is not closed.
+/// Refused with `OutOfMemory`, and with `Log` as a turn is, and where the table is not closed. The history has room for all
+/// turns, so that it is never full.
 pub fn greedy(rt: &impl Wait, alloc: Global, start: &Start, turns: u32) -> Result<GreedyGame, Fault>
     requires { turns ≤ MAX_ENTRIES }
-    ensures { IfOk result (λ game. IsGreedyGame start.now turns game.history.items game.settled) }
+    ensures game { IfOk result
+        (λ game. IsGreedyGame start.now turns game.history.items game.settled) }
+    ensures refused { IfErr result (λ fault. fault ≢ Fault.Full) }
 {
-    let Ok(row) = Row::new(alloc, 65_536) else {
-        return Err(Fault::OutOfMemory);
+    let row = match Row::new(alloc, MAX_ENTRIES as u32) {
+        Ok(row) => row,
+        Err(LogFault::Capacity) => unreachable!(),
+        Err(LogFault::OutOfMemory) => return Err(Fault::OutOfMemory),
     };
     match greedy_on::<Brand>(rt, alloc, row, start, 1, turns) {
         Ok(game) => Ok(game),
@@ -52,17 +57,22 @@ fn greedy_on<N: Name>(
     requires start { start.now ≡ N.start }
     requires seats { count ≡ N.seats }
     requires one { count ≡ 1 }
-    ensures { IfOk result (λ game. IsGreedyGame N.start turns game.history.items game.settled) }
+    ensures game { IfOk result (λ game. IsGreedyGame N.start turns game.history.items game.settled) }
+    ensures refused { IfErr result (λ fault. fault ≢ Fault.Full) }
 {
     let (table, mut seats) = match Table::<N>::open(alloc, row, start, count) {
         Ok(opened) => opened,
-        Err(_) => return Err(Fault::OutOfMemory),
+        Err((_, TableFault::Seats)) => unreachable!(),
+        Err((_, TableFault::OutOfMemory)) => return Err(Fault::OutOfMemory),
     };
     let Some(mut seat) = seats.pop() else {
         return Err(Fault::Log);
     };
     let ended = match settle_out(rt, alloc, &table, &mut seat, &greedy_settler(), turns) {
         Ok(ended) => ended,
+        // This never comes. A full history would have entries that the seat did not make, so that the table could not be
+        // closed.
+        Err(Fault::Full) => return Err(Fault::Log),
         Err(fault) => return Err(fault),
     };
     let settled = ended.is_settled();

@@ -15,12 +15,13 @@
 --   all_played       after the last line the text is that of the history
 --   first_fault      after the last line the fault is the first one of the steps
 --   never_unseated   a step that a line spells has a seat
-use Rattle.std.proofs.Common.{◌≡◌, ℕ, ◌+◌, ◌≤◌, ◌==◌, cond, true, false, List, [], ◌∷◌, ◌++◌, length, slice_get, Option, Some, None, arith, refl, sym, ap, subst, ◌∙◌, append_assoc, append-nil, length-append}
+use Rattle.std.proofs.Common.{◌≡◌, ℕ, ◌+◌, ◌<◌, ◌≤◌, ◌==◌, cond, true, false, List, [], ◌∷◌, ◌++◌, length, slice_get, Option, Some, None, arith, refl, sym, ap, subst, ◌∙◌, append_assoc, append-nil, length-append}
 use Rattle.std.specs.Option.{is_none}
 use Rattle.dg_chips.specs.Opening.{Opening}
 use Rattle.dg_rehearsal.specs.Rehearsal.{IsPlaying, PlaysOn, StopsPlay}
 use Rattle.dg_rehearsal.specs.ScheduleFaults.{IsFirstFault}
 use Rattle.dg_game.specs.declared.entry.Entry.{Entry}
+use Rattle.dg_game.specs.declared.game.TheConstants.{MAX_ENTRIES}
 use Rattle.dg_rehearsal.specs.declared.schedule.Rehearsal.{Rehearsal}
 use Rattle.dg_rehearsal.specs.declared.schedule.RehearseFault.{RehearseFault}
 use Rattle.dg_rehearsal.specs.declared.schedule.RehearseFault.TheVariants.{Seat}
@@ -60,14 +61,16 @@ played_none o names r text playing empty = record {
   history = [];
   playing = playing;
   count = refl;
+  few = omega arith;
   printed = empty;
 }
 
 pub played_more : (o : Opening) (names : List (List ℕ)) (steps : List Step) (step : Step) (e : Entry) (r t : Rehearsal)
     (text longer : List ℕ) (number : ℕ)
-    → PlaysOn r step e t → number ≡ r.game.entries → longer ≡ text ++ entry_text names number e.reply
+    → PlaysOn r step e t → r.game.entries < MAX_ENTRIES → number ≡ r.game.entries
+    → longer ≡ text ++ entry_text names number e.reply
     → IsPlayed o names steps r text → IsPlayed o names (steps ++ step ∷ []) t longer
-played_more o names steps step e r t text longer number plays counted written known =
+played_more o names steps step e r t text longer number plays room counted written known =
     let H : List Entry = known.history in
     let here : (more : List Step) → IsPlaying o (steps ++ step ∷ more) H r = λ more. known.playing (step ∷ more) in
     let place : number ≡ 0 + length H = omega (arith, counted, (known.playing []).leads.entries) in
@@ -75,6 +78,13 @@ played_more o names steps step e r t text longer number plays counted written kn
       history = H ++ e ∷ [];
       playing = λ more. subst (λ (all : List Step). IsPlaying o all (H ++ e ∷ []) t) (sym (together steps more step))
           (plays o H (steps ++ step ∷ more) (here more) (next_is steps more step (length H) known.count));
+      few = omega (
+        arith,
+        room,
+        (known.playing []).leads.entries,
+        known.count,
+        length-append steps (step ∷ []),
+      );
       count = length-append H (e ∷ []) ∙ ap (λ (n : ℕ). n + 1) known.count ∙ sym (length-append steps (step ∷ []));
       printed = written ∙ ap (λ (start : List ℕ). start ++ entry_text names number e.reply) known.printed
           ∙ ap (λ (n : ℕ). history_text names 0 H ++ entry_text names n e.reply) place ∙ sym (history_more names 0 H e);
@@ -85,7 +95,7 @@ pub stopped_at : (o : Opening) (names : List (List ℕ)) (steps : List Step) (st
     → StopsPlay r step fault → IsPlayed o names steps r text → IsStopped o (steps ++ step ∷ []) fault
 stopped_at o names steps step r text fault stops known more =
     subst (λ (all : List Step). IsFirstFault o.graph.size all fault) (sym (together steps more step))
-    (stops o known.history (steps ++ step ∷ more) (known.playing (step ∷ more))
+    (stops.1 o known.history (steps ++ step ∷ more) (known.playing (step ∷ more))
     (next_is steps more step (length known.history) known.count))
 
 -- a fault stays the first
@@ -197,7 +207,13 @@ all_played o names all left line r text None none played known =
       steps = steps;
       spelled = all_read names all left steps none known.read;
       history = known.stands.history;
-      rehearsal = record { legal = playing.legal; length' = known.stands.count; entries = playing.entries };
+      rehearsal = record {
+        legal = playing.legal;
+        length' = known.stands.count;
+        few = known.stands.few;
+        good = rw known.stands.count at playing.good;
+        entries = playing.entries;
+      };
       printed = known.stands.printed;
     }
 all_played o names all left line r text (Some fault) none played known = absurd (cc)

@@ -4,13 +4,14 @@
 --   IsGreedyAnswer o n names text == the text is that of the history of a greedy game of at most n
 --                                    turns from the opening o, and of
 --                                 how it ended
---   RefusesTurns fault         == a turn is refused so, or the table is not closed, or memory was
---                                 refused
-use Rattle.std.specs.Prelude.{◌≡◌, ℕ, Bool, true, false, List, [], ◌++◌, codes, ⊤}
+--   RefusesTurns fault         == memory was refused, or the table refused an entry, or it is not
+--                                 closed; the history is never full
+use Rattle.std.specs.Prelude.{◌≡◌, ◌≢◌, ℕ, Bool, true, false, List, [], ◌++◌, codes, ⊤}
 use Rattle.dg_chips.specs.Opening.{Opening}
 use Rattle.dg_game.specs.declared.entry.Entry.{Entry}
 use Rattle.dg_strategy.specs.Greedy.{IsGreedyGame}
 use Rattle.dg_lines.specs.Texts.{history_text}
+use Rattle.dg_table.specs.declared.fault.Fault.TheVariants.{Full}
 use Rattle.dg_tasks.specs.declared.fault.TaskFault.{TaskFault}
 use Rattle.dg_tasks.specs.declared.fault.TaskFault.TheVariants.{Turn, OutOfMemory}
 
@@ -26,6 +27,6 @@ pub record IsGreedyAnswer (o : Opening) (n : ℕ) (names : List (List ℕ))
   pub printed : text ≡ history_text names 0 history ++ turns_text settled
 
 abbrev pub RefusesTurns : TaskFault → Type 0
-RefusesTurns (Turn fault) = ⊤
+RefusesTurns (Turn fault) = fault ≢ Full
 RefusesTurns OutOfMemory = ⊤
 RefusesTurns fault = ⊥

@@ -1,15 +1,16 @@
 -- Rank tests of a table, printed, and both sides of Riemann-Roch (Baker and Norine 2007, theorem
 -- 1.12; Corry and Perkinson, chapter 5).
---   IsRankAnswer o k names text == the text is that of a reply with a rank verdict of degree k
---                                  which is right for the amounts of the opening o, and a newline
+--   IsRankAnswer o k names text == a rank test of degree k is within the limits, and the text is
+--                                  that of a reply with a rank verdict of this degree which is right
+--                                  for the amounts of the opening o, and a newline
 --   RefusesRank n k fault       == a rank test of degree k on n vertices is past the limits, or
 --                                  memory was refused, or a thread
 --   number_line label z         == the label, the number and a newline
 --   riemann_roch_text o r s     == the lines of the opening divisor's degree, of the genus, and of
 --                                  the ranks r and s
---   IsRiemannRoch o text        == the text is those lines, with the rank of the divisor and that
---                                  of its dual, each told by tests within the limits; the two
---                                  differ by the degree, plus 1, less the genus
+--   IsRiemannRoch o text        == the dual is in range, and the text is those lines, with the rank
+--                                  of the divisor and that of its dual, each told by tests within
+--                                  the limits; the two differ by the degree, plus 1, less the genus
 --   RefusesRiemannRoch o fault  == the dual is out of range; else one of the two ranks needs a test
 --                                  past the limits; of want of memory nothing is said
 use Rattle.std.specs.Prelude.{◌≡◌, ℕ, ℤ, pos, ◌+ℤ◌, ◌-ℤ◌, List, ◌++◌, codes, ⊤}
@@ -19,10 +20,10 @@ use Rattle.dg_theory.specs.Firing.{degree}
 use Rattle.dg_theory.specs.Rank.{less, canonical}
 use Rattle.dg_chips.specs.Dual.{IsDualFault}
 use Rattle.dg_chips.specs.Opening.{Opening}
-use Rattle.dg_chips.specs.Vector.{at}
+use Rattle.dg_chips.specs.Vector.{at, IsInRange}
 use Rattle.dg_rank.specs.Limits.{IsPastLimits}
 use Rattle.dg_ranked.specs.RankTests.{IsRankTest}
-use Rattle.dg_rank.specs.Ranks.{IsRankInLimits, DualNeedsTooMany}
+use Rattle.dg_rank.specs.Ranks.{IsWithin, IsRankInLimits, DualNeedsTooMany}
 use Rattle.dg_ranked.specs.declared.rank_verdict.RankVerdict.{RankVerdict}
 use Rattle.dg_game.specs.declared.entry.Reply.TheVariants.{Rank}
 use Rattle.dg_lines.specs.Texts.{text_of}
@@ -30,6 +31,7 @@ use Rattle.dg_tasks.specs.declared.fault.TaskFault.{TaskFault}
 use Rattle.dg_tasks.specs.declared.fault.TaskFault.TheVariants.{TooMany, Chip, OutOfMemory, NoThread}
 
 pub record IsRankAnswer (o : Opening) (k : ℕ) (names : List (List ℕ)) (text : List ℕ) : Type 0 where
+  pub within : IsWithin o.graph.size k
   pub verdict : RankVerdict
   pub right : IsRankTest o.graph (at o.divisor) k verdict
   pub printed : text ≡ text_of names (Rank verdict) ++ codes "\n"
@@ -51,6 +53,7 @@ riemann_roch_text o rank dual_rank =
     ++ number_line (codes "dual ") dual_rank
 
 pub record IsRiemannRoch (o : Opening) (text : List ℕ) : Type 0 where
+  pub in_range : IsInRange o.graph.size (less (canonical o.graph) (at o.divisor))
   pub rank : ℤ
   pub of_divisor : IsRankInLimits o.graph (at o.divisor) rank
   pub dual_rank : ℤ

@@ -2,17 +2,19 @@
 --   IsPrinted o names lines text    == the lines spell steps, and the text is that of the legal
 --                                      history which these steps make from the opening o
 --   IsPlayed o names steps r text   == r is what the steps have come to from the opening o,
---                                      whatever steps follow, and the text is that of their history
+--                                      whatever steps follow, and the text is that of their history,
+--                                      which has room for them
 --   IsStopped o steps fault         == the fault is the first of these steps, whatever steps follow
 --   MayGoOn names r text            == so some steps from some opening have come to this
 --   GoesOn names step r text r' text' result == of all such steps, with this one they come to that;
 --                                      or the fault is the first of them with this one
-use Rattle.std.specs.Prelude.{◌≡◌, ℕ, List, [], ◌∷◌, ◌++◌, length, Result, MatchResult}
+use Rattle.std.specs.Prelude.{◌≡◌, ℕ, List, [], ◌∷◌, ◌++◌, length, ◌≤◌, Result, MatchResult}
 use Rattle.dg_chips.specs.Opening.{Opening}
 use Rattle.dg_rehearsal.specs.Rehearsal.{IsPlaying}
 use Rattle.dg_rehearsal.specs.Schedule.{IsRehearsal}
 use Rattle.dg_rehearsal.specs.ScheduleFaults.{IsFirstFault}
 use Rattle.dg_game.specs.declared.entry.Entry.{Entry}
+use Rattle.dg_game.specs.declared.game.TheConstants.{MAX_ENTRIES}
 use Rattle.dg_rehearsal.specs.declared.schedule.Rehearsal.{Rehearsal}
 use Rattle.dg_rehearsal.specs.declared.schedule.RehearseFault.{RehearseFault}
 use Rattle.dg_game.specs.declared.step.Step.{Step}
@@ -32,6 +34,7 @@ pub record IsPlayed (o : Opening) (names : List (List ℕ)) (steps : List Step) 
   pub history : List Entry
   pub playing : (more : List Step) → IsPlaying o (steps ++ more) history r
   pub count : length history ≡ length steps
+  pub few : length steps ≤ MAX_ENTRIES
   pub printed : text ≡ history_text names 0 history
 
 abbrev pub IsStopped : Opening → List Step → RehearseFault → Type 0

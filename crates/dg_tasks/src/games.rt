@@ -13,7 +13,7 @@ use std::sync::Wait;
 /// The history of the greedy strategy on a table as text: a line for each entry, with its number, from 0 on, and the text of its
 /// reply; and then `turns`, where so many turns were used up before nobody was in debt. The condition is at most 65,536 turns.
 ///
-/// Refused with `Turn` as a turn is, also where the table is not closed, and with `OutOfMemory` at the growth that was refused.
+/// Refused with `Turn` as the game is, and with `OutOfMemory` at the growth that was refused.
 pub fn greedy_history(
     rt: &impl Wait,
     alloc: Global,

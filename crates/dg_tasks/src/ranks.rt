@@ -37,7 +37,7 @@ pub fn rank_answer<R: Threads + Wait>(
         Ok(verdict) => verdict,
         Err(RankFault::TooMany) => return Err(TaskFault::TooMany),
         Err(RankFault::Workers) => unreachable!(),
-        Err(RankFault::OutOfMemory) => return Err(TaskFault::OutOfMemory),
+        Err(RankFault::OutOfMemory) => unreachable!(),
         Err(RankFault::Spawn) => return Err(TaskFault::NoThread),
     };
     match reply_line(alloc, &Reply::Rank(verdict), table.names()) {

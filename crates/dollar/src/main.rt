@@ -4,10 +4,11 @@
 use dg_command::{CommandLine, words_of};
 use dg_server::{Fault, report, run};
 use dg_sources::Disk;
-use dg_streams::Output;
+use dg_streams::{Input, Output};
 use std::process::ExitCode;
 
 fn main(rt: HostRuntime) -> ExitCode {
+    let mut input = Input::new(rt.reader());
     let mut output = Output::new(rt.stdout());
     let mut faults = rt.stderr();
     let status = match words_of(&rt) {
@@ -16,7 +17,7 @@ fn main(rt: HostRuntime) -> ExitCode {
             &CommandLine,
             words.as_slice(),
             &Disk,
-            rt.reader(),
+            &mut input,
             &mut output,
             &mut faults,
         ),

@@ -1,7 +1,8 @@
 use Rattle.std.proofs.Common.{rules, length, ap, ◌∙◌}
 use Rattle.dg_party.specs.Sessions.{contents}
 use Rattle.dg_lines.proofs.Printing.{legal_named}
-use Rattle.dg_party.proofs.Whole.{contents_count, shown_size, whole_lent}
+use Rattle.dg_party.proofs.Begun.{party_lacks}
+use Rattle.dg_party.proofs.Whole.{contents_count, shown_size, whole_lent, party_unclosed}
 use Rattle.dg_party.proofs.parties.party_of.Goals as goal
 
 pub closing_text-requires-clause-history : goal.closing_text-requires-clause-history
@@ -15,8 +16,8 @@ closing_text-requires-clause-position g c =
     ∙ shown_size g.N.Name.start c.in-Ok-close.audit.pen.entries c.in-Ok-close.audit.position
     c.in-Ok-close.ensures.1.position'
 
-pub returns-in-Ok-closing_text : goal.returns-in-Ok-closing_text
-returns-in-Ok-closing_text g c =
+pub returns-in-Ok-closing_text-clause-played : goal.returns-in-Ok-closing_text-clause-played
+returns-in-Ok-closing_text-clause-played g c =
     whole_lent g.N.Name.start (length g.N.Name.cells) c.args.names.now (contents c.args.scripts.now)
     (length c.args.scripts.now)
     g.N.Name.seats c.in-Ok.opened.1.len c.in-Ok.opened.1.items c.deref_mut.result.now c.sessions.new.seats _
@@ -26,3 +27,20 @@ returns-in-Ok-closing_text g c =
     (contents_count c.args.scripts.now) c.requires.seats
     c.in-Ok.ensures (search rules) (search rules) c.in-Ok-sessions.ensures.ok c.in-Ok-close.ensures (search rules)
     c.in-Ok-closing_text.ensures
+
+pub returns-in-Err-clause-refused : goal.returns-in-Err-clause-refused
+returns-in-Err-clause-refused g c =
+    party_lacks g.N.Name.start (length c.args.scripts.now) g.N.Name.seats (length g.N.Name.cells) c.args.names.now
+    (contents c.args.scripts.now) c.in-Ok.opened.1.items c.deref_mut.result.now c.sessions.new.seats c.in-Err.fault
+    c.from.result
+    (contents_count c.args.scripts.now) c.requires.seats c.in-Ok.ensures (search rules) c.from.ensures.memory
+    c.from.ensures.spawn c.in-Err.ensures.fault
+
+pub returns-in_default-clause-refused : goal.returns-in_default-clause-refused
+returns-in_default-clause-refused g c =
+    party_unclosed g.N.Name.start (length g.N.Name.cells) c.args.names.now (contents c.args.scripts.now)
+    (length c.args.scripts.now)
+    g.N.Name.seats c.in-Ok.opened.1.len c.in-Ok.opened.1.items c.deref_mut.result.now c.sessions.new.seats _
+    c.in-Ok-sessions.ends.items c.in_default.field-0.missing
+    (contents_count c.args.scripts.now) c.requires.seats
+    c.in-Ok.ensures (search rules) (search rules) c.in-Ok-sessions.ensures.ok c.in_default.ensures.1

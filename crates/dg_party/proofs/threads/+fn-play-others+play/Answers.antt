@@ -6,14 +6,16 @@ pub returns-in-Err-with_first-clause-fault : goal.returns-in-Err-with_first-clau
 returns-in-Err-with_first-clause-fault g n c =
     all_begun _ _ _ _ _ c.in-Some-split_first.left.now c.in-Some-split_first.script.now _ c.in-Some.rest.now _
     c.in-Some.seat.now _
-    c.in-Ok-default-Ok.end c.in-Ok-default-Ok.ends.items (search rules) (search rules) (search rules) (search rules)
+    c.in-Ok-default-Ok.end c.in-Ok-default-Ok.ends.items _ (search rules) (search rules) (search rules) (search rules)
+    (search rules)
 
 pub returns-in-Ok-default-Err-clause-fault : goal.returns-in-Ok-default-Err-clause-fault
 returns-in-Ok-default-Err-clause-fault g n c =
     more_begun _ _ _ _ _ c.in-Some-split_first.left.now c.in-Some-split_first.script.now _ c.in-Some.rest.now _
     c.in-Some.seat.now _
-    c.in-Ok-default-Err.field-0-0 (search rules) (search rules) (search rules) (search rules)
+    c.in-Ok-default-Err.field-0-0 _ (search rules) (search rules) (search rules) (search rules)
 
 pub returns-in-Err-clause-fault : goal.returns-in-Err-clause-fault
 returns-in-Err-clause-fault g n c =
-    none_begun _ _ _ _ _ _ c.in-Some.rest.now _ c.in-Some.seat.now _ (search rules) (search rules) (search rules)
+    none_begun _ _ _ _ _ c.in-Some-split_first.left.now c.in-Some-split_first.script.now _ c.in-Some.rest.now _
+    c.in-Some.seat.now _ (search rules) (search rules) (search rules) (search rules)

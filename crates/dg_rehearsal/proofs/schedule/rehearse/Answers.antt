@@ -20,7 +20,7 @@ returns-in_err-entry g c =
     slice_get_read c.args.steps.now
     (length c.args.steps.now) c.loop-step.step-index c.step-item.result refl within c.step-item.is in
     told_err c.from_residual.result _ _ _ (c.from_residual.ensures.1)
-    (c.in_err-entry.ensures.plays c.args.start.now c.loop-step.history.items c.args.steps.now
+    (c.in_err-entry.ensures.plays.1 c.args.start.now c.loop-step.history.items c.args.steps.now
     c.loop-step.invariant.playing
     (ap (slice_get c.args.steps.now) c.loop-step.invariant.played ∙ read))
 

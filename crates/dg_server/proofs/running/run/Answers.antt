@@ -1,12 +1,8 @@
 -- Words that are refused leave the output as it was.
-use Rattle.std.proofs.Common.{List, ℕ, Option, None, Some, refl, sym, inl}
-use Rattle.std.specs.Io.KnownBytes.{Keeps}
+use Rattle.std.proofs.Common.{refl, sym, inl}
+use Rattle.dg_server.proofs.Serving.{as_it_was}
 use Rattle.dg_server.specs.declared.fault.Fault.TheVariants.{Words}
 use Rattle.dg_server.proofs.running.run.Goals as goal
-
-as_it_was : (held : Option (List ℕ)) → Keeps held held
-as_it_was None = tt
-as_it_was (Some bytes) = refl
 
 pub returns-in-Err-clause-failed : goal.returns-in-Err-clause-failed
 returns-in-Err-clause-failed g c differ = record {

@@ -13,7 +13,7 @@ returns-in-Ok-ended-clause-done g c = (
     fresh = subst (AreFresh c.args.seats) (sym c.deref_mut.ensures.value) c.in-Ok.ensures;
     after = c.serve_seats-ended.new.seats;
     session = rw (c.requires.start, c.requires.row, c.requires.seats, ← c.names.ensures.value)
-        (rw (← c.new-reader.ensures.remaining) c.in-Ok-ended.ensures.session);
+        c.in-Ok-ended.ensures.session;
   }) c.in-Ok-close.history.pen.entries c.serve_seats-ended.ensures.numbers
       (rw (c.requires.start, c.requires.row, c.requires.seats)
       (subst (λ ys. IsClosed g.N.Name.start g.N.Name.seats (length g.N.Name.cells) ys
@@ -30,7 +30,7 @@ returns-in-Ok-close-clause-early g c =
       fresh = subst (AreFresh c.args.seats) (sym c.deref_mut.ensures.value) c.in-Ok.ensures;
       after = c.serve_seats-ended.new.seats;
       session = rw (c.requires.start, c.requires.row, c.requires.seats, ← c.names.ensures.value)
-          (rw (← c.new-reader.ensures.remaining) c.in-Err-ended.ensures.session);
+          c.in-Err-ended.ensures.session;
     }) c.in-Ok-close.history.pen.entries c.serve_seats-ended.ensures.numbers
     (rw (c.requires.start, c.requires.row, c.requires.seats)
     (subst (λ ys. IsClosed g.N.Name.start g.N.Name.seats (length g.N.Name.cells) ys

@@ -1,11 +1,6 @@
 -- The bytes that were swept are those that the file may give.
-use Rattle.std.proofs.Common.{List, ℕ, Option, None, Some, refl}
-use Rattle.std.specs.Io.KnownBytes.{Keeps}
+use Rattle.dg_server.proofs.Serving.{as_it_was}
 use Rattle.dg_server.proofs.sweeps.sweep_file.Goals as goal
-
-as_it_was : (held : Option (List ℕ)) → Keeps held held
-as_it_was None = tt
-as_it_was (Some bytes) = refl
 
 pub returns-in-Err-clause-refused : goal.returns-in-Err-clause-refused
 returns-in-Err-clause-refused g c = (c.in-Err.ensures.refused, as_it_was c.args.output.now.contents)

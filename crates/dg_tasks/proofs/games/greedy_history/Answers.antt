@@ -5,4 +5,4 @@ pub history_lines-requires : goal.history_lines-requires
 history_lines-requires g c =
     rw c.as_slice.ensures.value
     (legal_named c.names.result.now c.args.table.now.start c.in-Ok.game.history.items c.names.ensures.named
-    (rw (← c.start.ensures) c.in-Ok.ensures.legal))
+    (rw (← c.start.ensures) c.in-Ok.ensures.game.legal))

@@ -3,7 +3,7 @@ use Rattle.std.specs.Int.RustNames.{FitsSigned}
 use Rattle.std.proofs.lemmas.Int.{ints, to_z-of_z}
 use Rattle.dg_theory.specs.Rank.{less, canonical}
 use Rattle.dg_theory.proofs.RankNumbers.{riemann_roch}
-use Rattle.dg_chips.specs.Vector.{at}
+use Rattle.dg_chips.specs.Vector.{at, IsInRange}
 use Rattle.dg_rank.specs.Ranks.{IsRankInLimits, DualNeedsTooMany}
 use Rattle.dg_tasks.specs.RankTests.{riemann_roch_text, IsRiemannRoch}
 use Rattle.dg_tasks.proofs.ranks.riemann_roch.Goals as goal
@@ -31,7 +31,12 @@ returns-in-Ok-clause-told c =
     let text : c.in-Ok.text.items
     ≡ riemann_roch_text o (to_z w64 (of_z w64 c.in-Some.rank)) (to_z w64 (of_z w64 c.in-Some.dual_rank)) =
     c.in-Ok.ensures in
+    let (size, is_dual, in_range) = c.in_default.ensures in
+    let inside : IsInRange c.graph-graph.result.now.size
+    (less (canonical c.graph-graph.result.now) (at c.divisor-divisor.result.now)) =
+    λ v below. omega (arith, ints, is_dual v below, in_range v below) in
     let told : IsRiemannRoch o c.in-Ok.text.items = record {
+      in_range = rw (← c.graph-graph.ensures.graph, ← c.divisor-divisor.ensures) inside;
       rank = c.in-Some.rank;
       of_divisor = of_divisor;
       dual_rank = c.in-Some.dual_rank;

@@ -36,4 +36,4 @@ returns-in-Ok-push_outcome c = λ o steps known.
     played_more o c.args.names.now steps (record { seat = c.args.seat; command = Call c.args.plain.now })
     (entry_of c.args.seat c.args.plain.now c.in-Ok.outcome c.call.new.self.game) c.args.rehearsal.now c.call.new.self
     c.args.text.now.items
-    c.push_outcome.new.text.items _ plays c.entries-number.ensures.entries c.in-Ok-push_outcome.ensures known
+    c.push_outcome.new.text.items _ plays room c.entries-number.ensures.entries c.in-Ok-push_outcome.ensures known

@@ -32,4 +32,4 @@ returns-in-Ok-push_entry c = λ o steps known.
     let (room, plays) = rw c.in-Ok.is at c.play.ensures.plays in
     played_more o c.args.names.now steps c.args.step.now c.in-Ok.entry c.args.rehearsal.now c.play.new.self
     c.args.text.now.items
-    c.push_entry.new.text.items _ plays c.entries-number.ensures.entries c.in-Ok-push_entry.ensures known
+    c.push_entry.new.text.items _ plays room c.entries-number.ensures.entries c.in-Ok-push_entry.ensures known

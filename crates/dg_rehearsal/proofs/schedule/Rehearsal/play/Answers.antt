@@ -4,6 +4,9 @@ use Rattle.dg_game.specs.declared.step.Command.{Command}
 use Rattle.dg_game.specs.declared.step.Command.TheVariants.{Call}
 use Rattle.dg_rehearsal.proofs.schedule.Rehearsal.play.Goals as goal
 
+pub returns-in-Some-clause-plays : goal.returns-in-Some-clause-plays
+returns-in-Some-clause-plays c = c.in-Some.ensures c.args.step.now.command
+
 pub returns-in-Call-clause-plays : goal.returns-in-Call-clause-plays
 returns-in-Call-clause-plays c =
     let (seat, room) = c.in_default.ensures in (
@@ -24,9 +27,11 @@ returns-in-Commit-clause-plays c =
       λ o H steps playing there. goes o H steps playing
           (there ∙ ap (λ (k : Command). Some (record { seat = c.args.step.now.seat; command = k })) c.in-Commit.is),
     ))
-    (λ fault told o H steps playing there.
-    told o H steps playing
-    (there ∙ ap (λ (k : Command). Some (record { seat = c.args.step.now.seat; command = k })) c.in-Commit.is))
+    (λ fault told. (
+      told.0,
+      λ o H steps playing there. told.1 o H steps playing
+          (there ∙ ap (λ (k : Command). Some (record { seat = c.args.step.now.seat; command = k })) c.in-Commit.is),
+    ))
 
 pub returns-in-Rank-clause-plays : goal.returns-in-Rank-clause-plays
 returns-in-Rank-clause-plays c =
@@ -37,6 +42,8 @@ returns-in-Rank-clause-plays c =
       λ o H steps playing there. goes o H steps playing
           (there ∙ ap (λ (k : Command). Some (record { seat = c.args.step.now.seat; command = k })) c.in-Rank.is),
     ))
-    (λ fault told o H steps playing there.
-    told o H steps playing
-    (there ∙ ap (λ (k : Command). Some (record { seat = c.args.step.now.seat; command = k })) c.in-Rank.is))
+    (λ fault told. (
+      told.0,
+      λ o H steps playing there. told.1 o H steps playing
+          (there ∙ ap (λ (k : Command). Some (record { seat = c.args.step.now.seat; command = k })) c.in-Rank.is),
+    ))

@@ -1,4 +1,4 @@
-use Rattle.std.proofs.Common.{◌≡◌, arith, ap, ◌∙◌}
+use Rattle.std.proofs.Common.{◌≡◌, arith, rules, ap, ◌∙◌}
 use Rattle.dg_theory.specs.Multigraph.{Multigraph}
 use Rattle.dg_game.specs.declared.step.Command.TheVariants.{Rank}
 use Rattle.dg_game.proofs.LookLaws.{look_fits, look_vertices}
@@ -27,16 +27,19 @@ pub enter-entry-requires-clause-found : goal.enter-entry-requires-clause-found
 enter-entry-requires-clause-found c = let (within, found, asks) = c.in-Ok.ensures in rw c.q.ensures.q at found
 
 pub returns-in_default-rank_look-clause-plays : goal.returns-in_default-rank_look-clause-plays
-returns-in_default-rank_look-clause-plays c = λ o H steps playing there.
-    let (kept, look) = c.in-Some.ensures o H steps playing in
-    let (fault, past) = c.in_default-rank_look.ensures in
-    let size : c.in-Some.look.graph.size ≡ o.graph.size =
-    look_vertices o H _ _ playing.leads look ∙ ap (λ (g : Multigraph). g.size) playing.leads.graph
-    ∙ vertices_stay o H in
-    past_limits o H steps c.args.self.now c.args.seat c.args.k c.in-Some.look.number _ playing there
-    (omega (arith, playing.leads.entries, c.entries-i.ensures.entries))
-    (omega (arith, c.requires.room, c.entries-i.ensures.entries))
-    c.requires.seat kept (rw size at past)
+returns-in_default-rank_look-clause-plays c = (
+  search rules,
+  λ o H steps playing there.
+      let (kept, look) = c.in-Some.ensures o H steps playing in
+      let (fault, past) = c.in_default-rank_look.ensures in
+      let size : c.in-Some.look.graph.size ≡ o.graph.size =
+      look_vertices o H _ _ playing.leads look ∙ ap (λ (g : Multigraph). g.size) playing.leads.graph
+      ∙ vertices_stay o H in
+      past_limits o H steps c.args.self.now c.args.seat c.args.k c.in-Some.look.number _ playing there
+      (omega (arith, playing.leads.entries, c.entries-i.ensures.entries))
+      (omega (arith, c.requires.room, c.entries-i.ensures.entries))
+      c.requires.seat kept (rw size at past),
+)
 
 pub returns-clause-plays : goal.returns-clause-plays
 returns-clause-plays c = λ o H steps playing there.
