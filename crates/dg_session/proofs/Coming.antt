@@ -11,10 +11,8 @@
 --   line_one       a line makes at most one entry
 --   refused_made   so does one that is refused
 --   last_made      what was made is the last entry, where there is one more
---   none_made      and none, where there is none
 use Rattle.std.proofs.Common.{◌≡◌, ℕ, ◌+◌, ◌-◌, ◌<◌, ◌≤◌, inl, inr, List, [], ◌∷◌, ◌++◌, length, length-append, Option, Some, None, slice_get, refl, sym, ap, subst, ◌∙◌, arith}
 use Rattle.std.proofs.lemmas.Option.{slice_get_within, same_Some}
-use Rattle.std.proofs.lemmas.List.{nil_from_length}
 use Rattle.dg_chips.specs.Opening.{Opening}
 use Rattle.dg_game.proofs.LegalLaws.{legal_none}
 use Rattle.dg_game.specs.declared.entry.Entry.{Entry}
@@ -129,7 +127,3 @@ last_made before (p ∷ []) all r is more few at =
     seam [] p = refl
     seam (q ∷ ps) p = seam ps p
 last_made before (p ∷ q ∷ made) all r is more few at = absurd (omega (arith, few))
-
-pub none_made : (before made all : List (ℕ × Entry)) → all ≡ before ++ made → length all ≤ length before → made ≡ []
-none_made before made all is few =
-    nil_from_length made (omega (arith, ap length is, length-append before made, few))

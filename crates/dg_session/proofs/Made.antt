@@ -60,7 +60,13 @@ gains_none x y keeps = record {
 }
 
 pub gains_same : (x : SeatView) → Gains x x []
-gains_same x = gains_none x x (record { number = refl; mine = refl; told = refl; past = refl; met = ([], sym (append-nil x.met)) })
+gains_same x = gains_none x x (record {
+  number = refl;
+  mine = refl;
+  told = refl;
+  past = refl;
+  met = ([], sym (append-nil x.met));
+})
 
 pub record Stands (o : Opening) (request : Request) (r : ℕ × Entry) (x y : SeatView) : Type 0 where
   pub asked' : r.1.request ≡ request

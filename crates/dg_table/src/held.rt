@@ -68,8 +68,8 @@ impl<N: Name> Held<N> {
         }
     }
 
-    /// Whether the history has as many entries as the one that the seat has met, or more, an entry of each number that it was told
-    /// of, and as many entries of the seat as it keeps. Then the history holds what the seat knows.
+    /// Whether the history has as many entries as the one that the seat has met, or more, an entry of each number that it
+    /// was told of, and as many entries of the seat as it keeps. Then the history holds what the seat knows.
     pub fn admits(&self, seat: &Seat<N>) -> bool
         ensures admits { IsTrue result ↔ IsAdmissible self.now.entries seat.now }
         ensures holds { IsTrue result → Holds self.now.entries seat.now }

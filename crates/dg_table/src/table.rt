@@ -82,8 +82,8 @@ impl<N: Name> Table<N> {
         Ok((table, all))
     }
 
-    /// Makes space for a call of the seat, and a box for its entry. Refused with `OutOfMemory`, and with `Full` where the seat has
-    /// met a history of as many entries as there may be.
+    /// Makes space for a call of the seat, and a box for its entry. Refused with `OutOfMemory`, and with `Full` if the seat
+    /// has met a history of as many entries as there may be.
     fn room(&self, alloc: Global, seat: &mut Seat<N>) -> Result<Box<Entry>, Fault>
         ensures kept { Keeps seat.old seat.new }
         ensures met { seat.new.met ≡ seat.old.met }
@@ -147,9 +147,9 @@ impl<N: Name> Table<N> {
         self.held.lock(rt).turn(&self.log, seat, slot, choose)
     }
 
-    /// Enters what was reckoned on the look of a receipt: as stale where gifts, levies or joins were accepted since; otherwise a verdict
-    /// that is right for the position at its place in the one history, with the reduced divisor and the burning order
-    /// that were found, or the answer of the rank test as it was found. The seat is told of the look. The conditions are
+    /// Enters what was reckoned on the look of a receipt: as stale if gifts, levies or joins were accepted since; otherwise
+    /// a verdict that is right for the position at its place in the one history, with the reduced divisor and the burning
+    /// order that were found, or the answer of the rank test as it was found. The seat is told of the look. The conditions are
     /// that the data is that of the look, whatever its drift, and that the finding is right for the look's amounts on the
     /// look's graph.
     ///

@@ -18,7 +18,8 @@ pub reads-init : goal.reads-init
 reads-init g c = (
   so_far_new (map kept_number c.in-Some.progress.kept.items) c.in-Some.progress.course.latest
       c.in-Some.progress.course.entered c.in-Some.progress.pending.items c.in-Some.progress.count
-      c.in-Some.ensures.latest c.in-Some.ensures.entered c.in-Some.ensures.pending c.in-Some.ensures.count c.in-Some.ensures.kept c.requires.some,
+      c.in-Some.ensures.latest c.in-Some.ensures.entered c.in-Some.ensures.pending c.in-Some.ensures.count
+      c.in-Some.ensures.kept c.requires.some,
   ap heard c.in-Some.ensures.said,
   λ none. refl,
   omega (arith, c.in-Ok.ensures.len, c.in-Ok.buffer.ok.0),

@@ -5,7 +5,8 @@ use Rattle.dg_table.proofs.seat.Seat.all.Goals as goal
 
 pub loop-i-preserved : goal.loop-i-preserved
 loop-i-preserved g c =
-    let items : c.push.new.self.items ≡ c.loop-i.seats.items ++ c.new.result ∷ [] = (rw c.unwrap.ensures at c.push.ensures.items) in
+    let items : c.push.new.self.items ≡ c.loop-i.seats.items ++ c.new.result ∷ [] =
+    (rw c.unwrap.ensures at c.push.ensures.items) in
     record {
       count = ap length items ∙ omega (arith, length_push c.loop-i.seats.items c.new.result, c.loop-i.invariant.count);
       fresh = λ k x at. elim (more_holds c.loop-i.seats.items c.new.result k x (rw items at at)) [
