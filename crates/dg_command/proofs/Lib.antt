@@ -1,4 +1,5 @@
 mod Telling
+mod Arguments
 mod Adding
 mod Parsing
 mod Nothing

@@ -10,7 +10,8 @@ handed P (Err x) e h is = subst P (sym is) h
 
 pub returns-in_err-matches-clause-refused : goal.returns-in_err-matches-clause-refused
 returns-in_err-matches-clause-refused c = handed _ _ _
-    (why _ _ c.in_err-matches.field-0.0 c.in_ok-dollar.ensures c.in_err-matches.ensures.kinds) c.from_residual-in_err-matches.ensures.1
+    (why _ _ c.in_err-matches.field-0.0 c.in_ok-dollar.ensures c.in_err-matches.ensures.kinds)
+    c.from_residual-in_err-matches.ensures.1
 
 pub returns-in-Ok-clause-asked : goal.returns-in-Ok-clause-asked
 returns-in-Ok-clause-asked c =
