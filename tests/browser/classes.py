@@ -432,6 +432,8 @@ def with_floods(folder):
         def flood(number):
             answers.append(ann.place.post("line", {"key": ann.key, "line": "gift ann %d" % (number % 2 * 2 - 1)}))
 
+        # His own page is the oldest of his pages only once the program has taken it.
+        expect(bob.until(lambda pupil: pupil.states), "a page that is told nothing")
         deaf = [opened(bob.place, bob.key) for _ in range(12)] + [half_a_line(ann) for _ in range(HALVES)]
         threads = [threading.Thread(target=flood, args=(number,)) for number in range(200)]
         for thread in threads:
