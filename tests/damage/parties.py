@@ -43,6 +43,7 @@ def many_lines(checks):
     for what, lines, answered, fault in (
             ("a million lines", b"x\n" * LINES, LINES, None), ("a million lines, the last without its end", (b"x\n" * LINES)[:-1], LINES, None),
             ("a byte more", b"x\n" * LINES + b"x", LINES, MANY), ("a million lines and an empty one", b"x\n" * LINES + b"\n", LINES, MANY),
+            ("a line of each length", b"".join(b"x" * size + b"\n" for size in range(1025)), 1025, None),
             ("lines of 1,024 bytes", (b"x" * 1024 + b"\n") * 1000, 1000, None),
             ("a line of 1,025 bytes after others", (b"x" * 1024 + b"\n") * 1000 + b"x" * 1025 + b"\nclaim\n", 1000, LONG)):
         with open(checks.put("typed", lines), "rb") as typed:

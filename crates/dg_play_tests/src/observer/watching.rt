@@ -9,6 +9,7 @@ use dg_log::{Log, Name};
 use dg_observer::{Gifts, Observer, ObserverFault, Positions, RefusedMoves, Watch};
 use dg_table::{Seat, Table};
 use std::alloc::{AllocError, Global};
+use std::cell::Cell;
 use std::process::Abort;
 use std::sync::Wait;
 use std::test::Fail;
@@ -53,6 +54,25 @@ impl Watch for FirstTwo {
     }
 }
 
+// Counts in a cell how often it is asked for a step.
+#[derive(Clone, Copy)]
+struct Asked<'a>(&'a Cell<u64>);
+
+impl<'a> Watch for Asked<'a> {
+    ghost use Rattle.std.specs.Prelude.{⊤};
+
+    type State = u64;
+
+    ghost begins = { λ n. ⊤ };
+
+    ghost goes_on = { λ n e m. ⊤ };
+
+    fn step(&self, state: &u64, _entry: &Entry) -> Result<u64, AllocError> {
+        self.0.set(self.0.get().wrapping_add(1));
+        Ok(*state)
+    }
+}
+
 #[test]
 fn entries_are_counted(rt: HostRuntime) -> Result<(), Fail> {
     on_a_table(
@@ -79,6 +99,7 @@ pub(crate) fn watched<N: Name, R: Wait + Abort>(
     counts_gifts(rt, alloc, log)?;
     table.call(rt, alloc, second, Plain::Move(Move::Lend(3)))?;
     counts_entries(rt, alloc, log)?;
+    is_asked_once_for_each(rt, alloc, log)?;
     counts_refused_moves(rt, alloc, log)?;
     has_no_memory(rt, alloc, log);
     follows_the_position(rt, alloc, log, table.start().divisor())
@@ -107,6 +128,18 @@ fn counts_entries<N: Name>(rt: &impl Abort, alloc: Global, log: &Log<N>) -> Resu
     let mut entries = Observer::<N, Entries>::new(alloc, Entries, 0);
     let read = entries.catch_up(log)?;
     assert!(rt; read == 3 && *entries.state() == 3);
+    Ok(())
+}
+
+fn is_asked_once_for_each<N: Name>(
+    rt: &impl Abort,
+    alloc: Global,
+    log: &Log<N>,
+) -> Result<(), Fail> {
+    let steps = Cell::new(0);
+    let mut asked = Observer::<N, Asked<'_>>::new(alloc, Asked(&steps), 0);
+    let read = asked.catch_up(log)?;
+    assert!(rt; read == 3 && steps.get() == 3);
     Ok(())
 }
 

@@ -48,10 +48,11 @@ impl<'a> Read for Flow<'a> {
 }
 
 // Takes so many bytes a write, and fails where it holds so many; or takes none from there on. Each other write is
-// interrupted, and the first flush after one that is not.
+// interrupted, and the first flush after one that is not. It notes how much it held when it was last flushed.
 #[derive(Drop)]
 pub(crate) struct Sip {
     pub(crate) held: Vec<u8>,
+    pub(crate) flushed: usize,
     pub(crate) most: usize,
     pub(crate) fails_at: usize,
     pub(crate) refuses: bool,
@@ -82,6 +83,7 @@ impl Write for Sip {
         if self.is_interrupted {
             return Err(io::Error::from(ErrorKind::Interrupted));
         }
+        self.flushed = self.held.len();
         Ok(())
     }
 }
@@ -98,6 +100,7 @@ fn new_flow(text: &[u8], most: usize, fault: Option<ErrorKind>) -> Flow<'_> {
 fn new_sip(alloc: Global, most: usize, fails_at: usize, refuses: bool) -> Sip {
     Sip {
         held: Vec::new(alloc),
+        flushed: 0,
         most,
         fails_at,
         refuses,
@@ -188,31 +191,7 @@ fn ends_where_a_write_fails<R: Threads + Wait + Abort + Sync>(
     )
 }
 
-// The first answers, of lines that come in one read, have more than 4,096 bytes; then come lines of 513 to 1,024 bytes.
-#[test]
-fn long_lines_are_answered(rt: HostRuntime) -> Result<(), Fail> {
-    let alloc = rt.alloc();
-    let (mut text, mut answer) = (Vec::new(alloc), Vec::new(alloc));
-    for i in 0..1_000usize {
-        let size = if i < 488 { 1 } else { i + 25 };
-        text.resize(text.len().saturating_add(size), b'x')?;
-        text.push(b'\n')?;
-        answer.extend_from_slice(b"bad word\n")?;
-    }
-    let zero = triangle(&[0, 0, 0])?;
-    let reader = new_flow(&text, 100_000, None);
-    let writer = new_sip(alloc, 100_000, 100_000, false);
-    on_a_table(
-        &rt,
-        alloc,
-        1,
-        &zero,
-        1,
-        Scene::Session(reader, writer, &answer, Ok(1_000)),
-    )
-}
-
-// The session over the reader leaves the writer with the answer, and ends so.
+// The session over the reader leaves the writer with the answer, all of it flushed unless a write failed, and ends so.
 pub(crate) fn serves<N: Name, R: Threads + Wait + Abort>(
     rt: &R,
     alloc: Global,
@@ -235,7 +214,9 @@ pub(crate) fn serves<N: Name, R: Threads + Wait + Abort>(
         &mut writer,
         end,
     );
-    assert!(rt; writer.into_inner().held.as_slice() == answer);
+    let writer = writer.into_inner();
+    assert!(rt; writer.held.as_slice() == answer);
+    assert!(rt; end == Err(SessionEnd::Write) || writer.flushed == answer.len());
     Ok(())
 }
 
