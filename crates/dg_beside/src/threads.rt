@@ -1,28 +1,25 @@
 //! Two closures called side by side, of which each changes what it was lent.
 ghost use Rattle.std.specs.Prelude.{◌≡◌, MatchResult};
 
+use crate::shortage::Shortage;
 use std::snapshot::Snapshot;
 use std::sync::Wait;
 use std::sync::atomic::{AtomicBool, Ordering};
 use std::thread;
 use std::thread::{Promise, Threads};
 
-/// No thread could be started.
-#[derive(Clone, Copy)]
-pub struct NotStarted;
-
 /// Calls f in a new thread and g in this one, and returns once both did.
 ///
-/// Refused where no thread could be started; then neither was called.
+/// Refused with `Spawn` where no thread could be started, and with nothing else; then neither was called.
 pub fn beside<R: Threads + Wait, F: FnMut() -> A + Send, G: FnMut() -> B, A: Send + Drop, B>(
     rt: &R,
     f: &mut F,
     g: &mut G,
-) -> Result<(A, B), NotStarted>
+) -> Result<(A, B), Shortage>
     requires { F.pre f.old × G.pre g.old }
     ensures { MatchResult result
         (λ r. F.step f.old r.0 f.new × G.step g.old r.1 g.new)
-        (λ _. (f.new ≡ f.old) × (g.new ≡ g.old)) }
+        (λ shortage. (shortage ≡ Shortage.Spawn) × (f.new ≡ f.old) × (g.new ≡ g.old)) }
 {
     match run_both(rt, Lent { f }, Lent { f: g }) {
         Ok(((f, a), (g, b))) => {
@@ -33,7 +30,7 @@ pub fn beside<R: Threads + Wait, F: FnMut() -> A + Send, G: FnMut() -> B, A: Sen
         Err((Lent { f }, Lent { f: g })) => {
             take_back(f);
             take_back(g);
-            Err(NotStarted)
+            Err(Shortage::Spawn)
         }
     }
 }

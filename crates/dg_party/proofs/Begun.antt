@@ -10,9 +10,8 @@ use Rattle.dg_table.specs.Opened.{AreFresh}
 use Rattle.dg_table.specs.Seats.{SeatView}
 use Rattle.dg_session.specs.declared.ends.SessionEnd.{SessionEnd}
 use Rattle.dg_party.specs.Sessions.{IsSessionOver, AreSessions, HaveBegun, RefusesSessions, contents}
-use Rattle.dg_party.specs.declared.fault.PartyFault.{PartyFault}
-use Rattle.dg_party.specs.declared.fault.PartyFault.TheVariants.{OutOfMemory, Spawn}
-use Rattle.dg_party.specs.declared.ending.PartyRefusal.{PartyRefusal}
+use Rattle.dg_beside.specs.declared.shortage.Shortage.{Shortage}
+use Rattle.dg_beside.specs.declared.shortage.Shortage.TheVariants.{OutOfMemory, Spawn}
 use Rattle.dg_party.specs.declared.ending.PartyRefusal.TheVariants as party
 use Rattle.dg_party.specs.Parties.{IsPartyRefused}
 
@@ -25,10 +24,10 @@ none_begun o seats cap names scripts left script xs rest ys x y d e f h =
     (0, rw d (omega arith), ap (λ z. z ∷ ys) f ∙ ap (λ zs. x ∷ zs) h ∙ sym e)
 
 pub more_begun : (o : Opening) (seats cap : ℕ) (names : List (List ℕ)) (scripts left : List (Vec ℕ)) (script : Vec ℕ)
-    (xs rest ys : List SeatView) (x y : SeatView) (end : Result ℕ SessionEnd) (fault : PartyFault)
+    (xs rest ys : List SeatView) (x y : SeatView) (end : Result ℕ SessionEnd) (lack : Shortage)
     → scripts ≡ script ∷ left → xs ≡ x ∷ rest → IsSessionOver o seats cap names script.items x y end
-    → RefusesSessions o seats cap names (contents left) rest ys fault
-    → RefusesSessions o seats cap names (contents scripts) xs (y ∷ ys) fault
+    → RefusesSessions o seats cap names (contents left) rest ys lack
+    → RefusesSessions o seats cap names (contents scripts) xs (y ∷ ys) lack
 unfolding AreSessions HaveBegun
 more_begun o seats cap names scripts left script xs rest ys x y end OutOfMemory e f session (ends, are) =
     (end ∷ ends, rw (e, f) (session, are))
@@ -37,24 +36,21 @@ more_begun o seats cap names scripts left script xs rest ys x y end Spawn e f se
 
 pub all_begun : (o : Opening) (seats cap : ℕ) (names : List (List ℕ)) (scripts left : List (Vec ℕ)) (script : Vec ℕ)
     (xs rest ys : List SeatView) (x y : SeatView) (end : Result ℕ SessionEnd) (ends : List (Result ℕ SessionEnd))
-    (fault : PartyFault)
+    (lack : Shortage)
     → scripts ≡ script ∷ left → xs ≡ x ∷ rest → IsSessionOver o seats cap names script.items x y end
-    → AreSessions o seats cap names (contents left) rest ys ends → fault ≡ OutOfMemory
-    → RefusesSessions o seats cap names (contents scripts) xs (y ∷ ys) fault
-all_begun o seats cap names scripts left script xs rest ys x y end ends fault e f session are told =
+    → AreSessions o seats cap names (contents left) rest ys ends → lack ≡ OutOfMemory
+    → RefusesSessions o seats cap names (contents scripts) xs (y ∷ ys) lack
+all_begun o seats cap names scripts left script xs rest ys x y end ends lack e f session are told =
     rw told (more_begun o seats cap names scripts left script xs rest ys x y end OutOfMemory e f session (ends, are))
 
 pub party_lacks : (o : Opening) (n m cap : ℕ) (names scripts : List (List ℕ)) (opened xs ys : List SeatView)
-    (fault : PartyFault) (refusal : PartyRefusal)
+    (lack : Shortage)
     → length scripts ≡ n → n ≡ m → AreFresh n opened → xs ≡ opened
-    → (fault ≡ OutOfMemory → refusal ≡ party.OutOfMemory) → (fault ≡ Spawn → refusal ≡ party.Spawn)
-    → RefusesSessions o m cap names scripts xs ys fault → IsPartyRefused o cap names scripts refusal
-party_lacks o n m cap names scripts opened xs ys OutOfMemory refusal many same fresh lent memory spawn refused =
-    rw (memory refl) tt
-party_lacks o n m cap names scripts opened xs ys Spawn refusal many same fresh lent memory spawn refused =
-    rw (spawn refl) (record {
-      before = xs;
-      after = ys;
-      fresh = rw (many, lent) fresh;
-      holds = subst (λ (seats : ℕ). RefusesSessions o seats cap names scripts xs ys Spawn) (sym (many ∙ same)) refused;
-    })
+    → RefusesSessions o m cap names scripts xs ys lack → IsPartyRefused o cap names scripts (party.Shortage lack)
+party_lacks o n m cap names scripts opened xs ys OutOfMemory many same fresh lent refused = tt
+party_lacks o n m cap names scripts opened xs ys Spawn many same fresh lent refused = record {
+  before = xs;
+  after = ys;
+  fresh = rw (many, lent) fresh;
+  holds = subst (λ (seats : ℕ). RefusesSessions o seats cap names scripts xs ys Spawn) (sym (many ∙ same)) refused;
+}

@@ -24,8 +24,8 @@ use Rattle.dg_table.specs.Seats.{SeatView, entries_of}
 use Rattle.dg_session.specs.declared.ends.SessionEnd.{SessionEnd}
 use Rattle.dg_party.specs.Sessions.{IsSessionOver, AreSessions, RefusesSessions}
 use Rattle.dg_party.specs.declared.ending.PartyRefusal.{PartyRefusal}
-use Rattle.dg_party.specs.declared.ending.PartyRefusal.TheVariants.{OutOfMemory, Spawn, Log}
-use Rattle.dg_party.specs.declared.fault.PartyFault.TheVariants as sessions
+use Rattle.dg_party.specs.declared.ending.PartyRefusal.TheVariants.{Shortage, Log}
+use Rattle.dg_beside.specs.declared.shortage.Shortage.TheVariants.{OutOfMemory, Spawn}
 use Rattle.dg_totals.specs.Printed.{entries_text, audit_text}
 
 pub record IsSessionIn (o : Opening) (seats cap : ℕ) (names : List (List ℕ)) (H : List Entry)
@@ -61,9 +61,9 @@ pub record IsOfSeats (n : ℕ) (P : List SeatView → List SeatView → Type 0) 
   pub holds : P before after
 
 abbrev pub IsPartyRefused : Opening → ℕ → List (List ℕ) → List (List ℕ) → PartyRefusal → Type 0
-IsPartyRefused o cap names scripts OutOfMemory = ⊤
-IsPartyRefused o cap names scripts Spawn = IsOfSeats (length scripts) (λ xs ys.
-    RefusesSessions o (length scripts) cap names scripts xs ys sessions.Spawn)
+IsPartyRefused o cap names scripts (Shortage OutOfMemory) = ⊤
+IsPartyRefused o cap names scripts (Shortage Spawn) = IsOfSeats (length scripts) (λ xs ys.
+    RefusesSessions o (length scripts) cap names scripts xs ys Spawn)
 IsPartyRefused o cap names scripts Log = IsOfSeats (length scripts) (λ xs ys.
     ((ends : List (Result ℕ SessionEnd))
     × AreSessions o (length scripts) cap names scripts xs ys ends)

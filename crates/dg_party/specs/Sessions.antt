@@ -20,8 +20,8 @@ use Rattle.dg_table.specs.Seats.{SeatView}
 use Rattle.dg_session.specs.Ends.{IsSession}
 use Rattle.dg_session.specs.declared.ends.SessionEnd.{SessionEnd}
 use Rattle.dg_session.specs.declared.ends.SessionEnd.TheVariants.{Write}
-use Rattle.dg_party.specs.declared.fault.PartyFault.{PartyFault}
-use Rattle.dg_party.specs.declared.fault.PartyFault.TheVariants.{OutOfMemory, Spawn}
+use Rattle.dg_beside.specs.declared.shortage.Shortage.{Shortage}
+use Rattle.dg_beside.specs.declared.shortage.Shortage.TheVariants.{OutOfMemory, Spawn}
 
 abbrev pub contents : List (Vec ℕ) → List (List ℕ)
 contents scripts = map (λ (script : Vec ℕ). script.items) scripts
@@ -54,7 +54,7 @@ HaveBegun o seats cap names (suc k) (script ∷ scripts) (x ∷ xs) (y ∷ ys) =
 HaveBegun o seats cap names k scripts xs ys = ⊥
 
 abbrev pub RefusesSessions : Opening → ℕ → ℕ → List (List ℕ) → List (List ℕ) → List SeatView
-    → List SeatView → PartyFault → Type 0
+    → List SeatView → Shortage → Type 0
 RefusesSessions o seats cap names scripts xs ys OutOfMemory =
     (ends : List (Result ℕ SessionEnd)) × AreSessions o seats cap names scripts xs ys ends
 RefusesSessions o seats cap names scripts xs ys Spawn =

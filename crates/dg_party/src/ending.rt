@@ -1,7 +1,5 @@
 //! What a party comes to, and why there is none.
-ghost use Rattle.std.specs.Prelude.{◌≡◌};
-
-use crate::fault::PartyFault;
+use dg_beside::Shortage;
 use dg_session::SessionEnd;
 
 /// What a party came to.
@@ -16,22 +14,8 @@ pub struct Played {
 /// Why there is no party.
 #[derive(Clone, Copy, Debug, PartialEq, Eq)]
 pub enum PartyRefusal {
-    /// There is not enough memory.
-    OutOfMemory,
-    /// A thread could not be started.
-    Spawn,
+    /// There is not enough memory, or a thread could not be started.
+    Shortage(Shortage),
     /// The table was not closed.
     Log,
-}
-
-impl From<PartyFault> for PartyRefusal {
-    fn from(fault: PartyFault) -> PartyRefusal
-        ensures memory { fault ≡ PartyFault.OutOfMemory → result ≡ PartyRefusal.OutOfMemory }
-        ensures spawn { fault ≡ PartyFault.Spawn → result ≡ PartyRefusal.Spawn }
-    {
-        match fault {
-            PartyFault::OutOfMemory => PartyRefusal::OutOfMemory,
-            PartyFault::Spawn => PartyRefusal::Spawn,
-        }
-    }
 }

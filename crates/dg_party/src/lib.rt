@@ -2,11 +2,11 @@
 #![tactic(auto)]
 
 mod ending;
-mod fault;
 mod parties;
 mod threads;
 
 pub use ending::{PartyRefusal, Played};
-pub use fault::PartyFault;
+/// Why sessions are not held, or what they came to is not told.
+pub use dg_beside::Shortage as PartyFault;
 pub use parties::party;
 pub use threads::sessions;

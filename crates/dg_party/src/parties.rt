@@ -7,6 +7,7 @@ ghost use Rattle.dg_party.specs.Parties.{IsParty, IsPartyRefused};
 
 use crate::ending::{PartyRefusal, Played};
 use crate::threads::sessions;
+use dg_beside::Shortage;
 use dg_chips::Start;
 use dg_log::{LogFault, Name, Row};
 use dg_names::Names;
@@ -22,8 +23,8 @@ use std::thread::Threads;
 /// session makes just its seat's entries in that history. The conditions are 1 to 64 scripts, 1 to 65,536 cells, and one name
 /// per vertex.
 ///
-/// Each thread enters the gate with its seat's number before its first line. Refused with `OutOfMemory`; with `Spawn` where a
-/// thread could not be started, so that not all scripts had sessions; and with `Log` where all had, and the table is not closed.
+/// Each thread enters the gate with its seat's number before its first line. Refused for want of memory; for want of a thread,
+/// so that not all scripts had sessions; and with `Log` where all had, and the table is not closed.
 pub fn party<R: Threads + Wait + Sync, G: Gate>(
     rt: &R,
     alloc: Global,
@@ -44,7 +45,7 @@ pub fn party<R: Threads + Wait + Sync, G: Gate>(
     let row = match Row::new(alloc, cap) {
         Ok(row) => row,
         Err(LogFault::Capacity) => unreachable!(),
-        Err(LogFault::OutOfMemory) => return Err(PartyRefusal::OutOfMemory),
+        Err(LogFault::OutOfMemory) => return Err(PartyRefusal::Shortage(Shortage::OutOfMemory)),
     };
     match party_of::<Brand, R, G>(rt, alloc, row, start, names, scripts, gate) {
         Ok(played) => Ok(played),
@@ -77,17 +78,17 @@ fn party_of<N: Name + Send + Sync, R: Threads + Wait + Sync, G: Gate>(
     let (table, mut seats) = match Table::<N>::open(alloc, row, start, count as u8) {
         Ok(opened) => opened,
         Err((_, TableFault::Seats)) => unreachable!(),
-        Err((_, TableFault::OutOfMemory)) => return Err(PartyRefusal::OutOfMemory),
+        Err((_, TableFault::OutOfMemory)) => return Err(PartyRefusal::Shortage(Shortage::OutOfMemory)),
     };
     let ends = match sessions(rt, alloc, &table, &mut seats, names, scripts, gate) {
         Ok(ends) => ends,
-        Err(fault) => return Err(PartyRefusal::from(fault)),
+        Err(shortage) => return Err(PartyRefusal::Shortage(shortage)),
     };
     let Ok(audit) = table.close(seats) else {
         return Err(PartyRefusal::Log);
     };
     match closing_text(alloc, names, &audit, count) {
         Ok(text) => Ok(Played { ends, text }),
-        Err(_) => Err(PartyRefusal::OutOfMemory),
+        Err(_) => Err(PartyRefusal::Shortage(Shortage::OutOfMemory)),
     }
 }

@@ -2,8 +2,7 @@
 ghost use Rattle.std.specs.Prelude.{◌≡◌, ℕ, ◌∷◌, length, IfOk, IfErr};
 ghost use Rattle.dg_party.specs.Sessions.{IsSessionOver, AreSessions, RefusesSessions, contents};
 
-use crate::fault::PartyFault;
-use dg_beside::{NotStarted, beside};
+use dg_beside::{Shortage, beside};
 use dg_log::Name;
 use dg_names::Names;
 use dg_rank::Gate;
@@ -49,7 +48,7 @@ pub fn sessions<N: Name + Send + Sync, R: Threads + Wait + Sync, G: Gate>(
     names: &Names,
     scripts: &[Vec<u8>],
     gate: &G,
-) -> Result<Vec<Result<u32, SessionEnd>>, PartyFault>
+) -> Result<Vec<Result<u32, SessionEnd>>, Shortage>
     requires scripts { length scripts.now ≡ length seats.old }
     requires names { length names.now ≡ N.start.graph.size }
     ensures ok { IfOk result
@@ -68,7 +67,7 @@ pub fn sessions<N: Name + Send + Sync, R: Threads + Wait + Sync, G: Gate>(
     };
     match play(&room, scripts, seats) {
         Ok(ends) => Ok(ends),
-        Err(fault) => Err(fault),
+        Err(shortage) => Err(shortage),
     }
 }
 
@@ -78,7 +77,7 @@ fn play<'a, N: Name + Send + Sync, R: Threads + Wait + Sync, G: Gate>(
     room: &Room<'a, N, R, G>,
     scripts: &[Vec<u8>],
     seats: &mut [Seat<N>],
-) -> Result<Vec<Result<u32, SessionEnd>>, PartyFault>
+) -> Result<Vec<Result<u32, SessionEnd>>, Shortage>
     requires scripts { length scripts.now ≡ length seats.old }
     requires names { length room.now.names.now ≡ N.start.graph.size }
     ensures ok { IfOk result
@@ -100,7 +99,7 @@ fn play<'a, N: Name + Send + Sync, R: Threads + Wait + Sync, G: Gate>(
         ensures { IsSessionOver N.start N.seats (length N.cells) room.entry.now.names.now
             bytes.entry.now seat.entry.now seat.exit.now result }
     { hold(room, bytes, seat) };
-    let mut others = || -> Result<Vec<Result<u32, SessionEnd>>, PartyFault>
+    let mut others = || -> Result<Vec<Result<u32, SessionEnd>>, Shortage>
         requires { (length left.now ≡ length rest.now)
             × (length room.now.names.now ≡ N.start.graph.size) }
         ensures { IfOk result
@@ -113,10 +112,9 @@ fn play<'a, N: Name + Send + Sync, R: Threads + Wait + Sync, G: Gate>(
     match beside(room.rt, &mut first, &mut others) {
         Ok((end, Ok(ends))) => match with_first(end, ends) {
             Ok(all) => Ok(all),
-            Err(fault) => Err(fault),
+            Err(shortage) => Err(shortage),
         },
-        Ok((_, Err(fault))) => Err(fault),
-        Err(NotStarted) => Err(PartyFault::Spawn),
+        Ok((_, Err(shortage))) | Err(shortage) => Err(shortage),
     }
 }
 
@@ -144,12 +142,12 @@ fn hold<'a, N: Name, R: Threads + Wait, G: Gate>(
 fn with_first(
     first: Result<u32, SessionEnd>,
     mut ends: Vec<Result<u32, SessionEnd>>,
-) -> Result<Vec<Result<u32, SessionEnd>>, PartyFault>
+) -> Result<Vec<Result<u32, SessionEnd>>, Shortage>
     ensures all { IfOk result (λ all. all.items ≡ first ∷ ends.items) }
-    ensures memory { IfErr result (λ fault. fault ≡ PartyFault.OutOfMemory) }
+    ensures memory { IfErr result (λ shortage. shortage ≡ Shortage.OutOfMemory) }
 {
     match ends.insert(0, first) {
         Ok(()) => Ok(ends),
-        Err(_) => Err(PartyFault::OutOfMemory),
+        Err(_) => Err(Shortage::OutOfMemory),
     }
 }

@@ -1,6 +1,7 @@
 //! Faults that no row in tests/rows meets: the line of each, and the exit status.
 
 use dg_asked::WordsFault;
+use dg_beside::Shortage;
 use dg_file::FileFault;
 use dg_server::{Fault, report, status_of};
 use dg_session::SessionEnd;
@@ -29,10 +30,10 @@ const FAULTS: [(Fault, &str, u8); 10] = [
         "out of memory",
         4,
     ),
-    (Fault::Task(TaskFault::OutOfMemory), "out of memory", 4),
-    (Fault::Task(TaskFault::NoThread), "no thread", 4),
-    (Fault::OutOfMemory, "out of memory", 4),
-    (Fault::NoThread, "no thread", 4),
+    (Fault::Task(TaskFault::Shortage(Shortage::OutOfMemory)), "out of memory", 4),
+    (Fault::Task(TaskFault::Shortage(Shortage::Spawn)), "no thread", 4),
+    (Fault::Shortage(Shortage::OutOfMemory), "out of memory", 4),
+    (Fault::Shortage(Shortage::Spawn), "no thread", 4),
     (Fault::History, "history cell refused", 4),
     (Fault::Write, "write fault", 5),
 ];

@@ -17,8 +17,8 @@
 --   EndsSome held task fault old new == so did a party
 --   IsRefusedOn held task refusal == a party over the scripts, on the table of the file that is
 --                             named, is refused so
---   IsWanting held task fault == memory is wanting; or a party on this table lacks a thread; or its
---                             table is not closed
+--   IsWanting held task fault == a party on this table lacks memory or a thread; or its table is not
+--                             closed
 --   RefusesParty held task fault old new == so is the party: there are too many scripts; or a file
 --                             is not read; or the table file is refused, where all are; or memory,
 --                             a thread or the history is refused. The output is as it was, unless
@@ -42,7 +42,8 @@ use Rattle.dg_tasks.specs.Tasks.{IsOnTable, RefusesContents}
 use Rattle.dg_sources.specs.declared.sources.SourceFault.{SourceFault}
 use Rattle.dg_asked.specs.declared.asked.PartyTask.{PartyTask}
 use Rattle.dg_server.specs.declared.fault.Fault.{Fault}
-use Rattle.dg_server.specs.declared.fault.Fault.TheVariants.{Sessions, Seats, OutOfMemory, NoThread, History, Write}
+use Rattle.dg_server.specs.declared.fault.Fault.TheVariants.{Sessions, Seats, Shortage, History, Write}
+use Rattle.dg_beside.specs.declared.shortage.Shortage.TheVariants.{OutOfMemory}
 
 abbrev pub names_in : PartyTask → List (List ℕ)
 names_in task = map (λ name. name.now) task.scripts.items
@@ -82,7 +83,7 @@ IsPrintedWith ends text (Sessions least all) old new = (early 1 ends ≡ all.ite
     × ((seat : ℕ) × (others : List (ℕ × SessionEnd)) × (all.items ≡ (seat, least) ∷ others))
     × Appends old new text
 IsPrintedWith ends text Write old new = AppendsFront old new [] text
-IsPrintedWith ends text fault old new = (fault ≡ OutOfMemory) × Keeps old new
+IsPrintedWith ends text fault old new = (fault ≡ Shortage OutOfMemory) × Keeps old new
 
 pub record EndsSome (held : List ℕ → Held) (task : PartyTask) (fault : Fault)
     (old new : Option (List ℕ)) : Type 0 where
@@ -97,8 +98,7 @@ IsRefusedOn held task refusal = IsOnTable (held task.file.now) (λ o names.
     × IsPartyRefused o task.capacity names scripts refusal)
 
 abbrev pub IsWanting : (List ℕ → Held) → PartyTask → Fault → Type 0
-IsWanting held task OutOfMemory = ⊤
-IsWanting held task NoThread = IsRefusedOn held task party.Spawn
+IsWanting held task (Shortage lack) = IsRefusedOn held task (party.Shortage lack)
 IsWanting held task History = IsRefusedOn held task party.Log
 IsWanting held task fault = ⊥
 

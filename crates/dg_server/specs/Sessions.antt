@@ -38,7 +38,8 @@ use Rattle.dg_server.specs.OfTasks.{IsOfTask}
 use Rattle.dg_asked.specs.Seats.{count_of}
 use Rattle.dg_asked.specs.declared.asked.ServeTask.{ServeTask}
 use Rattle.dg_server.specs.declared.fault.Fault.{Fault}
-use Rattle.dg_server.specs.declared.fault.Fault.TheVariants.{Session, OutOfMemory, History}
+use Rattle.dg_server.specs.declared.fault.Fault.TheVariants.{Session, Shortage, History}
+use Rattle.dg_beside.specs.declared.shortage.Shortage.TheVariants.{OutOfMemory}
 
 abbrev pub how_of : Option ℕ → Addressing
 how_of None = OneSeat
@@ -76,7 +77,7 @@ EndsEarly how o n cap names input (Session end) old new =
     IsServed how o n cap names input old new (Err end)
 EndsEarly how o n cap names input History old new = (end : Result ℕ SessionEnd)
     × IsHeard how o n cap names input old new end
-EndsEarly how o n cap names input fault old new = (fault ≡ OutOfMemory) × Keeps old new
+EndsEarly how o n cap names input fault old new = (fault ≡ Shortage OutOfMemory) × Keeps old new
 
 abbrev pub RefusesServing : (List ℕ → Held) → Option (List ℕ) → ServeTask → Fault → Option (List ℕ)
     → Option (List ℕ) → Type 0

@@ -13,7 +13,7 @@ use Rattle.std.specs.Prelude.{◌≡◌, ℕ, ◌≤◌, ◌⊎◌}
 use Rattle.dg_asked.specs.declared.words.WordsFault.{WordsFault}
 use Rattle.dg_asked.specs.declared.words.WordsFault.TheVariants.{OutOfMemory as NoMemoryForWords}
 use Rattle.dg_server.specs.declared.fault.Fault.{Fault}
-use Rattle.dg_server.specs.declared.fault.Fault.TheVariants.{Words, Task, OutOfMemory, Session, Sessions, Sweep, Seats, NoThread, History, Write}
+use Rattle.dg_server.specs.declared.fault.Fault.TheVariants.{Words, Task, Shortage, Session, Sessions, Sweep, Seats, History, Write}
 use Rattle.dg_tasks.specs.declared.fault.TaskFault.{TaskFault}
 use Rattle.dg_tasks.specs.declared.fault.TaskFault.TheVariants as task
 use Rattle.dg_session.specs.declared.ends.SessionEnd.{SessionEnd}
@@ -57,8 +57,7 @@ status_of_end end.Spawn = 4
 abbrev pub status_of_sweep : SweepEnd → ℕ
 status_of_sweep sweep.Read = 5
 status_of_sweep sweep.Write = 5
-status_of_sweep sweep.Memory = 4
-status_of_sweep sweep.Spawn = 4
+status_of_sweep (sweep.Shortage lack) = 4
 
 abbrev pub status_of_task : TaskFault → ℕ
 status_of_task (task.Source fault) = status_of_source fault
@@ -70,18 +69,16 @@ status_of_task (task.StepTrials _) = 3
 status_of_task task.TooMany = 3
 status_of_task (task.Chip _) = 3
 status_of_task (task.Turn fault) = status_of_table fault
-status_of_task task.OutOfMemory = 4
-status_of_task task.NoThread = 4
+status_of_task (task.Shortage lack) = 4
 
 abbrev pub status : Fault → ℕ
 status (Words fault) = status_of_words fault
 status (Task fault) = status_of_task fault
-status OutOfMemory = 4
+status (Shortage lack) = 4
 status (Session end) = status_of_end end
 status (Sessions least all) = status_of_end least
 status (Sweep end) = status_of_sweep end
 status Seats = 3
-status NoThread = 4
 status History = 4
 status Write = 5
 

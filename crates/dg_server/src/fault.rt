@@ -3,6 +3,7 @@ ghost use Rattle.std.specs.Prelude.{◌≡◌};
 ghost use Rattle.dg_server.specs.Status.{status};
 
 use dg_asked::WordsFault;
+use dg_beside::Shortage;
 use dg_file::FileFault;
 use dg_session::SessionEnd;
 use dg_sources::SourceFault;
@@ -21,9 +22,9 @@ pub enum Fault {
     /// A file is not read, a table file is refused, or a task is not done.
     #[error(transparent)]
     Task(#[from] TaskFault),
-    /// There is not enough memory.
-    #[error("out of memory")]
-    OutOfMemory,
+    /// There is not enough memory, or a thread could not be started.
+    #[error(transparent)]
+    Shortage(#[from] Shortage),
     /// The session ended before its input did.
     #[error("{}", end_text(*.0))]
     Session(SessionEnd),
@@ -41,9 +42,6 @@ pub enum Fault {
     /// A party has more than 64 scripts.
     #[error("too many seats")]
     Seats,
-    /// A thread could not be started.
-    #[error("no thread")]
-    NoThread,
     /// The table was not closed.
     #[error("history cell refused")]
     History,
@@ -75,7 +73,7 @@ pub fn status_of(fault: &Fault) -> u8
         Fault::Session(end) | Fault::Sessions { least: end, .. } => status_of_end(*end),
         Fault::Sweep(end) => status_of_sweep(*end),
         Fault::Seats => 3,
-        Fault::OutOfMemory | Fault::NoThread | Fault::History => 4,
+        Fault::Shortage(_) | Fault::History => 4,
         Fault::Write => 5,
     }
 }
@@ -96,7 +94,7 @@ fn status_of_task(fault: &TaskFault) -> u8
         | TaskFault::StepTrials(_) => 3,
         TaskFault::TooMany | TaskFault::Chip(_) => 3,
         TaskFault::Turn(fault) => status_of_table(*fault),
-        TaskFault::OutOfMemory | TaskFault::NoThread => 4,
+        TaskFault::Shortage(_) => 4,
     }
 }
 
@@ -117,7 +115,7 @@ fn status_of_sweep(end: SweepEnd) -> u8
     ensures { result ≡ Rattle.dg_server.specs.Status.status_of_sweep end }
 {
     match end {
-        SweepEnd::Memory | SweepEnd::Spawn => 4,
+        SweepEnd::Shortage(_) => 4,
         SweepEnd::Read | SweepEnd::Write => 5,
     }
 }
@@ -140,8 +138,8 @@ fn end_text(end: SessionEnd) -> &'static str {
         SessionEnd::LongLine => "long line",
         SessionEnd::Turns => "too many lines",
         SessionEnd::Table(fault) => call_text(fault),
-        SessionEnd::Memory => "out of memory",
-        SessionEnd::Spawn => "no thread",
+        SessionEnd::Memory => Shortage::OutOfMemory.text(),
+        SessionEnd::Spawn => Shortage::Spawn.text(),
     }
 }
 
@@ -150,8 +148,7 @@ fn sweep_end_text(end: SweepEnd) -> &'static str {
     match end {
         SweepEnd::Read => "read fault",
         SweepEnd::Write => "write fault",
-        SweepEnd::Memory => "out of memory",
-        SweepEnd::Spawn => "no thread",
+        SweepEnd::Shortage(shortage) => shortage.text(),
     }
 }
 

@@ -9,6 +9,7 @@ ghost use Rattle.dg_server.specs.Streams.{IsOfInput, IsOfOutput};
 
 use crate::fault::Fault;
 use dg_asked::PartyTask;
+use dg_beside::Shortage;
 use dg_file::{TableFile, read_table};
 use dg_game::MAX_SEATS;
 use dg_party::{PartyRefusal, Played, party};
@@ -59,8 +60,7 @@ where
         &OpenGate,
     ) {
         Ok(played) => played,
-        Err(PartyRefusal::OutOfMemory) => return Err(Fault::OutOfMemory),
-        Err(PartyRefusal::Spawn) => return Err(Fault::NoThread),
+        Err(PartyRefusal::Shortage(shortage)) => return Err(Fault::Shortage(shortage)),
         Err(PartyRefusal::Log) => return Err(Fault::History),
     };
     match print_played(rt.alloc(), &played, output) {
@@ -115,7 +115,7 @@ fn print_played<O: Write>(
 {
     let all = match early_ends(alloc, played.ends.as_slice()) {
         Ok(all) => all,
-        Err(_) => return Err(Fault::OutOfMemory),
+        Err(_) => return Err(Fault::Shortage(Shortage::OutOfMemory)),
     };
     match output.write_whole(played.text.as_slice()) {
         Ok(()) => {}

@@ -8,6 +8,7 @@ ghost use Rattle.dg_server.specs.Streams.{IsOfInput, IsOfOutput};
 
 use crate::fault::Fault;
 use dg_asked::ServeTask;
+use dg_beside::Shortage;
 use dg_file::TableFile;
 use dg_log::{LogFault, Name, Row};
 use dg_session::{Addressing, serve_seats};
@@ -51,7 +52,7 @@ where
     let row = match Row::new(rt.alloc(), task.capacity) {
         Ok(row) => row,
         Err(LogFault::Capacity) => unreachable!(),
-        Err(LogFault::OutOfMemory) => return Err(Fault::OutOfMemory),
+        Err(LogFault::OutOfMemory) => return Err(Fault::Shortage(Shortage::OutOfMemory)),
     };
     let (seats, how) = places_of(task.seats);
     match serve_on::<Brand, R, I, O>(rt, row, &table, seats, how, task.workers, input, output) {
@@ -103,7 +104,7 @@ where
     let alloc = rt.alloc();
     let (opened, mut all) = match Table::<N>::open(alloc, row, table.start(), seats) {
         Ok(opened) => opened,
-        Err(_) => return Err(Fault::OutOfMemory),
+        Err(_) => return Err(Fault::Shortage(Shortage::OutOfMemory)),
     };
     let ended = serve_seats(
         rt,

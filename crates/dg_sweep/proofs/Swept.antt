@@ -24,7 +24,8 @@ use Rattle.dg_sweep.specs.Steps.{StandsFor, TakesBytes, AnswersLast, Passes}
 use Rattle.dg_asked.specs.declared.question.Question.{Question}
 use Rattle.dg_sweep.specs.declared.ends.TheConstants.{READ_SIZE}
 use Rattle.dg_sweep.specs.declared.ends.SweepEnd.{SweepEnd}
-use Rattle.dg_sweep.specs.declared.ends.SweepEnd.TheVariants.{Read, Write, Memory, Spawn}
+use Rattle.dg_sweep.specs.declared.ends.SweepEnd.TheVariants.{Read, Write, Shortage}
+use Rattle.dg_beside.specs.declared.shortage.Shortage.TheVariants.{OutOfMemory}
 use Rattle.dg_sweep.proofs.Taken.{answers_none, answers_more}
 
 pub record HasSwept (question : Question) (input rest old new : Option (List ℕ)) (pending : List ℕ) : Type 0 where
@@ -106,8 +107,8 @@ module _ {question : Question} {input rest old mid : Option (List ℕ)} {pending
       is_sweep (Err end) bytes [] [] read (inl (far.part ++ bytes, begins_none (far.part ++ bytes))) (omega arith)
       (answers_none question) written ends
 
-  pub sweep_unsaid : IsSweep question input rest old mid (Err Memory)
-  sweep_unsaid = unwritten Memory [] (consumes_none rest) (grown mid [] (appends_none mid)) tt
+  pub sweep_unsaid : IsSweep question input rest old mid (Err (Shortage OutOfMemory))
+  sweep_unsaid = unwritten (Shortage OutOfMemory) [] (consumes_none rest) (grown mid [] (appends_none mid)) tt
 
   pub sweep_reads : {rest' : Option (List ℕ)} → Keeps rest rest' → IsSweep question input rest' old mid (Err Read)
   sweep_reads {rest'} keeps =
@@ -156,14 +157,13 @@ module _ {question : Question} {input rest old mid : Option (List ℕ)} {pending
       let taken = passed.1 far.part far.stands in
       is_sweep (Err Write) bytes passed.0 taken.ls read (inl (taken.part, taken.cut)) (omega (arith, taken.few, small))
       taken.answers (front new passed.0 passed.2) tt
-  sweep_halts {new = new} bytes pending' Memory read small passed =
-      unwritten Memory bytes read (grown new [] passed) tt
-  sweep_halts {new = new} bytes pending' Spawn read small passed = unwritten Spawn bytes read (grown new [] passed) tt
+  sweep_halts {new = new} bytes pending' (Shortage lack) read small passed =
+      unwritten (Shortage lack) bytes read (grown new [] passed) tt
 
   pub sweep_halts_last : {rest' new : Option (List ℕ)} (end : SweepEnd) → Consumes rest rest' [] → IsAtEnd rest'
       → Passes (AnswersLast question pending) mid new (Err end) → IsSweep question input rest' old new (Err end)
   sweep_halts_last Read read over passed = absurd passed
   sweep_halts_last {new = new} Write read over passed =
       over_last (Err Write) passed.0 read over passed.1 (front new passed.0 passed.2) tt
-  sweep_halts_last {new = new} Memory read over passed = unwritten Memory [] read (grown new [] passed) tt
-  sweep_halts_last {new = new} Spawn read over passed = unwritten Spawn [] read (grown new [] passed) tt
+  sweep_halts_last {new = new} (Shortage lack) read over passed =
+      unwritten (Shortage lack) [] read (grown new [] passed) tt

@@ -22,7 +22,7 @@ use Rattle.dg_sweep.specs.Answers.{AnswersTableLines}
 use Rattle.dg_asked.specs.declared.question.Question.{Question}
 use Rattle.dg_sweep.specs.declared.ends.TheConstants.{MAX_LINE}
 use Rattle.dg_sweep.specs.declared.ends.SweepEnd.{SweepEnd}
-use Rattle.dg_sweep.specs.declared.ends.SweepEnd.TheVariants.{Read, Write, Memory, Spawn}
+use Rattle.dg_sweep.specs.declared.ends.SweepEnd.TheVariants.{Read, Write, Shortage}
 
 pub record StandsFor (pending part : List ℕ) : Type 0 where
   pub no_newline : HasNoNewline part
@@ -61,6 +61,5 @@ abbrev pub Passes : (List ℕ → Type 0) → Option (List ℕ) → Option (List
     → Result (Unit {0}) SweepEnd → Type 0
 Passes T old new (Ok done) = (text : List ℕ) × T text × Appends old new text
 Passes T old new (Err Write) = (text : List ℕ) × T text × AppendsFront old new [] text
-Passes T old new (Err Memory) = Appends old new []
-Passes T old new (Err Spawn) = Appends old new []
+Passes T old new (Err (Shortage lack)) = Appends old new []
 Passes T old new (Err Read) = ⊥

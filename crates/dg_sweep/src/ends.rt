@@ -1,5 +1,7 @@
 //! The limits of sweeps, and how they end early.
 
+use dg_beside::Shortage;
+
 /// The most bytes that the line of a table may have before its newline, as many as a table file may have.
 pub const MAX_LINE: usize = 1_048_576;
 
@@ -13,8 +15,6 @@ pub enum SweepEnd {
     Read,
     /// The writer failed, or took no byte.
     Write,
-    /// Memory was refused.
-    Memory,
-    /// A thread could not be started.
-    Spawn,
+    /// Memory was refused, or a thread could not be started.
+    Shortage(Shortage),
 }

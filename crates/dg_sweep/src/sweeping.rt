@@ -6,6 +6,7 @@ use crate::ends::{READ_SIZE, SweepEnd};
 use crate::taking::Progress;
 use crate::workers::Room;
 use dg_asked::Question;
+use dg_beside::Shortage;
 use dg_streams::{Input, Output};
 use std::alloc::Global;
 use std::io::{Read, Write};
@@ -18,7 +19,8 @@ use std::thread::Threads;
 /// number, of which 0 is as 1, changes no answer.
 ///
 /// It ends before the input does with `Read` where the reader fails, `Write` where the writer fails or takes no byte, and with
-/// `Memory` or, where a thread could not be started, `Spawn`, which leave the answers to lines of the last read unwritten.
+/// `Shortage` where memory was refused or a thread could not be started, which leaves the answers to lines of the last read
+/// unwritten.
 pub fn sweep<R: Threads + Wait + Sync, I: Read, O: Write>(
     rt: &R,
     alloc: Global,
@@ -33,7 +35,7 @@ pub fn sweep<R: Threads + Wait + Sync, I: Read, O: Write>(
     ensures write { result ≡ Err SweepEnd.Write → writer.new.has_failed ≡ true }
 {
     let Ok(mut buffer) = vec![in alloc; 0u8; READ_SIZE] else {
-        return Err(SweepEnd::Memory);
+        return Err(SweepEnd::Shortage(Shortage::OutOfMemory));
     };
     let room = Room {
         rt,

@@ -5,8 +5,9 @@ ghost use Rattle.dg_sweep.specs.declared.ends.SweepEnd.TheVariants.{Write as Wri
 
 use crate::answering::answer_line;
 use crate::ends::{MAX_LINE, SweepEnd};
-use crate::workers::{BatchFault, Room, answer_batch};
+use crate::workers::{Room, answer_batch};
 use dg_asked::Question;
+use dg_beside::Shortage;
 use dg_lines::cut;
 use dg_streams::Output;
 use std::alloc::{AllocError, Global};
@@ -54,8 +55,7 @@ impl Progress {
                 Ok(()) => Ok(()),
                 Err(_) => Err(SweepEnd::Write),
             },
-            Err(BatchFault::Memory) => Err(SweepEnd::Memory),
-            Err(BatchFault::Spawn) => Err(SweepEnd::Spawn),
+            Err(shortage) => Err(SweepEnd::Shortage(shortage)),
         }
     }
 
@@ -75,7 +75,7 @@ impl Progress {
                 Ok(()) => Ok(()),
                 Err(_) => Err(SweepEnd::Write),
             },
-            Err(_) => Err(SweepEnd::Memory),
+            Err(_) => Err(SweepEnd::Shortage(Shortage::OutOfMemory)),
         }
     }
 
@@ -84,7 +84,7 @@ impl Progress {
         &mut self,
         room: &Room<'_, R>,
         bytes: &[u8],
-    ) -> Result<(), BatchFault>
+    ) -> Result<(), Shortage>
         ensures { OnOk result (TakesBytes room.now.question
             self.old.pending.items bytes.now self.new.pending.items self.new.text.items) }
     {

@@ -4,7 +4,7 @@ ghost use Rattle.dg_sweep.specs.Steps.{AnswersFront, EndsLine};
 
 use crate::taking::answer_lines;
 use dg_asked::Question;
-use dg_beside::beside;
+use dg_beside::{Shortage, beside};
 use dg_lines::cut;
 use std::alloc::{AllocError, Global};
 use std::sync::Wait;
@@ -33,25 +33,6 @@ impl<'a, R> Drop for Room<'a, R> {
     }
 }
 
-/// Why lines are not answered.
-#[derive(Clone, Copy)]
-pub(crate) enum BatchFault {
-    /// Memory was refused.
-    Memory,
-    /// A thread could not be started.
-    Spawn,
-}
-
-impl From<AllocError> for BatchFault {
-    ghost use Rattle.dg_sweep.specs.declared.workers.BatchFault.{BatchFault};
-
-    ghost from_gives = { λ error fault. fault ≡ BatchFault.Memory };
-
-    fn from(_error: AllocError) -> BatchFault {
-        BatchFault::Memory
-    }
-}
-
 /// What bytes came to.
 #[derive(Drop)]
 struct Piece<'a> {
@@ -68,7 +49,7 @@ pub(crate) fn answer_batch<'a, R: Threads + Wait + Sync>(
     bytes: &'a [u8],
     text: &mut Vec<u8>,
     answer: &mut Vec<u8>,
-) -> Result<&'a [u8], BatchFault>
+) -> Result<&'a [u8], Shortage>
     ensures { IfOk result (λ rest. (said : List ℕ)
         × AnswersFront room.now.question bytes.now rest.now said
         × (text.new.items ≡ text.old.items ++ said)) }
@@ -77,15 +58,15 @@ pub(crate) fn answer_batch<'a, R: Threads + Wait + Sync>(
     if pieces < 2 {
         return match answer_lines(room.alloc, room.question, bytes, text, answer) {
             Ok(rest) => Ok(rest),
-            Err(_) => Err(BatchFault::Memory),
+            Err(_) => Err(Shortage::OutOfMemory),
         };
     }
     match answer_among(room, pieces, bytes) {
         Ok(piece) => match text.extend_from_slice(&piece.text) {
             Ok(()) => Ok(piece.rest),
-            Err(_) => Err(BatchFault::Memory),
+            Err(_) => Err(Shortage::OutOfMemory),
         },
-        Err(fault) => Err(fault),
+        Err(shortage) => Err(shortage),
     }
 }
 
@@ -94,7 +75,7 @@ fn answer_among<'a, R: Threads + Wait + Sync>(
     room: &Room<'_, R>,
     pieces: usize,
     bytes: &'a [u8],
-) -> Result<Piece<'a>, BatchFault>
+) -> Result<Piece<'a>, Shortage>
     ensures { IfOk result (λ piece.
         AnswersFront room.now.question bytes.now piece.rest.now piece.text.items) }
 {
@@ -104,34 +85,35 @@ fn answer_among<'a, R: Threads + Wait + Sync>(
     let Some((front, back)) = first_piece(bytes, pieces) else {
         return answer_piece(room, bytes);
     };
-    let mut first = || -> Result<Piece, BatchFault>
+    let mut first = || -> Result<Piece, Shortage>
         ensures { IfOk result (λ piece. AnswersFront room.entry.now.question
             front.entry.now piece.rest.now piece.text.items) }
     { answer_piece(room, front) };
-    let mut others = || -> Result<Piece, BatchFault>
+    let mut others = || -> Result<Piece, Shortage>
         requires { 2 ≤ pieces }
         ensures { IfOk result (λ piece. AnswersFront room.entry.now.question
             back.entry.now piece.rest.now piece.text.items) }
     { answer_among(room, pieces - 1, back) };
-    let Ok((here, there)) = beside(room.rt, &mut first, &mut others) else {
-        return Err(BatchFault::Spawn);
+    let (here, there) = match beside(room.rt, &mut first, &mut others) {
+        Ok(both) => both,
+        Err(shortage) => return Err(shortage),
     };
     let here = match here {
         Ok(here) => here,
-        Err(fault) => return Err(fault),
+        Err(shortage) => return Err(shortage),
     };
     let there = match there {
         Ok(there) => there,
-        Err(fault) => return Err(fault),
+        Err(shortage) => return Err(shortage),
     };
     match both(here, there) {
         Ok(piece) => Ok(piece),
-        Err(_) => Err(BatchFault::Memory),
+        Err(_) => Err(Shortage::OutOfMemory),
     }
 }
 
 /// What bytes come to in one piece.
-fn answer_piece<'a, R>(room: &Room<'_, R>, bytes: &'a [u8]) -> Result<Piece<'a>, BatchFault>
+fn answer_piece<'a, R>(room: &Room<'_, R>, bytes: &'a [u8]) -> Result<Piece<'a>, Shortage>
     ensures { IfOk result (λ piece.
         AnswersFront room.now.question bytes.now piece.rest.now piece.text.items) }
 {
@@ -139,7 +121,7 @@ fn answer_piece<'a, R>(room: &Room<'_, R>, bytes: &'a [u8]) -> Result<Piece<'a>,
     let mut answer = Vec::new(room.alloc);
     match answer_lines(room.alloc, room.question, bytes, &mut text, &mut answer) {
         Ok(rest) => Ok(Piece { text, rest }),
-        Err(_) => Err(BatchFault::Memory),
+        Err(_) => Err(Shortage::OutOfMemory),
     }
 }
 

@@ -13,7 +13,8 @@ use Rattle.dg_strategy.specs.Greedy.{IsGreedyGame}
 use Rattle.dg_lines.specs.Texts.{history_text}
 use Rattle.dg_table.specs.declared.fault.Fault.TheVariants.{Full}
 use Rattle.dg_tasks.specs.declared.fault.TaskFault.{TaskFault}
-use Rattle.dg_tasks.specs.declared.fault.TaskFault.TheVariants.{Turn, OutOfMemory}
+use Rattle.dg_tasks.specs.declared.fault.TaskFault.TheVariants.{Turn, Shortage}
+use Rattle.dg_beside.specs.declared.shortage.Shortage.TheVariants.{OutOfMemory}
 
 abbrev pub turns_text : Bool → List ℕ
 turns_text true = []
@@ -28,5 +29,5 @@ pub record IsGreedyAnswer (o : Opening) (n : ℕ) (names : List (List ℕ))
 
 abbrev pub RefusesTurns : TaskFault → Type 0
 RefusesTurns (Turn fault) = fault ≢ Full
-RefusesTurns OutOfMemory = ⊤
+RefusesTurns (Shortage OutOfMemory) = ⊤
 RefusesTurns fault = ⊥

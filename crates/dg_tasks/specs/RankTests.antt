@@ -28,7 +28,8 @@ use Rattle.dg_ranked.specs.declared.rank_verdict.RankVerdict.{RankVerdict}
 use Rattle.dg_game.specs.declared.entry.Reply.TheVariants.{Rank}
 use Rattle.dg_lines.specs.Texts.{text_of}
 use Rattle.dg_tasks.specs.declared.fault.TaskFault.{TaskFault}
-use Rattle.dg_tasks.specs.declared.fault.TaskFault.TheVariants.{TooMany, Chip, OutOfMemory, NoThread}
+use Rattle.dg_tasks.specs.declared.fault.TaskFault.TheVariants.{TooMany, Chip, Shortage}
+use Rattle.dg_beside.specs.declared.shortage.Shortage.TheVariants.{OutOfMemory}
 
 pub record IsRankAnswer (o : Opening) (k : ℕ) (names : List (List ℕ)) (text : List ℕ) : Type 0 where
   pub within : IsWithin o.graph.size k
@@ -38,8 +39,7 @@ pub record IsRankAnswer (o : Opening) (k : ℕ) (names : List (List ℕ)) (text 
 
 abbrev pub RefusesRank : ℕ → ℕ → TaskFault → Type 0
 RefusesRank n k TooMany = IsPastLimits n k
-RefusesRank n k OutOfMemory = ⊤
-RefusesRank n k NoThread = ⊤
+RefusesRank n k (Shortage lack) = ⊤
 RefusesRank n k fault = ⊥
 
 abbrev pub number_line : List ℕ → ℤ → List ℕ
@@ -64,5 +64,5 @@ pub record IsRiemannRoch (o : Opening) (text : List ℕ) : Type 0 where
 abbrev pub RefusesRiemannRoch : Opening → TaskFault → Type 0
 RefusesRiemannRoch o (Chip fault) = IsDualFault o.graph (at o.divisor) fault
 RefusesRiemannRoch o TooMany = DualNeedsTooMany o.graph (at o.divisor)
-RefusesRiemannRoch o OutOfMemory = ⊤
+RefusesRiemannRoch o (Shortage OutOfMemory) = ⊤
 RefusesRiemannRoch o fault = ⊥

@@ -13,7 +13,8 @@ use Rattle.dg_rehearsal.specs.declared.schedule.RehearseFault.TheVariants as sch
 use Rattle.dg_game.specs.declared.step.Step.{Step}
 use Rattle.dg_lines.specs.Schedules.{AreStepsOf, IsFirstRefused}
 use Rattle.dg_tasks.specs.declared.fault.TaskFault.{TaskFault}
-use Rattle.dg_tasks.specs.declared.fault.TaskFault.TheVariants.{Line, Full, NoLook, StepTrials, OutOfMemory}
+use Rattle.dg_tasks.specs.declared.fault.TaskFault.TheVariants.{Line, Full, NoLook, StepTrials, Shortage}
+use Rattle.dg_beside.specs.declared.shortage.Shortage.TheVariants.{OutOfMemory}
 
 abbrev pub IsFaultOf : ℕ → List (List ℕ) → List (List ℕ) → RehearseFault → Type 0
 IsFaultOf n names lines fault =
@@ -24,5 +25,5 @@ RefusesSchedule n names lines (Line line fault) = IsFirstRefused names lines lin
 RefusesSchedule n names lines (Full i) = IsFaultOf n names lines (schedule.Full i)
 RefusesSchedule n names lines (NoLook i) = IsFaultOf n names lines (schedule.NoLook i)
 RefusesSchedule n names lines (StepTrials i) = IsFaultOf n names lines (schedule.TooMany i)
-RefusesSchedule n names lines OutOfMemory = ⊤
+RefusesSchedule n names lines (Shortage OutOfMemory) = ⊤
 RefusesSchedule n names lines fault = ⊥

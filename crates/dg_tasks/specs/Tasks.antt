@@ -34,7 +34,8 @@ use Rattle.dg_asked.specs.Files.{file_of}
 use Rattle.dg_asked.specs.declared.asked.Task.{Task}
 use Rattle.dg_asked.specs.declared.asked.Task.TheVariants.{Rehearse, Judge, Rank, RiemannRoch, Greedy}
 use Rattle.dg_tasks.specs.declared.fault.TaskFault.{TaskFault}
-use Rattle.dg_tasks.specs.declared.fault.TaskFault.TheVariants.{Source, File, OutOfMemory}
+use Rattle.dg_tasks.specs.declared.fault.TaskFault.TheVariants.{Source, File, Shortage}
+use Rattle.dg_beside.specs.declared.shortage.Shortage.TheVariants.{OutOfMemory}
 
 pub record DescribesTable (h : Held) (o : Opening) (names : List (List ℕ)) : Type 0 where
   pub bytes : List ℕ
@@ -73,7 +74,7 @@ abbrev pub RefusesOn : (List ℕ → Held) → Opening → List (List ℕ) → T
 RefusesOn held o names (Rehearse file steps) (Source fault) = RefusesHeld (held steps.now) fault
 RefusesOn held o names (Rehearse file steps) fault =
     IsOfSteps (held steps.now) (λ all. RefusesSchedule o.graph.size names all fault)
-RefusesOn held o names (Judge file) fault = fault ≡ OutOfMemory
+RefusesOn held o names (Judge file) fault = fault ≡ Shortage OutOfMemory
 RefusesOn held o names (Rank test) fault = RefusesRank o.graph.size test.degree fault
 RefusesOn held o names (RiemannRoch file) fault = RefusesRiemannRoch o fault
 RefusesOn held o names (Greedy play) fault = RefusesTurns fault

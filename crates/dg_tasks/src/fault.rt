@@ -2,6 +2,7 @@
 ghost use Rattle.std.specs.Prelude.{◌≡◌};
 ghost use Rattle.dg_tasks.specs.CallTexts.{said_of_call};
 
+use dg_beside::Shortage;
 use dg_chips::ChipFault;
 use dg_file::FileFault;
 use dg_lines::LineFault;
@@ -44,12 +45,9 @@ pub enum TaskFault {
     /// A turn is refused by the table, or the table is not closed.
     #[error("{}", call_text(*.0))]
     Turn(Fault),
-    /// There is not enough memory.
-    #[error("out of memory")]
-    OutOfMemory,
-    /// A thread could not be started.
-    #[error("no thread")]
-    NoThread,
+    /// There is not enough memory, or a thread could not be started.
+    #[error(transparent)]
+    Shortage(#[from] Shortage),
 }
 
 /// What is said where a call of a table is refused so.
@@ -59,6 +57,6 @@ pub fn call_text(fault: Fault) -> &'static str
     match fault {
         Fault::Full => "the history is full",
         Fault::Log => "history cell refused",
-        Fault::OutOfMemory => "out of memory",
+        Fault::OutOfMemory => Shortage::OutOfMemory.text(),
     }
 }

@@ -4,6 +4,7 @@ ghost use Rattle.dg_tasks.specs.Judgements.{IsJudgement};
 ghost use Rattle.dg_lines.specs.Texts.{HasNames, text_of};
 
 use crate::fault::TaskFault;
+use dg_beside::Shortage;
 use dg_file::TableFile;
 use dg_game::Reply;
 use dg_lines::reply_text;
@@ -13,16 +14,16 @@ use std::alloc::{AllocError, Global};
 
 /// The verdict on a table's amounts as text, reckoned from its vertex q: the text of a reply, and a newline.
 ///
-/// Refused with `OutOfMemory` at the growth that was refused, and with nothing else.
+/// Refused with `Shortage` at the growth that was refused, and with nothing else.
 pub fn judgement(alloc: Global, table: &TableFile) -> Result<Vec<u8>, TaskFault>
     ensures judged { IfOk result (λ text. IsJudgement table.now.start table.now.names text.items) }
-    ensures refused { IfErr result (λ fault. fault ≡ TaskFault.OutOfMemory) }
+    ensures refused { IfErr result (λ fault. fault ≡ TaskFault.Shortage Shortage.OutOfMemory) }
 {
     let start = table.start();
     let verdict = judge(start.graph(), usize::from(start.q()), start.divisor());
     match reply_line(alloc, &Reply::Verdict(verdict), table.names()) {
         Ok(text) => Ok(text),
-        Err(_) => Err(TaskFault::OutOfMemory),
+        Err(_) => Err(TaskFault::Shortage(Shortage::OutOfMemory)),
     }
 }
 

@@ -5,6 +5,7 @@ ghost use Rattle.dg_tasks.specs.RankTests.{IsRankAnswer, RefusesRank, number_lin
 
 use crate::fault::TaskFault;
 use crate::printed::reply_line;
+use dg_beside::Shortage;
 use dg_chips::{Start, dual};
 use dg_file::TableFile;
 use dg_game::Reply;
@@ -17,7 +18,7 @@ use std::thread::Threads;
 /// Whether the rank of a table's amounts is at least k, as text: the text of a reply, and a newline.
 ///
 /// The trials are shared among so many workers; the condition is 1 to 16. Refused with `TooMany` where the test is past the
-/// limits, with `NoThread` where a thread could not be started, and with `OutOfMemory` at the growth that was refused.
+/// limits, and with `Shortage` where a thread could not be started, or at the growth that was refused.
 pub fn rank_answer<R: Threads + Wait>(
     rt: &R,
     alloc: Global,
@@ -38,11 +39,11 @@ pub fn rank_answer<R: Threads + Wait>(
         Err(RankFault::TooMany) => return Err(TaskFault::TooMany),
         Err(RankFault::Workers) => unreachable!(),
         Err(RankFault::OutOfMemory) => unreachable!(),
-        Err(RankFault::Spawn) => return Err(TaskFault::NoThread),
+        Err(RankFault::Spawn) => return Err(TaskFault::Shortage(Shortage::Spawn)),
     };
     match reply_line(alloc, &Reply::Rank(verdict), table.names()) {
         Ok(text) => Ok(text),
-        Err(_) => Err(TaskFault::OutOfMemory),
+        Err(_) => Err(TaskFault::Shortage(Shortage::OutOfMemory)),
     }
 }
 
@@ -50,7 +51,7 @@ pub fn rank_answer<R: Threads + Wait>(
 /// of the canonical divisor less these amounts, each on a line. The rank is -1 where the amounts can't be won.
 ///
 /// Refused with `Chip` where the canonical divisor less these amounts is out of range, then with `TooMany` where one of
-/// the two ranks needs a test past the limits. `OutOfMemory` comes at the growth that was refused.
+/// the two ranks needs a test past the limits. `Shortage` comes at the growth that was refused.
 pub fn riemann_roch(alloc: Global, table: &TableFile) -> Result<Vec<u8>, TaskFault>
     ensures told { IfOk result (λ text. IsRiemannRoch table.now.start text.items) }
     ensures refused { IfErr result (RefusesRiemannRoch table.now.start) }
@@ -67,7 +68,7 @@ pub fn riemann_roch(alloc: Global, table: &TableFile) -> Result<Vec<u8>, TaskFau
     };
     match riemann_roch_lines(alloc, start, rank, dual_rank) {
         Ok(text) => Ok(text),
-        Err(_) => Err(TaskFault::OutOfMemory),
+        Err(_) => Err(TaskFault::Shortage(Shortage::OutOfMemory)),
     }
 }
 

@@ -6,6 +6,7 @@ ghost use Rattle.dg_tasks.specs.Rehearsals.{IsPrinted, MayGoOn, GoesOn};
 ghost use Rattle.dg_tasks.specs.Refusals.{RefusesSchedule};
 
 use crate::fault::TaskFault;
+use dg_beside::Shortage;
 use dg_file::TableFile;
 use dg_game::{Command, Plain, Step};
 use dg_lines::{Lines, parse_step, push_entry, push_outcome};
@@ -18,7 +19,7 @@ use std::alloc::Global;
 ///
 /// Refused with `Line` for the first line that spells no step; then for the first step that is refused, with `Full` where
 /// it is the step after 65,536 others, with `NoLook` where it wants a look while its seat keeps none, or with `StepTrials`
-/// where it asks for a rank test past the limits. `OutOfMemory` comes in the place of a step whose line did not fit.
+/// where it asks for a rank test past the limits. `Shortage` comes in the place of a step whose line did not fit.
 pub fn rehearsal(alloc: Global, table: &TableFile, steps: &[u8]) -> Result<Vec<u8>, TaskFault>
     ensures printed { IfOk result
         (λ text. IsPrinted table.now.start table.now.names (lines steps.now) text.items) }
@@ -51,7 +52,7 @@ pub fn rehearsal(alloc: Global, table: &TableFile, steps: &[u8]) -> Result<Vec<u
         RehearseFault::Full(i) => Err(TaskFault::Full(i)),
         RehearseFault::NoLook(i) => Err(TaskFault::NoLook(i)),
         RehearseFault::TooMany(i) => Err(TaskFault::StepTrials(i)),
-        RehearseFault::OutOfMemory => Err(TaskFault::OutOfMemory),
+        RehearseFault::OutOfMemory => Err(TaskFault::Shortage(Shortage::OutOfMemory)),
     }
 }
 

@@ -31,10 +31,8 @@ returns-in-Ok-closing_text-clause-played g c =
 pub returns-in-Err-clause-refused : goal.returns-in-Err-clause-refused
 returns-in-Err-clause-refused g c =
     party_lacks g.N.Name.start (length c.args.scripts.now) g.N.Name.seats (length g.N.Name.cells) c.args.names.now
-    (contents c.args.scripts.now) c.in-Ok.opened.1.items c.deref_mut.result.now c.sessions.new.seats c.in-Err.fault
-    c.from.result
-    (contents_count c.args.scripts.now) c.requires.seats c.in-Ok.ensures (search rules) c.from.ensures.memory
-    c.from.ensures.spawn c.in-Err.ensures.fault
+    (contents c.args.scripts.now) c.in-Ok.opened.1.items c.deref_mut.result.now c.sessions.new.seats c.in-Err.shortage
+    (contents_count c.args.scripts.now) c.requires.seats c.in-Ok.ensures (search rules) c.in-Err.ensures.fault
 
 pub returns-in_default-clause-refused : goal.returns-in_default-clause-refused
 returns-in_default-clause-refused g c =

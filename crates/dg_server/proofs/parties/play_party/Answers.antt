@@ -1,5 +1,5 @@
 use Rattle.std.proofs.Common.{rules, arith, inl, inr}
-use Rattle.dg_party.specs.declared.ending.PartyRefusal.TheVariants.{Spawn, Log}
+use Rattle.dg_party.specs.declared.ending.PartyRefusal.TheVariants.{Shortage, Log}
 use Rattle.dg_server.proofs.Serving.{may_play, party_on, refused_on, as_it_was}
 use Rattle.dg_server.proofs.parties.play_party.Goals as goal
 
@@ -32,15 +32,15 @@ returns-clause-refused g c =
       printed = c.in-Err-print_played.ensures.refused;
     })))
 
-pub returns-in-Err-Spawn-clause-refused : goal.returns-in-Err-Spawn-clause-refused
-returns-in-Err-Spawn-clause-refused g c =
+pub returns-in-Err-Shortage-clause-refused : goal.returns-in-Err-Shortage-clause-refused
+returns-in-Err-Shortage-clause-refused g c =
     inr (inr (inl (
       search rules,
       refused_on (g.S.Sources.held c.args.sources.now) c.args.task.now c.in-Ok.read.0.start c.in-Ok.read.0.names
-          c.in-Ok.read.1.items Spawn
+          c.in-Ok.read.1.items (Shortage c.in-Err-Shortage.shortage)
           c.in-Ok.ensures.read.0 c.in-Ok.ensures.read.1
           (rw (← c.start.ensures, ← c.names.ensures.value, ← c.as_slice.ensures.value)
-          (rw c.in-Err-Spawn.field-0-is at c.in-Err-Spawn.ensures.refused)),
+          (rw c.in-Err-Shortage.field-0-is at c.in-Err-Shortage.ensures.refused)),
       as_it_was c.args.output.now.contents,
     )))
 
