@@ -1,9 +1,9 @@
 pub mod ListLaws
 pub mod HistoryLaws
 pub mod StepLaw
+pub mod RankTests
 pub mod ReplyLaws
 pub mod StateLaws
 pub mod LegalLaws
 pub mod GraphLaws
-pub mod RankTests
 pub mod LookLaws

@@ -8,16 +8,12 @@
 --   look_kept               a look stays a look of the history when an entry is added
 --   look_new                an entry that is a look is a look of the history
 --   look_size               a look shows as many vertices as the state
---   settled_next            the state after a reply about what was reckoned on a look: one entry more
---   still_next              the state after a reply by which no move, gift or join is accepted: one entry more
---   given_next              the state after an accepted gift: the amounts and the gift count of the reply
 --   carried                 a verdict can be carried along a drift that leads to the amounts of a state
-use Rattle.std.proofs.Common.{◌≡◌, ℕ, ◌+◌, ◌<◌, ◌≤◌, List, [], ◌∷◌, ◌++◌, length, take, drop, slice_get, arith, refl, sym, ap, subst, ◌∙◌}
+use Rattle.std.proofs.Common.{◌≡◌, ℕ, ◌+◌, ◌<◌, ◌≤◌, List, [], ◌∷◌, ◌++◌, length, take, drop, slice_get, arith, sym, ap, subst, ◌∙◌}
 use Rattle.std.proofs.Math.Seq.{take-append_seam}
 use Rattle.std.proofs.lemmas.Int.{ints}
 use Rattle.std.proofs.lemmas.List.{take-append-le, take-append-drop}
 use Rattle.std.proofs.lemmas.Option.{slice_get_within}
-use Rattle.std.proofs.Math.IntN.{pos}
 use Rattle.dg_theory.specs.Multigraph.{Multigraph}
 use Rattle.dg_theory.specs.Firing.{Amounts, fired, FiresTo}
 use Rattle.dg_chips.specs.Vector.{Vector, at, IsDivisor}
@@ -25,25 +21,21 @@ use Rattle.dg_chips.specs.Opening.{Opening}
 use Rattle.dg_verdict.specs.Right.{IsRight}
 use Rattle.dg_verdict.specs.Rebasing.{IsRebasable}
 use Rattle.dg_verdict.specs.declared.verdict.Verdict.{Verdict as AVerdict}
-use Rattle.dg_verdict.proofs.Agreement.{right-cong}
 use Rattle.dg_ranked.specs.RankTests.{IsRankTest}
 use Rattle.dg_ranked.specs.declared.rank_verdict.RankVerdict.{RankVerdict}
 use Rattle.dg_game.specs.Position.{Position, fired_by}
-use Rattle.dg_game.specs.History.{position_after, script_by, scripts_played, gifts_in}
-use Rattle.dg_game.specs.Look.{IsLookAt, degree_of, asked_for}
+use Rattle.dg_game.specs.History.{position_after, scripts_played, gifts_in}
+use Rattle.dg_game.specs.Look.{IsLookAt}
 use Rattle.dg_game.specs.Replies.{Replies}
-use Rattle.dg_game.specs.State.{State, IsState, LeadsTo, IsNext, amounts_after, gifts_after, graph_after}
+use Rattle.dg_game.specs.State.{State, IsState, LeadsTo}
 use Rattle.dg_game.specs.declared.entry.Entry.{Entry}
-use Rattle.dg_game.specs.declared.entry.Request.{Request}
-use Rattle.dg_game.specs.declared.entry.Request.TheVariants.{Move, Gift, Join, Look, Claim, Judge, Rank as RankRequest}
-use Rattle.dg_game.specs.declared.entry.Reply.{Reply}
-use Rattle.dg_game.specs.declared.entry.Reply.TheVariants.{Moved, Given, Joined, Looked, Verdict, Rank as RankReply, Stale, Won, NotWon, Refused}
-use Rattle.dg_game.specs.declared.finding.Finding.{Finding}
-use Rattle.dg_game.specs.declared.finding.Finding.TheVariants.{Judged, Ranked}
+use Rattle.dg_game.specs.declared.entry.Request.TheVariants.{Look, Judge, Rank as RankRequest}
+use Rattle.dg_game.specs.declared.entry.Reply.TheVariants.{Verdict, Rank as RankReply}
 use Rattle.dg_game.specs.declared.look.LookData.{LookData}
 use Rattle.dg_game.proofs.HistoryLaws.{gifts_in-append}
 use Rattle.dg_game.proofs.ListLaws.{slice_get-append, slice_get-seam}
-use Rattle.dg_game.proofs.RankTests.{rank_test-cong, rank_test_led}
+use Rattle.dg_game.proofs.RankTests.{rank_test_led}
+use Rattle.dg_game.proofs.StateLaws.{replies_after}
 use Rattle.dg_game.proofs.StepLaw.{since_change, vertices_stay}
 
 -- a history after a look, as the part before the look and the rest
@@ -76,31 +68,17 @@ pub judged_after : (o : Opening) (H : List Entry) (s : State) (x : LookData) (ve
     IsLookAt o H x →
     s.gifts ≡ x.gifts → IsRight s.graph s.q (at s.amounts) verdict → Replies o H (Judge x.number) (Verdict verdict)
 judged_after o H s x verdict leads look same right =
-    let p : Position = position_after o H in
-    let on_graph : IsRight p.graph o.q (at s.amounts) verdict =
-    subst (λ (g : Multigraph). IsRight g o.q (at s.amounts) verdict) leads.graph
-    (subst (λ (q : ℕ). IsRight s.graph q (at s.amounts) verdict) leads.q right) in (
-      sym look.gifts ∙ sym same
-          ∙ leads.gifts,
-      right-cong p.graph o.q (at s.amounts) p.amounts verdict leads.amounts.amounts on_graph,
-    )
+    replies_after o H s (Judge x.number) (Verdict verdict) leads (sym look.gifts ∙ sym same, right)
 
 pub ranked_after : (o : Opening) (H : List Entry) (s : State) (x : LookData) (k : ℕ) (verdict : RankVerdict) →
     LeadsTo o H s → IsLookAt o H x →
     s.gifts ≡ x.gifts → IsRankTest x.graph (at x.position) k verdict →
     Replies o H (RankRequest x.number k) (RankReply verdict)
 ranked_after o H s x k verdict leads look same right =
-    let p : Position = position_after o H in
     let (graph, t, led) = moved_since o H s x leads look same in
     let then' : IsRankTest s.graph (at x.position) k verdict = rw graph right in
-    let now : IsRankTest s.graph (at s.amounts) k verdict =
-    rank_test_led s.graph (at x.position) (at s.amounts) t k verdict led then' in
-    let on_graph : IsRankTest p.graph (at s.amounts) k verdict =
-    subst (λ (g : Multigraph). IsRankTest g (at s.amounts) k verdict) leads.graph now in (
-      sym look.gifts ∙ sym same
-          ∙ leads.gifts,
-      rank_test-cong p.graph (at s.amounts) p.amounts k verdict leads.amounts.amounts on_graph,
-    )
+    replies_after o H s (RankRequest x.number k) (RankReply verdict) leads
+    (sym look.gifts ∙ sym same, rank_test_led s.graph (at x.position) (at s.amounts) t k verdict led then')
 
 -- a look stays what it was when an entry is added
 pub look_kept : (o : Opening) (H : List Entry) (e : Entry) (x : LookData) → IsLookAt o H x → IsLookAt o (H ++ e ∷ []) x
@@ -142,74 +120,6 @@ pub look_size : (o : Opening) (H : List Entry) (s : State) (x : LookData) → Le
     x.position.size ≡ s.graph.size
 look_size o H s x leads look =
     look_fits o H x look ∙ look_vertices o H s x leads look
-
--- the state with one entry more, and nothing else changed
-abbrev counted : State → State
-counted s = record {
-  graph = s.graph;
-  q = s.q;
-  amounts = s.amounts;
-  drift = s.drift;
-  gifts = s.gifts;
-  entries = s.entries + 1;
-}
-
-stays : (s : State) (request : Request) (reply : Reply) → graph_after s.graph request reply ≡ s.graph →
-    amounts_after s.amounts reply ≡ s.amounts → gifts_after s.gifts reply ≡ s.gifts →
-    ((v : ℕ) → script_by request reply v ≡ pos 0) → IsNext s request reply (counted s)
-stays s request reply graph amounts gifts still = record {
-  graph = sym graph;
-  q = refl;
-  amounts = sym amounts;
-  drift = λ v below. omega (arith, ints, still v);
-  gifts = sym gifts;
-  entries = refl;
-}
-
-pub settled_next : (o : Opening) (H : List Entry) (s : State) (i : ℕ) (finding : Finding) (reply : Reply) →
-    Replies o H (asked_for i finding) reply → IsNext s (asked_for i finding) reply (counted s)
-settled_next o H s i (Judged v) (Verdict x) right = stays s (Judge i) (Verdict x) refl refl refl (λ v. refl)
-settled_next o H s i (Judged v) (Stale count) right = stays s (Judge i) (Stale count) refl refl refl (λ v. refl)
-settled_next o H s i (Judged v) reply right = absurd right
-settled_next o H s i (Ranked v) (RankReply x) right =
-    stays s (RankRequest i (degree_of v)) (RankReply x) refl refl refl (λ v. refl)
-settled_next o H s i (Ranked v) (Stale count) right =
-    stays s (RankRequest i (degree_of v)) (Stale count) refl refl refl (λ v. refl)
-settled_next o H s i (Ranked v) reply right = absurd right
-
-pub still_next : (o : Opening) (H : List Entry) (s : State) (request : Request) (reply : Reply) →
-    Replies o H request reply → ((d : Vector) → ¬ (reply ≡ Moved d)) → ((n : ℕ) (d : Vector) → ¬ (reply ≡ Given n d)) →
-    ((n : ℕ) (d : Vector) → ¬ (reply ≡ Joined n d)) → IsNext s request reply (counted s)
-still_next o H s (Move m) (Moved d) right moved given joined = absurd (moved d refl)
-still_next o H s (Gift v x) (Given n d) right moved given joined = absurd (given n d refl)
-still_next o H s (Join u v) (Joined n d) right moved given joined = absurd (joined n d refl)
-still_next o H s (Move m) (Refused r) right moved given joined = stays s (Move m) (Refused r) refl refl refl (λ v. refl)
-still_next o H s (Gift v x) (Refused r) right moved given joined = stays s (Gift v x) (Refused r) refl refl refl (λ v. refl)
-still_next o H s (Join u v) (Refused r) right moved given joined = stays s (Join u v) (Refused r) refl refl refl (λ v. refl)
-still_next o H s Look (Looked n d g) right moved given joined = stays s Look (Looked n d g) refl refl refl (λ v. refl)
-still_next o H s Claim Won right moved given joined = stays s Claim Won refl refl refl (λ v. refl)
-still_next o H s Claim NotWon right moved given joined = stays s Claim NotWon refl refl refl (λ v. refl)
-still_next o H s (Judge i) (Verdict x) right moved given joined = stays s (Judge i) (Verdict x) refl refl refl (λ v. refl)
-still_next o H s (Judge i) (Stale n) right moved given joined = stays s (Judge i) (Stale n) refl refl refl (λ v. refl)
-still_next o H s (RankRequest i k) (RankReply x) right moved given joined =
-    stays s (RankRequest i k) (RankReply x) refl refl refl (λ v. refl)
-still_next o H s (RankRequest i k) (Stale n) right moved given joined =
-    stays s (RankRequest i k) (Stale n) refl refl refl (λ v. refl)
-still_next o H s request reply right moved given joined = absurd right
-
-pub given_next : (o : Opening) (H : List Entry) (s : State) (request : Request) (n : ℕ) (d : Vector) →
-    Replies o H request (Given n d) →
-    IsNext s request (Given n d)
-    (record { graph = s.graph; q = s.q; amounts = d; drift = s.drift; gifts = n; entries = s.entries + 1 })
-given_next o H s (Gift v x) n d right = record {
-  graph = refl;
-  q = refl;
-  amounts = refl;
-  drift = λ v below. omega (arith, ints);
-  gifts = refl;
-  entries = refl;
-}
-given_next o H s request n d right = absurd right
 
 pub carried : (s : State) (D : Amounts) (x : AVerdict) (m : Vector) → IsState s → IsDivisor s.amounts →
     IsRight s.graph s.q D x →

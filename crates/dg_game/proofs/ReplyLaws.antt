@@ -1,7 +1,7 @@
 -- A reply that is right at one position is right at another that has the same graph and the same amounts on it.
 --   in_range-cong        amounts that agree with some in range are in range
 --   out_of_range-cong    amounts that agree with some out of range are out of range
---   replies-cong         a right reply to a call is right for amounts that agree
+--   replies-cong         a right reply to a request is right for amounts that agree
 use Rattle.std.proofs.Common.{◌≡◌, ℕ, arith, ◌∙◌}
 use Rattle.std.proofs.lemmas.Int.{ints}
 use Rattle.std.proofs.Math.IntN.{ℤ}
@@ -11,16 +11,18 @@ use Rattle.dg_chips.specs.Vector.{Vector, IsInRange, IsOutOfRange}
 use Rattle.dg_chips.specs.Moves.{script_of}
 use Rattle.dg_chips.specs.declared.moves.Move.{Move as AMove}
 use Rattle.dg_theory.proofs.Agreement.{fired-here}
+use Rattle.dg_verdict.proofs.Agreement.{right-cong}
 use Rattle.dg_game.specs.Position.{Shows, with_gift}
 use Rattle.dg_game.specs.MoveReplies.{RepliesToMove}
 use Rattle.dg_game.specs.GiftReplies.{RepliesToGift}
 use Rattle.dg_game.specs.JoinReplies.{RepliesToJoin}
-use Rattle.dg_game.specs.Replies.{RepliesToLook, RepliesToClaim, RepliesAt}
+use Rattle.dg_game.specs.Replies.{RepliesToLook, RepliesToClaim, RepliesToJudge, RepliesToRank, RepliesAt}
 use Rattle.dg_game.specs.declared.entry.Refusal.TheVariants as refusal
-use Rattle.dg_game.specs.declared.entry.Plain.{Plain}
-use Rattle.dg_game.specs.declared.entry.Plain.TheVariants as plain
+use Rattle.dg_game.specs.declared.entry.Request.{Request}
+use Rattle.dg_game.specs.declared.entry.Request.TheVariants.{Move, Gift, Join, Look, Claim, Judge, Rank as RankRequest}
 use Rattle.dg_game.specs.declared.entry.Reply.{Reply}
-use Rattle.dg_game.specs.declared.entry.Reply.TheVariants.{Moved, Given, Joined, Looked, Won, NotWon, Refused}
+use Rattle.dg_game.specs.declared.entry.Reply.TheVariants.{Moved, Given, Joined, Looked, Verdict, Rank as RankReply, Stale, Won, NotWon, Refused}
+use Rattle.dg_game.proofs.RankTests.{rank_test-cong}
 
 in_range-cong : (n : ℕ) (D E : Amounts) → AgreeOn n D E → IsInRange n D → IsInRange n E
 in_range-cong n D E same right v below = rw (← same v below) (right v below)
@@ -95,11 +97,28 @@ claimed-cong g D E Won same right = λ v below. rw (← same v below) (right v b
 claimed-cong g D E NotWon same right = λ effective. right (λ v below. rw (same v below) (effective v below))
 claimed-cong g D E reply same right = absurd right
 
-pub replies-cong : (g : Multigraph) (D E : Amounts) (n : ℕ) (call : Plain) (reply : Reply) → AgreeOn g.size D E →
-    RepliesAt (record { graph = g; amounts = D }) n call reply →
-    RepliesAt (record { graph = g; amounts = E }) n call reply
-replies-cong g D E n (plain.Move m) reply same right = moved-cong g D E m reply same right
-replies-cong g D E n (plain.Gift v x) reply same right = given-cong g D E n v x reply same right
-replies-cong g D E n (plain.Join u v) reply same right = joined-cong g D E n u v reply same right
-replies-cong g D E n plain.Look reply same right = looked-cong g D E n reply same right
-replies-cong g D E n plain.Claim reply same right = claimed-cong g D E reply same right
+judged-cong : (g : Multigraph) (D E : Amounts) (q h n : ℕ) (reply : Reply) → AgreeOn g.size D E →
+    RepliesToJudge (record { graph = g; amounts = D }) q h n reply →
+    RepliesToJudge (record { graph = g; amounts = E }) q h n reply
+judged-cong g D E q h n (Verdict x) same right = (right.0, right-cong g q D E x same right.1)
+judged-cong g D E q h n (Stale count) same right = right
+judged-cong g D E q h n reply same right = absurd right
+
+ranked-cong : (g : Multigraph) (D E : Amounts) (h n k : ℕ) (reply : Reply) → AgreeOn g.size D E →
+    RepliesToRank (record { graph = g; amounts = D }) h n k reply →
+    RepliesToRank (record { graph = g; amounts = E }) h n k reply
+ranked-cong g D E h n k (RankReply x) same right = (right.0, rank_test-cong g D E k x same right.1)
+ranked-cong g D E h n k (Stale count) same right = right
+ranked-cong g D E h n k reply same right = absurd right
+
+pub replies-cong : (g : Multigraph) (D E : Amounts) (q : ℕ) (before : ℕ → ℕ) (n : ℕ) (request : Request) (reply : Reply) →
+    AgreeOn g.size D E →
+    RepliesAt (record { graph = g; amounts = D }) q before n request reply →
+    RepliesAt (record { graph = g; amounts = E }) q before n request reply
+replies-cong g D E q before n (Move m) reply same right = moved-cong g D E m reply same right
+replies-cong g D E q before n (Gift v x) reply same right = given-cong g D E n v x reply same right
+replies-cong g D E q before n (Join u v) reply same right = joined-cong g D E n u v reply same right
+replies-cong g D E q before n Look reply same right = looked-cong g D E n reply same right
+replies-cong g D E q before n Claim reply same right = claimed-cong g D E reply same right
+replies-cong g D E q before n (Judge i) reply same right = judged-cong g D E q (before i) n reply same right
+replies-cong g D E q before n (RankRequest i k) reply same right = ranked-cong g D E (before i) n k reply same right

@@ -2,8 +2,9 @@
 --   start_leads      the empty history leads to the state at the start
 --   shows_joined     what shows a position shows it on the graph with one more edge
 --   replies_after    a reply that is right in a state is right after a history that leads to it
+--   right_in         and the other way round
 --   leads_more       a reply that is right after the history leads with its entry to the next state
-use Rattle.std.proofs.Common.{◌≡◌, ℕ, ◌+◌, ◌<◌, List, [], ◌∷◌, ◌++◌, arith, refl, sym, ap, subst, ◌∙◌, length-append}
+use Rattle.std.proofs.Common.{◌≡◌, ℕ, ◌+◌, ◌<◌, List, [], ◌∷◌, ◌++◌, take, arith, refl, sym, ap, subst, ◌∙◌, length-append}
 use Rattle.std.proofs.lemmas.Int.{ints}
 use Rattle.std.proofs.Math.IntN.{pos}
 use Rattle.dg_theory.specs.Multigraph.{Multigraph}
@@ -14,11 +15,8 @@ use Rattle.dg_game.specs.Position.{Position, Shows, joined_at}
 use Rattle.dg_game.specs.History.{position_after, gifts_in, gift_counted, scripts_played}
 use Rattle.dg_game.specs.Step.{after_reply}
 use Rattle.dg_game.specs.Replies.{Replies, RepliesAt}
-use Rattle.dg_game.specs.Requests.{asked}
-use Rattle.dg_game.specs.State.{State, LeadsTo, IsNext, position_of, amounts_after, gifts_after, graph_after}
+use Rattle.dg_game.specs.State.{State, LeadsTo, IsRightIn, IsNext, position_of, amounts_after, gifts_after, graph_after}
 use Rattle.dg_game.specs.declared.entry.Entry.{Entry}
-use Rattle.dg_game.specs.declared.entry.Plain.{Plain}
-use Rattle.dg_game.specs.declared.entry.Plain.TheVariants as plain
 use Rattle.dg_game.specs.declared.entry.Request.{Request}
 use Rattle.dg_game.specs.declared.entry.Request.TheVariants.{Move, Gift, Join, Look, Claim, Judge, Rank as RankRequest}
 use Rattle.dg_game.specs.declared.entry.Reply.{Reply}
@@ -27,25 +25,35 @@ use Rattle.dg_game.proofs.HistoryLaws.{gifts_in-more, scripts_played-more}
 use Rattle.dg_game.proofs.StepLaw.{no_entry, one_more_entry}
 use Rattle.dg_game.proofs.ReplyLaws.{replies-cong}
 
-replies_asked : (o : Opening) (H : List Entry) (call : Plain) (reply : Reply) →
-    RepliesAt (position_after o H) (gifts_in H) call reply →
-    Replies o H (asked call) reply
-replies_asked o H (plain.Move m) reply right = right
-replies_asked o H (plain.Gift v x) reply right = right
-replies_asked o H (plain.Join u v) reply right = right
-replies_asked o H plain.Look reply right = right
-replies_asked o H plain.Claim reply right = right
-
-pub replies_after : (o : Opening) (H : List Entry) (s : State) (call : Plain) (reply : Reply) → LeadsTo o H s →
-    RepliesAt (position_of s) s.gifts call reply → Replies o H (asked call) reply
-replies_after o H s call reply leads right =
+pub replies_after : (o : Opening) (H : List Entry) (s : State) (request : Request) (reply : Reply) → LeadsTo o H s →
+    RepliesAt (position_of s) s.q (λ i. gifts_in (take i H)) s.gifts request reply → Replies o H request reply
+replies_after o H s request reply leads right =
     let p : Position = position_after o H in
-    let on_graph : RepliesAt (record { graph = p.graph; amounts = at s.amounts }) s.gifts call reply =
-    subst (λ (g : Multigraph). RepliesAt (record { graph = g; amounts = at s.amounts }) s.gifts call reply) leads.graph
-    right in
-    let on_amounts : RepliesAt p s.gifts call reply =
-    replies-cong p.graph (at s.amounts) p.amounts s.gifts call reply leads.amounts.amounts on_graph in
-    replies_asked o H call reply (subst (λ (g : ℕ). RepliesAt p g call reply) leads.gifts on_amounts)
+    let before : ℕ → ℕ = λ i. gifts_in (take i H) in
+    let on_graph : RepliesAt (record { graph = p.graph; amounts = at s.amounts }) s.q before s.gifts request reply =
+    subst (λ (g : Multigraph).
+    RepliesAt (record { graph = g; amounts = at s.amounts }) s.q before s.gifts request reply) leads.graph right in
+    let on_amounts : RepliesAt p s.q before s.gifts request reply =
+    replies-cong p.graph (at s.amounts) p.amounts s.q before s.gifts request reply leads.amounts.amounts on_graph in
+    subst (λ (n : ℕ). RepliesAt p o.q before n request reply) leads.gifts
+    (subst (λ (q : ℕ). RepliesAt p q before s.gifts request reply) leads.q on_amounts)
+
+pub right_in : (o : Opening) (H : List Entry) (s : State) (request : Request) (reply : Reply) → LeadsTo o H s →
+    Replies o H request reply → IsRightIn s request reply
+right_in o H s request reply leads right =
+    let p : Position = position_after o H in
+    let before : ℕ → ℕ = λ i. gifts_in (take i H) in
+    let from_q : RepliesAt p s.q before s.gifts request reply =
+    subst (λ (q : ℕ). RepliesAt p q before s.gifts request reply) (sym leads.q)
+    (subst (λ (n : ℕ). RepliesAt p o.q before n request reply) (sym leads.gifts) right) in
+    let on_amounts : RepliesAt (record { graph = p.graph; amounts = at s.amounts }) s.q before s.gifts request reply =
+    replies-cong p.graph p.amounts (at s.amounts) s.q before s.gifts request reply
+    (λ v below. sym (leads.amounts.amounts v below)) from_q in (
+      before,
+      subst (λ (g : Multigraph).
+          RepliesAt (record { graph = g; amounts = at s.amounts }) s.q before s.gifts request reply)
+          (sym leads.graph) on_amounts,
+    )
 
 pub shows_joined : (p : Position) (u v : ℕ) (d : Vector) → Shows p d → Shows (joined_at p u v) d
 shows_joined p u v d shows = record {

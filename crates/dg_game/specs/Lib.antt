@@ -12,4 +12,3 @@ pub mod Legal
 pub mod Look
 pub mod LegalLaws
 pub mod State
-pub mod Outcomes

@@ -7,8 +7,8 @@
 --   RepliesToRank p h g k reply    == the gift count was h before the look: where it is so now, the
 --                                     verdict of a rank test of degree k that is right for the
 --                                     position; else stale, with the gift count now
---   RepliesAt p g call reply       == the reply to the call is right at the position p, where the
---                                     gift count is g
+--   RepliesAt p q before g request reply == the reply is right at the position p, for the vertex q,
+--                                     where the gift count is g, and was `before i` at entry i
 --   Replies o H request reply      == the reply is right after the history H from the opening o
 use Rattle.std.specs.Prelude.{◌≡◌, ◌≢◌, ℕ, List, take}
 use Rattle.dg_theory.specs.Firing.{IsEffective}
@@ -21,8 +21,6 @@ use Rattle.dg_game.specs.MoveReplies.{RepliesToMove}
 use Rattle.dg_game.specs.GiftReplies.{RepliesToGift}
 use Rattle.dg_game.specs.JoinReplies.{RepliesToJoin}
 use Rattle.dg_game.specs.declared.entry.Entry.{Entry}
-use Rattle.dg_game.specs.declared.entry.Plain.{Plain}
-use Rattle.dg_game.specs.declared.entry.Plain.TheVariants as plain
 use Rattle.dg_game.specs.declared.entry.Request.{Request}
 use Rattle.dg_game.specs.declared.entry.Request.TheVariants.{Move, Gift, Join, Look, Claim, Judge, Rank as RankRequest}
 use Rattle.dg_game.specs.declared.entry.Reply.{Reply}
@@ -47,20 +45,15 @@ RepliesToRank p h g k (RankReply x) = (h ≡ g) × IsRankTest p.graph p.amounts 
 RepliesToRank p h g k (Stale count) = (h ≢ g) × (count ≡ g)
 RepliesToRank p h g k reply = ⊥
 
-abbrev pub RepliesAt : Position → ℕ → Plain → Reply → Type 0
-RepliesAt p g (plain.Move m) reply = RepliesToMove p m reply
-RepliesAt p g (plain.Gift v x) reply = RepliesToGift p g v x reply
-RepliesAt p g (plain.Join u v) reply = RepliesToJoin p g u v reply
-RepliesAt p g plain.Look reply = RepliesToLook p g reply
-RepliesAt p g plain.Claim reply = RepliesToClaim p reply
+abbrev pub RepliesAt : Position → ℕ → (ℕ → ℕ) → ℕ → Request → Reply → Type 0
+RepliesAt p q before g (Move m) reply = RepliesToMove p m reply
+RepliesAt p q before g (Gift v x) reply = RepliesToGift p g v x reply
+RepliesAt p q before g (Join u v) reply = RepliesToJoin p g u v reply
+RepliesAt p q before g Look reply = RepliesToLook p g reply
+RepliesAt p q before g Claim reply = RepliesToClaim p reply
+RepliesAt p q before g (Judge i) reply = RepliesToJudge p q (before i) g reply
+RepliesAt p q before g (RankRequest i k) reply = RepliesToRank p (before i) g k reply
 
 abbrev pub Replies : Opening → List Entry → Request → Reply → Type 0
-Replies o H (Move m) reply = RepliesToMove (position_after o H) m reply
-Replies o H (Gift v x) reply = RepliesToGift (position_after o H) (gifts_in H) v x reply
-Replies o H (Join u v) reply = RepliesToJoin (position_after o H) (gifts_in H) u v reply
-Replies o H Look reply = RepliesToLook (position_after o H) (gifts_in H) reply
-Replies o H Claim reply = RepliesToClaim (position_after o H) reply
-Replies o H (Judge i) reply =
-    RepliesToJudge (position_after o H) o.q (gifts_in (take i H)) (gifts_in H) reply
-Replies o H (RankRequest i k) reply =
-    RepliesToRank (position_after o H) (gifts_in (take i H)) (gifts_in H) k reply
+Replies o H request reply =
+    RepliesAt (position_after o H) o.q (λ i. gifts_in (take i H)) (gifts_in H) request reply

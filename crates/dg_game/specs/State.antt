@@ -5,6 +5,7 @@
 --   position_of s             == the position that the state shows
 --   IsState s                 == the parts of the state s fit together and are within their limits
 --   LeadsTo o H s             == the history H leads from the opening o to the state s
+--   IsRightIn s request reply == the reply is right in the state s, for some gift counts at the looks
 --   amounts_after d reply     == the amounts after the reply, where they were d before
 --   gifts_after n reply       == the gift count after the reply, where it was n before
 --   graph_after g request reply == the graph after the request was so answered, where it was g
@@ -20,6 +21,7 @@ use Rattle.dg_chips.specs.declared.limits.TheConstants.{MAX_ENTRY}
 use Rattle.dg_chips.specs.Opening.{Opening}
 use Rattle.dg_game.specs.Position.{Position, Shows}
 use Rattle.dg_game.specs.History.{position_after, gifts_in, scripts_played, script_by}
+use Rattle.dg_game.specs.Replies.{RepliesAt}
 use Rattle.dg_game.specs.declared.entry.Entry.{Entry}
 use Rattle.dg_game.specs.declared.entry.Request.{Request}
 use Rattle.dg_game.specs.declared.entry.Request.TheVariants.{Join}
@@ -54,6 +56,10 @@ pub record LeadsTo (o : Opening) (H : List Entry) (s : State) : Type 0 where
   pub drift : (v : ℕ) → v < s.graph.size → at s.drift v ≡ scripts_played H v
   pub gifts : s.gifts ≡ gifts_in H
   pub entries : s.entries ≡ length H
+
+abbrev pub IsRightIn : State → Request → Reply → Type 0
+IsRightIn s request reply =
+    (before : ℕ → ℕ) × RepliesAt (position_of s) s.q before s.gifts request reply
 
 abbrev pub amounts_after : Vector → Reply → Vector
 amounts_after d (Moved e) = e

@@ -30,15 +30,6 @@ pub enum Plain {
 }
 
 impl Plain {
-    /// What the entry of the call asks.
-    pub fn request(&self) -> Request
-        ensures { result ≡ asked self.now }
-    {
-        let mut request = Request::Look;
-        self.ask(&mut request);
-        request
-    }
-
     /// Writes what the entry of the call asks.
     pub fn ask(&self, request: &mut Request)
         ensures { request.new ≡ asked self.now }
@@ -127,6 +118,13 @@ pub struct Entry {
     /// What was answered.
     pub reply: Reply,
 }
+
+/// What an entry holds before it is written: no seat's, and of no meaning.
+pub const BLANK: Entry = Entry {
+    seat: 0,
+    request: Request::Look,
+    reply: Reply::Won,
+};
 
 impl From<MoveFault> for Refusal {
     ghost from_gives = { λ fault refusal. refusal ≡ refusal_for fault };

@@ -9,21 +9,18 @@ ghost use Rattle.dg_verdict.specs.Right.{IsRight};
 ghost use Rattle.dg_game.specs.MoveReplies.{RepliesToMove};
 ghost use Rattle.dg_game.specs.GiftReplies.{RepliesToGift};
 ghost use Rattle.dg_game.specs.JoinReplies.{RepliesToJoin};
-ghost use Rattle.dg_game.specs.Outcomes.{reply_of};
-ghost use Rattle.dg_game.specs.Replies.{Replies, RepliesAt, RepliesToLook, RepliesToClaim};
+ghost use Rattle.dg_game.specs.Replies.{Replies, RepliesAt, RepliesToClaim};
 ghost use Rattle.dg_game.specs.History.{with_entry};
 ghost use Rattle.dg_game.specs.Legal.{IsSeat, IsLegal};
 ghost use Rattle.dg_game.specs.Look.{IsLookAt, IsFoundFor, asked_for, KeepsFinding};
-ghost use Rattle.dg_game.specs.State.{State, IsState, LeadsTo, IsNext, position_of};
+ghost use Rattle.dg_game.specs.State.{IsState, LeadsTo, IsRightIn, IsNext, position_of};
 ghost use Rattle.dg_game.specs.Requests.{asked};
 ghost use Rattle.dg_game.specs.declared.entry.Entry.{Entry as EntryData};
 ghost use Rattle.dg_game.specs.declared.entry.Reply.TheVariants.{Given, Refused};
-ghost use Rattle.dg_game.specs.declared.entry.Request.TheVariants.{Move as MoveRequest, Gift as GiftRequest, Join as JoinRequest, Look as LookRequest, Claim as ClaimRequest};
 
-use crate::entry::{Entry, MAX_GIFT, Plain, Refusal, Reply, Request};
+use crate::entry::{BLANK, Entry, MAX_GIFT, Plain, Refusal, Reply, Request};
 use crate::finding::Finding;
 use crate::look::LookData;
-use crate::outcome::Outcome;
 use dg_chips::{Divisor, Drift, MAX_ENTRY, Move, Start, apply};
 use dg_graph::Graph;
 use dg_verdict::{Verdict, judge, rebase};
@@ -158,45 +155,18 @@ impl Game {
         ensures legal { (o : Opening) (H : List EntryData) (seat : ℕ) → LeadsTo o H self.old →
             IsLegal o H → IsSeat seat → IsLegal o (with_entry H seat (asked plain) result) }
     {
-        let outcome = self.take(&plain);
-        self.reply(outcome)
-    }
-
-    /// Answers a call and takes it into the history, as `act` does, and tells in few words what it came to. The condition
-    /// is that there are fewer than 65,536 entries.
-    pub fn take(&mut self, plain: &Plain) -> Outcome
-        requires { self.old.entries < MAX_ENTRIES }
-        ensures replies { RepliesAt (position_of self.old) self.old.gifts plain.now
-            (reply_of result self.new) }
-        ensures next { IsNext self.old (asked plain.now) (reply_of result self.new) self.new }
-    {
-        match plain {
-            Plain::Move(play) => self.play(play),
-            Plain::Gift(v, dollars) => self.give(*v, *dollars),
-            Plain::Join(u, v) => self.join(*u, *v),
-            Plain::Look => self.look(),
-            Plain::Claim => self.claim(),
-        }
-    }
-
-    /// The reply to a call that has come to this, and left the game as it is.
-    pub fn reply(&self, outcome: Outcome) -> Reply
-        ensures { result ≡ reply_of outcome self.now }
-    {
-        match outcome {
-            Outcome::Moved => Reply::Moved(self.amounts),
-            Outcome::Given => Reply::Given(self.gifts, self.amounts),
-            Outcome::Joined => Reply::Joined(self.gifts, self.amounts),
-            Outcome::Looked => Reply::Looked(self.gifts, self.amounts, self.graph),
-            Outcome::Won => Reply::Won,
-            Outcome::NotWon => Reply::NotWon,
-            Outcome::Refused(refusal) => Reply::Refused(refusal),
-        }
+        let mut entry = BLANK;
+        plain.ask(&mut entry.request);
+        self.answer(&plain, &mut entry.reply);
+        self.follow(&entry);
+        entry.reply
     }
 
     /// Writes the reply to a call, as the game answers it after its history. The game stays as it is: `follow` takes the entry
     /// into the history.
     pub fn answer(&self, plain: &Plain, reply: &mut Reply)
+        ensures here { (before : ℕ → ℕ) →
+            RepliesAt (position_of self.now) self.now.q before self.now.gifts (asked plain.now) reply.new }
         ensures replies { (o : Opening) (H : List EntryData) → LeadsTo o H self.now →
             Replies o H (asked plain.now) reply.new }
         ensures legal { (o : Opening) (H : List EntryData) (seat : ℕ) → LeadsTo o H self.now →
@@ -207,7 +177,8 @@ impl Game {
 
     /// Writes the reply to a call that is right as the game stands.
     fn answer_now(&self, plain: &Plain, reply: &mut Reply)
-        ensures { RepliesAt (position_of self.now) self.now.gifts plain.now reply.new }
+        ensures { (before : ℕ → ℕ) →
+            RepliesAt (position_of self.now) self.now.q before self.now.gifts (asked plain.now) reply.new }
     {
         match plain {
             Plain::Move(play) => self.answer_move(play, reply),
@@ -263,14 +234,23 @@ impl Game {
     }
 
     /// Takes an entry that was answered rightly into the history. It takes no memory. The conditions are that there are fewer
-    /// than 65,536 entries, and that the reply is the right one after the history.
+    /// than 65,536 entries, and that the reply is the right one as the game stands.
     pub fn follow(&mut self, entry: &Entry)
         requires room { self.old.entries < MAX_ENTRIES }
-        requires right { (o : Opening) × (H : List EntryData) × LeadsTo o H self.old ×
-            Replies o H entry.now.request entry.now.reply }
+        requires right { IsRightIn self.old entry.now.request entry.now.reply }
+        ensures next { IsNext self.old entry.now.request entry.now.reply self.new }
         ensures leads { (o : Opening) (H : List EntryData) → LeadsTo o H self.old →
             Replies o H entry.now.request entry.now.reply →
             LeadsTo o (H ++ entry.now ∷ []) self.new }
+    {
+        self.follow_now(entry);
+    }
+
+    /// Takes an entry that was answered rightly into the state of the game.
+    fn follow_now(&mut self, entry: &Entry)
+        requires room { self.old.entries < MAX_ENTRIES }
+        requires right { IsRightIn self.old entry.now.request entry.now.reply }
+        ensures { IsNext self.old entry.now.request entry.now.reply self.new }
     {
         self.entries += 1;
         match &entry.reply {
@@ -293,7 +273,13 @@ impl Game {
                     self.graph = joined;
                 }
             }
-            _ => {}
+            Reply::Looked(..)
+            | Reply::Verdict(_)
+            | Reply::Rank(_)
+            | Reply::Stale(_)
+            | Reply::Won
+            | Reply::NotWon
+            | Reply::Refused(_) => {}
         }
     }
 
@@ -317,10 +303,11 @@ impl Game {
             IsLegal o (with_entry H seat (asked_for look.now.number finding.now) result) }
         ensures kept { KeepsFinding finding.now result }
     {
-        let mut reply = Reply::Won;
-        self.answer_finding(look, finding, &mut reply);
-        self.entries += 1;
-        reply
+        let mut entry = BLANK;
+        entry.request = finding.request(look.number);
+        self.answer_finding(look, finding, &mut entry.reply);
+        self.follow(&entry);
+        entry.reply
     }
 
     /// Writes the reply to what was reckoned on a look, as `settle` gives it. The game stays as it is: `follow` takes the entry
@@ -407,42 +394,6 @@ impl Game {
         self.drift.since(drift)
     }
 
-    /// Plays a move, where it is not refused.
-    fn play(&mut self, play: &Move) -> Outcome
-        requires { self.old.entries < MAX_ENTRIES }
-        ensures replies { RepliesToMove (position_of self.old) play.now (reply_of result self.new) }
-        ensures next { IsNext self.old (MoveRequest play.now) (reply_of result self.new) self.new }
-    {
-        self.entries += 1;
-        lends_few(play);
-        match apply(&self.graph, &self.amounts, play) {
-            Ok(amounts) => {
-                self.drift = self.drift.plus(&self.graph, play);
-                self.amounts = amounts;
-                Outcome::Moved
-            }
-            Err(fault) => Outcome::Refused(Refusal::from(fault)),
-        }
-    }
-
-    /// Gives dollars to a vertex, or takes them by a levy, where that is not refused.
-    fn give(&mut self, v: u8, dollars: i64) -> Outcome
-        requires { self.old.entries < MAX_ENTRIES }
-        ensures replies { RepliesToGift (position_of self.old) self.old.gifts v dollars
-            (reply_of result self.new) }
-        ensures next { IsNext self.old (GiftRequest v dollars) (reply_of result self.new) self.new }
-    {
-        self.entries += 1;
-        match self.after_gift(v, dollars) {
-            Ok(amounts) => {
-                self.gifts += 1;
-                self.amounts = amounts;
-                Outcome::Given
-            }
-            Err(refusal) => Outcome::Refused(refusal),
-        }
-    }
-
     /// The amounts after a gift, or why it is refused.
     fn after_gift(&self, v: u8, dollars: i64) -> Result<Divisor, Refusal>
         ensures { MatchResult result
@@ -459,48 +410,6 @@ impl Game {
             return Err(Refusal::Gift);
         }
         self.amounts.with_more(v, dollars).ok_or(Refusal::Range)
-    }
-
-    /// Adds an edge between two vertices, where that is not refused.
-    fn join(&mut self, u: u8, v: u8) -> Outcome
-        requires { self.old.entries < MAX_ENTRIES }
-        ensures replies { RepliesToJoin (position_of self.old) self.old.gifts u v
-            (reply_of result self.new) }
-        ensures next { IsNext self.old (JoinRequest u v) (reply_of result self.new) self.new }
-    {
-        self.entries += 1;
-        let graph = match self.graph.join(u, v) {
-            Ok(graph) => graph,
-            Err(fault) => return Outcome::Refused(Refusal::from(fault)),
-        };
-        self.graph = graph;
-        self.gifts += 1;
-        Outcome::Joined
-    }
-
-    /// Shows the position.
-    fn look(&mut self) -> Outcome
-        requires { self.old.entries < MAX_ENTRIES }
-        ensures replies { RepliesToLook (position_of self.old) self.old.gifts
-            (reply_of result self.new) }
-        ensures next { IsNext self.old LookRequest (reply_of result self.new) self.new }
-    {
-        self.entries += 1;
-        Outcome::Looked
-    }
-
-    /// Tells whether nobody is in debt.
-    fn claim(&mut self) -> Outcome
-        requires { self.old.entries < MAX_ENTRIES }
-        ensures replies { RepliesToClaim (position_of self.old) (reply_of result self.new) }
-        ensures next { IsNext self.old ClaimRequest (reply_of result self.new) self.new }
-    {
-        self.entries += 1;
-        if self.amounts.is_effective() {
-            Outcome::Won
-        } else {
-            Outcome::NotWon
-        }
     }
 }
 

@@ -6,13 +6,11 @@ mod finding;
 mod game;
 mod laws;
 mod look;
-mod outcome;
 mod step;
 
-pub use entry::{Entry, MAX_GIFT, MAX_SEATS, Plain, Refusal, Reply, Request};
+pub use entry::{BLANK, Entry, MAX_GIFT, MAX_SEATS, Plain, Refusal, Reply, Request};
 pub use finding::{Finding, judge_look, judge_look_aimed};
 pub use game::{Game, MAX_ENTRIES};
 pub use laws::{law_of_histories, law_of_legal_histories};
 pub use look::LookData;
-pub use outcome::Outcome;
 pub use step::{Command, Step};

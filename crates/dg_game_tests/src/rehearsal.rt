@@ -1,7 +1,7 @@
 //! Schedules: what no row in tests/rows shows of them.
 use crate::game::{start, triangle};
 use dg_chips::{Move, Start};
-use dg_game::{Command, MAX_ENTRIES, Plain, Request, Step};
+use dg_game::{BLANK, Command, MAX_ENTRIES, Plain, Request, Step};
 use dg_rehearsal::{Rehearsal, RehearseFault, rehearse};
 use std::alloc::Global;
 use std::process::Abort;
@@ -63,7 +63,12 @@ fn seats_are_1_to_64(rt: HostRuntime) -> Result<(), Fail> {
 // Whether a first call by this seat is refused.
 fn no_seat_looks(rt: &impl Abort, start: &Start, seat: u8) {
     let mut rehearsal = Rehearsal::new(start);
-    let came = rehearsal.call(seat, &Plain::Look);
+    let mut entry = BLANK;
+    let look = Step {
+        seat,
+        command: Command::Call(Plain::Look),
+    };
+    let came = rehearsal.play(&look, &mut entry);
     assert!(rt; came == Err(RehearseFault::Seat(0)));
 }
 

@@ -2,14 +2,13 @@
 ghost use Rattle.std.specs.Prelude.{◌≡◌, ◌<◌, ◌++◌, length, codes, decimal, IfOk, OnOk};
 ghost use Rattle.std.specs.Fmt.{signed_decimal};
 ghost use Rattle.dg_chips.specs.Vector.{at};
-ghost use Rattle.dg_game.specs.Outcomes.{reply_of};
 ghost use Rattle.dg_lines.specs.Texts.{HasNames, pair, pairs, refusal_text, verdict_word, verdict_text, rank_text, text_of, entry_text};
 ghost use Rattle.dg_game.specs.declared.entry.Reply.TheVariants.{Rank};
 
 use crate::amounts::Amounts;
 use crate::digits::MAX_DIGITS;
 use dg_chips::Divisor;
-use dg_game::{Game, Outcome, Refusal, Reply};
+use dg_game::{Refusal, Reply};
 use dg_graph::MAX_VERTICES;
 use dg_names::{MAX_LABEL, Names};
 use dg_ranked::RankVerdict;
@@ -46,50 +45,6 @@ pub fn push_entry<A: Allocator>(
     text.push(b' ')?;
     push_reply(text, reply, names)?;
     text.push(b'\n')?;
-    Ok(())
-}
-
-/// The same line for a call that has come to this, and left the game as it is.
-pub fn push_outcome<A: Allocator>(
-    text: &mut Vec<u8, A>,
-    number: usize,
-    outcome: Outcome,
-    game: &Game,
-    names: &Names,
-) -> Result<(), AllocError>
-    requires { HasNames names.now (reply_of outcome game.now) }
-    ensures { OnOk result (text.new.items ≡
-        text.old.items ++ entry_text names.now number (reply_of outcome game.now)) }
-{
-    text.extend_from_slice(Buffer::new().format(number).as_bytes())?;
-    text.push(b' ')?;
-    push_short(text, outcome, game, names)?;
-    text.push(b'\n')?;
-    Ok(())
-}
-
-/// The text of the reply to such a call.
-fn push_short<A: Allocator>(
-    text: &mut Vec<u8, A>,
-    outcome: Outcome,
-    game: &Game,
-    names: &Names,
-) -> Result<(), AllocError>
-    requires { HasNames names.now (reply_of outcome game.now) }
-    ensures { OnOk result (text.new.items ≡
-        text.old.items ++ text_of names.now (reply_of outcome game.now)) }
-{
-    let position = game.position();
-    let gifts = game.gifts();
-    match outcome {
-        Outcome::Moved => push_moved(text, names, position)?,
-        Outcome::Given => push_counted(text, b"given ", gifts, names, position)?,
-        Outcome::Joined => push_counted(text, b"joined ", gifts, names, position)?,
-        Outcome::Looked => push_counted(text, b"looked ", gifts, names, position)?,
-        Outcome::Won => text.extend_from_slice(b"won")?,
-        Outcome::NotWon => text.extend_from_slice(b"not won")?,
-        Outcome::Refused(refusal) => push_refusal(text, refusal)?,
-    }
     Ok(())
 }
 

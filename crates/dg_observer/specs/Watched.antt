@@ -1,8 +1,7 @@
 -- What three observers keep.
 --   counted n                 == one more than n, as far as 64 bits go
---   gift_counted_by reply n   == that where the reply accepts a gift, a levy or a join, and n where
---                                it does not
---   gifts_after_entry n e     == that for the reply of the entry e
+--   gifts_after_entry n e     == that where the reply of the entry e is a change, and n where it is
+--                                none
 --   shown_by reply d          == the amounts that the reply shows as it changed them, and d where
 --                                it changed nothing
 --   is_move request           == whether the request is a move
@@ -12,32 +11,29 @@
 --                                as 32 bits go
 --   refusal_counted counts e  == that for the entry's seat where the entry is a refused move, and
 --                                the counts where it is not
+--   GiftsAreCounted           == a count that is kept so from 0 on, over all entries of a history
+--                                that has less than 2^64, is its gift count
 --   PositionsAreShown         == amounts that are kept so from the start on, over all entries of a
 --                                legal history, are the position after it
-use Rattle.std.specs.Prelude.{◌≡◌, ℕ, ◌+◌, ◌-◌, ◌^◌, ◌&&◌, min, Bool, true, false, cond, leb, List, slice_set}
+use Rattle.std.specs.Prelude.{◌≡◌, ℕ, ◌+◌, ◌-◌, ◌^◌, ◌<◌, ◌&&◌, min, Bool, true, false, cond, if◌then◌else◌, leb, List, length, slice_set}
 use Rattle.std.specs.List.{slice_index_or}
 use Rattle.dg_chips.specs.Opening.{Opening, IsOpening}
 use Rattle.dg_chips.specs.Vector.{Vector}
-use Rattle.dg_game.specs.History.{position_after}
+use Rattle.dg_game.specs.History.{is_change, gifts_in, position_after}
 use Rattle.dg_game.specs.Legal.{IsLegal}
 use Rattle.dg_game.specs.Position.{Shows}
 use Rattle.dg_game.specs.declared.entry.Entry.{Entry}
 use Rattle.dg_game.specs.declared.entry.Request.{Request}
 use Rattle.dg_game.specs.declared.entry.Request.TheVariants.{Move}
 use Rattle.dg_game.specs.declared.entry.Reply.{Reply}
-use Rattle.dg_game.specs.declared.entry.Reply.TheVariants.{Moved, Given, Joined, Refused}
+use Rattle.dg_game.specs.declared.entry.Reply.TheVariants.{Moved, Given, Refused}
 use Rattle.dg_observer.specs.Folds.{Folds}
 
 abbrev pub counted : ℕ → ℕ
 counted n = min (n + 1) (2 ^ 64 - 1)
 
-abbrev pub gift_counted_by : Reply → ℕ → ℕ
-gift_counted_by (Given gifts d) n = counted n
-gift_counted_by (Joined gifts d) n = counted n
-gift_counted_by reply n = n
-
 abbrev pub gifts_after_entry : ℕ → Entry → ℕ
-gifts_after_entry n e = gift_counted_by e.reply n
+gifts_after_entry n e = if is_change e.reply then counted n else n
 
 abbrev pub shown_by : Reply → Vector → Vector
 shown_by (Moved d) old = d
@@ -62,6 +58,11 @@ counted_at counts seat =
 abbrev pub refusal_counted : List ℕ → Entry → List ℕ
 refusal_counted counts e =
     cond (is_refused_move e && leb 1 e.seat && leb e.seat 64) (counted_at counts e.seat) counts
+
+abbrev pub GiftsAreCounted : Type 0
+GiftsAreCounted = (H : List Entry) (n : ℕ) → length H < 2 ^ 64
+    → Folds (λ first. first ≡ 0) (λ old e next. next ≡ gifts_after_entry old e) H n
+    → n ≡ gifts_in H
 
 abbrev pub PositionsAreShown : Type 0
 PositionsAreShown = (o : Opening) (H : List Entry) (d : Vector) → IsOpening o → IsLegal o H

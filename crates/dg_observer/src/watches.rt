@@ -1,6 +1,6 @@
 //! Three watches: the gift count, the position, and the refused moves of each seat.
 ghost use Rattle.std.specs.Prelude.{◌≡◌};
-ghost use Rattle.dg_observer.specs.Watched.{PositionsAreShown};
+ghost use Rattle.dg_observer.specs.Watched.{GiftsAreCounted, PositionsAreShown, is_refused};
 
 use crate::watch::Watch;
 use dg_chips::Divisor;
@@ -9,7 +9,8 @@ use dg_log::Name;
 use std::alloc::AllocError;
 use std::marker::PhantomData;
 
-/// Counts the accepted gifts, levies and joins, as far as 64 bits go.
+/// Counts the accepted gifts, levies and joins, as far as 64 bits go. That the count is that of the game is the law
+/// `gifts_are_counted`.
 #[derive(Clone, Copy)]
 pub struct Gifts;
 
@@ -26,7 +27,14 @@ impl Watch for Gifts {
     fn step(&self, count: &u64, entry: &Entry) -> Result<u64, AllocError> {
         match entry.reply {
             Reply::Given(..) | Reply::Joined(..) => Ok(count.saturating_add(1)),
-            _ => Ok(*count),
+            Reply::Moved(_)
+            | Reply::Looked(..)
+            | Reply::Verdict(_)
+            | Reply::Rank(_)
+            | Reply::Stale(_)
+            | Reply::Won
+            | Reply::NotWon
+            | Reply::Refused(_) => Ok(*count),
         }
     }
 }
@@ -52,7 +60,14 @@ impl<N: Name> Watch for Positions<N> {
     fn step(&self, position: &Divisor, entry: &Entry) -> Result<Divisor, AllocError> {
         match entry.reply {
             Reply::Moved(divisor) | Reply::Given(_, divisor) => Ok(divisor),
-            _ => Ok(*position),
+            Reply::Joined(..)
+            | Reply::Looked(..)
+            | Reply::Verdict(_)
+            | Reply::Rank(_)
+            | Reply::Stale(_)
+            | Reply::Won
+            | Reply::NotWon
+            | Reply::Refused(_) => Ok(*position),
         }
     }
 }
@@ -91,11 +106,39 @@ impl Watch for RefusedMoves {
 fn is_refused_move(entry: &Entry) -> bool
     ensures { result ≡ Rattle.dg_observer.specs.Watched.is_refused_move entry.now }
 {
-    match (&entry.request, &entry.reply) {
-        (Request::Move(_), Reply::Refused(_)) => true,
-        _ => false,
+    match entry.request {
+        Request::Move(_) => is_refusal(&entry.reply),
+        Request::Gift(..)
+        | Request::Join(..)
+        | Request::Look
+        | Request::Claim
+        | Request::Judge(_)
+        | Request::Rank(..) => false,
     }
 }
+
+fn is_refusal(reply: &Reply) -> bool
+    ensures { result ≡ is_refused reply.now }
+{
+    match reply {
+        Reply::Refused(_) => true,
+        Reply::Moved(_)
+        | Reply::Given(..)
+        | Reply::Joined(..)
+        | Reply::Looked(..)
+        | Reply::Verdict(_)
+        | Reply::Rank(_)
+        | Reply::Stale(_)
+        | Reply::Won
+        | Reply::NotWon => false,
+    }
+}
+
+/// A count that is kept as `Gifts` keeps it, over all entries of a history of less than 2^64, is the gift count of the game
+/// after it.
+pub fn gifts_are_counted()
+    ensures { GiftsAreCounted }
+{}
 
 /// Amounts that are kept as `Positions` keeps them, over all entries of a legal history, are the position after it.
 pub fn positions_are_shown()

@@ -3,7 +3,6 @@ ghost use Rattle.std.specs.Prelude.{◌≡◌, ℕ, ◌<◌, ◌≤◌, List, []
 ghost use Rattle.dg_chips.specs.Opening.{Opening};
 ghost use Rattle.dg_game.specs.Legal.{IsSeat};
 ghost use Rattle.dg_game.specs.Look.{IsFoundFor, asked_for};
-ghost use Rattle.dg_game.specs.Outcomes.{entry_of};
 ghost use Rattle.dg_rehearsal.specs.Schedule.{UsesUp, IsKept, IsAsked, HasTrials, IsRehearsal};
 ghost use Rattle.dg_rehearsal.specs.ScheduleFaults.{IsFirstFault};
 ghost use Rattle.dg_rehearsal.specs.Rehearsal.{KeepsLook, IsPlaying, IsInPlay, PlaysOn, StopsPlay};
@@ -15,7 +14,7 @@ ghost use Rattle.dg_game.specs.declared.step.Command.TheVariants.{Call, Commit, 
 use crate::ranking::rank_look;
 use dg_chips::Start;
 use dg_game::{
-    Command, Entry, Finding, Game, LookData, MAX_ENTRIES, MAX_SEATS, Outcome, Plain, Step,
+    BLANK, Command, Entry, Finding, Game, LookData, MAX_ENTRIES, MAX_SEATS, Plain, Step,
     judge_look_aimed,
 };
 use dg_reduce::Aim;
@@ -68,8 +67,9 @@ pub fn rehearse<A: Allocator + Drop>(
         return Err(RehearseFault::OutOfMemory);
     };
     let mut rehearsal = Rehearsal::new(start);
+    let mut entry = BLANK;
     for step in steps {
-        let entry = rehearsal.play(step)?;
+        rehearsal.play(step, &mut entry)?;
         history.push(entry).unwrap();
     }
     Ok(history)
@@ -89,16 +89,16 @@ impl Rehearsal {
         }
     }
 
-    /// Plays the next step, and gives its entry. The condition is that steps were played from a start, and nothing else
+    /// Plays the next step, and writes its entry. The condition is that steps were played from a start, and nothing else
     /// has happened to the game, the vertex q or the looks.
     ///
     /// Refused with `Seat`, `Full`, `NoLook` or `TooMany` as `rehearse` refuses the step; then nothing has changed.
-    pub fn play(&mut self, step: &Step) -> Result<Entry, RehearseFault>
+    pub fn play(&mut self, step: &Step, entry: &mut Entry) -> Result<(), RehearseFault>
         requires { IsInPlay self.old }
         ensures plays { MatchResult result
-            (λ e. (self.old.game.entries < MAX_ENTRIES) × PlaysOn self.old step.now e self.new)
+            (λ _. (self.old.game.entries < MAX_ENTRIES) × PlaysOn self.old step.now entry.new self.new)
             (StopsPlay self.old step.now) }
-        ensures same { OnErr result (self.new ≡ self.old) }
+        ensures same { OnErr result ((self.new ≡ self.old) × (entry.new ≡ entry.old)) }
     {
         let seat = step.seat;
         if let Some(fault) = self.barred(seat) {
@@ -106,34 +106,11 @@ impl Rehearsal {
         }
         match &step.command {
             Command::Call(plain) => {
-                let outcome = self.take(seat, plain);
-                Ok(Entry {
-                    seat,
-                    request: plain.request(),
-                    reply: self.game.reply(outcome),
-                })
+                self.call(seat, plain, entry);
+                Ok(())
             }
-            Command::Commit => self.commit(seat),
-            Command::Rank(k) => self.rank(seat, *k),
-        }
-    }
-
-    /// Plays a call as the next step, as `play` does, and tells in few words what it came to. The condition is that of
-    /// `play`.
-    ///
-    /// Refused with `Seat` or `Full` as `rehearse` refuses the step; then nothing has changed.
-    pub fn call(&mut self, seat: u8, plain: &Plain) -> Result<Outcome, RehearseFault>
-        requires { IsInPlay self.old }
-        ensures plays { MatchResult result
-            (λ outcome. (self.old.game.entries < MAX_ENTRIES) ×
-            PlaysOn self.old (record { seat = seat; command = Call plain.now })
-            (entry_of seat plain.now outcome self.new.game) self.new)
-            (StopsPlay self.old (record { seat = seat; command = Call plain.now })) }
-        ensures same { OnErr result (self.new ≡ self.old) }
-    {
-        match self.barred(seat) {
-            Some(fault) => Err(fault),
-            None => Ok(self.take(seat, plain)),
+            Command::Commit => self.commit(seat, entry),
+            Command::Rank(k) => self.rank(seat, *k, entry),
         }
     }
 
@@ -155,48 +132,50 @@ impl Rehearsal {
         None
     }
 
-    /// Answers a seat's call; a look is kept for the seat.
-    fn take(&mut self, seat: u8, plain: &Plain) -> Outcome
+    /// Answers a seat's call, and writes its entry; a look is kept for the seat.
+    fn call(&mut self, seat: u8, plain: &Plain, entry: &mut Entry)
         requires playing { IsInPlay self.old }
         requires room { self.old.game.entries < MAX_ENTRIES }
         requires seat { IsSeat seat }
-        ensures { PlaysOn self.old (record { seat = seat; command = Call plain.now })
-            (entry_of seat plain.now result self.new.game) self.new }
+        ensures { PlaysOn self.old (record { seat = seat; command = Call plain.now }) entry.new self.new }
     {
         if let Plain::Look = plain {
             self.looks[usize::from(seat)] = Some(self.game.look_data());
         }
-        self.game.take(plain)
+        entry.seat = seat;
+        plain.ask(&mut entry.request);
+        self.game.answer(plain, &mut entry.reply);
+        self.game.follow(entry);
     }
 
     /// Enters the verdict on the look that a seat keeps, which is used up; or why it can't be entered.
-    fn commit(&mut self, seat: u8) -> Result<Entry, RehearseFault>
+    fn commit(&mut self, seat: u8, entry: &mut Entry) -> Result<(), RehearseFault>
         requires playing { IsInPlay self.old }
         requires room { self.old.game.entries < MAX_ENTRIES }
         requires seat { IsSeat seat }
         ensures plays { MatchResult result
-            (λ e. PlaysOn self.old (record { seat = seat; command = Commit }) e self.new)
+            (λ _. PlaysOn self.old (record { seat = seat; command = Commit }) entry.new self.new)
             (StopsPlay self.old (record { seat = seat; command = Commit })) }
-        ensures same { OnErr result (self.new ≡ self.old) }
+        ensures same { OnErr result ((self.new ≡ self.old) × (entry.new ≡ entry.old)) }
     {
         let i = self.game.entries() as usize;
         let Some(look) = self.kept(seat) else {
             return Err(RehearseFault::NoLook(i));
         };
         let finding = judge_look_aimed(&self.aim, self.q(), &look);
-        let entry = self.enter(seat, &look, &finding);
-        Ok(entry)
+        self.enter(seat, &look, &finding, entry);
+        Ok(())
     }
 
     /// Enters the rank test of degree k on the look that a seat keeps, which is used up; or why it can't be entered.
-    fn rank(&mut self, seat: u8, k: u32) -> Result<Entry, RehearseFault>
+    fn rank(&mut self, seat: u8, k: u32, entry: &mut Entry) -> Result<(), RehearseFault>
         requires playing { IsInPlay self.old }
         requires room { self.old.game.entries < MAX_ENTRIES }
         requires seat { IsSeat seat }
         ensures plays { MatchResult result
-            (λ e. PlaysOn self.old (record { seat = seat; command = Rank k }) e self.new)
+            (λ _. PlaysOn self.old (record { seat = seat; command = Rank k }) entry.new self.new)
             (StopsPlay self.old (record { seat = seat; command = Rank k })) }
-        ensures same { OnErr result (self.new ≡ self.old) }
+        ensures same { OnErr result ((self.new ≡ self.old) × (entry.new ≡ entry.old)) }
     {
         let i = self.game.entries() as usize;
         let Some(look) = self.kept(seat) else {
@@ -205,8 +184,8 @@ impl Rehearsal {
         let Ok(finding) = rank_look(self.q(), &look, k) else {
             return Err(RehearseFault::TooMany(i));
         };
-        let entry = self.enter(seat, &look, &finding);
-        Ok(entry)
+        self.enter(seat, &look, &finding, entry);
+        Ok(())
     }
 
     /// The vertex from which verdicts are reckoned, which is that of the game.
@@ -229,8 +208,8 @@ impl Rehearsal {
         self.looks[usize::from(seat)]
     }
 
-    /// Enters what was reckoned on the look that a seat keeps, and uses the look up.
-    fn enter(&mut self, seat: u8, look: &LookData, finding: &Finding) -> Entry
+    /// Enters what was reckoned on the look that a seat keeps, writes the entry, and uses the look up.
+    fn enter(&mut self, seat: u8, look: &LookData, finding: &Finding, entry: &mut Entry)
         requires playing { (o : Opening) × (H : List Entry) × (steps : List Step) ×
             IsPlaying o steps H self.old × KeepsLook o H steps seat (Some look.now) }
         requires found { IsFoundFor self.old.game.q look.now finding.now }
@@ -241,14 +220,12 @@ impl Rehearsal {
             slice_get steps (length H) ≡ Some (record { seat = seat; command = c }) →
             UsesUp c → HasTrials o.graph.size c →
             IsAsked steps seat (length H) c (asked_for look.now.number finding.now) →
-            IsPlaying o steps (H ++ result ∷ []) self.new }
+            IsPlaying o steps (H ++ entry.new ∷ []) self.new }
     {
-        let reply = self.game.settle(look, finding);
+        entry.seat = seat;
+        entry.request = finding.request(look.number);
+        self.game.answer_finding(look, finding, &mut entry.reply);
+        self.game.follow(entry);
         self.looks[usize::from(seat)] = None;
-        Entry {
-            seat,
-            request: finding.request(look.number),
-            reply,
-        }
     }
 }

@@ -133,7 +133,9 @@ fn obey<N: Name, R: Threads + Wait>(
     match command {
         Command::Call(plain) => match plain {
             Plain::Look => take_look(shared, kept, said, seat),
-            _ => call(shared, kept, said, seat, plain),
+            Plain::Move(_) | Plain::Gift(..) | Plain::Join(..) | Plain::Claim => {
+                call(shared, kept, said, seat, plain)
+            }
         },
         Command::Commit => enter_verdict(shared, kept, said, seat),
         Command::Rank(k) => enter_rank(shared, kept, said, seat, *k),

@@ -135,6 +135,11 @@ fn is_claim(entry: &Entry) -> bool
 {
     match entry.request {
         Request::Claim => true,
-        _ => false,
+        Request::Move(_)
+        | Request::Gift(..)
+        | Request::Join(..)
+        | Request::Look
+        | Request::Judge(_)
+        | Request::Rank(..) => false,
     }
 }

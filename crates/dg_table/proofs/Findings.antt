@@ -4,6 +4,7 @@
 --   look_kept        what is kept of the last look, with an entry that is no look
 --   look_seen        what is kept of a look, once it is the last entry of a seat
 --   look_of          what is kept of the last of entries, where that is a look
+--   look_asked       who is shown a position has asked for a look
 --   looked_vertices  a right reply to a look shows the vertices of the start
 --   stale_both       the reply to a finding on an entry is stale just where a gift was accepted after it
 --   carried_over     where none was, the finding is carried to the position now
@@ -15,11 +16,13 @@ use Rattle.std.proofs.lemmas.Option.{same_Some}
 use Rattle.std.proofs.lemmas.List.Elements.{filter-append}
 use Rattle.dg_theory.specs.Multigraph.{Multigraph}
 use Rattle.dg_chips.specs.Opening.{Opening}
+use Rattle.dg_chips.specs.Vector.{Vector}
 use Rattle.dg_game.specs.History.{position_after, gifts_in}
 use Rattle.dg_game.specs.Legal.{IsLegal}
 use Rattle.dg_game.specs.Look.{IsLookAt, asked_for, KeepsFinding}
 use Rattle.dg_game.specs.Replies.{Replies}
 use Rattle.dg_game.specs.declared.entry.Entry.{Entry}
+use Rattle.dg_game.specs.declared.entry.Request.{Request}
 use Rattle.dg_game.specs.declared.entry.Request.TheVariants.{Look}
 use Rattle.dg_game.specs.declared.entry.Reply.{Reply}
 use Rattle.dg_game.specs.declared.entry.Reply.TheVariants.{Looked, Verdict, Rank as RankReply, Stale}
@@ -65,6 +68,11 @@ pub look_of : (ps : List (ℕ × Entry)) (p : ℕ × Entry) (x : LookData) → p
     IsLastLook (ps ++ p ∷ []) (Some x) → IsLookOf p x
 look_of ps p x look (q, last, of) =
     subst (λ (r : ℕ × Entry). IsLookOf r x) (same_Some q p (sym last ∙ last_after ps p look)) of
+
+pub look_asked : (o : Opening) (H : List Entry) (request : Request) (n : ℕ) (d : Vector) (g : Multigraph) →
+    Replies o H request (Looked n d g) → request ≡ Look
+look_asked o H Look n d g right = refl
+look_asked o H request n d g right = absurd right
 
 pub looked_vertices : (o : Opening) (H : List Entry) (x : LookData) →
     Replies o H Look (Looked x.gifts x.position x.graph) →

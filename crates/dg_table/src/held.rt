@@ -23,7 +23,7 @@ use crate::audit::Audit;
 use crate::fault::Fault;
 use crate::seat::Seat;
 use dg_chips::{Divisor, Move, Start};
-use dg_game::{Entry, Finding, Game, LookData, Plain, Reply, Request};
+use dg_game::{Entry, Finding, Game, LookData, Plain, Reply};
 use dg_graph::Graph;
 use dg_log::{Log, Name, Pen, Receipt};
 use std::marker::Model;
@@ -353,8 +353,8 @@ fn keep_look(look: &mut Option<LookData>, game: &Game, entry: &Entry)
         LeadsTo o H game.now → Replies o H entry.now.request entry.now.reply →
         IsKeptLook o ps look.old → IsKeptLook o (ps ++ (length H, entry.now) ∷ []) look.new }
 {
-    match (&entry.request, &entry.reply) {
-        (Request::Look, Reply::Looked(gifts, position, graph)) => {
+    match &entry.reply {
+        Reply::Looked(gifts, position, graph) => {
             *look = Some(LookData {
                 gifts: *gifts,
                 position: *position,
@@ -362,7 +362,15 @@ fn keep_look(look: &mut Option<LookData>, game: &Game, entry: &Entry)
                 ..game.look_data()
             });
         }
-        _ => {}
+        Reply::Moved(_)
+        | Reply::Given(..)
+        | Reply::Joined(..)
+        | Reply::Verdict(_)
+        | Reply::Rank(_)
+        | Reply::Stale(_)
+        | Reply::Won
+        | Reply::NotWon
+        | Reply::Refused(_) => {}
     }
 }
 

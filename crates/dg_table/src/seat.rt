@@ -7,17 +7,10 @@ ghost use Rattle.dg_table.specs.Looks.{HasVertices, IsLastLook};
 ghost use Rattle.dg_table.specs.Opened.{MayHaveSeats, AreFresh};
 ghost use Rattle.dg_table.specs.Seats.{Keeps, Meets};
 
-use dg_game::{Entry, LookData, Reply, Request};
+use dg_game::{BLANK, Entry, LookData};
 use dg_log::{Digest, Log, Name, Past, Receipt, Seating};
 use std::alloc::{AllocError, Global};
 use std::marker::{Model, PhantomData};
-
-/// What is in the box of an entry before it is answered.
-const BLANK: Entry = Entry {
-    seat: 0,
-    request: Request::Look,
-    reply: Reply::Won,
-};
 
 /// A seat of the table N: the receipts of its own calls, and of the entries that it was told of, the history as it found it at
 /// its last call, and the longest history that it has met. A contract sees its number, these entries with their numbers, these

@@ -1,6 +1,5 @@
 //! Schedules that are read, played and printed line by line: neither the steps nor the history are kept.
 ghost use Rattle.std.specs.Prelude.{IfOk, IfErr};
-ghost use Rattle.dg_game.specs.declared.step.Command.TheVariants.{Call};
 ghost use Rattle.dg_lines.specs.Cuts.{lines};
 ghost use Rattle.dg_tasks.specs.Rehearsals.{IsPrinted, MayGoOn, GoesOn};
 ghost use Rattle.dg_tasks.specs.Refusals.{RefusesSchedule};
@@ -8,8 +7,8 @@ ghost use Rattle.dg_tasks.specs.Refusals.{RefusesSchedule};
 use crate::fault::TaskFault;
 use dg_beside::Shortage;
 use dg_file::TableFile;
-use dg_game::{Command, Plain, Step};
-use dg_lines::{Lines, parse_step, push_entry, push_outcome};
+use dg_game::{BLANK, Entry, Step};
+use dg_lines::{Lines, parse_step, push_entry};
 use dg_names::Names;
 use dg_rehearsal::{Rehearsal, RehearseFault};
 use std::alloc::Global;
@@ -28,6 +27,7 @@ pub fn rehearsal(alloc: Global, table: &TableFile, steps: &[u8]) -> Result<Vec<u
 {
     let names = table.names();
     let mut rehearsal = Rehearsal::new(table.start());
+    let mut entry = BLANK;
     let mut text = Vec::new(alloc);
     let mut stopped = None;
     let mut line = 0;
@@ -38,7 +38,7 @@ pub fn rehearsal(alloc: Global, table: &TableFile, steps: &[u8]) -> Result<Vec<u
             Err(fault) => return Err(TaskFault::Line { line, fault }),
         };
         if stopped.is_none() {
-            match play_on(&mut rehearsal, &mut text, names, &step) {
+            match play_on(&mut rehearsal, &mut entry, &mut text, names, &step) {
                 Ok(()) => {}
                 Err(fault) => stopped = Some(fault),
             }
@@ -56,26 +56,10 @@ pub fn rehearsal(alloc: Global, table: &TableFile, steps: &[u8]) -> Result<Vec<u
     }
 }
 
-/// Plays the next step, and writes the line of its entry; or why it can't be played.
+/// Plays the next step, and writes the line of its entry; or why it can't be played. The entry is written where it is lent.
 fn play_on(
     rehearsal: &mut Rehearsal,
-    text: &mut Vec<u8>,
-    names: &Names,
-    step: &Step,
-) -> Result<(), RehearseFault>
-    requires { MayGoOn names.now rehearsal.old text.old.items }
-    ensures { GoesOn names.now step.now rehearsal.old text.old.items rehearsal.new text.new.items result }
-{
-    match &step.command {
-        Command::Call(plain) => call_on(rehearsal, text, names, step.seat, plain),
-        _ => enter_on(rehearsal, text, names, step),
-    }
-}
-
-/// The same for any step. It stands apart for its entry, which need not be cleared where a call is told in few words.
-#[inline(never)]
-fn enter_on(
-    rehearsal: &mut Rehearsal,
+    entry: &mut Entry,
     text: &mut Vec<u8>,
     names: &Names,
     step: &Step,
@@ -84,34 +68,11 @@ fn enter_on(
     ensures { GoesOn names.now step.now rehearsal.old text.old.items rehearsal.new text.new.items result }
 {
     let number = rehearsal.game.entries() as usize;
-    match &rehearsal.play(step) {
-        Ok(entry) => match push_entry(text, number, &entry.reply, names) {
+    match rehearsal.play(step, entry) {
+        Ok(()) => match push_entry(text, number, &entry.reply, names) {
             Ok(()) => Ok(()),
             Err(_) => Err(RehearseFault::OutOfMemory),
         },
-        Err(fault) => Err(*fault),
-    }
-}
-
-/// Plays a call as the next step, and writes the line of its entry; or why it can't be played.
-fn call_on(
-    rehearsal: &mut Rehearsal,
-    text: &mut Vec<u8>,
-    names: &Names,
-    seat: u8,
-    plain: &Plain,
-) -> Result<(), RehearseFault>
-    requires { MayGoOn names.now rehearsal.old text.old.items }
-    ensures { GoesOn names.now (record { seat = seat; command = Call plain.now })
-        rehearsal.old text.old.items rehearsal.new text.new.items result }
-{
-    let number = rehearsal.game.entries() as usize;
-    let outcome = match rehearsal.call(seat, plain) {
-        Ok(outcome) => outcome,
-        Err(fault) => return Err(fault),
-    };
-    match push_outcome(text, number, outcome, &rehearsal.game, names) {
-        Ok(()) => Ok(()),
-        Err(_) => Err(RehearseFault::OutOfMemory),
+        Err(fault) => Err(fault),
     }
 }

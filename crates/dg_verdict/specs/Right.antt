@@ -1,8 +1,10 @@
 -- Right verdicts. A verdict tells whether a divisor is winnable, with what shows it: a script, the
 -- reduced divisor to which the script leads, and an order in which all vertices burn.
---   IsRight g q D x == the script is 0 at q and leads from D to a divisor that is reduced for q;
---                      the first vertices of the order show that it is; and the verdict says
---                      winnable exactly where D is
+--   IsRight g q D x     == the script is 0 at q and leads from D to a divisor that is reduced for
+--                          q; the first vertices of the order show that it is; and the verdict
+--                          says winnable exactly where D is
+--   IsVerdictOn g q D x == x is the verdict that is reckoned on D: it is right, and its order is
+--                          that in which the least vertex burns first
 use Rattle.std.specs.Prelude.{◌≡◌, ℕ, ◌↔◌, true, take, pos}
 use Rattle.dg_theory.specs.Multigraph.{Multigraph}
 use Rattle.dg_theory.specs.Firing.{Amounts, FiresTo}
@@ -10,6 +12,7 @@ use Rattle.dg_theory.specs.Play.{IsWinnable}
 use Rattle.dg_theory.specs.Reduced.{IsReduced}
 use Rattle.dg_theory.specs.Burning.{BurnsAll}
 use Rattle.dg_chips.specs.Vector.{at}
+use Rattle.dg_reduce.specs.Reductions.{IsBurningOrder}
 use Rattle.dg_verdict.specs.declared.verdict.Verdict.{Verdict}
 
 pub record IsRight (g : Multigraph) (q : ℕ) (D : Amounts) (x : Verdict) : Type 0 where
@@ -20,3 +23,7 @@ pub record IsRight (g : Multigraph) (q : ℕ) (D : Amounts) (x : Verdict) : Type
   pub reduced : IsReduced g q (at x.reduced)
   pub order : BurnsAll g q (at x.reduced) (take g.size x.order)
   pub winnable : (x.winnable ≡ true) ↔ IsWinnable g D
+
+pub record IsVerdictOn (g : Multigraph) (q : ℕ) (D : Amounts) (x : Verdict) : Type 0 where
+  pub right : IsRight g q D x
+  pub order : IsBurningOrder g q (at x.reduced) x.order

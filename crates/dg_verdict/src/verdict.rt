@@ -1,13 +1,11 @@
 //! Verdicts, and how they are made.
 
-ghost use Rattle.std.specs.Prelude.{◌≡◌, ℕ, ◌<◌, ◌≤◌, take, pos};
-ghost use Rattle.std.specs.List.{slice_index_or};
-ghost use Rattle.dg_theory.specs.Burning.{BurnsInOrder};
+ghost use Rattle.std.specs.Prelude.{◌≡◌, ◌<◌, pos};
 ghost use Rattle.dg_chips.specs.Vector.{at};
-ghost use Rattle.dg_verdict.specs.Right.{IsRight};
+ghost use Rattle.dg_verdict.specs.Right.{IsVerdictOn};
 
 use dg_chips::{Divisor, Script, Wide};
-use dg_graph::{Graph, MAX_VERTICES};
+use dg_graph::Graph;
 use dg_reduce::{Aim, certified_by, guess, order_by};
 
 /// Whether a divisor is winnable, with what shows it.
@@ -28,11 +26,7 @@ pub struct Verdict {
 pub fn judge(graph: &Graph, q: usize, divisor: &Divisor) -> Verdict
     requires size { divisor.now.size ≡ graph.now.size }
     requires vertex { q < graph.now.size }
-    ensures right { IsRight graph.now q (at divisor.now) result }
-    ensures order { BurnsInOrder graph.now q (at result.reduced)
-        (take graph.now.size result.order) }
-    ensures rest { (i : ℕ) → graph.now.size ≤ i → i < MAX_VERTICES →
-        slice_index_or result.order i 0 ≡ 0 }
+    ensures { IsVerdictOn graph.now q (at divisor.now) result }
 {
     judge_by(graph, &Aim::new(graph, q), q, divisor)
 }
@@ -42,11 +36,7 @@ pub fn judge(graph: &Graph, q: usize, divisor: &Divisor) -> Verdict
 pub fn judge_aimed(graph: &Graph, aim: &Aim, q: usize, divisor: &Divisor) -> Verdict
     requires size { divisor.now.size ≡ graph.now.size }
     requires vertex { q < graph.now.size }
-    ensures right { IsRight graph.now q (at divisor.now) result }
-    ensures order { BurnsInOrder graph.now q (at result.reduced)
-        (take graph.now.size result.order) }
-    ensures rest { (i : ℕ) → graph.now.size ≤ i → i < MAX_VERTICES →
-        slice_index_or result.order i 0 ≡ 0 }
+    ensures { IsVerdictOn graph.now q (at divisor.now) result }
 {
     if aim.may_serve(graph, q) {
         judge_by(graph, aim, q, divisor)
@@ -59,11 +49,7 @@ pub fn judge_aimed(graph: &Graph, aim: &Aim, q: usize, divisor: &Divisor) -> Ver
 fn judge_by(graph: &Graph, aim: &Aim, q: usize, divisor: &Divisor) -> Verdict
     requires size { divisor.now.size ≡ graph.now.size }
     requires vertex { q < graph.now.size }
-    ensures right { IsRight graph.now q (at divisor.now) result }
-    ensures order { BurnsInOrder graph.now q (at result.reduced)
-        (take graph.now.size result.order) }
-    ensures rest { (i : ℕ) → graph.now.size ≤ i → i < MAX_VERTICES →
-        slice_index_or result.order i 0 ≡ 0 }
+    ensures { IsVerdictOn graph.now q (at divisor.now) result }
 {
     // The clauses of `size` say that graph and divisor are within their limits.
     let _size = graph.size();
@@ -90,11 +76,7 @@ fn judge_after(graph: &Graph, q: usize, divisor: &Divisor, script: &Script) -> V
     requires vertex { q < graph.now.size }
     requires script { script.now.size ≡ graph.now.size }
     requires start { at script.now q ≡ pos 0 }
-    ensures right { IsRight graph.now q (at divisor.now) result }
-    ensures order { BurnsInOrder graph.now q (at result.reduced)
-        (take graph.now.size result.order) }
-    ensures rest { (i : ℕ) → graph.now.size ≤ i → i < MAX_VERTICES →
-        slice_index_or result.order i 0 ≡ 0 }
+    ensures { IsVerdictOn graph.now q (at divisor.now) result }
 {
     let _size = graph.size();
     let _amounts = divisor.size();

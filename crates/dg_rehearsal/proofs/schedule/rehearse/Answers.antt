@@ -13,14 +13,14 @@ loop-step-init g c =
       playing = rw empty (c.new-rehearsal.ensures c.args.steps.now);
     }
 
-pub returns-in_err-entry : goal.returns-in_err-entry
-returns-in_err-entry g c =
+pub returns-in_err-play : goal.returns-in_err-play
+returns-in_err-play g c =
     let within : c.loop-step.step-index < length c.args.steps.now = omega arith in
     let read : slice_get c.args.steps.now c.loop-step.step-index ≡ Some c.step-item.result =
     slice_get_read c.args.steps.now
     (length c.args.steps.now) c.loop-step.step-index c.step-item.result refl within c.step-item.is in
     told_err c.from_residual.result _ _ _ (c.from_residual.ensures.1)
-    (c.in_err-entry.ensures.plays.1 c.args.start.now c.loop-step.history.items c.args.steps.now
+    (c.in_err-play.ensures.plays.1 c.args.start.now c.loop-step.history.items c.args.steps.now
     c.loop-step.invariant.playing
     (ap (slice_get c.args.steps.now) c.loop-step.invariant.played ∙ read))
 
@@ -30,7 +30,7 @@ unwrap-requires g c =
     let read : slice_get c.args.steps.now c.loop-step.step-index ≡ Some c.step-item.result =
     slice_get_read c.args.steps.now
     (length c.args.steps.now) c.loop-step.step-index c.step-item.result refl within c.step-item.is in
-    let (below, playing) = c.in_ok-entry.ensures.plays in
+    let (below, playing) = c.in_ok-play.ensures.plays in
     c.push.ensures.succeeds
     (omega (
       arith,
@@ -43,20 +43,20 @@ unwrap-requires g c =
 
 pub loop-step-preserved : goal.loop-step-preserved
 loop-step-preserved g c =
-    let items : c.push.new.self.items ≡ c.loop-step.history.items ++ c.in_ok-entry.entry ∷ [] =
+    let items : c.push.new.self.items ≡ c.loop-step.history.items ++ c.play.new.entry ∷ [] =
     rw c.unwrap.ensures at c.push.ensures.items in
     let within : c.loop-step.step-index < length c.args.steps.now = omega arith in
     let read : slice_get c.args.steps.now c.loop-step.step-index ≡ Some c.step-item.result =
     slice_get_read c.args.steps.now
     (length c.args.steps.now) c.loop-step.step-index c.step-item.result refl within c.step-item.is in
-    let (below, plays) = c.in_ok-entry.ensures.plays in
+    let (below, plays) = c.in_ok-play.ensures.plays in
     record {
       room = omega (arith, c.push.ensures.capacity, c.loop-step.invariant.room);
       few = omega (arith, below, c.loop-step.invariant.playing.leads.entries, c.loop-step.invariant.played);
       played = ap length items
           ∙ omega (
             arith,
-            length-append c.loop-step.history.items (c.in_ok-entry.entry ∷ []),
+            length-append c.loop-step.history.items (c.play.new.entry ∷ []),
             c.loop-step.invariant.played,
           );
       playing = rw items (plays c.args.start.now c.loop-step.history.items c.args.steps.now

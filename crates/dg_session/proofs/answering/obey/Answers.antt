@@ -6,5 +6,5 @@ use Rattle.dg_session.proofs.answering.obey.Goals as goal
 pub returns-in-Look : goal.returns-in-Look
 returns-in-Look g c = at_command (c.in-Call.is ∙ ap Call c.in-Look.is) c.take_look.ensures
 
-pub returns-in_default : goal.returns-in_default
-returns-in_default g c = at_command c.in-Call.is c.call.ensures
+pub returns-in-Move : goal.returns-in-Move
+returns-in-Move g c = at_command c.in-Call.is c.call.ensures

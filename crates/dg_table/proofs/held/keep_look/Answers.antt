@@ -3,14 +3,15 @@ use Rattle.dg_game.specs.Replies.{Replies}
 use Rattle.dg_game.specs.declared.entry.Request.TheVariants.{Look}
 use Rattle.dg_game.specs.declared.entry.Reply.TheVariants.{Looked}
 use Rattle.dg_game.specs.declared.look.LookData.{LookData}
-use Rattle.dg_table.proofs.Findings.{look_seen, looked_vertices}
+use Rattle.dg_table.proofs.Findings.{look_asked, look_seen, looked_vertices}
 use Rattle.dg_table.proofs.held.keep_look.Goals as goal
 
-pub returns-in-Look-Looked : goal.returns-in-Look-Looked
-returns-in-Look-Looked c = λ o H ps leads replies kept.
-    let looked = c.in-Look-Looked in
-    let shown : Replies o H Look (Looked looked.gifts looked.position looked.graph) =
-    rw (looked.is-0, looked.is-1) at replies in
+pub returns-in-Looked : goal.returns-in-Looked
+returns-in-Looked c = λ o H ps leads replies kept.
+    let looked = c.in-Looked in
+    let told = rw looked.is at replies in
+    let asked = look_asked o H c.args.entry.now.request looked.gifts looked.position looked.graph told in
+    let shown : Replies o H Look (Looked looked.gifts looked.position looked.graph) = rw asked at told in
     let number : c.look_data.result.number ≡ length H = c.look_data.ensures.number ∙ leads.entries in
     let seen : LookData = record {
       number = c.look_data.result.number;
@@ -20,5 +21,5 @@ returns-in-Look-Looked c = λ o H ps leads replies kept.
       drift = c.look_data.result.drift;
     } in
     look_seen o ps (length H, c.args.entry.now) seen
-    (record { look = looked.is-0; shown = looked.is-1; number = number })
+    (record { look = asked; shown = looked.is; number = number })
     (looked_vertices o H seen shown)

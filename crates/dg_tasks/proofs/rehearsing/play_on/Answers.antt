@@ -1,18 +1,35 @@
-use Rattle.std.proofs.Common.{◌≡◌, [], ◌∷◌, ◌++◌, ap, sym, subst}
-use Rattle.std.proofs.lemmas.Result.{MatchResult-weaker}
-use Rattle.dg_game.specs.declared.step.Command.{Command}
-use Rattle.dg_game.specs.declared.step.Command.TheVariants.{Call}
+use Rattle.std.proofs.Common.{List, [], ◌∷◌, ◌++◌, length}
+use Rattle.dg_game.specs.declared.entry.Entry.{Entry}
 use Rattle.dg_game.specs.declared.step.Step.{Step}
-use Rattle.dg_tasks.specs.Rehearsals.{IsPlayed, IsStopped}
+use Rattle.dg_game.proofs.ListLaws.{slice_get-seam}
+use Rattle.dg_lines.proofs.Printing.{legal_named}
+use Rattle.dg_tasks.proofs.UnderWay.{played_more, stopped_at, next_is}
 use Rattle.dg_tasks.proofs.rehearsing.play_on.Goals as goal
 
-pub returns-in-Call : goal.returns-in-Call
-returns-in-Call c =
-    let step : Step = record { seat = c.args.step.now.seat; command = Call c.in-Call.plain } in
-    let same : step ≡ c.args.step.now =
-    ap (λ (k : Command). record { seat = c.args.step.now.seat; command = k }) (sym c.in-Call.is) in
-    MatchResult-weaker c.call_on.result c.call_on.ensures
-    (λ x goes o steps known.
-    subst (λ (s : Step). IsPlayed o c.args.names.now (steps ++ s ∷ []) c.call_on.new.rehearsal c.call_on.new.text.items)
-    same (goes o steps known))
-    (λ fault told o steps known. subst (λ (s : Step). IsStopped o (steps ++ s ∷ []) fault) same (told o steps known))
+pub play-requires : goal.play-requires
+play-requires c =
+    let (o, steps, fit, known) = c.requires in
+    (o, known.history, steps ++ [], known.playing [])
+
+pub returns-in-Err : goal.returns-in-Err
+returns-in-Err c = λ o steps known.
+    stopped_at o c.args.names.now steps c.args.step.now c.args.rehearsal.now c.args.text.now.items c.in-Err.fault
+    c.in-Err.ensures.plays known
+
+pub push_entry-requires : goal.push_entry-requires
+push_entry-requires c =
+    let (o, steps, fit, known) = c.requires in
+    let H : List Entry = known.history in
+    let e : Entry = c.play.new.entry in
+    let (room, plays) = c.in-Ok.ensures.plays in
+    let all : List Step = steps ++ c.args.step.now ∷ [] in
+    let more = plays o H all (known.playing (c.args.step.now ∷ []))
+    (next_is steps [] c.args.step.now (length H) known.count) in
+    legal_named c.args.names.now o (H ++ e ∷ []) fit more.legal (length H) e (slice_get-seam H e [])
+
+pub returns-in-Ok-push_entry : goal.returns-in-Ok-push_entry
+returns-in-Ok-push_entry c = λ o steps known.
+    let (room, plays) = c.in-Ok.ensures.plays in
+    played_more o c.args.names.now steps c.args.step.now c.play.new.entry c.args.rehearsal.now c.play.new.self
+    c.args.text.now.items
+    c.push_entry.new.text.items _ plays room c.entries-number.ensures.entries c.in-Ok-push_entry.ensures known

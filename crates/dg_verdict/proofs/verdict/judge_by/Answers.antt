@@ -8,14 +8,17 @@ use Rattle.dg_verdict.proofs.Verdicts.{is_right}
 use Rattle.dg_verdict.proofs.verdict.judge_by.Goals as goal
 
 -- the script leads from the amounts of the divisor themselves
-pub returns-clause-right : goal.returns-clause-right
-returns-clause-right c =
-    is_right c.args.graph.now c.args.q (at c.args.divisor.now) _ c.requires.vertex
-    c.guess-guess.ensures.size c.fired_by-reduced.ensures.size c.guess-guess.ensures.at_q
-    (λ v inside. c.fired_by-reduced.ensures.amounts v inside
-    ∙ ap (λ (z : ℤ). z +ℤ gain c.args.graph.now (at c.guess-guess.result.script) v)
-    (c.of-chips.ensures.amounts v (omega (arith, c.requires.size))))
-    c.in-Some.ensures.0 c.in-Some.ensures.1.burns (
-      λ told. omega (arith, ints),
-      λ (paid : pos 0 ≤ℤ at c.fired_by-reduced.result c.args.q). sym (omega (arith, ints)),
-    )
+pub returns : goal.returns
+returns c = record {
+  right =
+      is_right c.args.graph.now c.args.q (at c.args.divisor.now) _ c.requires.vertex
+      c.guess-guess.ensures.size c.fired_by-reduced.ensures.size c.guess-guess.ensures.at_q
+      (λ v inside. c.fired_by-reduced.ensures.amounts v inside
+      ∙ ap (λ (z : ℤ). z +ℤ gain c.args.graph.now (at c.guess-guess.result.script) v)
+      (c.of-chips.ensures.amounts v (omega (arith, c.requires.size))))
+      c.in-Some.ensures.0 c.in-Some.ensures.1.burns (
+        λ told. omega (arith, ints),
+        λ (paid : pos 0 ≤ℤ at c.fired_by-reduced.result c.args.q). sym (omega (arith, ints)),
+      );
+  order = c.in-Some.ensures.1;
+}

@@ -1,11 +1,12 @@
-use Rattle.std.proofs.Common.{sym}
-use Rattle.dg_game.proofs.StateLaws.{leads_more}
-use Rattle.dg_game.proofs.LookLaws.{settled_next}
+use Rattle.dg_game.proofs.StateLaws.{right_in, leads_more}
 use Rattle.dg_game.proofs.game.Game.settle.Goals as goal
+
+pub follow-requires-clause-right : goal.follow-requires-clause-right
+follow-requires-clause-right c =
+    let (o, H, leads, look) = c.requires.look in
+    rw c.request-entry.ensures (right_in o H c.args.self.now _ _ leads (c.answer_finding.ensures.replies o H leads look))
 
 pub returns-clause-leads : goal.returns-clause-leads
 returns-clause-leads c = λ o H seat leads look.
-    let right = c.answer_finding.ensures.replies o H leads look in
-    leads_more o H c.args.self.now _ _ leads right
-    (rw (sym c.self.view_is)
-    (settled_next o H _ c.args.look.now.number c.args.finding.now c.answer_finding.new.reply right))
+    leads_more o H c.args.self.now _ _ leads (c.answer_finding.ensures.replies o H leads look)
+    (rw c.request-entry.ensures at c.follow.ensures.next)

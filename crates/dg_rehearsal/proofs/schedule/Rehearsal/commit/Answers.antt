@@ -14,16 +14,16 @@ judge_look_aimed-finding-requires-clause-vertex c =
     let (kept, look) = c.in-Some.ensures o H steps playing in
     rw (look_vertices o H _ _ playing.leads look) c.q.ensures.vertex
 
-pub enter-entry-requires-clause-playing : goal.enter-entry-requires-clause-playing
-enter-entry-requires-clause-playing c =
+pub enter-requires-clause-playing : goal.enter-requires-clause-playing
+enter-requires-clause-playing c =
     let (o, H, steps, playing) = c.requires.playing in
     (o, H, steps, playing, c.in-Some.ensures o H steps playing)
 
-pub enter-entry-requires-clause-found : goal.enter-entry-requires-clause-found
-enter-entry-requires-clause-found c = rw c.q.ensures.q at c.judge_look_aimed-finding.ensures.found
+pub enter-requires-clause-found : goal.enter-requires-clause-found
+enter-requires-clause-found c = rw c.q.ensures.q at c.judge_look_aimed-finding.ensures.found
 
 pub returns-clause-plays : goal.returns-clause-plays
 returns-clause-plays c = λ o H steps playing there.
     let keeps = c.in-Some.ensures o H steps playing in
-    c.enter-entry.ensures o H steps Commit playing keeps there tt tt
+    c.enter.ensures o H steps Commit playing keeps there tt tt
     (c.in-Some.look.number, keeps.0, c.judge_look_aimed-finding.ensures.asks c.in-Some.look.number)

@@ -1,17 +1,25 @@
 use Rattle.std.proofs.Common.{None, refl, ap, set}
+use Rattle.dg_game.proofs.StateLaws.{right_in, leads_more}
 use Rattle.dg_rehearsal.proofs.RehearsalLaws.{entered}
 use Rattle.dg_rehearsal.proofs.schedule.Rehearsal.enter.Goals as goal
 
-pub settle-reply-requires-clause-look : goal.settle-reply-requires-clause-look
-settle-reply-requires-clause-look c =
+pub answer_finding-requires-clause-look : goal.answer_finding-requires-clause-look
+answer_finding-requires-clause-look c =
     let (o, H, steps, playing, keeps) = c.requires.playing in
     (o, H, playing.leads, keeps.1)
 
+pub follow-requires-clause-right : goal.follow-requires-clause-right
+follow-requires-clause-right c =
+    let (o, H, steps, playing, keeps) = c.requires.playing in
+    rw c.request-entry.ensures
+    (right_in o H c.args.self.now.game _ _ playing.leads (c.answer_finding.ensures.replies o H playing.leads keeps.1))
+
 pub returns : goal.returns
 returns c = λ o H steps command playing keeps there up trials asks.
-    rw c.request.ensures
-    (entered o H steps c.args.self.now _ c.args.seat command c.args.look.now c.args.finding.now c.settle-reply.result
+    let replies = c.answer_finding.ensures.replies o H playing.leads keeps.1 in
+    rw c.request-entry.ensures
+    (entered o H steps c.args.self.now _ c.args.seat command c.args.look.now c.args.finding.now _
     playing there c.requires.seat keeps up trials asks
-    (c.settle-reply.ensures.legal o H c.args.seat playing.leads keeps.1 playing.legal c.requires.seat)
-    (c.settle-reply.ensures.leads o H c.args.seat playing.leads keeps.1) refl
+    (c.answer_finding.ensures.legal o H c.args.seat playing.leads keeps.1 playing.legal c.requires.seat)
+    (leads_more o H _ _ _ playing.leads replies (rw c.request-entry.ensures at c.follow.ensures.next)) refl
     (ap (λ i. set c.args.self.now.looks i None) c.from.ensures))

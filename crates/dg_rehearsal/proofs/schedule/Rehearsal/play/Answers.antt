@@ -15,7 +15,7 @@ returns-in-Call-clause-plays c =
           let step : slice_get steps (length H)
           ≡ Some (record { seat = c.args.step.now.seat; command = Call c.in-Call.plain }) =
           there ∙ ap (λ (k : Command). Some (record { seat = c.args.step.now.seat; command = k })) c.in-Call.is in
-          rw (c.request.ensures, c.reply.ensures) (c.take-outcome.ensures o H steps playing step),
+          c.call.ensures o H steps playing step,
     )
 
 pub returns-in-Commit-clause-plays : goal.returns-in-Commit-clause-plays

@@ -18,13 +18,13 @@ rank_look-requires-clause-vertex c =
     let (kept, look) = c.in-Some.ensures o H steps playing in
     rw (look_vertices o H _ _ playing.leads look) c.q.ensures.vertex
 
-pub enter-entry-requires-clause-playing : goal.enter-entry-requires-clause-playing
-enter-entry-requires-clause-playing c =
+pub enter-requires-clause-playing : goal.enter-requires-clause-playing
+enter-requires-clause-playing c =
     let (o, H, steps, playing) = c.requires.playing in
     (o, H, steps, playing, c.in-Some.ensures o H steps playing)
 
-pub enter-entry-requires-clause-found : goal.enter-entry-requires-clause-found
-enter-entry-requires-clause-found c = let (within, found, asks) = c.in-Ok.ensures in rw c.q.ensures.q at found
+pub enter-requires-clause-found : goal.enter-requires-clause-found
+enter-requires-clause-found c = let (within, found, asks) = c.in-Ok.ensures in rw c.q.ensures.q at found
 
 pub returns-in_default-rank_look-clause-plays : goal.returns-in_default-rank_look-clause-plays
 returns-in_default-rank_look-clause-plays c = (
@@ -48,5 +48,5 @@ returns-clause-plays c = λ o H steps playing there.
     let size : c.in-Some.look.graph.size ≡ o.graph.size =
     look_vertices o H _ _ playing.leads keeps.1 ∙ ap (λ (g : Multigraph). g.size) playing.leads.graph
     ∙ vertices_stay o H in
-    c.enter-entry.ensures o H steps (Rank c.args.k) playing keeps there tt (rw size at within)
+    c.enter.ensures o H steps (Rank c.args.k) playing keeps there tt (rw size at within)
     (c.in-Some.look.number, keeps.0, asks c.in-Some.look.number)

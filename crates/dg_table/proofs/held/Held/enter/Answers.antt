@@ -2,6 +2,7 @@ use Rattle.std.proofs.Common.{◌≡◌, ℕ, [], ◌∷◌, ◌++◌, length, a
 use Rattle.dg_game.specs.Replies.{Replies}
 use Rattle.dg_game.specs.State.{LeadsTo}
 use Rattle.dg_game.specs.declared.entry.Entry.{Entry}
+use Rattle.dg_game.proofs.StateLaws.{right_in}
 use Rattle.dg_log.specs.Written.{Written}
 use Rattle.dg_table.specs.Histories.{IsHistoryOf}
 use Rattle.dg_table.specs.Lock.{IsKeptLook}
@@ -14,7 +15,7 @@ follow-requires-clause-right g c =
     let e : Entry = c.args.slot.value in
     let replies = rw (← c.self.view_is) at c.requires.replies in
     let entry : c.entry-entry.result.now ≡ e = c.entry-entry.ensures ∙ ap (λ (r : ℕ × Entry). r.1) c.in-Ok.ensures.0 in
-    (g.N.Name.start, c.self.inside.pen.entries, c.self.invariant.0.game', rw entry replies)
+    right_in g.N.Name.start c.self.inside.pen.entries c.self.inside.game _ _ c.self.invariant.0.game' (rw entry replies)
 
 pub invariant_of-self-2 : goal.invariant_of-self-2
 invariant_of-self-2 g c =

@@ -2,13 +2,15 @@ use Rattle.std.proofs.Common.{◌≡◌, ℕ, ◌<◌, arith, sym, ap, subst, �
 use Rattle.dg_theory.specs.Multigraph.{Multigraph}
 use Rattle.dg_theory.proofs.JoinLaws.{size_stays}
 use Rattle.dg_game.specs.State.{State}
-use Rattle.dg_game.proofs.game.Game.join.Goals as goal
+use Rattle.dg_game.proofs.game.Game.follow_now.Goals as goal
 
-pub invariant_of-self-2 : goal.invariant_of-self-2
-invariant_of-self-2 c =
+pub invariant_of-self-in-Joined : goal.invariant_of-self-in-Joined
+invariant_of-self-in-Joined c =
     let (is, graph, joinable) = c.in-Ok.ensures in
-    let size : c.in-Ok.graph.size ≡ c.self.inside.graph.size =
-    ap (λ (g : Multigraph). g.size) is ∙ size_stays c.self.inside.graph c.args.u c.args.v in
+    let (before, right) = c.requires.right in
+    let right' = rw (c.in-Join.is, c.in-Joined.is) at right in
+    let size : c.in-Ok.joined.size ≡ c.self.inside.graph.size =
+    ap (λ (g : Multigraph). g.size) is ∙ size_stays c.self.inside.graph c.in-Join.u c.in-Join.v in
     record {
       graph = graph;
       vertex = omega (arith, size, c.self.invariant.vertex);
@@ -17,6 +19,6 @@ invariant_of-self-2 c =
       drift_limit = λ v below.
           let inside : v < c.self.inside.graph.size = subst (λ (n : ℕ). v < n) size below in
           omega (arith, c.self.invariant.drift_limit v inside);
-      gifts = omega (arith, c.self.invariant.gifts);
-      entries = omega (arith, c.requires, ap (λ (s : State). s.entries) c.self.view_is);
+      gifts = omega (arith, right'.count', c.self.invariant.gifts, ap (λ (s : State). s.gifts) c.self.view_is);
+      entries = omega (arith, c.requires.room, ap (λ (s : State). s.entries) c.self.view_is);
     }

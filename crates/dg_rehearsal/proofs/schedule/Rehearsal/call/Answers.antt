@@ -1,22 +1,25 @@
-use Rattle.std.proofs.Common.{◌≡◌, length, length-set, ap, sym, subst, ◌∙◌}
+use Rattle.std.proofs.Common.{◌≡◌, ℕ, length, length-set, ap, sym, subst, ◌∙◌}
 use Rattle.dg_game.specs.State.{State, LeadsTo}
 use Rattle.dg_rehearsal.specs.declared.schedule.Rehearsal.{Rehearsal}
-use Rattle.dg_game.proofs.LegalLaws.{legal_more, back_asked}
-use Rattle.dg_game.proofs.StateLaws.{replies_after, leads_more}
+use Rattle.dg_game.proofs.StateLaws.{leads_more}
 use Rattle.dg_rehearsal.proofs.RehearsalLaws.{called, looks_looked, looks_left}
-use Rattle.dg_rehearsal.proofs.schedule.Rehearsal.take.Goals as goal
-use Rattle.dg_rehearsal.proofs.schedule.Rehearsal.take.Goals.{in-Look, in_default}
+use Rattle.dg_rehearsal.proofs.schedule.Rehearsal.call.Goals as goal
+use Rattle.dg_rehearsal.proofs.schedule.Rehearsal.call.Goals.{in-Look, in_default}
+
+pub follow-requires-clause-right : goal.follow-requires-clause-right
+follow-requires-clause-right c =
+    let before : ℕ → ℕ = λ i. 0 in
+    rw c.ask.ensures (before, c.answer.ensures.here before)
 
 pub returns : goal.returns
-returns c = λ o H steps playing there. elim c.match-plain.branch [
+returns c = λ o H steps playing there. rw c.ask.ensures (elim c.match-plain.branch [
   | in-Look w ↦
       let game : c.args.self.now.game ≡ c.match-plain.self.game = ap (λ (r : Rehearsal). r.game) (sym w.self-is) in
       let looks = ap (λ (r : Rehearsal). r.looks) w.self-is in
       let leads : LeadsTo o H c.match-plain.self.game = subst (λ (s : State). LeadsTo o H s) game playing.leads in
-      let right = replies_after o H c.match-plain.self.game c.args.plain.now _ leads c.take.ensures.replies in
       called o H steps c.args.self.now _ c.args.seat c.args.plain.now _ playing there c.requires.seat
-      (legal_more o H _ playing.legal c.requires.seat (back_asked H c.args.plain.now) right)
-      (leads_more o H _ _ _ leads right c.take.ensures.next)
+      (c.answer.ensures.legal o H c.args.seat leads playing.legal c.requires.seat)
+      (leads_more o H _ _ _ leads (c.answer.ensures.replies o H leads) (rw c.ask.ensures at c.follow.ensures.next))
       (ap (λ (r : Rehearsal). r.q) w.self-is)
       (ap length looks ∙ length-set _ _ _ ∙ playing.places)
       (rw (looks, w.from.ensures)
@@ -27,12 +30,11 @@ returns c = λ o H steps playing there. elim c.match-plain.branch [
       let game : c.args.self.now.game ≡ c.match-plain.self.game = ap (λ (r : Rehearsal). r.game) (sym w.self-is) in
       let looks = ap (λ (r : Rehearsal). r.looks) w.self-is in
       let leads : LeadsTo o H c.match-plain.self.game = subst (λ (s : State). LeadsTo o H s) game playing.leads in
-      let right = replies_after o H c.match-plain.self.game c.args.plain.now _ leads c.take.ensures.replies in
       called o H steps c.args.self.now _ c.args.seat c.args.plain.now _ playing there c.requires.seat
-      (legal_more o H _ playing.legal c.requires.seat (back_asked H c.args.plain.now) right)
-      (leads_more o H _ _ _ leads right c.take.ensures.next)
+      (c.answer.ensures.legal o H c.args.seat leads playing.legal c.requires.seat)
+      (leads_more o H _ _ _ leads (c.answer.ensures.replies o H leads) (rw c.ask.ensures at c.follow.ensures.next))
       (ap (λ (r : Rehearsal). r.q) w.self-is)
       (ap length looks ∙ playing.places)
       (rw looks (looks_left o H steps c.args.self.now c.args.seat c.args.plain.now _ playing there
       w.in_default.not-Look))
-]
+])
