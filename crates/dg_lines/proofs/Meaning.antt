@@ -1,6 +1,5 @@
 -- Each line spells one command or has one fault.
 --   line_read        what is read of the words of a line is what the line spells, or its fault
---   bad_script       a word that is no script refuses the line of a script
 --   lines_have_one_meaning
 use Rattle.std.proofs.Common.{◌≡◌, ◌≢◌, ℕ, suc, ◌<◌, ◌≤◌, ◌^◌, ◌-◌, ◌⊎◌, inl, inr, cond, Bool, true, false, ℤ, pos, negsuc, neg_ℤ, ◌≤ℤ◌, List, [], ◌∷◌, length, map, Option, Some, None, Result, Ok, Err, refl, ap, sym, ◌∙◌, subst, arith, codes, FitsSigned, w64, decimal, MatchResult, IfOk, IfErr}
 use Rattle.std.specs.Prelude.{All, IsSome, is_some, bytes_eq, option_map, unwrap_or}
@@ -23,7 +22,7 @@ use Rattle.dg_lines.specs.CommandWords.{Kind, vertex, vertices, script, degree, 
 use Rattle.dg_lines.specs.Commands.{kinds_beside, kinds_wanted, kinds_of, IsWellFormed, keywords, Means, IsCommandLine}
 use Rattle.dg_lines.specs.declared.command.Keyword.{Keyword}
 use Rattle.dg_lines.specs.declared.command.Keyword.TheVariants as of
-use Rattle.dg_lines.specs.Keywords.{spelling, kinds, IsBadScript, AreWords}
+use Rattle.dg_lines.specs.Keywords.{spelling, kinds, AreWords}
 use Rattle.dg_lines.specs.LineFaults.{AreRefused, IsLineFault}
 use Rattle.dg_lines.specs.LineLaws.{AreAlike, LinesHaveOneMeaning}
 use Rattle.dg_lines.proofs.Cutting.{line_words}
@@ -143,15 +142,6 @@ module _ (names : List (List ℕ)) (keyword : List ℕ) (rest : List (List ℕ))
   one_refusal Number Form a b = absurd (b.1 a.0)
   one_refusal Number Name a b = absurd (b.1 a.1)
   one_refusal Number Number a b = refl
-
-pub bad_script : (names : List (List ℕ)) (fault : LineFault) (word : List ℕ) → IsWellFormed (codes "script") (word ∷ [])
-    → IsBadScript names fault word → AreRefused names fault (codes "script") (word ∷ [])
-unfolding kinds_beside
-bad_script names Seat word formed bad = absurd bad
-bad_script names Word word formed bad = absurd bad
-bad_script names Form word formed bad = absurd bad
-bad_script names Name word formed bad = (formed, λ named. bad named.0)
-bad_script names Number word formed bad = (formed, (bad.0, tt), λ all. bad.1 all.0)
 
 -- ---- one command
 abbrev play : Move → Command

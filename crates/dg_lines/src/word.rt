@@ -11,7 +11,7 @@ use crate::cuts::cut;
 use crate::line::LineFault;
 use crate::number::{degree, entry};
 use dg_chips::Script;
-use dg_graph::{contains, with_vertex};
+use dg_graph::{MAX_VERTICES, contains, with_vertex};
 use dg_names::Names;
 use dg_numbers::integer;
 
@@ -85,7 +85,7 @@ pub(crate) fn script_of(text: &[u8], names: &Names) -> Result<Script, LineFault>
 {
     let size = names.len();
     let mut given = 0;
-    let mut entries = [0; 16];
+    let mut entries = [0; MAX_VERTICES];
     let mut are_spelled = true;
     let mut rest = Some(text);
     'items: while let Some(text) = rest {

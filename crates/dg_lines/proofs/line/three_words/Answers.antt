@@ -13,7 +13,8 @@ pub returns-in-Some-two_words : goal.returns-in-Some-two_words
 returns-in-Some-two_words c =
     let next = pieces_left 32 _ _ _ c.cut.result.1 c.in-Some.is c.cut.ensures.before c.cut.ensures.after in (
       word_more 2 c.cut.result.0.now
-          (c.in-Some-two_words.second.now ∷ c.in-Some-two_words.third.now ∷ []) c.if-is_empty.ensures c.in-Some-two_words.ensures.0,
+          (c.in-Some-two_words.second.now ∷ c.in-Some-two_words.third.now ∷ [])
+          c.if-is_empty.ensures c.in-Some-two_words.ensures.0,
       next ∙ ap (λ more. c.cut.result.0.now ∷ more) c.in-Some-two_words.ensures.1,
     )
 
