@@ -68,33 +68,26 @@ def commands():
 
 
 def example_commands():
-    """Lines that are drawn or played: one at least of each command."""
-    counts = {word: len(kinds) for word, kinds in words.commands().items()}
-    wanted = ["%s, with %d words after it" % pair for pair in counts.items()]
-    for path in ("examples/class.py", "tests/browser/classes.py"):
-        part = Part(path, "def line_of(draw)", "\n\n\n")
-        found = [("%s, with %d words after it" % (line.split(" ")[0], line.count(" ")), place) for line, place in part.matches(r'"([a-z][^"]*)"')]
-        yield from part.compare("line of", found, wanted, both=False)
-    part = Part(MODEL, "def some_script(", "\n\n\n")
-    found = [("%s, with %d words after it" % (line.split(" ")[0], line.count(" ")), place) for line, place in part.matches(r'"([a-z][^"]*)"')]
-    yield from part.compare("line of", found, wanted, both=False)
+    """Lines that are drawn or played: one at least of each command, here with _ for each word after it."""
+    def shape(line):
+        return line.split(" ")[0] + " _" * line.count(" ")
+    wanted = [shape(form) for form in words.command_forms()]
+    for path, begin in (("examples/class.py", "def line_of("), ("tests/browser/classes.py", "def line_of("), (MODEL, "def some_script(")):
+        part = Part(path, begin, "\n\n\n")
+        found = [(shape(line), place) for line, place in part.matches(r'"([a-z][^"]*)"')]
+        yield from part.compare("line of the command", found, wanted, both=False)
     rows = "".join(read(path) for path in sorted(glob.glob("crates/dg_rows/data/*.txt")))
-    for word, count in counts.items():
-        line = r"(?:^[<|] |\| |\\n)(?:\d+ )?%s%s(?:\\n|$| \|)" % (word, r" [^ \n\\|]+" * count)
+    for form in wanted:
+        line = r"(?:^[<|] |\| |\\n)(?:\d+ )?%s(?:\\n|$| \|)" % form.replace("_", r"[^ \n\\|]+")
         if not re.search(line, rows, re.M):
-            yield "crates/dg_rows/data: a row is wanted with the command %s" % word
-
-
-def sample(form):
-    """A text of that form."""
-    return " ".join({"P": "a=2 b=-1", "g": "3", "k": "2"}.get(part, part) for part in form.split(" "))
+            yield "crates/dg_rows/data: a row with the command `%s` is wanted" % form
 
 
 def replies():
     """Lists of the replies' forms."""
     forms, refusals = words.replies(), words.refusals()
     part = Part(FORMATS, "| Reply | Text |", "\n\n")
-    found = [pair for text, place in part.matches(r"^\|[^|]*\|(.*)\|$") for pair in ((each, place) for each in re.findall(r"`([^`]*)`", text))]
+    found = [(each, place) for text, place in part.matches(r"^\|[^|]*\|(.*)\|$") for each in re.findall(r"`([^`]*)`", text)]
     yield from part.compare("reply", found, forms)
     part = Part(BOARD, "const FORMS", ".map(")
     rows = list(re.finditer(r'\["([\w-]+)", ["`](.*?)["`], ', part.text))
@@ -106,7 +99,8 @@ def replies():
     yield from part.compare("reply", found, list(dict.fromkeys(map(shown, forms))))
     for begin, end in (("function replyWords", "}[reply.kind]"), ("function markOf", "};")):
         part = Part(BOARD, begin, end)
-        yield from part.compare("kind of reply", part.matches(r'(?<=[\s{])"?([a-z-]+)"?(?=: )'), kinds + (["unread"] if "mark" in begin else []))
+        more = ["unread"] if "mark" in begin else []
+        yield from part.compare("kind of reply", part.matches(r'(?<=[\s{])"?([a-z-]+)"?(?=: )'), kinds + more)
     part = Part(BOARD, "const CAUSES", "};")
     yield from part.compare("refusal", part.matches(r'(\w+): "'), [text.split(" ")[1] for text in refusals])
     for path in (FORMATS, REFUSALS):
@@ -114,12 +108,13 @@ def replies():
         outside = ["refused `", "refused not", "refused shape", "refused file", "refused no"]
         found = [pair for pair in part.matches(r"`(refused \w+)`") if not pair[0].startswith(tuple(outside))]
         yield from part.compare("refusal", found, refusals)
-    part = Part(MODEL, "class Game")
+    part = Part(MODEL, "class Game", "\ndef trials(")
     found = [pair for pair in part.matches(r'"(refused \w+)"')]
-    yield from part.compare("refusal", found, [text for text in refusals if text.split(" ")[1] not in ("vertex", "empty", "script")])
-    for form in forms:
-        head = re.match(r"(?:not )?[a-z]+", form)[0].replace("unwinnable", "winnable")
-        if not re.search(r"""["(]%s\b|\(un\)\?%s|"%%s%s""" % (head, head, head), part.text):
+    played = [form for form in forms if form not in ("refused vertex", "refused empty", "refused script")]
+    yield from part.compare("refusal", found, [form for form in played if form.startswith("refused")])
+    for form in played:
+        told = re.sub(r"\b[gk]\b", "%d", form.replace("P", "%s"))
+        if not any(text in part.text for text in (told, re.sub("%s$", '" +', told), re.sub("^(un)?winnable", "%swinnable", told))):
             yield "%s: the model lacks the reply `%s`" % (part.place(), form)
     yield from answers()
 
@@ -132,7 +127,7 @@ def answers():
     finally:
         del sys.path[0]
     part = Part(ANSWERS, "FORMS = [", "\n\n\n")
-    texts = [sample(form) for form in words.replies()] + words.bad_texts() + ["turns"]
+    texts = [words.sample(form) for form in words.replies()] + words.bad_texts() + ["turns"]
     for text in texts:
         try:
             read_as = package.entry(text)
@@ -180,6 +175,11 @@ def file_fault_enums():
         yield "%s: `%s` is said by no #[error]" % (part.place(), text)
 
 
+def told_twice():
+    """Texts that stand in two places of the code and are compared here."""
+    return set(words.file_faults()) - {"out of memory"}
+
+
 def numbered(text):
     """The text with # for each number or its letter."""
     return re.sub(r"(?<![\w-])(?:[LSIiv]|\d[\d,]*)(?![\w,])", "#", text.strip())
@@ -225,60 +225,13 @@ def faults():
         yield from part.compare("exit status", part.matches(form), statuses)
 
 
-# The limits that users meet, and where a text states each: a form whose groups are the number or numbers.
-LIMITS = [
-    (HELP, r"^(\d+) to \d+ vertices", "1"), (HELP, r"^1 to (\d+) vertices", "dg_graph::MAX_VERTICES"),
-    (HELP, r"names of 1 to (\d+) letters", "dg_names::MAX_NAME"), (HELP, r"at most (\d+) edges", "dg_graph::MAX_VALENCE"),
-    (HELP, r"amounts from -(\d+) to \d+", "dg_chips::MAX_AMOUNT"), (HELP, r"amounts from -\d+ to (\d+)", "dg_chips::MAX_AMOUNT"),
-    (HELP, r"a seat, 1 to (\d+),", "dg_game::MAX_SEATS"), (HELP, r"whole number from 0 to (\d{6,})", "u32::MAX"),
-    (HELP, r"How many turns.*from 0 to (\d+)", "dg_asked::MAX_TURNS"), (HELP, r"up to (\d+) files", "dg_game::MAX_SEATS"),
-    (HELP, r"How many threads.*1 to (\d+)", "dg_rank::MAX_WORKERS"), (HELP, r"How many seats.*1 to (\d+)", "dg_game::MAX_SEATS"),
-    (HELP, r"How many entries.*1 to (\d+)", "dg_asked::MAX_CAPACITY"), (HELP, r"How many entries.*default (\d+)", "dg_asked::MAX_CAPACITY"),
-    (HELP, r"K may be at most (\d+)", "dg_rank::MAX_DEGREE"), (HELP, r"at most (\d+) trials", "dg_rank::MAX_TRIALS"),
-    (HELP, r"STEPS has up to (\d+) lines", "dg_game::MAX_ENTRIES"), (HELP, r"A line has at most (\d+) bytes", "dg_session::MAX_LINE"),
-    (HELP, r"a session at most (\d+) lines", "dg_session::MAX_LINES"), (HELP, r"With (\d+) vertices", "dg_graph::MAX_VERTICES"),
-    (PAGE, r"at most (\d+) ways", "dg_rank::MAX_TRIALS"), (PAGE, r"^may be at most (\d+);", "dg_rank::MAX_DEGREE"),
-    (PAGE, r"a seat from 1 to (\d+) and", "dg_game::MAX_SEATS"), (PAGE, r"up to (\d+) of them", "dg_game::MAX_SEATS"),
-    (PAGE, r"from 0 to (\d{6,})", "u32::MAX"), (PAGE, r"turns the game has.*from 0 to (\d+)", "dg_asked::MAX_TURNS"),
-    (PAGE, r"entries the history.*from 1 to (\d+)", "dg_asked::MAX_CAPACITY"), (PAGE, r"entries the history.*not given, (\d+)", "dg_asked::MAX_CAPACITY"),
-    (PAGE, r"has, from 1 to (\d+)\.", "dg_game::MAX_SEATS"), (PAGE, r"the lines, from 1 to (\d+);", "dg_rank::MAX_WORKERS"),
-    (PAGE, r"names 1 to (\d+) vertices", "dg_graph::MAX_VERTICES"), (PAGE, r"A name has 1 to (\d+) ASCII", "dg_names::MAX_NAME"),
-    (PAGE, r"at most (\d+) edges", "dg_graph::MAX_VALENCE"), (PAGE, r"more than (\d+) edges", "dg_graph::MAX_VALENCE"),
-    (PAGE, r"number from \\-\d+ to (\d+)", "dg_chips::MAX_AMOUNT"), (PAGE, r"A gift is from \\-\d+ to (\d+)", "dg_game::MAX_GIFT"),
-    (PAGE, r"A file has at most (\d+) bytes", "dg_sources::MAX_FILE"), (PAGE, r"numbers? of lines; a line has at most (\d+) bytes", "dg_sweep::MAX_LINE"),
-    (PAGE, r"up to (\d+) steps", "dg_game::MAX_ENTRIES"), (PAGE, r"A line of a session has at most (\d+) bytes", "dg_session::MAX_LINE"),
-    (PAGE, r"a session at most (\d+) lines", "dg_session::MAX_LINES"),
-    (FORMATS, r"at most ([\d,]+) bytes long", "dg_sources::MAX_FILE"), (FORMATS, r"an array of 1 to (\d+) names", "dg_graph::MAX_VERTICES"),
-    (FORMATS, r"whole numbers from -[\d,]+ to ([\d,]+), one", "dg_chips::MAX_AMOUNT"), (FORMATS, r"A name is 1 to (\d+) bytes", "dg_names::MAX_NAME"),
-    (FORMATS, r"none, or more than (\d+)", "dg_graph::MAX_VERTICES"), (FORMATS, r"vertex with more than (\d+) edges", "dg_graph::MAX_VALENCE"),
-    (FORMATS, r"vertex may have more than (\d+) edges", "dg_graph::MAX_VALENCE"), (FORMATS, r"one of them has (\d+) edges", "dg_graph::MAX_VALENCE"),
-    (FORMATS, r"more than ([\d,]+) bytes before its newline", "dg_sweep::MAX_LINE"), (FORMATS, r"`--workers N`, from 1 to (\d+)", "dg_rank::MAX_WORKERS"),
-    (FORMATS, r"The seat is a number from 1 to (\d+)", "dg_game::MAX_SEATS"), (FORMATS, r"after `rank` from 0 to (\d+)", "u32::MAX"),
-    (FORMATS, r"in a `script` from -[\d,]+ to ([\d,]+)", "dg_chips::MAX_ENTRY"), (FORMATS, r"degree K, a number from 0 to (\d+)", "u32::MAX"),
-    (FORMATS, r"`greedy FILE TURNS`, with a number from 0 to (\d+)", "dg_asked::MAX_TURNS"), (FORMATS, r"more than (\d+) scripts", "dg_game::MAX_SEATS"),
-    (FORMATS, r"a file longer than ([\d,]+) bytes", "dg_sources::MAX_FILE"), (FORMATS, r"line with more than ([\d,]+) bytes", "dg_session::MAX_LINE"),
-    (REFUSALS, r"`file too long` \| more than ([\d,]+) bytes", "dg_sources::MAX_FILE"), (REFUSALS, r"none, or more than (\d+)", "dg_graph::MAX_VERTICES"),
-    (REFUSALS, r"no name of 1 to (\d+) ASCII", "dg_names::MAX_NAME"), (REFUSALS, r"more than (\d+) edges at the vertex", "dg_graph::MAX_VALENCE"),
-    (REFUSALS, r"not from -[\d,]+ to ([\d,]+)", "dg_chips::MAX_AMOUNT"), (REFUSALS, r"no number from 1 to (\d+)", "dg_game::MAX_SEATS"),
-    (REFUSALS, r"a degree above ([\d,]+)", "dg_rank::MAX_DEGREE"), (REFUSALS, r"more than ([\d,]+) ways", "dg_rank::MAX_TRIALS"),
-    (REFUSALS, r"more than ([\d,]+) steps", "dg_game::MAX_ENTRIES"), (REFUSALS, r"`--cap`, up to ([\d,]+)", "dg_asked::MAX_CAPACITY"),
-    (REFUSALS, r"line has more than ([\d,]+) bytes", "dg_session::MAX_LINE"), (REFUSALS, r"more than ([\d,]+) lines", "dg_session::MAX_LINES"),
-    (REFUSALS, r"more than (\d+) scripts", "dg_game::MAX_SEATS"), (REFUSALS, r"a gift is from -[\d,]+ to ([\d,]+)", "dg_game::MAX_GIFT"),
-    (REFUSALS, r"vertex that has (\d+) edges", "dg_graph::MAX_VALENCE"),
-    (MODEL, r"MOST_EDGES = (\d+)", "dg_graph::MAX_VALENCE"), (MODEL, r"abs\(command\[2\]\) <= (\d+)", "dg_game::MAX_GIFT"),
-    (MODEL, r"map\(abs, after\)\) > (\d+)", "dg_chips::MAX_AMOUNT"), (MODEL, r"degree <= (\d+)", "dg_rank::MAX_DEGREE"),
-    (MODEL, r"count <= (\d+)", "dg_rank::MAX_TRIALS"), ("tests/damage/reader.py", r"LEVELS, VERTICES.*= \d+, (\d+),", "dg_graph::MAX_VERTICES"),
-    ("tests/damage/reader.py", r"LEVELS, VERTICES.*= \d+, \d+, (\d+),", "dg_graph::MAX_VALENCE"),
-    ("tests/damage/reader.py", r"LEVELS, VERTICES.*= \d+, \d+, \d+, (\d+)", "dg_chips::MAX_AMOUNT"),
-    (BOARD, r"more than (\d+) edges\"", "dg_graph::MAX_VALENCE"), (BOARD, r"more than (\d+) edges\.", "dg_graph::MAX_VALENCE"),
-    (BOARD, r"1 to (\d+) vertices", "dg_graph::MAX_VERTICES"), (BOARD, r"a name has 1 to (\d+) letters", "dg_names::MAX_NAME"),
-    (BOARD, r"it has (\d+) entries", "dg_game::MAX_ENTRIES"),
-]
+# Constants of crates that do not know each other, which are one limit.
+SAME = [("dg_sweep::MAX_LINE", "dg_sources::MAX_FILE")]
 
 
 def constants():
     """The public constants of the crates, by the crate and the name."""
-    found = {"1": "1", "u32::MAX": str(2**32 - 1)}
+    found = {"u32::MAX": str(2**32 - 1)}
     for path in sorted(glob.glob("crates/*/src/**/*.rt", recursive=True)):
         for name, value in re.findall(r"^pub const (\w+): \w+ = ([\w:]+?)(?: as \w+)?;", read(path), re.M):
             found["%s::%s" % (path.split("/")[1], name)] = value.replace("_", "") if value[0].isdigit() else value
@@ -286,28 +239,30 @@ def constants():
 
 
 def limits():
-    """Limits that pages, help and models state."""
+    """Limits that pages, the help and models of the game state, as tools/limits.txt lists them."""
     known = constants()
-    for path, form, name in LIMITS:
-        part = Part(path)
-        found = list(part.matches(form))
+    for number, line in enumerate(read("tools/limits.txt").splitlines(), 1):
+        if line.startswith("#"):
+            continue
+        name, path, text = line.split(" | ", 2)
+        form = re.escape(text).replace(re.escape("#"), r"(\d[\d,]*\d|\d)").replace(re.escape(".."), r"[^\n]*?")
+        found = list(Part(path).matches(re.sub(r"(?:\\ )+", r"\\s+", form)))
         if name not in known:
-            yield "tools/stated.py: there is no constant %s" % name
+            yield "tools/limits.txt:%d: there is no constant %s" % (number, name)
         elif not found:
-            yield "%s: the limit %s, %s, is wanted where the text fits %s" % (path, name, known[name], form)
-        for number, place in found:
-            if number.replace(",", "") != known.get(name, number.replace(",", "")):
-                yield "%s: %s is %s, not %s" % (place, name, known[name], number)
+            yield "%s: the text `%s` is wanted, with %s for %s" % (path, text, known[name], name)
+        for stated, place in found:
+            if name in known and stated.replace(",", "") != known[name]:
+                yield "%s: %s is %s, not %s" % (place, name, known[name], stated)
+    for one, other in SAME:
+        if known[one] != known[other]:
+            yield "%s is %s, and %s is %s: they are one limit" % (one, known[one], other, known[other])
     part = Part("docs/BOUNDS.md", "## What users meet", "\n\nMemory has no bound")
-    stated = set()
     for row in re.finditer(r"^\| ([\d,]+(?: and [\d,]+)?) \| `(dg_\w+)::(\w+)`(?:, `(\w+)`)? \|", part.text, re.M):
         for number, name in zip(row[1].split(" and "), row.groups()[2:]):
-            stated.add("%s::%s" % (row[2], name))
-            if known.get("%s::%s" % (row[2], name)) != number.replace(",", ""):
-                yield "%s: %s::%s is %s, not %s" % (part.place(row.start()), row[2], name, known.get("%s::%s" % (row[2], name)), number)
-    for name in {name for _, _, name in LIMITS} & known.keys() - stated:
-        if name.startswith("dg_") and not name.startswith("dg_asked::"):
-            yield "%s: a row with %s, %s, is wanted here" % (part.place(), name, known[name])
+            value = known.get("%s::%s" % (row[2], name), "no constant")
+            if value != number.replace(",", ""):
+                yield "%s: %s::%s is %s, not %s" % (part.place(row.start()), row[2], name, value, number)
 
 
 CHECKS = {"command words": commands, "lines of commands": example_commands, "reply words": replies, "bad texts": bad_texts,

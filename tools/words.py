@@ -68,6 +68,11 @@ def replies():
     return texts(REPLIES, "text_of")
 
 
+def sample(form):
+    """A text of that form."""
+    return " ".join({"P": "a=2 b=-1", "g": "3", "k": "2"}.get(part, part) for part in form.split(" "))
+
+
 def refusals():
     """The texts of the replies of a call that the game refuses."""
     return texts(REPLIES, "refusal_text")

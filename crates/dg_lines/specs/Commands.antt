@@ -1,22 +1,22 @@
 -- Command lines: what a line spells. A line is cut into words at each single space, so that two
 -- spaces in a row make an empty word. `names` are the names of the vertices, in vertex order.
---   row keyword                       == the command word, and the kinds of the words after it
---   keywords                          == all commands
---   command_words                     == their rows: the table of the step language
---   kinds_beside rows word            == the kinds beside the word, in the first of the rows that
---                                        has it, where one has
---   kinds_wanted keyword              == the kinds of the words after the command word, where it is
---                                        one
---   kinds_of keyword                  == these kinds, and none where it is no command word
---   words_wanted keyword              == how many words follow the command word, where it is one
---   IsWellFormed keyword rest         == so many words follow it, and none of them is empty
+--   row keyword                        == the command word, and the kinds of the words after it
+--   keywords                           == all commands
+--   command_words                      == their rows: the table of the step language
+--   kinds_beside rows word             == the kinds beside the word, in the first of the rows that
+--                                         has it, if one has
+--   kinds_wanted keyword               == the kinds of the words after the command word, if it is
+--                                         one
+--   kinds_of keyword                   == these kinds, and none if it is no command word
+--   words_wanted keyword               == how many words follow the command word, if it is one
+--   IsWellFormed keyword rest          == so many words follow it, and none of them is empty
 --   IsMoveWord names move keyword word == the command word and the word after it spell the move
---   MeansGift names v x rest          == the two words name the vertex v and spell the number x
---   MeansJoin names u v rest          == the two words name the vertices u and v, which may be the
---                                        same
---   Means names command keyword rest  == the command word and the words after it spell the command
---   IsCommandLine names command line  == the line has the right form, and its words spell the
---                                        command
+--   MeansGift names v x rest           == the two words name the vertex v and spell the number x
+--   MeansJoin names u v rest           == the two words name the vertices u and v, which may be the
+--                                         same
+--   Means names command keyword rest   == the command word and the words after it spell the command
+--   IsCommandLine names command line   == the line has the right form, and its words spell the
+--                                         command
 use Rattle.std.specs.Prelude.{◌≡◌, ◌≢◌, ℕ, ◌<◌, ◌^◌, ℤ, FitsSigned, List, [], ◌∷◌, length, map, cond, Option, Some, None, option_map, unwrap_or, All, bytes_eq, codes, decimal}
 use Rattle.std.specs.Int.{w64}
 use Rattle.std.specs.Fmt.{signed_decimal}

@@ -1,7 +1,7 @@
 -- What serves the reading of command lines alone.
 --   spelling keyword             == the command word
 --   kinds keyword                == the kinds of the words after it
---   first_words n a b c           == the first n of the three words
+--   first_words n a b c          == the first n of the three words
 --   IsBadScript names fault word == the word is no script, by the names or else by the numbers in it
 --   AreWords n rest              == just n words, none of which is empty
 use Rattle.std.specs.Prelude.{◌≡◌, ◌≢◌, ℕ, List, [], ◌∷◌, length, take, All}
