@@ -19,7 +19,11 @@ TABLE = {
     "amounts": [-30, 5, 0, -5],
     "q": "a",
 }
-WORDS = {"lend": 2, "borrow": 2, "fire": 2, "script": 2, "gift": 3, "join": 3, "look": 1, "claim": 1, "commit": 1, "rank": 2}
+# The commands, each with the words after it: V is a name, V,V,.. are names, V=x,V=x,.. names with a number each, x is a number of
+# dollars and k a degree. The numbers are within these limits.
+FORMS = {"lend": "V", "borrow": "V", "fire": "V,V,..", "script": "V=x,V=x,..", "gift": "V x", "join": "V V", "look": "", "claim": "",
+         "commit": "", "rank": "k"}
+LIMITS = {"V=x,V=x,..": (-10**9, 10**9), "x": (-2**63, 2**63 - 1), "k": (0, 2**32 - 1)}
 MOST_EDGES = 63
 
 
@@ -28,34 +32,42 @@ class Bad(Exception):
 
 
 def parse(line, names):
-    """The command of a line as a list: its word and what follows, names as vertices. Raises Bad."""
-    def number(text, least, most):
-        if not re.fullmatch("0|-?[1-9][0-9]*", text) or not least <= int(text) <= most:
-            raise Bad("bad number")
-        return int(text)
-
-    words = line.split(" ")
-    if words[0] not in WORDS:
+    """The command of a line as a list: its word and what each word after it tells, names as vertices. Raises Bad."""
+    word, *given = line.split(" ")
+    if word not in FORMS:
         raise Bad("bad word")
-    if len(words) != WORDS[words[0]] or "" in words:
+    kinds = FORMS[word].split()
+    if len(given) != len(kinds) or "" in given:
         raise Bad("bad form")
-    if words[0] in ("look", "claim", "commit"):
-        return words
-    if words[0] == "rank":
-        return ["rank", number(words[1], 0, 4294967295)]
-    if words[0] == "join":
-        items = words[1:]
-    else:
-        items = [words[1]] if words[0] in ("lend", "borrow", "gift") else words[1].split(",")
-    named = [item.split("=")[0] if words[0] == "script" else item for item in items]
-    if (len(set(named)) < len(named) and words[0] != "join") or not set(named) <= set(names):
+    named = [named_in(kind, text) for kind, text in zip(kinds, given)]
+    if any(len(set(each)) < len(each) or not set(each) <= set(names) for each in named):
         raise Bad("bad name")
-    vertices = [names.index(name) for name in named]
-    if words[0] == "script":
-        return ["script", {v: number(item.partition("=")[2], -10**9, 10**9) for v, item in zip(vertices, items)}]
-    if words[0] == "gift":
-        return ["gift", vertices[0], number(words[2], -2**63, 2**63 - 1)]
-    return [words[0], vertices]
+    return [word, *(told(kind, text, [names.index(name) for name in each]) for kind, text, each in zip(kinds, given, named))]
+
+
+def named_in(kind, text):
+    """The names in a word of the kind."""
+    if kind in ("x", "k"):
+        return []
+    items = [text] if kind == "V" else text.split(",")
+    return [item.split("=")[0] for item in items] if "=" in kind else items
+
+
+def told(kind, text, vertices):
+    """What a word of the kind tells, whose names are those of the vertices."""
+    def number(digits):
+        least, most = LIMITS[kind]
+        if not re.fullmatch("0|-?[1-9][0-9]*", digits) or not least <= int(digits) <= most:
+            raise Bad("bad number")
+        return int(digits)
+
+    if kind == "V":
+        return vertices[0]
+    if kind == "V,V,..":
+        return vertices
+    if kind == "V=x,V=x,..":
+        return {v: number(item.partition("=")[2]) for v, item in zip(vertices, text.split(","))}
+    return number(text)
 
 
 class Game:
@@ -82,7 +94,7 @@ class Game:
         """The text of the reply to a move, a gift, a join, a look or a claim."""
         word = command[0]
         if word == "join":
-            return self.join(*command[1])
+            return self.join(*command[1:])
         if word == "look":
             return "looked %d %s" % (self.gifts, self.pairs(self.amounts))
         if word == "claim":
@@ -93,7 +105,8 @@ class Game:
             after = list(self.amounts)
             after[command[1]] += command[2]
         else:
-            lends = command[1] if word == "script" else {v: -1 if word == "borrow" else 1 for v in command[1]}
+            moved = [command[1]] if word in ("lend", "borrow") else command[1]
+            lends = moved if word == "script" else dict.fromkeys(moved, -1 if word == "borrow" else 1)
             after = self.fired(self.amounts, [lends.get(v, 0) for v in range(self.size)])
         if max(map(abs, after)) > 1000000:
             return "refused range"

@@ -1,11 +1,14 @@
 """Sessions and parties whose lines and scripts are damaged, many or long."""
-import re, resource
+import itertools, re, resource
 
 from runs import TRIANGLE, Run, refused
 from party import Game, judged
+from words import commands
 
 NAMES, LINES, ROOM = ["a", "b", "c"], 1000000, 16 << 20
-FORMS = ["lend a", "borrow b", "fire a,b", "script a=1,c=-2", "gift a 5", "gift b -12", "join a b", "look", "claim", "commit", "rank 1"]
+# Words of each kind.
+WORDS = {"vertex": ["a", "b"], "vertices": ["a,b"], "script": ["a=1,c=-2"], "degree": ["1"], "dollars": ["5", "-12"]}
+FORMS = [" ".join([word, *given]) for word, kinds in commands().items() for given in itertools.product(*(WORDS[kind] for kind in kinds))]
 LONG, MANY = b"long line", b"too many lines"
 
 

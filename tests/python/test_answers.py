@@ -4,6 +4,7 @@ import io
 import pickle
 
 import pytest
+from words import bad_texts, refusals, replies, sample
 
 import dollar
 from dollar import Entry, Fault, Refused, RiemannRoch, Table, Verdict, answer
@@ -22,8 +23,7 @@ TEXTS = [
     ("unwinnable by a=0 to a=-1", ("unwinnable", {"a": 0}, {"a": -1})),
     ("rank at least 0", ("rank at least", 0)), ("rank below 2 at a=0 b=2", ("rank below", 2, {"a": 0, "b": 2})),
     ("rank below 2000 at ?", ("rank below", 2000)),
-    *((word, (word,)) for word in ("refused vertex", "refused empty", "refused script", "refused gift", "refused range", "refused loop",
-                                   "refused valence", "bad seat", "bad word", "bad form", "bad name", "bad number", "bad look", "bad trials")),
+    *((word, (word,)) for word in refusals() + bad_texts()),
 ]
 
 
@@ -33,6 +33,11 @@ def test_texts(text, parts):
     assert read == parts and parts == read and tuple(read) == parts and str(read) == text and read[0] == parts[0]
     assert read != parts + (1,) and read == answer(text) and hash(read) == hash(answer(text))
     assert pickle.loads(pickle.dumps(read)) == read
+
+
+@pytest.mark.parametrize("form", replies())
+def test_each_reply(form):
+    assert str(answer(sample(form))) == sample(form)
 
 
 @pytest.mark.parametrize("text", ["", "moved", "moved a", "moved a=", "moved a=1  b=2", "given a=1", "winnable by a=1", "rank below 2 at",

@@ -4,11 +4,10 @@
 --   vertex_named     the place of a name is a vertex, and has that name
 --   place_or         a name has a place, or none
 --   named_alone      a name that has a place is given rightly where it stands alone
---   both_named       so are two names that have places, of which the second is left out where it is the first
 --   none_given       so is no name
 --   unnamed_among    names of which one has no place are not given rightly
---   first_unnamed    so are the two words of a gift or a join of which the first has no place
---   second_unnamed   so are two of which the second has none
+--   place_given      a name that is given rightly where it stands alone has a place
+--   named_or         each of the words names rightly what it does, or not
 --   set_members      the set of the vertices of names that are given rightly
 --   one_set          there is one such set
 --   other_name       the name of another vertex is another name
@@ -33,12 +32,8 @@ use Rattle.std.proofs.lemmas.Nat.Bits.{bit_at_lowest, bit_at-suc, bit_at-zero, b
 use Rattle.std.proofs.lemmas.Slice.Eq.{bytes_eq-Decides}
 use Rattle.dg_graph.specs.Sets.{in_set}
 use Rattle.dg_names.specs.Names.{has, place_of, name_at}
-use Rattle.dg_lines.specs.declared.keyword.Double.{Double}
-use Rattle.dg_lines.specs.declared.keyword.Double.TheVariants.{Gift, Join}
-use Rattle.dg_lines.specs.Keywords.{double}
-use Rattle.dg_lines.specs.CommandWords.{AreGiven, given_names, others_than}
-use Rattle.dg_lines.specs.Commands.{IsSetOf}
-use Rattle.dg_lines.proofs.Decided.{IsDecided}
+use Rattle.dg_lines.specs.CommandWords.{Kind, AreGiven, names_in, AreNamed, IsSetOf}
+use Rattle.dg_lines.proofs.Decided.{IsDecided, both_or}
 
 equal : (x y : List ℕ) → x ≡ y → bytes_eq x y ≡ true
 equal x y e = (bytes_eq-Decides x y).1 e
@@ -225,35 +220,22 @@ module _ (names : List (List ℕ)) where
   named_alone name v e =
       record { each = All-cons IsNamed name [] (is_named name v e) (All-nil IsNamed); different = (tt, tt) }
 
-  pub both_named : (first second : List ℕ) (u v : ℕ) → place_of names first ≡ Some u → place_of names second ≡ Some v
-      → AreGiven names (first ∷ others_than first (second ∷ []))
-  unfolding IsDistinct
-  both_named first second u v from to = go (bytes_eq first second) refl
-    where
-      go : (t : Bool) → bytes_eq first second ≡ t → AreGiven names (first ∷ cond (not t) (second ∷ []) [])
-      go true same = named_alone first u from
-      go false differs = record {
-        each = All-cons IsNamed first (second ∷ []) (is_named first u from) (named_alone second v to).each;
-        different = ((differs, tt), (tt, tt));
-      }
-
   pub unnamed_among : (done back : List (List ℕ)) (name : List ℕ) → place_of names name ≡ None
       → AreGiven names (done ++ name ∷ back) → ⊥
   unnamed_among done back name e known = not_named name e (all_there IsNamed done back name known.each)
 
-  pub first_unnamed : (k : Double) (first second : List ℕ) → place_of names first ≡ None
-      → AreGiven names (given_names (double k) (first ∷ second ∷ [])) → ⊥
-  first_unnamed Gift first second e known = unnamed_among [] [] first e known
-  first_unnamed Join first second e known = unnamed_among [] (others_than first (second ∷ [])) first e known
+  pub place_given : (name : List ℕ) → AreGiven names (name ∷ []) → (v : ℕ) × (place_of names name ≡ Some v)
+  place_given name known = elim (place_or name) [
+    | inl there ↦ there
+    | inr none ↦ absurd (unnamed_among [] [] name none known)
+  ]
 
-  pub second_unnamed : (first second : List ℕ) (u : ℕ) → place_of names first ≡ Some u → place_of names second ≡ None
-      → AreGiven names (first ∷ others_than first (second ∷ [])) → ⊥
-  second_unnamed first second u from to = go (bytes_eq first second) refl
-    where
-      go : (t : Bool) → bytes_eq first second ≡ t → AreGiven names (first ∷ cond (not t) (second ∷ []) []) → ⊥
-      go true same known =
-          let no : Some u ≡ None = sym from ∙ ap (place_of names) (is_equal first second same) ∙ to in cc
-      go false differs known = unnamed_among (first ∷ []) [] second to known
+  pub named_or : (kinds : List Kind) (rest : List (List ℕ)) → IsDecided (AreNamed names kinds rest)
+  named_or [] rest = inl tt
+  named_or (kind ∷ kinds) [] = inl tt
+  named_or (kind ∷ kinds) (word ∷ rest) =
+      both_or (AreGiven names (names_in kind word)) (AreNamed names kinds rest)
+      (given_or (names_in kind word)) (named_or kinds rest)
 
   twice_among : (done back : List (List ℕ)) (name : List ℕ) → has done name ≡ true
       → AreGiven names (done ++ name ∷ back) → ⊥

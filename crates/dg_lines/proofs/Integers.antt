@@ -3,8 +3,8 @@
 --   large_entry      the decimal of a number past the limit is not that of an entry of a script
 --   other_degree     that of a number that is no degree is not that of a degree
 --   number_or        a text is the decimal of a number within limits, or is not
---   degree_or        so of a degree
-use Rattle.std.proofs.Common.{◌<◌, ◌^◌, ◌-◌, ◌⊎◌, inl, inr, unsigned_abs, ◌≡◌, ℕ, suc, ◌==◌, ℤ, pos, negsuc, neg_ℤ, List, [], ◌∷◌, Bool, true, false, refl, ap, sym, ◌∙◌, subst, arith, decimal, FitsSigned, w64}
+--   degree_within    a number that may be a degree is one
+use Rattle.std.proofs.Common.{◌<◌, ◌^◌, ◌-◌, inl, inr, unsigned_abs, ◌≡◌, ℕ, suc, ◌==◌, ℤ, pos, negsuc, neg_ℤ, List, [], ◌∷◌, Bool, true, false, refl, ap, sym, ◌∙◌, subst, arith, decimal, FitsSigned, w64}
 use Rattle.std.specs.Prelude.{bytes_eq}
 use Rattle.std.specs.Fmt.{signed_decimal}
 use Rattle.std.specs.Str.Parse.{IsNumeral, digits_value, signed_digits_value}
@@ -98,12 +98,9 @@ number_or low high text fit = go (bytes_eq text (signed_decimal y)) refl
         (λ more. inr (λ known. clash_ℤ more (subst (λ x. x ≤ℤ high) (same known) known.not_more)))
         (λ below. inl (record { number = y; spelled = spelled; not_less = above; not_more = below })))
 
-pub degree_or : (text : List ℕ)
-    → ((k : ℕ) × (k < 2 ^ 32) × (text ≡ decimal k)) ⊎ (IsNumberWithin (pos 0) (pos (2 ^ 32 - 1)) text → ⊥)
-degree_or text = elim (number_or (pos 0) (pos (2 ^ 32 - 1)) text degree_fits) [
-  | inl known ↦ inl (there known.number known.not_less known.not_more known.spelled)
-  | inr never ↦ inr never
-]
+pub degree_within : (text : List ℕ) → IsNumberWithin (pos 0) (pos (2 ^ 32 - 1)) text
+    → (k : ℕ) × (k < 2 ^ 32) × (text ≡ decimal k)
+degree_within text known = there known.number known.not_less known.not_more known.spelled
   where
     there : (z : ℤ) → pos 0 ≤ℤ z → z ≤ℤ pos (2 ^ 32 - 1) → text ≡ signed_decimal z
         → (k : ℕ) × (k < 2 ^ 32) × (text ≡ decimal k)

@@ -1,29 +1,25 @@
 -- Command words, and the words that follow them.
 --   bytes_tell              what the test of two texts tells
---   wants_none, wants_one, wants_two   how many words follow a command word
---   each_row                what holds of each row of a table holds of what the table has beside a word
+--   wanted_of               the table has beside each command word the kinds of the words after it
+--   found_in                what the table has kinds beside is a command word, and they are its kinds
 --   empty_word              words of which one is empty are not so many words
 --   some_words              behind a space there are words
 --   none_there, word_more, word_less   no words, one more and one less
 --   words_or                there are so many words, or not
 --   well_formed, ill_formed whether just the words follow that are wanted
-use Rattle.std.proofs.Common.{◌≡◌, ◌≢◌, ℕ, ◌+◌, ◌==◌, ◌⊎◌, inl, inr, cond, Bool, true, false, List, [], ◌∷◌, length, Option, Some, refl, ap, sym, ◌∙◌, subst, arith, Bor}
-use Rattle.std.specs.Prelude.{bytes_eq, All, IsSome, is_some}
-use Rattle.std.specs.List.{AllByRecursion}
+use Rattle.std.proofs.Common.{◌≡◌, ◌≢◌, ℕ, ◌+◌, ◌==◌, ◌⊎◌, inl, inr, cond, Bool, true, false, List, [], ◌∷◌, length, map, Option, Some, refl, ap, sym, ◌∙◌, arith, Bor}
+use Rattle.std.specs.Prelude.{bytes_eq, All, IsSome, is_some, option_map}
 use Rattle.std.specs.Option.{option_copied}
 use Rattle.std.proofs.lemmas.Bool.{eqb-true}
 use Rattle.std.proofs.lemmas.Bool.Decides.{nat_tests}
 use Rattle.std.proofs.lemmas.List.Elements.{All-nil, All-cons, All-head, All-tail}
 use Rattle.std.proofs.lemmas.Slice.Eq.{bytes_eq-Decides}
 use Rattle.dg_lines.specs.Cuts.{before, after, words_after}
-use Rattle.dg_lines.specs.declared.keyword.Alone.{Alone}
-use Rattle.dg_lines.specs.declared.keyword.Alone.TheVariants.{Look, Claim, Commit}
-use Rattle.dg_lines.specs.declared.keyword.Single.{Single}
-use Rattle.dg_lines.specs.declared.keyword.Single.TheVariants.{Lend, Borrow, Fire, Script, Rank}
-use Rattle.dg_lines.specs.declared.keyword.Double.{Double}
-use Rattle.dg_lines.specs.declared.keyword.Double.TheVariants.{Gift, Join}
-use Rattle.dg_lines.specs.CommandWords.{number_beside, words_wanted, IsWellFormed}
-use Rattle.dg_lines.specs.Keywords.{alone, single, double, AreWords}
+use Rattle.dg_lines.specs.declared.command.Keyword.{Keyword}
+use Rattle.dg_lines.specs.declared.command.Keyword.TheVariants.{Lend}
+use Rattle.dg_lines.specs.CommandWords.{Kind}
+use Rattle.dg_lines.specs.Commands.{row, kinds_beside, kinds_wanted, words_wanted, IsWellFormed}
+use Rattle.dg_lines.specs.Keywords.{spelling, kinds, AreWords}
 use Rattle.dg_lines.proofs.Cutting.{pieces_cut}
 use Rattle.dg_lines.proofs.Decided.{IsDecided}
 
@@ -34,36 +30,21 @@ bytes_tell x y = go (bytes_eq x y) refl
     go true e = inl (refl, (bytes_eq-Decides x y).0 e)
     go false e = inr (refl, λ same. let no : true ≡ false = sym ((bytes_eq-Decides x y).1 same) ∙ e in cc)
 
-pub wants_none : (k : Alone) → words_wanted (alone k) ≡ Some 0
-unfolding number_beside
-wants_none Look = refl
-wants_none Claim = refl
-wants_none Commit = refl
+pub wanted_of : (k : Keyword) → kinds_wanted (spelling k) ≡ Some (kinds k)
+unfolding kinds_beside
+wanted_of Lend = refl
+wanted_of k = refl
 
-pub wants_one : (k : Single) → words_wanted (single k) ≡ Some 1
-unfolding number_beside
-wants_one Lend = refl
-wants_one Borrow = refl
-wants_one Fire = refl
-wants_one Script = refl
-wants_one Rank = refl
-
-pub wants_two : (k : Double) → words_wanted (double k) ≡ Some 2
-unfolding number_beside
-wants_two Gift = refl
-wants_two Join = refl
-
-pub each_row : (rows : List (List ℕ × ℕ)) (P : List ℕ → ℕ → Type 0) → AllByRecursion (λ row. P row.0 row.1) rows
-    → (word : List ℕ) (n : ℕ) → number_beside rows word ≡ Some n → P word n
-unfolding number_beside
-each_row [] P all word n e = absurd (cc)
-each_row (row ∷ rows) P all word n e = go (bytes_eq word row.0) refl e (each_row rows P all.1 word n)
+pub found_in : (ks : List Keyword) (word : List ℕ) (found : List Kind) → kinds_beside (map row ks) word ≡ Some found
+    → (k : Keyword) × (word ≡ spelling k) × (found ≡ kinds k)
+unfolding kinds_beside
+found_in [] word found e = absurd (cc)
+found_in (k ∷ ks) word found e = go (bytes_eq word (spelling k)) refl e (found_in ks word found)
   where
-    go : (t : Bool) → bytes_eq word row.0 ≡ t → cond t (Some row.1) (number_beside rows word) ≡ Some n
-        → (number_beside rows word ≡ Some n → P word n) → P word n
-    go true same f later =
-        let count : row.1 ≡ n = cc in
-        subst (λ k. P k n) (sym ((bytes_eq-Decides word row.0).0 same)) (subst (P row.0) count all.0)
+    go : (t : Bool) → bytes_eq word (spelling k) ≡ t → cond t (Some (kinds k)) (kinds_beside (map row ks) word) ≡ Some found
+        → (kinds_beside (map row ks) word ≡ Some found → (k : Keyword) × (word ≡ spelling k) × (found ≡ kinds k))
+        → (k : Keyword) × (word ≡ spelling k) × (found ≡ kinds k)
+    go true same f later = (k, (bytes_eq-Decides word (spelling k)).0 same, cc)
     go false other f later = later f
 
 -- ---- so many words
@@ -109,15 +90,19 @@ words_or n rest = go (length rest == n) refl (filled_or rest)
     go false e each = inr (λ known. let count : length rest ≡ n = known.count in grind (arith, nat_tests))
 
 -- ---- the words that are wanted
-module _ (keyword : List ℕ) (n : ℕ) (rest : List (List ℕ)) (wants : words_wanted keyword ≡ Some n) where
-  pub well_formed : AreWords n rest → IsWellFormed keyword rest
-  well_formed known = record { wanted = wants ∙ ap Some (sym known.count); filled = known.filled }
+module _ (keyword : List ℕ) (kinds : List Kind) (rest : List (List ℕ)) (wants : kinds_wanted keyword ≡ Some kinds) where
+  counted : words_wanted keyword ≡ Some (length kinds)
+  counted = ap (option_map length) wants
 
-  pub ill_formed : (AreWords n rest → ⊥) → IsSome (words_wanted keyword) × (IsWellFormed keyword rest → ⊥)
+  pub well_formed : AreWords (length kinds) rest → IsWellFormed keyword rest
+  well_formed known = record { wanted = counted ∙ ap Some (sym known.count); filled = known.filled }
+
+  pub ill_formed : (AreWords (length kinds) rest → ⊥)
+      → IsSome (kinds_wanted keyword) × (IsWellFormed keyword rest → ⊥)
   ill_formed never = (
     ap is_some wants,
     λ formed.
-        let same : Some n ≡ Some (length rest) = sym wants ∙ formed.wanted in
-        let count : length rest ≡ n = cc in
+        let same : Some (length kinds) ≡ Some (length rest) = sym counted ∙ formed.wanted in
+        let count : length rest ≡ length kinds = cc in
         never (record { count = count; filled = formed.filled }),
   )

@@ -7,6 +7,7 @@ pub mod Keywords
 pub mod Given
 pub mod Scripts
 pub mod Stepping
+pub mod Refusing
 pub mod Meaning
 pub mod StepMeaning
 pub mod Decimals

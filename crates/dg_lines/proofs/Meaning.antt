@@ -2,7 +2,7 @@
 --   line_read        what is read of the words of a line is what the line spells, or its fault
 --   lines_have_one_meaning
 use Rattle.std.proofs.Common.{◌≡◌, ◌≢◌, ℕ, suc, ◌<◌, ◌≤◌, ◌^◌, ◌-◌, ◌⊎◌, inl, inr, cond, Bool, true, false, ℤ, pos, negsuc, neg_ℤ, ◌≤ℤ◌, List, [], ◌∷◌, length, map, Option, Some, None, Result, Ok, Err, refl, ap, sym, ◌∙◌, subst, arith, codes, FitsSigned, w64, decimal, MatchResult, IfOk, IfErr}
-use Rattle.std.specs.Prelude.{All, IsSome, is_some, bytes_eq}
+use Rattle.std.specs.Prelude.{All, IsSome, is_some, bytes_eq, option_map, unwrap_or}
 use Rattle.std.specs.Fmt.{signed_decimal}
 use Rattle.std.proofs.lemmas.Bool.Decides.{nat_tests}
 use Rattle.std.proofs.lemmas.Fmt.{decimal_injective, signed_decimal_injective}
@@ -18,16 +18,18 @@ use Rattle.dg_names.specs.Names.{place_of, name_at}
 use Rattle.dg_lines.specs.declared.line.LineFault.{LineFault}
 use Rattle.dg_lines.specs.declared.line.LineFault.TheVariants.{Seat, Word, Form, Name, Number}
 use Rattle.dg_lines.specs.Cuts.{before, after, words, items}
-use Rattle.dg_lines.specs.CommandWords.{words_wanted, IsWellFormed, name_part, number_part, others_than, given_names, given_numbers, IsNumberFor, AreGiven, command_words}
-use Rattle.dg_lines.specs.Commands.{number_given, IsScriptWord, IsSetOf, Means, IsCommandLine}
-use Rattle.dg_lines.specs.Keywords.{AreWords}
+use Rattle.dg_lines.specs.CommandWords.{Kind, vertex, vertices, script, degree, dollars, name_part, number_part, numbers_in, IsNumberFor, AreNamed, AreNumbers, number_given, IsScriptWord, IsSetOf}
+use Rattle.dg_lines.specs.Commands.{kinds_beside, kinds_wanted, kinds_of, IsWellFormed, keywords, Means, IsCommandLine}
+use Rattle.dg_lines.specs.declared.command.Keyword.{Keyword}
+use Rattle.dg_lines.specs.declared.command.Keyword.TheVariants as of
+use Rattle.dg_lines.specs.Keywords.{spelling, kinds, AreWords}
 use Rattle.dg_lines.specs.LineFaults.{AreRefused, IsLineFault}
 use Rattle.dg_lines.specs.LineLaws.{AreAlike, LinesHaveOneMeaning}
 use Rattle.dg_lines.proofs.Cutting.{line_words}
-use Rattle.dg_lines.proofs.Decided.{IsDecided}
-use Rattle.dg_lines.proofs.Given.{HasPlace, given_or, place_or, named_alone, both_named, none_given, unnamed_among, second_unnamed, set_members, one_set}
-use Rattle.dg_lines.proofs.Integers.{fits_within, within_fits, entry_fits, number_or, degree_or}
-use Rattle.dg_lines.proofs.Keywords.{each_row, well_formed, ill_formed, words_or}
+use Rattle.dg_lines.proofs.Decided.{IsDecided, both_or}
+use Rattle.dg_lines.proofs.Given.{named_alone, none_given, place_given, named_or, set_members, one_set}
+use Rattle.dg_lines.proofs.Integers.{fits_within, within_fits, entry_fits, degree_fits, degree_within, number_or}
+use Rattle.dg_lines.proofs.Keywords.{found_in, well_formed, ill_formed, words_or}
 use Rattle.dg_lines.proofs.Scripts.{IsEntryText, numbers_told, told_numbers, one_list, script_there}
 
 -- ---- from words to lines
@@ -56,54 +58,57 @@ module _ (names : List (List ℕ)) (line keyword : List ℕ) (rest : List (List 
       subst (λ k. Means names c k rest) same.0 (subst (Means names c known.keyword) same.1 known.means)
 
 -- ---- what is spelled has no fault
-gift_number : (x : ℤ) → FitsSigned w64 x → IsNumberFor (codes "gift") (signed_decimal x)
+gift_number : (x : ℤ) → FitsSigned w64 x → IsNumberFor dollars (signed_decimal x)
 gift_number x fits =
     let sides = within_fits x fits in
     record { number = x; spelled = refl; not_less = sides.0; not_more = sides.1 }
 
-rank_number : (k : ℕ) → k < 2 ^ 32 → IsNumberFor (codes "rank") (decimal k)
+rank_number : (k : ℕ) → k < 2 ^ 32 → IsNumberFor degree (decimal k)
 rank_number k small =
     record { number = pos k; spelled = refl; not_less = omega (arith, ints); not_more = omega (arith, ints) }
 
-no_numbers : (keyword : List ℕ) → All (IsNumberFor keyword) []
-no_numbers keyword = All-nil (IsNumberFor keyword)
+no_numbers : (kind : Kind) → All (IsNumberFor kind) []
+no_numbers kind = All-nil (IsNumberFor kind)
 
-only_one : (keyword text : List ℕ) → All (IsNumberFor keyword) (text ∷ []) → IsNumberFor keyword text
-only_one keyword text all = All-head (IsNumberFor keyword) text [] all
-
-one_number : (keyword text : List ℕ) → IsNumberFor keyword text → All (IsNumberFor keyword) (text ∷ [])
-one_number keyword text good = All-cons (IsNumberFor keyword) text [] good (no_numbers keyword)
+one_number : (kind : Kind) (text : List ℕ) → IsNumberFor kind text → All (IsNumberFor kind) (text ∷ [])
+one_number kind text good = All-cons (IsNumberFor kind) text [] good (no_numbers kind)
 
 module _ (names : List (List ℕ)) (keyword : List ℕ) (rest : List (List ℕ)) where
   means_good : (c : Command) → Means names c keyword rest
-      → AreGiven names (given_names keyword rest) × All (IsNumberFor keyword) (given_numbers keyword rest)
+      → AreNamed names (kinds_of keyword) rest × AreNumbers (kinds_of keyword) rest
+  unfolding kinds_beside
   means_good (Call (Play (Lend v))) (word, one, (key, place)) =
-      rw (key, one) (named_alone names word v place, no_numbers (codes "lend"))
+      rw (key, one) ((named_alone names word v place, tt), (no_numbers vertex, tt))
   means_good (Call (Play (Borrow v))) (word, one, (key, place)) =
-      rw (key, one) (named_alone names word v place, no_numbers (codes "borrow"))
-  means_good (Call (Play (Fire set))) (word, one, (key, known)) =
-      rw (key, one) (known.are_given, no_numbers (codes "fire"))
+      rw (key, one) ((named_alone names word v place, tt), (no_numbers vertex, tt))
+  means_good (Call (Play (Fire members))) (word, one, (key, known)) =
+      rw (key, one) ((known.are_given, tt), (no_numbers vertices, tt))
   means_good (Call (Play (Script s))) (word, one, (key, known)) =
-      rw (key, one)
-      (known.script.are_given, told_numbers (map number_part (items word)) known.numbers known.spelled known.limit)
+      rw (key, one) (
+        (known.script.are_given, tt),
+        (told_numbers (map number_part (items word)) known.numbers known.spelled known.limit, tt),
+      )
   means_good (Call (Gift v x)) (key, known) =
       rw (key, known.given) (
-        named_alone names known.name v known.vertex,
-        one_number (codes "gift") (signed_decimal x) (gift_number x known.fits),
+        (named_alone names known.name v known.vertex, (none_given names, tt)),
+        (no_numbers vertex, (one_number dollars (signed_decimal x) (gift_number x known.fits), tt)),
       )
   means_good (Call (Join u v)) (key, known) =
-      rw (key, known.given)
-      (both_named names known.first known.second u v known.from known.to, no_numbers (codes "join"))
-  means_good (Call Look) (key, none) = rw (key, none) (none_given names, no_numbers (codes "look"))
-  means_good (Call Claim) (key, none) = rw (key, none) (none_given names, no_numbers (codes "claim"))
-  means_good Commit (key, none) = rw (key, none) (none_given names, no_numbers (codes "commit"))
+      rw (key, known.given) (
+        (named_alone names known.first u known.from, (named_alone names known.second v known.to, tt)),
+        (no_numbers vertex, (no_numbers vertex, tt)),
+      )
+  means_good (Call Look) (key, none) = rw key (tt, tt)
+  means_good (Call Claim) (key, none) = rw key (tt, tt)
+  means_good Commit (key, none) = rw key (tt, tt)
   means_good (Rank k) (key, one, small) =
-      rw (key, one) (none_given names, one_number (codes "rank") (decimal k) (rank_number k small))
+      rw (key, one) ((none_given names, tt), (one_number degree (decimal k) (rank_number k small), tt))
 
-  unwanted : words_wanted keyword ≡ None → IsWellFormed keyword rest → ⊥
-  unwanted none formed = let no : Some (length rest) ≡ None = sym formed.wanted ∙ none in cc
+  unwanted : kinds_wanted keyword ≡ None → IsWellFormed keyword rest → ⊥
+  unwanted none formed =
+      let no : Some (length rest) ≡ None = sym formed.wanted ∙ ap (option_map length) none in cc
 
-  not_wanted : words_wanted keyword ≡ None → IsSome (words_wanted keyword) → ⊥
+  not_wanted : kinds_wanted keyword ≡ None → IsSome (kinds_wanted keyword) → ⊥
   not_wanted e f = let no : false ≡ true = sym (ap is_some e) ∙ f in cc
 
   no_fault : (c : Command) (fault : LineFault) → IsWellFormed keyword rest → Means names c keyword rest
@@ -188,7 +193,7 @@ module _ (names : List (List ℕ)) (keyword : List ℕ) (rest : List (List ℕ))
   form_of : (c : Command) → Means names c keyword rest → HasForm c keyword
   form_of (Call (Play (Lend v))) (word, one, (key, place)) = rw key (v, refl)
   form_of (Call (Play (Borrow v))) (word, one, (key, place)) = rw key (v, refl)
-  form_of (Call (Play (Fire set))) (word, one, (key, known)) = rw key (set, refl)
+  form_of (Call (Play (Fire members))) (word, one, (key, known)) = rw key (members, refl)
   form_of (Call (Play (Script s))) (word, one, (key, known)) = rw key (s, refl)
   form_of (Call (Gift v x)) (key, known) = rw key (v, x, refl)
   form_of (Call (Join u v)) (key, known) = rw key (u, v, refl)
@@ -213,11 +218,11 @@ module _ (names : List (List ℕ)) (keyword : List ℕ) (rest : List (List ℕ))
       let also = meant_as d (play (Borrow w)) is other in
       let there = subst (λ name. place_of names name ≡ Some w) (one_word word also.0 rest one also.1) also.2.1 in
       ap (λ x. play (Borrow x)) (one_place names word v w place there) ∙ sym is
-  alike (Call (Play (Fire set))) d (word, one, (key, known)) other form =
+  alike (Call (Play (Fire members))) d (word, one, (key, known)) other form =
       let (m, is) = subst (HasForm d) key form in
       let also = meant_as d (play (Fire m)) is other in
       let there = subst (λ w. IsSetOf names (items w) m) (one_word word also.0 rest one also.1) also.2.1 in
-      ap (λ x. play (Fire x)) (one_set names (items word) set m known there) ∙ sym is
+      ap (λ x. play (Fire x)) (one_set names (items word) members m known there) ∙ sym is
   alike (Call (Play (Script s))) d (word, one, (key, known)) other form =
       let (t, is) = subst (HasForm d) key form in
       let also = meant_as d (play (Script t)) is other in
@@ -249,33 +254,6 @@ module _ (names : List (List ℕ)) (keyword : List ℕ) (rest : List (List ℕ))
       ap Rank (decimal_injective k m (omega arith) (omega (arith, also.2)) (sym same)) ∙ sym is
 
 -- ---- some command or fault
--- what the words come to
-abbrev Spells : List (List ℕ) → List ℕ → List (List ℕ) → Type 0
-Spells names keyword rest = (result : Result Command LineFault)
-    × MatchResult result (λ command. Means names command keyword rest) (λ fault. AreRefused names fault keyword rest)
-
--- what a command word and so many words after it come to
-abbrev Reads : List ℕ → ℕ → Type 0
-Reads keyword n = (names rest : List (List ℕ)) → IsWellFormed keyword rest → length rest ≡ n → Spells names keyword rest
-
-module _ (keyword : List ℕ) where
-  alone_reads : (c : Command) → ((names : List (List ℕ)) → Means names c keyword []) → Reads keyword 0
-  alone_reads c means names [] formed count = (Ok c, means names)
-  alone_reads c means names (word ∷ rest) formed count = absurd (omega arith)
-
-  one_reads : ((names : List (List ℕ)) (word : List ℕ) → IsWellFormed keyword (word ∷ [])
-      → Spells names keyword (word ∷ [])) → Reads keyword 1
-  one_reads read names [] formed count = absurd (omega arith)
-  one_reads read names (word ∷ []) formed count = read names word formed
-  one_reads read names (word ∷ more ∷ rest) formed count = absurd (omega arith)
-
-  two_reads : ((names : List (List ℕ)) (one other : List ℕ) → IsWellFormed keyword (one ∷ other ∷ [])
-      → Spells names keyword (one ∷ other ∷ [])) → Reads keyword 2
-  two_reads read names [] formed count = absurd (omega arith)
-  two_reads read names (one ∷ []) formed count = absurd (omega arith)
-  two_reads read names (one ∷ other ∷ []) formed count = read names one other formed
-  two_reads read names (one ∷ other ∷ more ∷ rest) formed count = absurd (omega arith)
-
 entries_or : (texts : List (List ℕ)) → IsDecided (All IsEntryText texts)
 entries_or [] = inl (All-nil IsEntryText)
 entries_or (text ∷ texts) = go (number_or (neg_ℤ (pos 1000000000)) (pos 1000000000) text entry_fits) (entries_or texts)
@@ -285,135 +263,102 @@ entries_or (text ∷ texts) = go (number_or (neg_ℤ (pos 1000000000)) (pos 1000
     go (inl first) (inr never) = inr (λ each. never (All-tail IsEntryText text texts each))
     go (inr never) others = inr (λ each. never (All-head IsEntryText text texts each))
 
-module _ (names : List (List ℕ)) (word : List ℕ) where
-  lend_reads : IsWellFormed (codes "lend") (word ∷ []) → Spells names (codes "lend") (word ∷ [])
-  lend_reads formed = elim (place_or names word) [
-    | inl (v, place) ↦ (Ok (play (Lend v)), (word, refl, (refl, place)))
-    | inr none ↦ (Err Name, (formed, unnamed_among names [] [] word none))
-  ]
+one_or : (kind : Kind) (text : List ℕ) → IsDecided (IsNumberFor kind text)
+    → IsDecided (All (IsNumberFor kind) (text ∷ []))
+one_or kind text (inl good) = inl (one_number kind text good)
+one_or kind text (inr never) = inr (λ all. never (All-head (IsNumberFor kind) text [] all))
 
-  borrow_reads : IsWellFormed (codes "borrow") (word ∷ []) → Spells names (codes "borrow") (word ∷ [])
-  borrow_reads formed = elim (place_or names word) [
-    | inl (v, place) ↦ (Ok (play (Borrow v)), (word, refl, (refl, place)))
-    | inr none ↦ (Err Name, (formed, unnamed_among names [] [] word none))
-  ]
+numbers_in_or : (kind : Kind) (word : List ℕ) → IsDecided (All (IsNumberFor kind) (numbers_in kind word))
+numbers_in_or vertex word = inl (no_numbers vertex)
+numbers_in_or vertices word = inl (no_numbers vertices)
+numbers_in_or script word = entries_or (map number_part (items word))
+numbers_in_or degree word = one_or degree word (number_or (pos 0) (pos (2 ^ 32 - 1)) word degree_fits)
+numbers_in_or dollars word =
+    one_or dollars word (number_or (neg_ℤ (pos (2 ^ 63))) (pos (2 ^ 63 - 1)) word fits_within)
 
-  fire_reads : IsWellFormed (codes "fire") (word ∷ []) → Spells names (codes "fire") (word ∷ [])
-  fire_reads formed = elim (given_or names (items word)) [
-    | inl known ↦
-        let (set, is) = set_members names (items word) known in (Ok (play (Fire set)), (word, refl, (refl, is)))
-    | inr never ↦ (Err Name, (formed, never))
-  ]
+numbers_or : (ks : List Kind) (rest : List (List ℕ)) → IsDecided (AreNumbers ks rest)
+numbers_or [] rest = inl tt
+numbers_or (kind ∷ ks) [] = inl tt
+numbers_or (kind ∷ ks) (word ∷ rest) =
+    both_or (All (IsNumberFor kind) (numbers_in kind word)) (AreNumbers ks rest)
+    (numbers_in_or kind word) (numbers_or ks rest)
 
-  script_reads : IsWellFormed (codes "script") (word ∷ []) → Spells names (codes "script") (word ∷ [])
-  script_reads formed = go (given_or names (map name_part (items word))) (entries_or (map number_part (items word)))
-    where
-      go : IsDecided (AreGiven names (map name_part (items word)))
-          → IsDecided (All IsEntryText (map number_part (items word)))
-          → Spells names (codes "script") (word ∷ [])
-      go (inr never) each = (Err Name, (formed, never))
-      go (inl known) (inr never) = (Err Number, (formed, known, never))
-      go (inl known) (inl each) =
-          let (numbers, spelled, small) = numbers_told (map number_part (items word)) each in
-          let (s, is) = script_there names (map name_part (items word)) numbers known in (
-            Ok (play (Script s)),
-            (word, refl, (refl, record { numbers = numbers; spelled = spelled; limit = small; script = is })),
-          )
+-- what the words of the right kinds mean
+abbrev Meant : List (List ℕ) → Keyword → List (List ℕ) → Type 0
+Meant names k rest = (c : Command) × Means names c (spelling k) rest
 
-  rank_reads : IsWellFormed (codes "rank") (word ∷ []) → Spells names (codes "rank") (word ∷ [])
-  rank_reads formed = elim (degree_or word) [
-    | inl (k, small, spelled) ↦ (Ok (Rank k), (refl, ap (λ text. text ∷ []) spelled, small))
-    | inr never ↦ (Err Number, (formed, none_given names, λ all. never (only_one (codes "rank") word all)))
-  ]
-
-module _ (names : List (List ℕ)) (first second : List ℕ) where
-  gift_reads : IsWellFormed (codes "gift") (first ∷ second ∷ []) → Spells names (codes "gift") (first ∷ second ∷ [])
-  gift_reads formed = go (place_or names first) (number_or (neg_ℤ (pos (2 ^ 63))) (pos (2 ^ 63 - 1)) second fits_within)
-    where
-      go : HasPlace names first → IsDecided (IsNumberFor (codes "gift") second)
-          → Spells names (codes "gift") (first ∷ second ∷ [])
-      go (inr none) known = (Err Name, (formed, unnamed_among names [] [] first none))
-      go (inl (v, place)) (inr never) =
-          (Err Number, (formed, named_alone names first v place, λ all. never (only_one (codes "gift") second all)))
-      go (inl (v, place)) (inl known) = (
-        Ok (Call (Gift v known.number)),
-        (
-          refl,
-          record {
-            name = first;
-            given = ap (λ text. first ∷ text ∷ []) known.spelled;
-            vertex = place;
-            fits = fits_within known.number known.not_less known.not_more;
-          },
-        ),
-      )
-
-  join_reads : IsWellFormed (codes "join") (first ∷ second ∷ []) → Spells names (codes "join") (first ∷ second ∷ [])
-  join_reads formed = go (place_or names first) (place_or names second)
-    where
-      go : HasPlace names first → HasPlace names second → Spells names (codes "join") (first ∷ second ∷ [])
-      go (inr none) to = (Err Name, (formed, unnamed_among names [] (others_than first (second ∷ [])) first none))
-      go (inl (u, from)) (inr none) = (Err Name, (formed, second_unnamed names first second u from none))
-      go (inl (u, from)) (inl (v, to)) =
-          (Ok (Call (Join u v)), (refl, record { first = first; second = second; given = refl; from = from; to = to }))
-
-each_reads : (keyword : List ℕ) (n : ℕ) → words_wanted keyword ≡ Some n → Reads keyword n
-each_reads keyword n wants = each_row command_words Reads (
-  one_reads (codes "lend") lend_reads,
-  (
-    one_reads (codes "borrow") borrow_reads,
-    (
-      one_reads (codes "fire") fire_reads,
+meant : (names : List (List ℕ)) (k : Keyword) (rest : List (List ℕ)) → length rest ≡ length (kinds k)
+    → AreNamed names (kinds k) rest → AreNumbers (kinds k) rest → Meant names k rest
+meant names of.Lend (word ∷ []) count named numbers =
+    let (v, place) = place_given names word named.0 in (play (Lend v), (word, refl, (refl, place)))
+meant names of.Borrow (word ∷ []) count named numbers =
+    let (v, place) = place_given names word named.0 in (play (Borrow v), (word, refl, (refl, place)))
+meant names of.Fire (word ∷ []) count named numbers =
+    let (members, is) = set_members names (items word) named.0 in (play (Fire members), (word, refl, (refl, is)))
+meant names of.Script (word ∷ []) count named numbers =
+    let (xs, spelled, small) = numbers_told (map number_part (items word)) numbers.0 in
+    let (s, is) = script_there names (map name_part (items word)) xs named.0 in
+    (play (Script s), (word, refl, (refl, record { numbers = xs; spelled = spelled; limit = small; script = is })))
+meant names of.Gift (first ∷ second ∷ []) count named numbers =
+    let (v, place) = place_given names first named.0 in
+    let known = All-head (IsNumberFor dollars) second [] numbers.1.0 in (
+      Call (Gift v known.number),
       (
-        one_reads (codes "script") script_reads,
-        (
-          two_reads (codes "gift") gift_reads,
-          (
-            two_reads (codes "join") join_reads,
-            (
-              alone_reads (codes "look") (Call Look) (λ names. (refl, refl)),
-              (
-                alone_reads (codes "claim") (Call Claim) (λ names. (refl, refl)),
-                (
-                  alone_reads (codes "commit") Commit (λ names. (refl, refl)),
-                  (
-                    one_reads (codes "rank") rank_reads,
-                    tt,
-                  ),
-                ),
-              ),
-            ),
-          ),
-        ),
+        refl,
+        record {
+          name = first;
+          given = ap (λ text. first ∷ text ∷ []) known.spelled;
+          vertex = place;
+          fits = fits_within known.number known.not_less known.not_more;
+        },
       ),
-    ),
-  ),
-) keyword n wants
+    )
+meant names of.Join (first ∷ second ∷ []) count named numbers =
+    let (u, from) = place_given names first named.0 in
+    let (v, to) = place_given names second named.1.0 in
+    (Call (Join u v), (refl, record { first = first; second = second; given = refl; from = from; to = to }))
+meant names of.Look [] count named numbers = (Call Look, (refl, refl))
+meant names of.Claim [] count named numbers = (Call Claim, (refl, refl))
+meant names of.Commit [] count named numbers = (Commit, (refl, refl))
+meant names of.Rank (word ∷ []) count named numbers =
+    let known = All-head (IsNumberFor degree) word [] numbers.0 in
+    let (k, small, spelled) = degree_within word known in
+    (Rank k, (refl, ap (λ text. text ∷ []) spelled, small))
+meant names k rest count named numbers = absurd (omega arith)
 
 module _ (names : List (List ℕ)) (line : List ℕ) where
   abbrev HasMeaning : Type 0
   HasMeaning = ((c : Command) × IsCommandLine names c line) ⊎ ((fault : LineFault) × IsLineFault names fault line)
 
   some_meaning : (keyword : List ℕ) (rest : List (List ℕ)) → words line ≡ keyword ∷ rest → HasMeaning
-  some_meaning keyword rest cut = go (words_wanted keyword) refl
+  some_meaning keyword rest cut = go (kinds_wanted keyword) refl
     where
       refused : (fault : LineFault) → AreRefused names fault keyword rest → HasMeaning
       refused fault bad = inr (fault, record { keyword = keyword; rest = rest; cut = cut; refused = bad })
 
-      read : IsWellFormed keyword rest → Spells names keyword rest → HasMeaning
-      read formed (Ok c, means) =
-          inl (c, record { keyword = keyword; rest = rest; cut = cut; formed = formed; means = means })
-      read formed (Err fault, bad) = refused fault bad
+      read : (k : Keyword) → keyword ≡ spelling k → kinds_of keyword ≡ kinds k → IsWellFormed keyword rest
+          → length rest ≡ length (kinds k) → AreNamed names (kinds_of keyword) rest
+          → IsDecided (AreNumbers (kinds_of keyword) rest) → HasMeaning
+      read k same own formed count named (inr never) = refused Number (formed, named, never)
+      read k same own formed count named (inl numbers) =
+          let (c, means) =
+          meant names k rest count (subst (λ ks. AreNamed names ks rest) own named)
+          (subst (λ ks. AreNumbers ks rest) own numbers) in
+          let spelled = subst (λ word. Means names c word rest) (sym same) means in
+          inl (c, record { keyword = keyword; rest = rest; cut = cut; formed = formed; means = spelled })
 
-      counted : (n : ℕ) → words_wanted keyword ≡ Some n → IsDecided (AreWords n rest) → HasMeaning
-      counted n wants (inr never) = refused Form (ill_formed keyword n rest wants never)
-      counted n wants (inl known) =
-          let formed = well_formed keyword n rest wants known in
-          read formed (each_reads keyword n wants names rest formed known.count)
+      counted : (ks : List Kind) → kinds_wanted keyword ≡ Some ks → IsDecided (AreWords (length ks) rest)
+          → IsDecided (AreNamed names (kinds_of keyword) rest) → HasMeaning
+      counted ks wants (inr never) named = refused Form (ill_formed keyword ks rest wants never)
+      counted ks wants (inl known) (inr never) = refused Name (well_formed keyword ks rest wants known, never)
+      counted ks wants (inl known) (inl named) =
+          let (k, same, own) = found_in keywords keyword ks wants in
+          read k same (ap (λ o. unwrap_or o []) wants ∙ own) (well_formed keyword ks rest wants known)
+          (known.count ∙ ap length own) named (numbers_or (kinds_of keyword) rest)
 
-      go : (o : Option ℕ) → words_wanted keyword ≡ o → HasMeaning
+      go : (o : Option (List Kind)) → kinds_wanted keyword ≡ o → HasMeaning
       go None none = refused Word none
-      go (Some n) wants = counted n wants (words_or n rest)
+      go (Some ks) wants = counted ks wants (words_or (length ks) rest) (named_or names (kinds_of keyword) rest)
 
 pub lines_have_one_meaning : LinesHaveOneMeaning
 lines_have_one_meaning = record {

@@ -26,8 +26,7 @@ use Rattle.dg_chips.specs.Vector.{Vector, IsScript, HoldsNumbers}
 use Rattle.dg_chips.specs.declared.limits.TheConstants.{MAX_ENTRY}
 use Rattle.dg_names.specs.Names.{has, place_of, name_at}
 use Rattle.dg_lines.specs.Cuts.{after}
-use Rattle.dg_lines.specs.CommandWords.{IsNumberWithin, AreGiven, name_part, number_part}
-use Rattle.dg_lines.specs.Commands.{number_given, IsScriptOf}
+use Rattle.dg_lines.specs.CommandWords.{IsNumberWithin, AreGiven, name_part, number_part, number_given, IsScriptOf}
 use Rattle.dg_lines.proofs.Given.{same_bytes, vertex_named, IsNamedNext, is_next, other_name, HasTaken, none_taken, one_taken, all_there}
 
 abbrev pub IsEntryText : List ℕ → Type 0

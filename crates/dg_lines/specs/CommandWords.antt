@@ -1,49 +1,44 @@
--- The words of command lines. A line is cut into words at each single space, so that two spaces in
--- a row make an empty word; the items of a word are cut at commas. The byte 61 is `=`.
---   command_words                 == the ten command words, each with the number of words that
---                                    follow it
---   number_beside rows word       == the number beside the word, in the first of the rows that has
---                                    it, where one has
---   words_wanted keyword          == how many words follow the command word, where it is one
---   IsWellFormed keyword rest     == so many words follow it, and none of them is empty
---   name_part item                == what stands before the first `=` of the item, or all of it
---                                    where there is none
---   number_part item              == what stands after the first `=` of the item, and nothing where
---                                    there is none
---   others_than word rest         == those of the words that are not this one
---   given_names keyword rest      == the names that the words after the command word give, in their
---                                    order. The two names of a join may be the same, which then is
---                                    given once
---   given_numbers keyword rest    == the numbers that they give, in their order
---   IsNumberWithin low high text  == the text is the decimal of a number from low to high
---   IsNumberFor keyword text      == the text is the decimal of a number that may stand after the
---                                    command word: a degree, an entry of a script, or else a number
---                                    that 64 bits hold
---   AreGiven names given          == each of the names given is among the names, and no two are the
---                                    same
-use Rattle.std.specs.Prelude.{◌≡◌, ◌≢◌, ℕ, ◌-◌, ◌^◌, ℤ, pos, neg_ℤ, ◌≤ℤ◌, List, [], ◌∷◌, length, map, cond, not, Option, Some, None, All, IsTrue, bytes_eq, codes, unwrap_or}
+-- What the words after a command word tell. The items of a word are cut at commas. The byte 61 is
+-- `=`, and `names` are the names of the vertices, in vertex order.
+--   Kind                             == a vertex, a set of vertices, a script, the degree of a rank
+--                                       test, or dollars
+--   name_part item                   == what stands before the first `=` of the item, or all of it
+--                                       where there is none
+--   number_part item                 == what stands after the first `=` of the item, and nothing
+--                                       where there is none
+--   names_in kind word               == the names that a word of that kind gives, in their order
+--   numbers_in kind word             == the numbers that it gives, in their order
+--   IsNumberWithin low high text     == the text is the decimal of a number from low to high
+--   IsNumberFor kind text            == the text is the decimal of a number that may stand in a
+--                                       word of that kind: a degree, an entry of a script, or else
+--                                       a number that 64 bits hold
+--   AreGiven names given             == each of the names given is among the names, and no two are
+--                                       the same
+--   AreNamed names kinds rest        == the names that each of the words gives are given so
+--   AreNumbers kinds rest            == all numbers that they give may stand in a word of its kind
+--   IsSetOf names given set          == set has just the vertices of the names given
+--   number_given given numbers name  == the number beside the name, and 0 where the name is not
+--                                       given
+--   IsScriptOf names given numbers s == s has at each vertex the number given for its name, and 0
+--                                       where none is
+--   IsScriptWord names word s        == the items of the word spell the script: each a name, `=` and
+--                                       a number
+use Rattle.std.specs.Prelude.{◌≡◌, ℕ, ◌<◌, ◌≤◌, ◌-◌, ◌^◌, ℤ, pos, neg_ℤ, ◌≤ℤ◌, List, [], ◌∷◌, length, map, cond, All, IsTrue, bytes_eq, unwrap_or}
+use Rattle.std.specs.Int.RustNames.{unsigned_abs}
 use Rattle.std.specs.Fmt.{signed_decimal}
-use Rattle.std.specs.List.{IsDistinct, filter}
+use Rattle.std.specs.List.{IsDistinct}
+use Rattle.dg_graph.specs.Sets.{in_set, IsSetBelow}
+use Rattle.dg_chips.specs.Vector.{Vector, at}
 use Rattle.dg_chips.specs.declared.limits.TheConstants.{MAX_ENTRY}
-use Rattle.dg_names.specs.Names.{has}
+use Rattle.dg_names.specs.Names.{has, name_at}
 use Rattle.dg_lines.specs.Cuts.{before, after, items}
 
-abbrev pub command_words : List (List ℕ × ℕ)
-command_words =
-    (codes "lend", 1) ∷ (codes "borrow", 1) ∷ (codes "fire", 1) ∷ (codes "script", 1)
-    ∷ (codes "gift", 2) ∷ (codes "join", 2)
-    ∷ (codes "look", 0) ∷ (codes "claim", 0) ∷ (codes "commit", 0) ∷ (codes "rank", 1) ∷ []
-
-unfoldable pub number_beside : List (List ℕ × ℕ) → List ℕ → Option ℕ
-number_beside [] word = None
-number_beside (row ∷ rows) word = cond (bytes_eq word row.0) (Some row.1) (number_beside rows word)
-
-abbrev pub words_wanted : List ℕ → Option ℕ
-words_wanted keyword = number_beside command_words keyword
-
-pub record IsWellFormed (keyword : List ℕ) (rest : List (List ℕ)) : Type 0 where
-  pub wanted : words_wanted keyword ≡ Some (length rest)
-  pub filled : All (λ word. word ≢ []) rest
+pub data Kind : Type 0 where
+  vertex : Kind
+  vertices : Kind
+  script : Kind
+  degree : Kind
+  dollars : Kind
 
 abbrev pub name_part : List ℕ → List ℕ
 name_part item = before 61 item
@@ -51,23 +46,19 @@ name_part item = before 61 item
 abbrev pub number_part : List ℕ → List ℕ
 number_part item = unwrap_or (after 61 item) []
 
-abbrev pub others_than : List ℕ → List (List ℕ) → List (List ℕ)
-others_than word rest = filter (λ other. not (bytes_eq word other)) rest
+abbrev pub names_in : Kind → List ℕ → List (List ℕ)
+names_in vertex word = word ∷ []
+names_in vertices word = items word
+names_in script word = map name_part (items word)
+names_in degree word = []
+names_in dollars word = []
 
-abbrev pub given_names : List ℕ → List (List ℕ) → List (List ℕ)
-given_names keyword [] = []
-given_names keyword (word ∷ rest) =
-    cond (bytes_eq keyword (codes "fire")) (items word)
-    (cond (bytes_eq keyword (codes "script")) (map name_part (items word))
-    (cond (bytes_eq keyword (codes "rank")) []
-    (cond (bytes_eq keyword (codes "join")) (word ∷ others_than word rest) (word ∷ []))))
-
-abbrev pub given_numbers : List ℕ → List (List ℕ) → List (List ℕ)
-given_numbers keyword [] = []
-given_numbers keyword (word ∷ rest) =
-    cond (bytes_eq keyword (codes "script")) (map number_part (items word))
-    (cond (bytes_eq keyword (codes "rank")) (word ∷ [])
-    (cond (bytes_eq keyword (codes "join")) [] rest))
+abbrev pub numbers_in : Kind → List ℕ → List (List ℕ)
+numbers_in vertex word = []
+numbers_in vertices word = []
+numbers_in script word = map number_part (items word)
+numbers_in degree word = word ∷ []
+numbers_in dollars word = word ∷ []
 
 pub record IsNumberWithin (low high : ℤ) (text : List ℕ) : Type 0 where
   pub number : ℤ
@@ -75,13 +66,46 @@ pub record IsNumberWithin (low high : ℤ) (text : List ℕ) : Type 0 where
   pub not_less : low ≤ℤ number
   pub not_more : number ≤ℤ high
 
-abbrev pub IsNumberFor : List ℕ → List ℕ → Type 0
-IsNumberFor keyword text =
-    cond (bytes_eq keyword (codes "rank")) (IsNumberWithin (pos 0) (pos (2 ^ 32 - 1)) text)
-    (cond (bytes_eq keyword (codes "script"))
-    (IsNumberWithin (neg_ℤ (pos MAX_ENTRY)) (pos MAX_ENTRY) text)
-    (IsNumberWithin (neg_ℤ (pos (2 ^ 63))) (pos (2 ^ 63 - 1)) text))
+abbrev pub IsNumberFor : Kind → List ℕ → Type 0
+IsNumberFor degree text = IsNumberWithin (pos 0) (pos (2 ^ 32 - 1)) text
+IsNumberFor script text = IsNumberWithin (neg_ℤ (pos MAX_ENTRY)) (pos MAX_ENTRY) text
+IsNumberFor kind text = IsNumberWithin (neg_ℤ (pos (2 ^ 63))) (pos (2 ^ 63 - 1)) text
 
 pub record AreGiven (names : List (List ℕ)) (given : List (List ℕ)) : Type 0 where
   pub each : All (λ name. IsTrue (has names name)) given
   pub different : IsDistinct bytes_eq given
+
+abbrev pub AreNamed : List (List ℕ) → List Kind → List (List ℕ) → Type 0
+AreNamed names [] rest = Unit {0}
+AreNamed names (kind ∷ kinds) [] = Unit {0}
+AreNamed names (kind ∷ kinds) (word ∷ rest) =
+    AreGiven names (names_in kind word) × AreNamed names kinds rest
+
+abbrev pub AreNumbers : List Kind → List (List ℕ) → Type 0
+AreNumbers [] rest = Unit {0}
+AreNumbers (kind ∷ kinds) [] = Unit {0}
+AreNumbers (kind ∷ kinds) (word ∷ rest) =
+    All (IsNumberFor kind) (numbers_in kind word) × AreNumbers kinds rest
+
+pub record IsSetOf (names : List (List ℕ)) (given : List (List ℕ)) (set : ℕ) : Type 0 where
+  pub are_given : AreGiven names given
+  pub members : (v : ℕ) → v < length names → in_set set v ≡ has given (name_at names v)
+  pub within : IsSetBelow (length names) (in_set set)
+
+unfoldable pub number_given : List (List ℕ) → List ℤ → List ℕ → ℤ
+number_given [] numbers name = pos 0
+number_given (first ∷ given) [] name = pos 0
+number_given (first ∷ given) (x ∷ numbers) name =
+    cond (bytes_eq first name) x (number_given given numbers name)
+
+pub record IsScriptOf (names given : List (List ℕ)) (numbers : List ℤ) (s : Vector) : Type 0 where
+  pub are_given : AreGiven names given
+  pub size : s.size ≡ length names
+  pub entries : (v : ℕ) → v < length names → at s v ≡ number_given given numbers (name_at names v)
+  pub inside : (v : ℕ) → length names ≤ v → at s v ≡ pos 0
+
+pub record IsScriptWord (names : List (List ℕ)) (word : List ℕ) (s : Vector) : Type 0 where
+  pub numbers : List ℤ
+  pub spelled : map number_part (items word) ≡ map signed_decimal numbers
+  pub limit : All (λ x. unsigned_abs x ≤ MAX_ENTRY) numbers
+  pub script : IsScriptOf names (map name_part (items word)) numbers s

@@ -1,57 +1,73 @@
--- Command lines: what a line spells. `names` are the names of the vertices, in vertex order.
---   IsSetOf names given set              == the set has just the vertices of the names given
---   number_given given numbers name      == the number beside the name, and 0 where the name is not
---                                           given
---   IsScriptOf names given numbers s     == s has at each vertex the number given for its name, and
---                                           0 where none is
---   IsScriptWord names word s            == the items of the word spell the script: each a name,
---                                           `=` and a number
---   IsMoveWord names move keyword word   == the command word and the word after it spell the move
---   MeansGift names v x rest             == the two words name the vertex v and spell the number x
---   MeansJoin names u v rest             == the two words name the vertices u and v, which may be
---                                           the same
---   Means names command keyword rest     == the command word and the words after it spell the
---                                           command
---   IsCommandLine names command line     == the line has the right form, and its words spell the
---                                           command
-use Rattle.std.specs.Prelude.{◌≡◌, ℕ, ◌<◌, ◌≤◌, ◌^◌, ℤ, pos, FitsSigned, List, [], ◌∷◌, length, map, cond, Some, All, bytes_eq, codes, decimal}
+-- Command lines: what a line spells. A line is cut into words at each single space, so that two
+-- spaces in a row make an empty word. `names` are the names of the vertices, in vertex order.
+--   row keyword                        == the command word, and the kinds of the words after it
+--   keywords                           == all commands
+--   command_words                      == their rows: the table of the step language
+--   kinds_beside rows word             == the kinds beside the word, in the first of the rows that
+--                                         has it, if one has
+--   kinds_wanted keyword               == the kinds of the words after the command word, if it is
+--                                         one
+--   kinds_of keyword                   == these kinds, and none if it is no command word
+--   words_wanted keyword               == how many words follow the command word, if it is one
+--   IsWellFormed keyword rest          == so many words follow it, and none of them is empty
+--   IsMoveWord names move keyword word == the command word and the word after it spell the move
+--   MeansGift names v x rest           == the two words name the vertex v and spell the number x
+--   MeansJoin names u v rest           == the two words name the vertices u and v, which may be the
+--                                         same
+--   Means names command keyword rest   == the command word and the words after it spell the command
+--   IsCommandLine names command line   == the line has the right form, and its words spell the
+--                                         command
+use Rattle.std.specs.Prelude.{◌≡◌, ◌≢◌, ℕ, ◌<◌, ◌^◌, ℤ, FitsSigned, List, [], ◌∷◌, length, map, cond, Option, Some, None, option_map, unwrap_or, All, bytes_eq, codes, decimal}
 use Rattle.std.specs.Int.{w64}
-use Rattle.std.specs.Int.RustNames.{unsigned_abs}
 use Rattle.std.specs.Fmt.{signed_decimal}
-use Rattle.dg_graph.specs.Sets.{in_set, IsSetBelow}
-use Rattle.dg_chips.specs.Vector.{Vector, at}
-use Rattle.dg_chips.specs.declared.limits.TheConstants.{MAX_ENTRY}
 use Rattle.dg_chips.specs.declared.moves.Move.{Move}
 use Rattle.dg_chips.specs.declared.moves.Move.TheVariants.{Lend, Borrow, Fire, Script}
 use Rattle.dg_game.specs.declared.step.Command.{Command}
 use Rattle.dg_game.specs.declared.step.Command.TheVariants.{Call, Commit, Rank}
 use Rattle.dg_game.specs.declared.entry.Plain.TheVariants.{Move as Play, Gift, Join, Look, Claim}
-use Rattle.dg_names.specs.Names.{has, place_of, name_at}
+use Rattle.dg_names.specs.Names.{place_of}
 use Rattle.dg_lines.specs.Cuts.{words, items}
-use Rattle.dg_lines.specs.CommandWords.{IsWellFormed, name_part, number_part, AreGiven}
+use Rattle.dg_lines.specs.CommandWords.{Kind, vertex, vertices, script, degree, dollars, IsSetOf, IsScriptWord}
+use Rattle.dg_lines.specs.declared.command.Keyword.{Keyword}
+use Rattle.dg_lines.specs.declared.command.Keyword.TheVariants as of
 
-pub record IsSetOf (names : List (List ℕ)) (given : List (List ℕ)) (set : ℕ) : Type 0 where
-  pub are_given : AreGiven names given
-  pub members : (v : ℕ) → v < length names → in_set set v ≡ has given (name_at names v)
-  pub within : IsSetBelow (length names) (in_set set)
+abbrev pub row : Keyword → List ℕ × List Kind
+row of.Lend = (codes "lend", vertex ∷ [])
+row of.Borrow = (codes "borrow", vertex ∷ [])
+row of.Fire = (codes "fire", vertices ∷ [])
+row of.Script = (codes "script", script ∷ [])
+row of.Gift = (codes "gift", vertex ∷ dollars ∷ [])
+row of.Join = (codes "join", vertex ∷ vertex ∷ [])
+row of.Look = (codes "look", [])
+row of.Claim = (codes "claim", [])
+row of.Commit = (codes "commit", [])
+row of.Rank = (codes "rank", degree ∷ [])
 
-unfoldable pub number_given : List (List ℕ) → List ℤ → List ℕ → ℤ
-number_given [] numbers name = pos 0
-number_given (first ∷ given) [] name = pos 0
-number_given (first ∷ given) (x ∷ numbers) name =
-    cond (bytes_eq first name) x (number_given given numbers name)
+abbrev pub keywords : List Keyword
+keywords =
+    of.Lend ∷ of.Borrow ∷ of.Fire ∷ of.Script ∷ of.Gift ∷ of.Join ∷ of.Look
+    ∷ of.Claim ∷ of.Commit ∷ of.Rank ∷ []
 
-pub record IsScriptOf (names given : List (List ℕ)) (numbers : List ℤ) (s : Vector) : Type 0 where
-  pub are_given : AreGiven names given
-  pub size : s.size ≡ length names
-  pub entries : (v : ℕ) → v < length names → at s v ≡ number_given given numbers (name_at names v)
-  pub inside : (v : ℕ) → length names ≤ v → at s v ≡ pos 0
+abbrev pub command_words : List (List ℕ × List Kind)
+command_words = map row keywords
 
-pub record IsScriptWord (names : List (List ℕ)) (word : List ℕ) (s : Vector) : Type 0 where
-  pub numbers : List ℤ
-  pub spelled : map number_part (items word) ≡ map signed_decimal numbers
-  pub limit : All (λ x. unsigned_abs x ≤ MAX_ENTRY) numbers
-  pub script : IsScriptOf names (map name_part (items word)) numbers s
+unfoldable pub kinds_beside : List (List ℕ × List Kind) → List ℕ → Option (List Kind)
+kinds_beside [] word = None
+kinds_beside (first ∷ rows) word =
+    cond (bytes_eq word first.0) (Some first.1) (kinds_beside rows word)
+
+abbrev pub kinds_wanted : List ℕ → Option (List Kind)
+kinds_wanted keyword = kinds_beside command_words keyword
+
+abbrev pub kinds_of : List ℕ → List Kind
+kinds_of keyword = unwrap_or (kinds_wanted keyword) []
+
+abbrev pub words_wanted : List ℕ → Option ℕ
+words_wanted keyword = option_map length (kinds_wanted keyword)
+
+pub record IsWellFormed (keyword : List ℕ) (rest : List (List ℕ)) : Type 0 where
+  pub wanted : words_wanted keyword ≡ Some (length rest)
+  pub filled : All (λ word. word ≢ []) rest
 
 abbrev pub IsMoveWord : List (List ℕ) → Move → List ℕ → List ℕ → Type 0
 IsMoveWord names (Lend v) keyword word = (keyword ≡ codes "lend") × (place_of names word ≡ Some v)

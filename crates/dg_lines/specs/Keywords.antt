@@ -1,38 +1,31 @@
 -- What serves the reading of command lines alone.
---   alone k, single k, double k == the command word, which is followed by no word, by one or by two
---   spelling keyword            == the command word
---   AreWords n rest             == just n words, none of which is empty
-use Rattle.std.specs.Prelude.{◌≡◌, ◌≢◌, ℕ, List, [], length, All, codes}
-use Rattle.dg_lines.specs.declared.keyword.Keyword.{Keyword}
-use Rattle.dg_lines.specs.declared.keyword.Keyword.TheVariants as of
-use Rattle.dg_lines.specs.declared.keyword.Alone.{Alone}
-use Rattle.dg_lines.specs.declared.keyword.Alone.TheVariants.{Look, Claim, Commit}
-use Rattle.dg_lines.specs.declared.keyword.Single.{Single}
-use Rattle.dg_lines.specs.declared.keyword.Single.TheVariants.{Lend, Borrow, Fire, Script, Rank}
-use Rattle.dg_lines.specs.declared.keyword.Double.{Double}
-use Rattle.dg_lines.specs.declared.keyword.Double.TheVariants.{Gift, Join}
-
-abbrev pub alone : Alone → List ℕ
-alone Look = codes "look"
-alone Claim = codes "claim"
-alone Commit = codes "commit"
-
-abbrev pub single : Single → List ℕ
-single Lend = codes "lend"
-single Borrow = codes "borrow"
-single Fire = codes "fire"
-single Script = codes "script"
-single Rank = codes "rank"
-
-abbrev pub double : Double → List ℕ
-double Gift = codes "gift"
-double Join = codes "join"
+--   spelling keyword             == the command word
+--   kinds keyword                == the kinds of the words after it
+--   first_words n a b c          == the first n of the three words
+--   IsBadScript names fault word == the word is no script, by the names or else by the numbers in it
+--   AreWords n rest              == just n words, none of which is empty
+use Rattle.std.specs.Prelude.{◌≡◌, ◌≢◌, ℕ, List, [], ◌∷◌, length, take, All}
+use Rattle.dg_lines.specs.CommandWords.{Kind, script, names_in, numbers_in, IsNumberFor, AreGiven}
+use Rattle.dg_lines.specs.Commands.{row}
+use Rattle.dg_lines.specs.declared.command.Keyword.{Keyword}
+use Rattle.dg_lines.specs.declared.line.LineFault.{LineFault}
+use Rattle.dg_lines.specs.declared.line.LineFault.TheVariants.{Name, Number}
 
 abbrev pub spelling : Keyword → List ℕ
-spelling (of.Alone k) = alone k
-spelling (of.Single k) = single k
-spelling (of.Double k) = double k
+spelling keyword = (row keyword).0
+
+abbrev pub kinds : Keyword → List Kind
+kinds keyword = (row keyword).1
+
+abbrev pub first_words : ℕ → List ℕ → List ℕ → List ℕ → List (List ℕ)
+first_words n first second third = take n (first ∷ second ∷ third ∷ [])
 
 pub record AreWords (n : ℕ) (rest : List (List ℕ)) : Type 0 where
   pub count : length rest ≡ n
   pub filled : All (λ word. word ≢ []) rest
+
+abbrev pub IsBadScript : List (List ℕ) → LineFault → List ℕ → Type 0
+IsBadScript names Name word = ¬ AreGiven names (names_in script word)
+IsBadScript names Number word =
+    AreGiven names (names_in script word) × ¬ All (IsNumberFor script) (numbers_in script word)
+IsBadScript names fault word = ⊥

@@ -9,24 +9,33 @@
 --              are, or is out of its range
 --   IsLineFault names fault line        == the words of the line are refused with the fault; none
 --                                          are for a seat
-use Rattle.std.specs.Prelude.{◌≡◌, ℕ, List, ◌∷◌, None, IsSome, All}
+--   fault_text fault                    == `bad`, what is wrong with the line, and a newline
+use Rattle.std.specs.Prelude.{◌≡◌, ℕ, List, ◌∷◌, None, IsSome, codes}
 use Rattle.dg_lines.specs.Cuts.{words}
-use Rattle.dg_lines.specs.CommandWords.{words_wanted, IsWellFormed, given_names, given_numbers, IsNumberFor, AreGiven}
+use Rattle.dg_lines.specs.CommandWords.{AreNamed, AreNumbers}
+use Rattle.dg_lines.specs.Commands.{kinds_wanted, kinds_of, IsWellFormed}
 use Rattle.dg_lines.specs.declared.line.LineFault.{LineFault}
 use Rattle.dg_lines.specs.declared.line.LineFault.TheVariants.{Seat, Word, Form, Name, Number}
 
 abbrev pub AreRefused : List (List ℕ) → LineFault → List ℕ → List (List ℕ) → Type 0
 AreRefused names Seat keyword rest = ⊥
-AreRefused names Word keyword rest = words_wanted keyword ≡ None
-AreRefused names Form keyword rest = IsSome (words_wanted keyword) × ¬ IsWellFormed keyword rest
+AreRefused names Word keyword rest = kinds_wanted keyword ≡ None
+AreRefused names Form keyword rest = IsSome (kinds_wanted keyword) × ¬ IsWellFormed keyword rest
 AreRefused names Name keyword rest =
-    IsWellFormed keyword rest × ¬ AreGiven names (given_names keyword rest)
+    IsWellFormed keyword rest × ¬ AreNamed names (kinds_of keyword) rest
 AreRefused names Number keyword rest =
-    IsWellFormed keyword rest × AreGiven names (given_names keyword rest)
-    × ¬ All (IsNumberFor keyword) (given_numbers keyword rest)
+    IsWellFormed keyword rest × AreNamed names (kinds_of keyword) rest
+    × ¬ AreNumbers (kinds_of keyword) rest
 
 pub record IsLineFault (names : List (List ℕ)) (fault : LineFault) (line : List ℕ) : Type 0 where
   pub keyword : List ℕ
   pub rest : List (List ℕ)
   pub cut : words line ≡ keyword ∷ rest
   pub refused : AreRefused names fault keyword rest
+
+abbrev pub fault_text : LineFault → List ℕ
+fault_text Seat = codes "bad seat\n"
+fault_text Word = codes "bad word\n"
+fault_text Form = codes "bad form\n"
+fault_text Name = codes "bad name\n"
+fault_text Number = codes "bad number\n"

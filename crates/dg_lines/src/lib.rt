@@ -2,16 +2,17 @@
 #![tactic(auto)]
 
 mod amounts;
+mod command;
 mod cuts;
 mod digits;
 mod history;
-mod keyword;
 mod laws;
 mod line;
 mod lines;
 mod number;
 mod steps_file;
 mod text;
+mod word;
 
 pub use cuts::cut;
 pub use history::history_lines;

@@ -1,41 +1,54 @@
 //! Lines: what a line spells, or why it is refused.
-ghost use Rattle.std.specs.Prelude.{◌≡◌, ℕ, List, [], ◌∷◌, None, IfOk, IfErr, IfSome, MatchOption, MatchResult, codes};
+ghost use Rattle.std.specs.Prelude.{◌≡◌, ℕ, ◌≤◌, List, [], ◌∷◌, None, IfOk, IfErr, IfSome, MatchOption};
 ghost use Rattle.std.specs.Option.{option_copied};
-ghost use Rattle.dg_lines.specs.Cuts.{items, words_after};
-ghost use Rattle.dg_lines.specs.CommandWords.{IsWellFormed, AreGiven};
-ghost use Rattle.dg_lines.specs.Commands.{IsSetOf, IsScriptWord, Means, IsCommandLine};
-ghost use Rattle.dg_lines.specs.LineFaults.{AreRefused, IsLineFault};
+ghost use Rattle.dg_lines.specs.Cuts.{words_after};
+ghost use Rattle.dg_lines.specs.Commands.{IsCommandLine};
+ghost use Rattle.dg_lines.specs.LineFaults.{IsLineFault, fault_text};
 ghost use Rattle.dg_lines.specs.Steps.{IsSeated, IsStepLine, IsStepFault};
-ghost use Rattle.dg_lines.specs.Keywords.{alone, single, double, AreWords};
+ghost use Rattle.dg_lines.specs.Keywords.{first_words, AreWords};
 
+use crate::command::{command_of, keyword_of};
 use crate::cuts::cut;
-use crate::keyword::{Alone, Double, Keyword, Single, keyword_of};
-use crate::number::{degree, entry, seat};
-use dg_chips::{Move, Script};
-use dg_game::{Command, Plain, Step};
-use dg_graph::{contains, with_vertex};
+use crate::number::seat;
+use dg_game::{Command, Step};
 use dg_names::Names;
-use dg_numbers::integer;
+use std::fmt;
 use thiserror::Error;
 
 /// Why a line is refused.
 #[derive(Clone, Copy, Debug, PartialEq, Eq, Error)]
 pub enum LineFault {
     /// There is no space, or what stands before the first is no number from 1 to 64.
-    #[error("bad seat")]
     Seat,
     /// The first word is no command.
-    #[error("bad word")]
     Word,
     /// The command has another number of words, or a word is empty.
-    #[error("bad form")]
     Form,
     /// No vertex has the name, or the name was given before.
-    #[error("bad name")]
     Name,
     /// A number is not spelled as numbers are, or is out of range.
-    #[error("bad number")]
     Number,
+}
+
+impl LineFault {
+    /// The line that says so: `bad`, what is wrong, and a newline.
+    pub fn line(self) -> &'static str
+        ensures { result.now ≡ fault_text self }
+    {
+        match self {
+            LineFault::Seat => "bad seat\n",
+            LineFault::Word => "bad word\n",
+            LineFault::Form => "bad form\n",
+            LineFault::Name => "bad name\n",
+            LineFault::Number => "bad number\n",
+        }
+    }
+}
+
+impl fmt::Display for LineFault {
+    fn fmt<W: fmt::Write>(&self, f: &mut fmt::Formatter<W>) -> fmt::Result {
+        f.write_str(self.line().trim_end())
+    }
 }
 
 /// The seat, from 1 to 64, that stands before the first space of a line, and the text after that space. `None` where there is
@@ -79,22 +92,38 @@ pub fn parse_line(line: &[u8], names: &Names) -> Result<Command, LineFault>
     ensures refused { IfErr result (λ fault. IsLineFault names.now fault line.now) }
 {
     let (word, rest) = cut(line, b' ');
-    let Some(keyword) = keyword_of(word) else {
+    let Some((keyword, count)) = keyword_of(word) else {
         return Err(LineFault::Word);
     };
-    match keyword {
-        Keyword::Alone(keyword) => match rest {
-            None => Ok(with_none(keyword)),
-            Some(_) => Err(LineFault::Form),
+    let Some((first, second, third)) = words_of(rest, count) else {
+        return Err(LineFault::Form);
+    };
+    command_of(keyword, first, second, third, names)
+}
+
+/// The words of what follows the command word, where there are just so many, at most three, and none is empty. The others of
+/// the three are empty.
+fn words_of(rest: Option<&[u8]>, count: usize) -> Option<(&[u8], &[u8], &[u8])>
+    requires { count ≤ 3 }
+    ensures { MatchOption result
+        (¬ AreWords count (words_after (option_copied rest.entry)))
+        (λ p. AreWords count (first_words count p.0.now p.1.now p.2.now)
+        × (words_after (option_copied rest.entry) ≡ first_words count p.0.now p.1.now p.2.now)) }
+{
+    match count {
+        0 => match rest {
+            None => Some((&[], &[], &[])),
+            Some(_) => None,
         },
-        Keyword::Single(keyword) => match one_word(rest) {
-            Some(word) => with_one(keyword, word, names),
-            None => Err(LineFault::Form),
+        1 => match one_word(rest) {
+            Some(first) => Some((first, &[], &[])),
+            None => None,
         },
-        Keyword::Double(keyword) => match two_words(rest) {
-            Some((first, second)) => with_two(keyword, first, second, names),
-            None => Err(LineFault::Form),
+        2 => match two_words(rest) {
+            Some((first, second)) => Some((first, second, &[])),
+            None => None,
         },
+        _ => three_words(rest),
     }
 }
 
@@ -138,133 +167,22 @@ fn two_words(rest: Option<&[u8]>) -> Option<(&[u8], &[u8])>
     }
 }
 
-/// The command of a command word alone.
-fn with_none(keyword: Alone) -> Command
-    ensures { (names : List (List ℕ)) → Means names result (alone keyword) [] }
-{
-    match keyword {
-        Alone::Look => Command::Call(Plain::Look),
-        Alone::Claim => Command::Call(Plain::Claim),
-        Alone::Commit => Command::Commit,
-    }
-}
-
-/// The command of a command word and the word after it.
-fn with_one(keyword: Single, word: &[u8], names: &Names) -> Result<Command, LineFault>
-    requires { IsWellFormed (single keyword) (word.now ∷ []) }
-    ensures { MatchResult result
-        (λ command. Means names.now command (single keyword) (word.now ∷ []))
-        (λ fault. AreRefused names.now fault (single keyword) (word.now ∷ [])) }
-{
-    match keyword {
-        Single::Lend => match names.place(word) {
-            Some(v) => Ok(Command::Call(Plain::Move(Move::Lend(v)))),
-            None => Err(LineFault::Name),
-        },
-        Single::Borrow => match names.place(word) {
-            Some(v) => Ok(Command::Call(Plain::Move(Move::Borrow(v)))),
-            None => Err(LineFault::Name),
-        },
-        Single::Fire => match named_set(word, names) {
-            Some(set) => Ok(Command::Call(Plain::Move(Move::Fire(set)))),
-            None => Err(LineFault::Name),
-        },
-        Single::Script => match named_script(word, names) {
-            Ok(script) => Ok(Command::Call(Plain::Move(Move::Script(script)))),
-            Err(fault) => Err(fault),
-        },
-        Single::Rank => match degree(word) {
-            Some(k) => Ok(Command::Rank(k)),
-            None => Err(LineFault::Number),
-        },
-    }
-}
-
-/// The command of a command word and the two words after it.
-fn with_two(
-    keyword: Double,
-    first: &[u8],
-    second: &[u8],
-    names: &Names,
-) -> Result<Command, LineFault>
-    requires { IsWellFormed (double keyword) (first.now ∷ second.now ∷ []) }
-    ensures { MatchResult result
-        (λ command. Means names.now command (double keyword) (first.now ∷ second.now ∷ []))
-        (λ fault. AreRefused names.now fault (double keyword) (first.now ∷ second.now ∷ [])) }
-{
-    let Some(u) = names.place(first) else {
-        return Err(LineFault::Name);
-    };
-    match keyword {
-        Double::Gift => match integer(second) {
-            Some(dollars) => Ok(Command::Call(Plain::Gift(u, dollars))),
-            None => Err(LineFault::Number),
-        },
-        Double::Join => match names.place(second) {
-            Some(v) => Ok(Command::Call(Plain::Join(u, v))),
-            None => Err(LineFault::Name),
-        },
-    }
-}
-
-/// The set of the vertices that the items name, where each item names one that no earlier item names.
-fn named_set(text: &[u8], names: &Names) -> Option<u16>
+/// The three words of what follows the command word, where there are just three and none is empty.
+fn three_words(rest: Option<&[u8]>) -> Option<(&[u8], &[u8], &[u8])>
     ensures { MatchOption result
-        (¬ AreGiven names.now (items text.now)) (IsSetOf names.now (items text.now)) }
+        (¬ AreWords 3 (words_after (option_copied rest.entry)))
+        (λ p. AreWords 3 (p.0.now ∷ p.1.now ∷ p.2.now ∷ [])
+        × (words_after (option_copied rest.entry) ≡ p.0.now ∷ p.1.now ∷ p.2.now ∷ [])) }
 {
-    // No two names of a table are the same.
-    let _size = names.len();
-    let mut set = 0;
-    let mut rest = Some(text);
-    'items: while let Some(text) = rest {
-        let (item, after) = cut(text, b',');
-        let Some(v) = names.place(item) else {
-            return None;
-        };
-        let v = usize::from(v);
-        if contains(set, v) {
-            return None;
-        }
-        set = with_vertex(set, v);
-        rest = after;
+    let Some(text) = rest else {
+        return None;
+    };
+    let (first, more) = cut(text, b' ');
+    if first.is_empty() {
+        return None;
     }
-    Some(set)
-}
-
-/// The script of the items, each the name of a vertex that no earlier item names, `=` and a number.
-///
-/// Refused with `Name` before `Number`.
-fn named_script(text: &[u8], names: &Names) -> Result<Script, LineFault>
-    requires { IsWellFormed (codes "script") (text.now ∷ []) }
-    ensures { MatchResult result (IsScriptWord names.now text.now)
-        (λ fault. AreRefused names.now fault (codes "script") (text.now ∷ [])) }
-{
-    let size = names.len();
-    let mut given = 0;
-    let mut entries = [0; 16];
-    let mut are_spelled = true;
-    let mut rest = Some(text);
-    'items: while let Some(text) = rest {
-        let (item, after) = cut(text, b',');
-        let (name, number) = cut(item, b'=');
-        let Some(v) = names.place(name) else {
-            return Err(LineFault::Name);
-        };
-        let v = usize::from(v);
-        if contains(given, v) {
-            return Err(LineFault::Name);
-        }
-        given = with_vertex(given, v);
-        let entry = entry(number.unwrap_or(&[]));
-        are_spelled &= entry.is_some();
-        entries[v] = entry.unwrap_or(0);
-        rest = after;
+    match two_words(more) {
+        Some((second, third)) => Some((first, second, third)),
+        None => None,
     }
-    if !are_spelled {
-        return Err(LineFault::Number);
-    }
-    let script = Script::sized(&entries[..size]);
-    // Past its size a script has nothing but 0.
-    let _size = script.size();
-    Ok(script)
 }

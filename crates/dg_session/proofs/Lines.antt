@@ -4,9 +4,8 @@
 use Rattle.std.proofs.Common.{ℕ, inl, inr, List, [], Option, Result, Ok, Err, refl, sym, subst}
 use Rattle.dg_game.specs.declared.step.Command.{Command}
 use Rattle.dg_lines.specs.Commands.{IsCommandLine}
-use Rattle.dg_lines.specs.LineFaults.{IsLineFault}
+use Rattle.dg_lines.specs.LineFaults.{fault_text, IsLineFault}
 use Rattle.dg_lines.specs.declared.line.LineFault.{LineFault}
-use Rattle.dg_session.specs.Saying.{fault_text}
 use Rattle.dg_session.specs.Refusing.{RefusesCommand, RefusesLine}
 use Rattle.dg_session.specs.Setup.{Setup}
 use Rattle.dg_session.specs.SoFar.{Speaker, Tells, Hears, Obeys}

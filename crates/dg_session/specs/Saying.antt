@@ -2,7 +2,6 @@
 -- the one history that the seat has found (`HasPast`), and is answered there as the game answers
 -- it. `names` are the names of the vertices, and `kept` is the number of the look that the session
 -- keeps, if it keeps one.
---   fault_text fault            == `bad` and what is wrong with the line, and a newline
 --   kept_after kept p           == the look that is kept after the entry p: it, if it is a look;
 --                                  none, if it enters what was reckoned on the look; otherwise the
 --                                  one that was kept
@@ -29,19 +28,11 @@ use Rattle.dg_game.specs.declared.step.Command.TheVariants.{Call, Commit, Rank}
 use Rattle.dg_log.specs.Numbered.{IsBeginning}
 use Rattle.dg_table.specs.Seats.{SeatView}
 use Rattle.dg_lines.specs.Commands.{IsCommandLine}
-use Rattle.dg_lines.specs.LineFaults.{IsLineFault}
+use Rattle.dg_lines.specs.LineFaults.{IsLineFault, fault_text}
 use Rattle.dg_lines.specs.Texts.{entry_text}
 use Rattle.dg_session.specs.Setup.{Setup}
 use Rattle.dg_session.specs.Order.{ComeAfter}
 use Rattle.dg_lines.specs.declared.line.LineFault.{LineFault}
-use Rattle.dg_lines.specs.declared.line.LineFault.TheVariants.{Seat, Word, Form, Name, Number}
-
-abbrev pub fault_text : LineFault → List ℕ
-fault_text Seat = codes "bad seat\n"
-fault_text Word = codes "bad word\n"
-fault_text Form = codes "bad form\n"
-fault_text Name = codes "bad name\n"
-fault_text Number = codes "bad number\n"
 
 abbrev pub look_after : Option ℕ → ℕ → Request → Option ℕ
 look_after kept number Look = Some number

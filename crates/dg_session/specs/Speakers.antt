@@ -22,12 +22,14 @@
 --   RefusesLineOf t s line z end == at the line the session ends so, and the seats are z then:
 --                                memory is refused to it, or its command is refused to the seat
 --                                that it is for
-use Rattle.std.specs.Prelude.{◌≡◌, ℕ, ◌+◌, ◌<◌, ◌⊎◌, List, [], ◌++◌, length, map, Option, None, Some, codes, slice_get}
+use Rattle.std.specs.Prelude.{◌≡◌, ℕ, ◌+◌, ◌<◌, ◌⊎◌, List, [], ◌++◌, length, map, Option, None, Some, slice_get}
 use Rattle.std.specs.List.{slice_set}
 use Rattle.dg_game.specs.declared.entry.Entry.{Entry}
 use Rattle.dg_table.specs.Seats.{SeatView}
 use Rattle.dg_analyst.specs.Views.{LookView}
 use Rattle.dg_lines.specs.Steps.{IsSeated}
+use Rattle.dg_lines.specs.LineFaults.{fault_text}
+use Rattle.dg_lines.specs.declared.line.LineFault.TheVariants.{Seat}
 use Rattle.dg_session.specs.Setup.{Setup}
 use Rattle.dg_session.specs.Order.{ComeAfter}
 use Rattle.dg_session.specs.Saying.{Gains, AnswersLine}
@@ -87,7 +89,7 @@ pub record AnswersIn (t : Setup) (i : ℕ) (text : List ℕ) (s z : Speakers) (s
 
 abbrev pub AnswersLineOf : Setup → Speakers → List ℕ → Speakers → List ℕ → Type 0
 AnswersLineOf t s line z said =
-    (IsForNone t.how (length s.seats) line × (z ≡ s) × (said ≡ codes "bad seat\n"))
+    (IsForNone t.how (length s.seats) line × (z ≡ s) × (said ≡ fault_text Seat))
     ⊎ ((i : ℕ) × (text : List ℕ) × IsFor t.how (length s.seats) line i text
     × AnswersIn t i text s z said)
 

@@ -3,7 +3,6 @@ ghost use Rattle.std.specs.Prelude.{◌≡◌, ◌≢◌, length, codes};
 ghost use Rattle.dg_rank.specs.Ranks.{MayHaveWorkers};
 ghost use Rattle.dg_game.specs.declared.step.Command.TheVariants.{Call, Commit, Rank};
 ghost use Rattle.dg_lines.specs.Texts.{HasNames, entry_text};
-ghost use Rattle.dg_session.specs.Saying.{fault_text};
 ghost use Rattle.dg_session.specs.Setup.{setup};
 ghost use Rattle.dg_session.specs.SoFar.{heard, speaker, Tells, Hears, Obeys};
 
@@ -11,7 +10,7 @@ use crate::addressing::Addressing;
 use crate::ends::SessionEnd;
 use dg_analyst::{Look, commit_look, commit_rank, look, try_rank};
 use dg_game::{Command, Plain};
-use dg_lines::{LineFault, parse_line, push_entry};
+use dg_lines::{parse_line, push_entry};
 use dg_log::{Name, Receipt};
 use dg_names::Names;
 use dg_rank::{OpenGate, RankFault};
@@ -87,19 +86,6 @@ impl Said {
     }
 }
 
-/// What is said of a fault.
-fn fault_words(fault: LineFault) -> &'static [u8]
-    ensures { result.now ≡ fault_text fault }
-{
-    match fault {
-        LineFault::Seat => b"bad seat\n",
-        LineFault::Word => b"bad word\n",
-        LineFault::Form => b"bad form\n",
-        LineFault::Name => b"bad name\n",
-        LineFault::Number => b"bad number\n",
-    }
-}
-
 /// Answers a line of a seat: by what is wrong with it, or as its command.
 #[inline(always)]
 pub(crate) fn answer_seat<N: Name, R: Threads + Wait>(
@@ -114,7 +100,7 @@ pub(crate) fn answer_seat<N: Name, R: Threads + Wait>(
 {
     match parse_line(line, shared.names) {
         Ok(command) => obey(shared, kept, said, seat, &command),
-        Err(fault) => said.say(fault_words(fault)),
+        Err(fault) => said.say(fault.line().as_bytes()),
     }
 }
 

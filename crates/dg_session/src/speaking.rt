@@ -8,6 +8,7 @@ use crate::answering::{Said, Shared, answer_seat};
 use crate::course::Course;
 use crate::ends::SessionEnd;
 use dg_analyst::Look;
+use dg_lines::LineFault;
 use dg_log::Name;
 use dg_table::Seat;
 use std::sync::Wait;
@@ -31,7 +32,7 @@ pub(crate) fn answer_line<N: Name, R: Threads + Wait>(
         (talk seats.new kept.new course.new said.new) result }
 {
     let Some((place, text)) = addressed(shared.how, seats.len(), line) else {
-        return said.say(b"bad seat\n");
+        return said.say(LineFault::Seat.line().as_bytes());
     };
     let seat = &mut seats[place];
     let calls = seat.calls();

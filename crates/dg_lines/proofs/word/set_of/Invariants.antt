@@ -3,7 +3,7 @@ use Rattle.std.proofs.Common.{length}
 use Rattle.std.specs.Option.{option_copied}
 use Rattle.dg_lines.specs.Cuts.{items, pieces_after}
 use Rattle.dg_lines.proofs.Given.{HasTaken}
-use Rattle.dg_lines.proofs.line.named_set.Given as goal
+use Rattle.dg_lines.proofs.word.set_of.Given as goal
 
 abbrev pub invariant-items : goal.invariant-items
 invariant-items l = HasTaken l.names (items l.fn.text) (pieces_after 44 (option_copied l.rest)) l.set

@@ -3,7 +3,7 @@ use Rattle.std.proofs.Common.{length}
 use Rattle.std.specs.Option.{option_copied}
 use Rattle.dg_lines.specs.Cuts.{items, pieces_after}
 use Rattle.dg_lines.proofs.Scripts.{HasPairs}
-use Rattle.dg_lines.proofs.line.named_script.Given as goal
+use Rattle.dg_lines.proofs.word.script_of.Given as goal
 
 abbrev pub invariant-items : goal.invariant-items
 invariant-items l =

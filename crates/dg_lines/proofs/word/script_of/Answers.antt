@@ -6,7 +6,7 @@ use Rattle.dg_lines.specs.CommandWords.{name_part, number_part}
 use Rattle.dg_lines.proofs.Cutting.{pieces_left, none_left}
 use Rattle.dg_lines.proofs.Given.{unnamed_taken, twice_taken}
 use Rattle.dg_lines.proofs.Scripts.{IsSpelled, no_pairs, one_pair, all_pairs, vertex_of, entries_within, script_of, part_after}
-use Rattle.dg_lines.proofs.line.named_script.Goals as goal
+use Rattle.dg_lines.proofs.word.script_of.Goals as goal
 
 pub items-init : goal.items-init
 items-init c = no_pairs c.args.names.now (items c.args.text.now)
@@ -16,7 +16,7 @@ returns-in_default-place c =
     let next = pieces_left 44 _ _ _ c.cut.result.1 c.in-Some.is c.cut.ensures.before c.cut.ensures.after in
     let same = ap (place_of c.args.names.now) (sym c.cut-in-Some.ensures.before) in
     let none = same ∙ sym c.in_default-place.ensures.place in
-    (c.requires, unnamed_taken _ _ _ _ _ _ (ap (map name_part) next) c.items.invariant.taken none)
+    unnamed_taken _ _ _ _ _ _ (ap (map name_part) next) c.items.invariant.taken none
 
 pub returns-then-contains : goal.returns-then-contains
 returns-then-contains c =
@@ -24,7 +24,7 @@ returns-then-contains c =
     let place =
     vertex_of c.args.names.now _ _ _ _ c.cut-in-Some.ensures.before c.in-Some-place.ensures.place c.from-v.ensures in
     let there = sym c.contains.ensures ∙ c.if-contains.true in
-    (c.requires, twice_taken _ _ _ _ _ _ (ap (map name_part) next) c.items.invariant.taken c.from-v.result place there)
+    twice_taken _ _ _ _ _ _ (ap (map name_part) next) c.items.invariant.taken c.from-v.result place there
 
 pub items-smaller : goal.items-smaller
 items-smaller c =
@@ -49,7 +49,7 @@ items-preserved c =
 pub returns-then-not-are_spelled : goal.returns-then-not-are_spelled
 returns-then-not-are_spelled c =
     let read = all_pairs _ _ _ _ _ _ c.items.invariant (none_left 44 c.items.rest c.in_default.is) in
-    (c.requires, read.0, read.1.unspelled c.if-not-are_spelled.true)
+    (read.0, read.1.unspelled c.if-not-are_spelled.true)
 
 pub sized-script-requires-clause-limit : goal.sized-script-requires-clause-limit
 sized-script-requires-clause-limit c =

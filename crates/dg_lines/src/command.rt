@@ -1,0 +1,101 @@
+//! Commands: the word of each, how many words follow it, and what they come to.
+ghost use Rattle.std.specs.Prelude.{◌≡◌, None, MatchOption, MatchResult, length};
+ghost use Rattle.dg_lines.specs.Commands.{kinds_wanted, IsWellFormed, Means};
+ghost use Rattle.dg_lines.specs.LineFaults.{AreRefused};
+ghost use Rattle.dg_lines.specs.Keywords.{spelling, kinds, first_words};
+
+use crate::line::LineFault;
+use crate::word::{degree_of, dollars_of, script_of, set_of, vertex_of};
+use dg_chips::Move;
+use dg_game::{Command, Plain};
+use dg_names::Names;
+
+/// A command word.
+#[derive(Clone, Copy)]
+pub(crate) enum Keyword {
+    Lend,
+    Borrow,
+    Fire,
+    Script,
+    Gift,
+    Join,
+    Look,
+    Claim,
+    Commit,
+    Rank,
+}
+
+/// The command word that the bytes are, where they are one, and how many words follow it: three at most.
+#[tactic(auto, using(crate::proofs::Keywords::bytes_tell), unfolding(crate::specs::Commands::kinds_beside))]
+pub(crate) fn keyword_of(word: &[u8]) -> Option<(Keyword, usize)>
+    ensures { MatchOption result
+        (kinds_wanted word.now ≡ None)
+        (λ p. (word.now ≡ spelling p.0) × (p.1 ≡ length (kinds p.0))) }
+{
+    if word == b"script".as_slice() {
+        return Some((Keyword::Script, 1));
+    }
+    if word == b"lend".as_slice() {
+        return Some((Keyword::Lend, 1));
+    }
+    if word == b"borrow".as_slice() {
+        return Some((Keyword::Borrow, 1));
+    }
+    if word == b"fire".as_slice() {
+        return Some((Keyword::Fire, 1));
+    }
+    if word == b"look".as_slice() {
+        return Some((Keyword::Look, 0));
+    }
+    if word == b"gift".as_slice() {
+        return Some((Keyword::Gift, 2));
+    }
+    if word == b"join".as_slice() {
+        return Some((Keyword::Join, 2));
+    }
+    if word == b"claim".as_slice() {
+        return Some((Keyword::Claim, 0));
+    }
+    if word == b"commit".as_slice() {
+        return Some((Keyword::Commit, 0));
+    }
+    if word == b"rank".as_slice() {
+        return Some((Keyword::Rank, 1));
+    }
+    None
+}
+
+/// The command of a command word and as many of the three words as belong to it.
+pub(crate) fn command_of(
+    keyword: Keyword,
+    first: &[u8],
+    second: &[u8],
+    third: &[u8],
+    names: &Names,
+) -> Result<Command, LineFault>
+    requires { IsWellFormed (spelling keyword)
+        (first_words (length (kinds keyword)) first.now second.now third.now) }
+    ensures { let rest = first_words (length (kinds keyword)) first.now second.now third.now in
+        MatchResult result
+        (λ command. Means names.now command (spelling keyword) rest)
+        (λ fault. AreRefused names.now fault (spelling keyword) rest) }
+{
+    match keyword {
+        Keyword::Lend => Ok(Command::Call(Plain::Move(Move::Lend(vertex_of(first, names)?)))),
+        Keyword::Borrow => Ok(Command::Call(Plain::Move(Move::Borrow(vertex_of(first, names)?)))),
+        Keyword::Fire => Ok(Command::Call(Plain::Move(Move::Fire(set_of(first, names)?)))),
+        Keyword::Script => Ok(Command::Call(Plain::Move(Move::Script(script_of(first, names)?)))),
+        Keyword::Gift => {
+            let v = vertex_of(first, names)?;
+            Ok(Command::Call(Plain::Gift(v, dollars_of(second)?)))
+        }
+        Keyword::Join => {
+            let u = vertex_of(first, names)?;
+            Ok(Command::Call(Plain::Join(u, vertex_of(second, names)?)))
+        }
+        Keyword::Look => Ok(Command::Call(Plain::Look)),
+        Keyword::Claim => Ok(Command::Call(Plain::Claim)),
+        Keyword::Commit => Ok(Command::Commit),
+        Keyword::Rank => Ok(Command::Rank(degree_of(first)?)),
+    }
+}

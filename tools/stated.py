@@ -1,0 +1,269 @@
+"""Places outside the proved code that state its words and its limits, each compared with the code. tools/lint prints what differs,
+with the file and the line, and what is wanted there."""
+import glob, os, re, sys
+
+import words
+from words import read
+
+HELP, FORMATS, REFUSALS, PAGE = "crates/dg_command/src/help_texts.rt", "docs/FORMATS.md", "docs/REFUSALS.md", "docs/dollar.1"
+MODEL, BOARD, ANSWERS = "examples/party.py", "board/words.js", "python/dollar/answers.py"
+
+
+class Part:
+    """A part of a file, from one text to the next that follows it, and where in the file it stands."""
+
+    def __init__(self, path, begin="", end=None):
+        self.path, whole = path, read(path)
+        at = whole.find(begin)
+        self.is_there = at >= 0
+        self.at = at = max(at, 0)
+        self.text = whole[at:whole.find(end, at + len(begin))] if end else whole[at:]
+        self.before = whole[:at]
+
+    def place(self, offset=0):
+        return "%s:%d" % (self.path, (self.before + self.text[:offset]).count("\n") + 1)
+
+    def matches(self, form, flags=re.M):
+        """What fits, each with the line that it stands on; of several groups the ones that there are, and else the whole."""
+        for found in re.finditer(form, self.text, flags):
+            yield found[found.lastindex or 0], self.place(found.start(found.lastindex or 0))
+
+    def compare(self, what, found, wanted, both=True):
+        """Names what is wanted and lacks, and what stands there and is none. `found` are pairs of a text and its place."""
+        if not self.is_there:
+            yield "%s: the list of each %s is not where tools/stated.py looks for it" % (self.path, what)
+            return
+        places = dict(reversed(list(found)))
+        for text in wanted:
+            if text not in places:
+                yield "%s: the %s `%s` is wanted here" % (self.place(), what, text)
+        for text, place in places.items():
+            if both and text not in wanted:
+                yield "%s: `%s` is no %s of the code's" % (place, text, what)
+
+
+def commands():
+    """Lists of the commands: names, number and kinds of the words after each."""
+    forms, column = words.command_forms(), r"^ *([a-z]+(?: \S+)*)(?:  +.*|)$"
+    part = Part(FORMATS, "| Command | Meaning |", "\n\n")
+    yield from part.compare("command", part.matches(r"^\| `([^`]*)` \|"), forms)
+    for part in (Part(HELP, "one of these commands:\n", "\nThere is"), Part(PAGE, "A command is one of these", ".EE")):
+        found = [(text, place) for text, place in part.matches(column) if not text.startswith(("one of", "exactly"))]
+        yield from part.compare("command", found, forms)
+    part = Part(HELP, "A line of the input is a command: ", ", as `")
+    text = re.sub(r"\s+", " ", part.text.split(": ", 1)[-1])
+    found = [(form, part.place()) for form in re.split(r", (?=[a-z])| or ", text)]
+    yield from part.compare("command", found, [form.replace("V=x,V=x,..", "V=x,..") for form in forms])
+    part = Part(MODEL, "FORMS = {", "}")
+    found = [(" ".join(pair.groups()).strip(), part.place(pair.start())) for pair in re.finditer(r'"(\w+)": "([^"]*)"', part.text)]
+    yield from part.compare("command", found, forms)
+    part = Part(BOARD, "function commandWords", "}[word]")
+    arms = list(re.finditer(r"^    (\w+): (.*(?:\n      .*)*)", part.text, re.M))
+    yield from part.compare("command", [(arm[1], part.place(arm.start())) for arm in arms], list(words.commands()))
+    for arm in arms:
+        count = len(words.commands().get(arm[1], []))
+        most = max([int(place) + 1 for place in re.findall(r"given\[(\d)\]", arm[2])], default=count)
+        if most != count and "script" not in arm[2]:
+            yield "%s: %s has %d words after it, and %d are told" % (part.place(arm.start()), arm[1], count, most)
+
+
+def example_commands():
+    """Lines that are drawn or played: one at least of each command, here with _ for each word after it."""
+    def shape(line):
+        return line.split(" ")[0] + " _" * line.count(" ")
+    wanted = [shape(form) for form in words.command_forms()]
+    for path, begin in (("examples/class.py", "def line_of("), ("tests/browser/classes.py", "def line_of("), (MODEL, "def some_script(")):
+        part = Part(path, begin, "\n\n\n")
+        found = [(shape(line), place) for line, place in part.matches(r'"([a-z][^"]*)"')]
+        yield from part.compare("line of the command", found, wanted, both=False)
+    rows = "".join(read(path) for path in sorted(glob.glob("crates/dg_rows/data/*.txt")))
+    for form in wanted:
+        line = r"(?:^[<|] |\| |\\n)(?:\d+ )?%s(?:\\n|$| \|)" % form.replace("_", r"[^ \n\\|]+")
+        if not re.search(line, rows, re.M):
+            yield "crates/dg_rows/data: a row with the command `%s` is wanted" % form
+
+
+def replies():
+    """Lists of the replies' forms."""
+    forms, refusals = words.replies(), words.refusals()
+    part = Part(FORMATS, "| Reply | Text |", "\n\n")
+    found = [(each, place) for text, place in part.matches(r"^\|[^|]*\|(.*)\|$") for each in re.findall(r"`([^`]*)`", text)]
+    yield from part.compare("reply", found, forms)
+    part = Part(BOARD, "const FORMS", ".map(")
+    rows = list(re.finditer(r'\["([\w-]+)", ["`](.*?)["`], ', part.text))
+    kinds = list(dict.fromkeys(row[1] for row in rows))
+
+    def shown(form):
+        return re.sub(r"\bP\b", "${PAIRS}", re.sub(r"\b[gk]\b", r"(\\d+)", re.sub("^refused .*", r"refused (\\w+)", form)))
+    found = [(re.sub(r"\\+", r"\\", row[2]), part.place(row.start())) for row in rows]
+    yield from part.compare("reply", found, list(dict.fromkeys(map(shown, forms))))
+    for begin, end in (("function replyWords", "}[reply.kind]"), ("function markOf", "};")):
+        part = Part(BOARD, begin, end)
+        more = ["unread"] if "mark" in begin else []
+        yield from part.compare("kind of reply", part.matches(r'(?<=[\s{])"?([a-z-]+)"?(?=: )'), kinds + more)
+    part = Part(BOARD, "const CAUSES", "};")
+    yield from part.compare("refusal", part.matches(r'(\w+): "'), [text.split(" ")[1] for text in refusals])
+    for path in (FORMATS, REFUSALS):
+        part = Part(path)
+        outside = ["refused `", "refused not", "refused shape", "refused file", "refused no"]
+        found = [pair for pair in part.matches(r"`(refused \w+)`") if not pair[0].startswith(tuple(outside))]
+        yield from part.compare("refusal", found, refusals)
+    part = Part(MODEL, "class Game", "\ndef trials(")
+    found = [pair for pair in part.matches(r'"(refused \w+)"')]
+    played = [form for form in forms if form not in ("refused vertex", "refused empty", "refused script")]
+    yield from part.compare("refusal", found, [form for form in played if form.startswith("refused")])
+    for form in played:
+        told = re.sub(r"\b[gk]\b", "%d", form.replace("P", "%s"))
+        if not any(text in part.text for text in (told, re.sub("%s$", '" +', told), re.sub("^(un)?winnable", "%swinnable", told))):
+            yield "%s: the model lacks the reply `%s`" % (part.place(), form)
+    yield from answers()
+
+
+def answers():
+    """The forms by which the Python package reads answers: each reads something, and each answer is read."""
+    sys.path.insert(0, os.path.join(words.TOP, "python"))
+    try:
+        from dollar import answers as package
+    finally:
+        del sys.path[0]
+    part = Part(ANSWERS, "FORMS = [", "\n\n\n")
+    texts = [words.sample(form) for form in words.replies()] + words.bad_texts() + ["turns"]
+    for text in texts:
+        try:
+            read_as = package.entry(text)
+        except ValueError:
+            yield "%s: a form is wanted that reads `%s`" % (part.place(), text)
+            continue
+        if str(read_as) != text:
+            yield "%s: `%s` is read as `%s`" % (part.place(), text, read_as)
+    for form in package.FORMS:
+        if not any(form.fullmatch(text) for text in texts):
+            yield "%s: the form %s reads no answer of the program" % (part.place(), form.pattern)
+
+
+def bad_texts():
+    """What is said of lines that make no entry."""
+    bad, lines = words.bad_texts(), words.line_faults()
+    part = Part(FORMATS, "A line that spells no step is refused with the first of these.", "\n\nIn an item")
+    found = list(part.matches(r"^\| `(bad \w+)` \|"))
+    yield from part.compare("fault of a line", found, lines)
+    if [text for text, _ in found] != lines:
+        yield "%s: the order of the faults of a line is %s" % (part.place(), ", ".join(lines))
+    for path, both in (("docs/SESSIONS.md", True), (REFUSALS, True), (FORMATS, False), (HELP, True)):
+        part = Part(path)
+        wanted = lines if path == FORMATS else bad
+        yield from part.compare("answer to a bad line", part.matches(r"`(bad [a-z]+)`"), wanted if both else lines, both=both)
+    for path in sorted(glob.glob("docs/*.md") + ["README.md", "examples/README.md"]):
+        part = Part(path)
+        yield from part.compare("answer to a bad line", [], [], both=True)
+        for text, place in part.matches(r"`(bad [a-z]+)`"):
+            if text not in bad:
+                yield "%s: `%s` is no answer of a session" % (place, text)
+    part = Part(MODEL)
+    yield from part.compare("answer to a bad line", part.matches(r'"(bad \w+)"'), [text for text in bad if text != "bad seat"])
+
+
+def file_fault_enums():
+    """The faults of table files, which an answer to a line tells as the fault line does."""
+    path = words.FILE_FAULTS
+    part = Part(path, "abbrev pub shape_text")
+    said = {re.sub(r"\b[iv]\b", "#", text) for text in words.file_faults()}
+    told = {re.sub(r"\{\w*\}", "#", text) for text, _ in words.faults_of("FileFault", 0)}
+    for text in sorted(told - said):
+        yield "%s: a text is wanted here that says `%s`, as #[error] does" % (part.place(), text)
+    for text in sorted(said - told):
+        yield "%s: `%s` is said by no #[error]" % (part.place(), text)
+
+
+def told_twice():
+    """Texts that stand in two places of the code and are compared here."""
+    return set(words.file_faults()) - {"out of memory"}
+
+
+def numbered(text):
+    """The text with # for each number or its letter."""
+    return re.sub(r"(?<![\w-])(?:[LSIiv]|\d[\d,]*)(?![\w,])", "#", text.strip())
+
+
+def faults():
+    """Faults and exit statuses on pages, in the board's script and in the second reader of table files."""
+    yield from file_fault_enums()
+    all_faults = words.faults()
+    of_files = {re.sub(r"\b[iv]\b", "#", text) for text in words.file_faults()} - {"out of memory"}
+    in_lines = {"line #: " + text for text in words.line_faults()}
+    wanted = {text: status for text, status in all_faults if text not in of_files and text not in in_lines}
+    wanted.update({"line #:": 3, "amount of vertex #": 3})
+    part = Part(FORMATS, "| Fault | Text | Status |", "\n\n")
+    rows = [(numbered(row[1]), int(row[2]), part.place(row.start()))
+            for row in re.finditer(r"^\|[^|]*\| `([^`]*)`[^|]* \| (\d) \|$", part.text, re.M)]
+    yield from part.compare("fault", [(text, place) for text, _, place in rows], list(wanted))
+    for text, status, place in rows:
+        if text in wanted and wanted[text] != status:
+            yield "%s: the status of `%s` is %d" % (place, text, wanted[text])
+    part = Part(FORMATS, "The reader reports one fault, and looks for them in this order.", "\n\nWant of memory")
+    found = [(numbered(text), place) for row, place in part.matches(r"^\| (`.*`) \|") for text in re.findall(r"`([^`]*)`", row)]
+    yield from part.compare("fault of a table file", found, of_files)
+    part = Part(REFUSALS)
+    told = [(numbered(text), place) for row, place in part.matches(r"^\|(.*?)\|.*$") for text in re.findall(r"`([^`]*)`", row)]
+    told += [(numbered(re.sub("^dollar: ", "", text)), place) for text, place in told]
+    yield from part.compare("fault", told, sorted((set(wanted) | of_files) - {"line #:"}), both=False)
+    part = Part("tests/damage/reader.py")
+    found = [(text.replace("%d", "#"), place) for text, place in part.matches(r'Refused\("([^"]*)"')]
+    yield from part.compare("fault of a table file", found, of_files)
+    part = Part(BOARD, "const FAULTS", "\n];")
+    forms = [re.compile(form.replace(r"\/", "/")) for form, _ in part.matches(r"^  \[/(.*)/, ")]
+    texts = [text.replace("#", "1") for text in sorted(of_files)] + words.bad_texts() + [
+        text.replace("#", "1") for text, status in all_faults if text.startswith(("step", "too many trials", "file too", "the history"))]
+    for text in texts:
+        if not any(form.search(text) for form in forms):
+            yield "%s: a form is wanted that fits `%s`" % (part.place(), text)
+    for form in forms:
+        if not any(form.search(text) for text in texts):
+            yield "%s: the form /%s/ fits no fault of the program" % (part.place(), form.pattern)
+    statuses = [str(status) for status in sorted({0} | {status for _, status in all_faults})]
+    for part, form in ((Part(HELP, "The status is\n", '"#;'), r"^    (\d)  "), (Part(PAGE, ".SH EXIT STATUS", "The script"), r"^\.B (\d)$")):
+        yield from part.compare("exit status", part.matches(form), statuses)
+
+
+# Constants of crates that do not know each other, which are one limit.
+SAME = [("dg_sweep::MAX_LINE", "dg_sources::MAX_FILE")]
+
+
+def constants():
+    """The public constants of the crates, by the crate and the name."""
+    found = {"u32::MAX": str(2**32 - 1)}
+    for path in sorted(glob.glob("crates/*/src/**/*.rt", recursive=True)):
+        for name, value in re.findall(r"^pub const (\w+): \w+ = ([\w:]+?)(?: as \w+)?;", read(path), re.M):
+            found["%s::%s" % (path.split("/")[1], name)] = value.replace("_", "") if value[0].isdigit() else value
+    return {name: found.get(value, value) for name, value in found.items()}
+
+
+def limits():
+    """Limits that pages, the help and models of the game state, as tools/limits.txt lists them."""
+    known = constants()
+    for number, line in enumerate(read("tools/limits.txt").splitlines(), 1):
+        if line.startswith("#"):
+            continue
+        name, path, text = line.split(" | ", 2)
+        form = re.escape(text).replace(re.escape("#"), r"(\d[\d,]*\d|\d)").replace(re.escape(".."), r"[^\n]*?")
+        found = list(Part(path).matches(re.sub(r"(?:\\ )+", r"\\s+", form)))
+        if name not in known:
+            yield "tools/limits.txt:%d: there is no constant %s" % (number, name)
+        elif not found:
+            yield "%s: the text `%s` is wanted, with %s for %s" % (path, text, known[name], name)
+        for stated, place in found:
+            if name in known and stated.replace(",", "") != known[name]:
+                yield "%s: %s is %s, not %s" % (place, name, known[name], stated)
+    for one, other in SAME:
+        if known[one] != known[other]:
+            yield "%s is %s, and %s is %s: they are one limit" % (one, known[one], other, known[other])
+    part = Part("docs/BOUNDS.md", "## What users meet", "\n\nMemory has no bound")
+    for row in re.finditer(r"^\| ([\d,]+(?: and [\d,]+)?) \| `(dg_\w+)::(\w+)`(?:, `(\w+)`)? \|", part.text, re.M):
+        for number, name in zip(row[1].split(" and "), row.groups()[2:]):
+            value = known.get("%s::%s" % (row[2], name), "no constant")
+            if value != number.replace(",", ""):
+                yield "%s: %s::%s is %s, not %s" % (part.place(row.start()), row[2], name, value, number)
+
+
+CHECKS = {"command words": commands, "lines of commands": example_commands, "reply words": replies, "bad texts": bad_texts,
+          "faults": faults, "limits": limits}

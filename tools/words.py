@@ -1,0 +1,165 @@
+"""The words of the program, as the code that is proved has them: the commands of the step language, the replies, what a session says
+of a line that is no entry, and the faults with their exit statuses. tools/lint compares the places that state them with this, and
+tests read it.
+
+    python3 tools/words.py    prints them"""
+import os, re
+
+TOP = os.path.dirname(os.path.dirname(os.path.abspath(__file__)))
+LINES, SESSION, SWEEP = "crates/dg_lines/specs/", "crates/dg_session/specs/", "crates/dg_sweep/specs/"
+COMMANDS, REPLIES, BAD = LINES + "Commands.antt", LINES + "Texts.antt", LINES + "LineFaults.antt"
+LOOKS, FILE_FAULTS, STATUS = SESSION + "Saying.antt", SWEEP + "FaultTexts.antt", "crates/dg_server/specs/Status.antt"
+# How a page shows a word after a command, by its kind.
+KINDS = {"vertex": "V", "vertices": "V,V,..", "script": "V=x,V=x,..", "degree": "k", "dollars": "x"}
+
+
+def read(path):
+    with open(os.path.join(TOP, path), encoding="utf-8") as file:
+        return file.read()
+
+
+def equations(path):
+    """The equations in a file of definitions: for each name what stands before and after the equals sign of each."""
+    found = {}
+    text = re.sub(r"\n +", " ", re.sub(r"--.*", "", read(path)))
+    for name, given, body in re.findall(r"^(\w+)((?: (?:\w+|\([^()=]*\)|\[\]|[\w.]+))*) = (.*)$", text, re.M):
+        found.setdefault(name, []).append((given.strip(), body.strip()))
+    return found
+
+
+def texts(path, name):
+    """The texts that a definition gives: a number is the first letter of its name, and P stands for the amounts of all vertices."""
+    defined = equations(path)
+
+    def of(part):
+        part = part.strip("() ")
+        literal = re.fullmatch(r'codes "(.*)"', part)
+        if literal:
+            return [literal[1].replace("\\n", "")]
+        word, *given = part.split(" ")
+        if word == "decimal":
+            return [given[0][0]]
+        if word == "pairs":
+            return ["P"]
+        return [text for _, body in defined[word] for text in whole(body)]
+
+    def whole(body):
+        found = [""]
+        for part in body.split(" ++ "):
+            found = [before + after for before in found for after in of(part)]
+        return found
+
+    return [text for _, body in defined[name] for text in whole(body)]
+
+
+def commands():
+    """The commands, each with the kinds of the words after it."""
+    rows = (re.fullmatch(r'\(codes "(\w+)", (.*)\)', body) for _, body in equations(COMMANDS)["row"])
+    return {row[1]: [kind for kind in row[2].split(" ∷ ") if kind != "[]"] for row in rows}
+
+
+def command_forms():
+    """The commands as pages show them, as `gift V x`."""
+    return [" ".join([word, *(KINDS[kind] for kind in kinds)]) for word, kinds in commands().items()]
+
+
+def replies():
+    """The texts of replies, as `given g P`."""
+    return texts(REPLIES, "text_of")
+
+
+def sample(form):
+    """A text of that form."""
+    return " ".join({"P": "a=2 b=-1", "g": "3", "k": "2"}.get(part, part) for part in form.split(" "))
+
+
+def refusals():
+    """The texts of the replies of a call that the game refuses."""
+    return texts(REPLIES, "refusal_text")
+
+
+def line_faults():
+    """What is said of a line that spells no step, in the order in which it is judged."""
+    return texts(BAD, "fault_text")
+
+
+def bad_texts():
+    """All that a session says of a line that makes no entry."""
+    return list(dict.fromkeys(line_faults() + re.findall(r'codes "(bad \w+)\\n"', read(LOOKS))))
+
+
+def file_faults():
+    """What is said of bytes that are no table, in answer to a line."""
+    return texts(FILE_FAULTS, "file_fault_text")
+
+
+# Where each type of faults stands, and the functions that say what one means.
+TYPES = {"Shape": "dg_file/src/fault.rt", "FileFault": "dg_file/src/fault.rt", "GraphFault": "dg_graph/src/fault.rt",
+         "ChipFault": "dg_chips/src/divisor.rt", "SourceFault": "dg_sources/src/sources.rt", "WordsFault": "dg_asked/src/words.rt",
+         "TaskFault": "dg_tasks/src/fault.rt", "Fault": "dg_server/src/fault.rt", "LineFault": "dg_lines/src/line.rt"}
+TELLERS = {"call_text": "dg_tasks/src/fault.rt", "end_text": "dg_server/src/fault.rt", "sweep_end_text": "dg_server/src/fault.rt"}
+
+
+def variants(name):
+    """The variants of a type of faults: each with its text as the code has it, and the type of what it holds."""
+    text = re.sub(r"^ *//.*\n", "", read("crates/" + TYPES[name]), flags=re.M)
+    body = text[text.index("pub enum %s {" % name):]
+    body = body[:body.index("\n}")]
+    return [(found[2], found[1], re.findall(r"\b([A-Z]\w+)", found[3] or ""))
+            for found in re.finditer(r"#\[error\((.*)\)\]\n    (\w+)(\([^\n]*\)|\s\{[^}]*\})?,", body)]
+
+
+def told(teller, status=None):
+    """The texts that a function has, each with the status where one of them is given for each variant."""
+    text = read("crates/" + TELLERS[teller])
+    body = text[text.index("fn %s(" % teller):]
+    body = body[:body.index("\n}")]
+    for variant, literal, other in re.findall(r'\w+::(\w+)(?:\(\w+\))? => (?:"(.*)"|(\w+)\(fault\)),', body):
+        number = status(variant) if callable(status) else status
+        if other:
+            yield from told(other, number)
+        else:
+            yield literal, number
+
+
+def status_of(function, variant):
+    """The status that a definition gives for a variant: a number, or a function that tells it of what the variant holds."""
+    names = {after: before for before, after in re.findall(r"(\w+) as (\w+)", read(STATUS))}
+    for given, body in equations(STATUS)[function]:
+        name = re.sub(r"^\w+\.", "", given.strip("()").split(" ")[0])
+        name = names.get(name, name)
+        if name in (variant, "_"):
+            word = body.split(" ")[0]
+            return int(word) if word.isdigit() else (lambda inner: status_of(word, inner))
+    raise KeyError("%s of %s" % (function, variant))
+
+
+def faults_of(name="Fault", status=lambda variant: status_of("status", variant)):
+    """The faults of a type, each as its text and its exit status."""
+    if name == "LineFault":
+        yield from ((text, status) for text in line_faults())
+        return
+    for variant, text, held in variants(name):
+        number = status(variant) if callable(status) else status
+        literal = re.fullmatch(r'"([^"]*)"(?:, .*)?', text)
+        teller = re.search(r"(\w+)\(\*\.\w+\)", text)
+        if text == "transparent":
+            yield from faults_of(held[-1], number)
+        elif teller:
+            yield from told(teller[1], number)
+        elif literal[1] == "line {line}: {fault}":
+            yield from (("line {}: " + bad, each) for bad, each in faults_of("LineFault", number))
+        elif literal[1] != "{0}":
+            yield literal[1], number
+
+
+def faults():
+    """The faults that end a run: the text of each, where # is a number, and its exit status."""
+    return sorted({(re.sub(r"\{\w*\}", "#", text), status) for text, status in faults_of()})
+
+
+if __name__ == "__main__":
+    for what, found in (("commands", command_forms()), ("replies", replies()), ("bad", bad_texts()), ("tables", file_faults())):
+        print("%s: %s" % (what, "; ".join(found)))
+    for text, status in faults():
+        print("%d %s" % (status, text))
