@@ -1,4 +1,5 @@
-"""What docs/tools.md shows with tools that may be missing. tests/pages/check plays the other commands of the pages."""
+"""What docs/tools.md shows over several lines, or with tools that may be missing. tests/pages/check plays the other commands of
+the pages."""
 import csv
 import re
 import shutil
@@ -20,7 +21,7 @@ def shown(tool):
     return "\n".join(lines[:last + 1])[2:], lines[last + 1:]
 
 
-@pytest.mark.parametrize("tool", ["jq", "nauty-geng"])
+@pytest.mark.parametrize("tool", ["python3", "jq", "nauty-geng"])
 def test_pipes(tool):
     if not shutil.which(tool):
         pytest.skip("the pipe with %s, which is not here" % tool)
