@@ -4,7 +4,7 @@
     examples/dollar.py [PROGRAM]
 
 plays the examples in the package's own texts, and its last line is 'N passed, M failed'. Scripts do better to take the package
-itself: `sys.path.insert(0, "python")`, or `pip install ./python`. docs/PYTHON.md tells what it has."""
+itself: `sys.path.insert(0, "python")`, or `pip install ./python`. docs/tools.md tells what it has."""
 import doctest, importlib, os, pkgutil, sys
 
 PACKAGE = os.path.join(os.path.dirname(os.path.abspath(__file__)), "..", "python")

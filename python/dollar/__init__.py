@@ -11,7 +11,7 @@ rank below 1 at a=0 b=0 c=1
 RiemannRoch(degree=0, genus=1, rank=0, dual=0)
 
 A table is made of whatever has a graph, and what is no table is an error; see `Table`. `judge_all`, `rank_all` and `rr_all` answer
-many tables, `Session` plays line by line, `flaw` checks a verdict without the program. docs/PYTHON.md shows it all.
+many tables, `Session` plays line by line, `flaw` checks a verdict without the program. docs/tools.md shows it all.
 """
 
 from dollar import former

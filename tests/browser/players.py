@@ -319,7 +319,7 @@ def with_script(player):
 
 
 def with_fire(player):
-    """The fire goes as docs/LESSON.md tells it: from ann to bob, dan and cyd."""
+    """The fire goes as docs/play.md tells it: from ann to bob, dan and cyd."""
     player.value("void openTable(examples['kind_houses.json'], 'kind_houses.json')")
     player.answered(True)
     player.browser.until("viewer.game.length === 0 && fileName === 'kind_houses.json'")

@@ -63,7 +63,7 @@ def test_graphs():
 
 
 def test_the_lines_of_the_page(monkeypatch):
-    page = (ROOT / "docs" / "PYTHON.md").read_text(encoding="utf-8")
+    page = (ROOT / "docs" / "tools.md").read_text(encoding="utf-8")
     lines = re.findall(r"(?m)^    sage: (.*)\n(?:    (?!sage: )(.*)\n)?", page)
     monkeypatch.chdir(ROOT)
     names, shown = dict(vars(sage_all)), 0

@@ -1,4 +1,5 @@
-"""What docs/SWEEPS.md and docs/PYTHON.md show with tools that may be missing. tests/pages/check plays the other commands of the pages."""
+"""What docs/tools.md shows over several lines, or with tools that may be missing. tests/pages/check plays the other commands of
+the pages."""
 import csv
 import re
 import shutil
@@ -9,7 +10,7 @@ from conftest import ROOT
 
 import dollar
 
-PAGE, PYTHON = ((ROOT / "docs" / name).read_text(encoding="utf-8") for name in ("SWEEPS.md", "PYTHON.md"))
+PAGE = (ROOT / "docs" / "tools.md").read_text(encoding="utf-8")
 
 
 def shown(tool):
@@ -20,7 +21,7 @@ def shown(tool):
     return "\n".join(lines[:last + 1])[2:], lines[last + 1:]
 
 
-@pytest.mark.parametrize("tool", ["jq", "nauty-geng"])
+@pytest.mark.parametrize("tool", ["python3", "jq", "nauty-geng"])
 def test_pipes(tool):
     if not shutil.which(tool):
         pytest.skip("the pipe with %s, which is not here" % tool)
@@ -31,7 +32,7 @@ def test_pipes(tool):
 
 
 def test_the_page_has_each_name():
-    assert [name for name in dollar.__all__ if not re.search(r"`%s\b" % name, PYTHON)] == []
+    assert [name for name in dollar.__all__ if not re.search(r"`%s\b" % name, PAGE)] == []
 
 
 def block(page, first):
@@ -43,7 +44,7 @@ def test_five_lines_with_pandas(tmp_path, monkeypatch):
     pytest.importorskip("networkx")
     pandas = pytest.importorskip("pandas")
     monkeypatch.chdir(tmp_path)
-    lines = block(PYTHON, "import dollar, networkx, pandas")
+    lines = block(PAGE, "import dollar, networkx, pandas")
     assert lines.count("\n") < 5
     exec(lines, {})
     frame = pandas.read_csv("ranks.csv")
