@@ -149,7 +149,7 @@ def bad_texts():
     yield from part.compare("fault of a line", found, lines)
     if [text for text, _ in found] != lines:
         yield "%s: the order of the faults of a line is %s" % (part.place(), ", ".join(lines))
-    for path, both in (("docs/SESSIONS.md", True), (REFUSALS, True), (FORMATS, False), (HELP, True)):
+    for path, both in (("docs/tools.md", True), (REFUSALS, True), (FORMATS, False), (HELP, True)):
         part = Part(path)
         wanted = lines if path == FORMATS else bad
         yield from part.compare("answer to a bad line", part.matches(r"`(bad [a-z]+)`"), wanted if both else lines, both=both)
