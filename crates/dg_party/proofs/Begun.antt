@@ -16,12 +16,12 @@ use Rattle.dg_party.specs.declared.ending.PartyRefusal.TheVariants as party
 use Rattle.dg_party.specs.Parties.{IsPartyRefused}
 
 pub none_begun : (o : Opening) (seats cap : ℕ) (names : List (List ℕ)) (scripts left : List (Vec ℕ)) (script : Vec ℕ)
-    (xs rest ys : List SeatView) (x y : SeatView)
-    → scripts ≡ script ∷ left → xs ≡ x ∷ rest → y ≡ x → ys ≡ rest
-    → RefusesSessions o seats cap names (contents scripts) xs (y ∷ ys) Spawn
+    (xs rest ys : List SeatView) (x y : SeatView) (lack : Shortage)
+    → scripts ≡ script ∷ left → xs ≡ x ∷ rest → y ≡ x → ys ≡ rest → lack ≡ Spawn
+    → RefusesSessions o seats cap names (contents scripts) xs (y ∷ ys) lack
 unfolding HaveBegun
-none_begun o seats cap names scripts left script xs rest ys x y d e f h =
-    (0, rw d (omega arith), ap (λ z. z ∷ ys) f ∙ ap (λ zs. x ∷ zs) h ∙ sym e)
+none_begun o seats cap names scripts left script xs rest ys x y lack d e f h told =
+    rw told (0, rw d (omega arith), ap (λ z. z ∷ ys) f ∙ ap (λ zs. x ∷ zs) h ∙ sym e)
 
 pub more_begun : (o : Opening) (seats cap : ℕ) (names : List (List ℕ)) (scripts left : List (Vec ℕ)) (script : Vec ℕ)
     (xs rest ys : List SeatView) (x y : SeatView) (end : Result ℕ SessionEnd) (lack : Shortage)

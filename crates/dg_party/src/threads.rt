@@ -114,7 +114,8 @@ fn play<'a, N: Name + Send + Sync, R: Threads + Wait + Sync, G: Gate>(
             Ok(all) => Ok(all),
             Err(shortage) => Err(shortage),
         },
-        Ok((_, Err(shortage))) | Err(shortage) => Err(shortage),
+        Ok((_, Err(shortage))) => Err(shortage),
+        Err(shortage) => Err(shortage),
     }
 }
 

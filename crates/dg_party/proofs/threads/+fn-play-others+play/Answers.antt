@@ -18,4 +18,4 @@ returns-in-Ok-default-Err-clause-fault g n c =
 pub returns-in-Err-clause-fault : goal.returns-in-Err-clause-fault
 returns-in-Err-clause-fault g n c =
     none_begun _ _ _ _ _ c.in-Some-split_first.left.now c.in-Some-split_first.script.now _ c.in-Some.rest.now _
-    c.in-Some.seat.now _ (search rules) (search rules) (search rules) (search rules)
+    c.in-Some.seat.now _ c.in-Err.shortage (search rules) (search rules) (search rules) (search rules) (search rules)
