@@ -97,6 +97,7 @@ def file_faults():
 TYPES = {"Shape": "dg_file/src/fault.rt", "FileFault": "dg_file/src/fault.rt", "GraphFault": "dg_graph/src/fault.rt",
          "ChipFault": "dg_chips/src/divisor.rt", "SourceFault": "dg_sources/src/sources.rt", "WordsFault": "dg_asked/src/words.rt",
          "TaskFault": "dg_tasks/src/fault.rt", "Fault": "dg_server/src/fault.rt", "LineFault": "dg_lines/src/line.rt"}
+SHORTAGE = "dg_beside/src/shortage.rt"
 TELLERS = {"call_text": "dg_tasks/src/fault.rt", "end_text": "dg_server/src/fault.rt", "sweep_end_text": "dg_server/src/fault.rt"}
 
 
@@ -114,12 +115,20 @@ def told(teller, status=None):
     text = read("crates/" + TELLERS[teller])
     body = text[text.index("fn %s(" % teller):]
     body = body[:body.index("\n}")]
-    for variant, literal, other in re.findall(r'\w+::(\w+)(?:\(\w+\))? => (?:"(.*)"|(\w+)\(fault\)),', body):
+    arm = r'\w+::(\w+)(?:\(\w+\))? => (?:"(.*)"|(\w+)\(fault\)|(Shortage::\w+|shortage)\.text\(\)),'
+    for variant, literal, other, shortage in re.findall(arm, body):
         number = status(variant) if callable(status) else status
         if other:
             yield from told(other, number)
+        elif shortage:
+            yield from ((lacking, number) for lacking in shortages(shortage.partition("::")[2]))
         else:
             yield literal, number
+
+
+def shortages(variant=""):
+    """What is said of what the system lacks: of one variant, or of each."""
+    return [text for name, text in re.findall(r'Shortage::(\w+) => "(.*)",', read("crates/" + SHORTAGE)) if variant in ("", name)]
 
 
 def status_of(function, variant):
@@ -143,7 +152,9 @@ def faults_of(name="Fault", status=lambda variant: status_of("status", variant))
         number = status(variant) if callable(status) else status
         literal = re.fullmatch(r'"([^"]*)"(?:, .*)?', text)
         teller = re.search(r"(\w+)\(\*\.\w+\)", text)
-        if text == "transparent":
+        if text == "transparent" and held[-1] == "Shortage":
+            yield from ((lacking, number) for lacking in shortages())
+        elif text == "transparent":
             yield from faults_of(held[-1], number)
         elif teller:
             yield from told(teller[1], number)
