@@ -1,4 +1,5 @@
 -- A party, from what its calls ensure.
+--   number_kept      a session leaves its seat the number
 --   session_at       the seat, before and after, of the session at a place
 --   ends_count       there are as many ends as scripts
 --   calls_are        the calls that were counted are those of the history
@@ -28,6 +29,12 @@ use Rattle.dg_party.specs.Sessions.{IsSessionOver, AreSessions, contents}
 use Rattle.dg_totals.specs.Printed.{entries_text, seat_text, seats_text, calls_text, totals_text}
 use Rattle.dg_party.specs.Parties.{IsParty, IsPartyRefused}
 use Rattle.dg_party.specs.declared.ending.PartyRefusal.TheVariants.{Log}
+
+
+number_kept : {o : Opening} {seats cap : ℕ} {names : List (List ℕ)} {script : List ℕ} {x y : SeatView}
+    {end : Result ℕ SessionEnd}
+    → IsSessionOver o seats cap names script x y end → y.number ≡ x.number
+number_kept h = ap (λ numbers. slice_index numbers 0) h.session.numbers
 
 record IsSessionAt (o : Opening) (seats cap : ℕ) (names : List (List ℕ)) (xs ys : List SeatView) (i : ℕ)
     (script : List ℕ)
@@ -128,7 +135,7 @@ whole o cap names scripts n xs ys ends H entries gifts graph position calls text
       count = ends_count o n cap names scripts xs ys ends are;
       sessions = λ i script end there told.
           let s = session_at o n cap names scripts xs ys ends are i script end there told in
-          let number : s.after.number ≡ i + 1 = s.session.number ∙ fresh.number i s.before s.first in
+          let number : s.after.number ≡ i + 1 = number_kept s.session ∙ fresh.number i s.before s.first in
           record {
             before = s.before;
             after = s.after;

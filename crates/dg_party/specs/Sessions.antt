@@ -15,7 +15,6 @@
 use Rattle.std.specs.Prelude.{◌≡◌, ◌≢◌, ℕ, zero, suc, ◌<◌, List, [], ◌∷◌, length, Option, Some, ⊤, Result, Err, map}
 use Rattle.std.specs.Global.{Vec}
 use Rattle.dg_chips.specs.Opening.{Opening}
-use Rattle.dg_table.specs.Histories.{HasPast}
 use Rattle.dg_table.specs.Seats.{SeatView}
 use Rattle.dg_session.specs.Ends.{IsSession}
 use Rattle.dg_session.specs.declared.ends.SessionEnd.{SessionEnd}
@@ -32,8 +31,6 @@ pub record IsSessionOver (o : Opening) (seats cap : ℕ) (names : List (List ℕ
   pub rest : Option (List ℕ)
   pub old : Option (List ℕ)
   pub new : Option (List ℕ)
-  pub number : y.number ≡ x.number
-  pub found : HasPast o seats cap y
   pub session : IsSession o seats cap names (Some script) rest old new x y end
   pub heard : end ≢ Err Write
 

@@ -5,8 +5,9 @@
 --   served         a session whose table is closed served it
 --   party_on       a party over files that are held is that of the table that one of them describes
 --   refused_on     so is one that is refused
+--   refused_lent   so is it where the opening, the names and the scripts were lent
 --   as_it_was      what nobody writes to is as it was
-use Rattle.std.proofs.Common.{◌≡◌, ℕ, suc, ◌≤◌, List, [], ◌∷◌, ◌++◌, length, take, map, Option, None, Some, refl, sym, ap, ◌∙◌, Bor, Vec, Global}
+use Rattle.std.proofs.Common.{◌≡◌, ℕ, suc, ◌≤◌, List, [], ◌∷◌, ◌++◌, length, take, map, Option, None, Some, refl, sym, ap, subst, ◌∙◌, Bor, Vec, Global}
 use Rattle.std.proofs.lemmas.List.{length-map}
 use Rattle.std.proofs.Math.Seq.{take-append_seam}
 use Rattle.dg_game.specs.declared.entry.TheConstants.{MAX_SEATS}
@@ -67,8 +68,8 @@ served heard H same closed = record {
   heard = heard;
   history = H;
   closed = closed;
-  full = full_at_close heard.session closed;
-  whole = entered_all heard.session heard.fresh same closed;
+  full = full_at_close heard.session.over closed;
+  whole = entered_all heard.session.over heard.fresh same closed;
 }
 
 pub party_on : (held : List ℕ → Held) (task : PartyTask) (o : Opening) (names : List (List ℕ))
@@ -86,6 +87,17 @@ pub refused_on : (held : List ℕ → Held) (task : PartyTask) (o : Opening) (na
     → IsPartyRefused o task.capacity names (contents all) refusal → IsRefusedOn held task refusal
 refused_on held task o names all refusal table known refused =
     record { opening = o; names = names; table = table; holds = (contents all, known, refused) }
+
+pub refused_lent : (held : List ℕ → Held) (task : PartyTask) {o o' : Opening} {names names' : List (List ℕ)}
+    {all all' : List (Vec ℕ Global)} (refusal : PartyRefusal) → o' ≡ o → names' ≡ names → all' ≡ all
+    → DescribesTable (held task.file.now) o names
+    → MayHoldAll held (names_in task) (map (λ script. script.items) all)
+    → IsPartyRefused o' task.capacity names' (contents all') refusal → IsRefusedOn held task refusal
+refused_lent held task {o} {o'} {names} {names'} {all} {all'} refusal opened named lent table known refused =
+    refused_on held task o names all refusal table known
+    (subst (λ (x : Opening). IsPartyRefused x task.capacity names (contents all) refusal) opened
+    (subst (λ (x : List (List ℕ)). IsPartyRefused o' task.capacity x (contents all) refusal) named
+    (subst (λ (x : List (Vec ℕ Global)). IsPartyRefused o' task.capacity names' (contents x) refusal) lent refused)))
 
 pub as_it_was : (held : Option (List ℕ)) → Keeps held held
 as_it_was None = tt

@@ -61,7 +61,7 @@ pub record IsServed (how : Addressing) (o : Opening) (n cap : ℕ) (names : List
   pub history : List Entry
   pub closed : IsClosed o n cap heard.after history
   pub full : end ≡ Err (Table Full) → length history ≡ cap
-  pub whole : heard.session.end.entered ≡ enumerate_from 0 history
+  pub whole : heard.session.over.end.entered ≡ enumerate_from 0 history
 
 abbrev pub Serves : (List ℕ → Held) → Option (List ℕ) → ServeTask → Option (List ℕ)
     → Option (List ℕ) → Type 0

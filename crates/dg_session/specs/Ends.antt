@@ -21,12 +21,14 @@
 --                            become the rest. The lines of `told` are answered with what was said,
 --                            and then those of `last` with the text; these have no more bytes than
 --                            one read and one line. What they enter comes in their order
---   IsSessionOf how o seats cap names .. == the same
+--   IsSessionOf how o seats cap names .. == so is one at a table, after which each seat has found a
+--                            history of the table, and has its number
 --   IsSession ..          == that of one seat, whose lines name none
-use Rattle.std.specs.Prelude.{◌≡◌, ℕ, ◌+◌, ◌<◌, ◌≤◌, ◌⊎◌, List, [], ◌∷◌, ◌++◌, length, slice_get, Option, Some, flat_map, Result, Ok, Err}
+use Rattle.std.specs.Prelude.{◌≡◌, ℕ, ◌+◌, ◌<◌, ◌≤◌, ◌⊎◌, List, [], ◌∷◌, ◌++◌, length, slice_get, Option, Some, All, map, flat_map, Result, Ok, Err}
 use Rattle.std.specs.Io.KnownBytes.{Appends, Consumes, IsAtEnd}
 use Rattle.dg_chips.specs.Opening.{Opening}
 use Rattle.dg_log.specs.Numbered.{StandIn}
+use Rattle.dg_table.specs.Histories.{HasPast}
 use Rattle.dg_table.specs.Seats.{SeatView}
 use Rattle.dg_lines.specs.Cuts.{lines}
 use Rattle.dg_lines.specs.Streams.{HasNoNewline, Begins, with_newline}
@@ -106,11 +108,12 @@ pub record IsOver (t : Setup) (input rest old new : Option (List ℕ)) (xs ys : 
   pub seats : end.seats ≡ ys
   pub order : AreInOrder end
 
-abbrev pub IsSessionOf : Addressing → Opening → ℕ → ℕ → List (List ℕ) → Option (List ℕ)
-    → Option (List ℕ) → Option (List ℕ) → Option (List ℕ) → List SeatView → List SeatView
-    → Result ℕ SessionEnd → Type 0
-IsSessionOf how o seats cap names input rest old new xs ys result =
-    IsOver (setup how o seats cap names) input rest old new xs ys result
+pub record IsSessionOf (how : Addressing) (o : Opening) (seats cap : ℕ) (names : List (List ℕ))
+    (input rest old new : Option (List ℕ)) (xs ys : List SeatView)
+    (result : Result ℕ SessionEnd) : Type 0 where
+  pub over : IsOver (setup how o seats cap names) input rest old new xs ys result
+  pub found : All (HasPast o seats cap) ys
+  pub numbers : map (λ (y : SeatView). y.number) ys ≡ map (λ (x : SeatView). x.number) xs
 
 abbrev pub IsSession : Opening → ℕ → ℕ → List (List ℕ) → Option (List ℕ) → Option (List ℕ)
     → Option (List ℕ) → Option (List ℕ) → SeatView → SeatView → Result ℕ SessionEnd → Type 0

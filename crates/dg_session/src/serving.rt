@@ -1,8 +1,9 @@
 //! Serving a stream of lines.
-ghost use Rattle.std.specs.Prelude.{◌≡◌, ◌≢◌, ◌≤◌, List, ℕ, [], length, map, None, Err, OnOk, All, true};
+ghost use Rattle.std.specs.Prelude.{◌≡◌, ◌≢◌, ◌≤◌, List, ℕ, [], length, None, Err, OnOk, All, true};
 ghost use Rattle.dg_rank.specs.Ranks.{MayHaveWorkers};
 ghost use Rattle.dg_table.specs.Histories.{HasPast};
-ghost use Rattle.dg_session.specs.Ends.{IsSession, IsSessionOf};
+ghost use Rattle.dg_session.specs.Ends.{IsOver, IsSession, IsSessionOf};
+ghost use Rattle.dg_session.specs.Setup.{setup};
 ghost use Rattle.dg_session.specs.SoFar.{heard, IsSaid, IsCleared, IsWritten};
 
 use crate::addressing::Addressing;
@@ -41,8 +42,6 @@ pub fn serve<N: Name, R: Threads + Wait, I: Read, O: Write>(
     requires workers { MayHaveWorkers workers }
     ensures session { IsSession N.start N.seats (length N.cells) names.now reader.old.remaining
         reader.new.remaining writer.old.contents writer.new.contents seat.old seat.new result }
-    ensures history { HasPast N.start N.seats (length N.cells) seat.new }
-    ensures number { seat.new.number ≡ seat.old.number }
     ensures read { result ≡ Err SessionEnd.Read → reader.new.has_failed ≡ true }
     ensures write { result ≡ Err SessionEnd.Write → writer.new.has_failed ≡ true }
 {
@@ -78,8 +77,6 @@ pub fn serve_seats<N: Name, R: Threads + Wait, I: Read, O: Write>(
     ensures session { IsSessionOf how N.start N.seats (length N.cells) names.now
         reader.old.remaining reader.new.remaining writer.old.contents writer.new.contents seats.old
         seats.new result }
-    ensures histories { All (HasPast N.start N.seats (length N.cells)) seats.new }
-    ensures numbers { map (λ x. x.number) seats.new ≡ map (λ x. x.number) seats.old }
     ensures read { result ≡ Err SessionEnd.Read → reader.new.has_failed ≡ true }
     ensures write { result ≡ Err SessionEnd.Write → writer.new.has_failed ≡ true }
 {
@@ -110,8 +107,6 @@ pub fn serve_unheard<N: Name, R: Threads + Wait, I: Read>(
     requires workers { MayHaveWorkers workers }
     ensures session { IsSession N.start N.seats (length N.cells) names.now reader.old.remaining
         reader.new.remaining None None seat.old seat.new result }
-    ensures history { HasPast N.start N.seats (length N.cells) seat.new }
-    ensures number { seat.new.number ≡ seat.old.number }
     ensures read { result ≡ Err SessionEnd.Read → reader.new.has_failed ≡ true }
     ensures write { result ≢ Err SessionEnd.Write }
 {
@@ -150,9 +145,10 @@ fn serve_lines<N: Name, R: Threads + Wait, I: Read, O: Write>(
     requires some { 1 ≤ length seats.old }
     requires said { IsSaid (heard text) [] }
     requires unknown { heard text ≡ None → writer.old.contents ≡ None }
-    ensures session { IsSessionOf shared.now.how N.start N.seats (length N.cells)
-        shared.now.names.now reader.old.remaining reader.new.remaining writer.old.contents
-        writer.new.contents seats.old seats.new result }
+    ensures session { IsOver
+        (setup shared.now.how N.start N.seats (length N.cells) shared.now.names.now)
+        reader.old.remaining reader.new.remaining writer.old.contents writer.new.contents
+        seats.old seats.new result }
     ensures read { result ≡ Err SessionEnd.Read → reader.new.has_failed ≡ true }
     ensures write { result ≡ Err SessionEnd.Write → writer.new.has_failed ≡ true }
     ensures still { heard text ≡ None → writer.new ≡ writer.old }

@@ -1,6 +1,6 @@
 use Rattle.std.proofs.Common.{rules, arith, inl, inr}
 use Rattle.dg_party.specs.declared.ending.PartyRefusal.TheVariants.{Shortage, Log}
-use Rattle.dg_server.proofs.Serving.{may_play, party_on, refused_on, as_it_was}
+use Rattle.dg_server.proofs.Serving.{may_play, party_on, refused_on, refused_lent, as_it_was}
 use Rattle.dg_server.proofs.parties.play_party.Goals as goal
 
 pub party-requires-clause-scripts : goal.party-requires-clause-scripts
@@ -36,11 +36,9 @@ pub returns-in-Err-Shortage-clause-refused : goal.returns-in-Err-Shortage-clause
 returns-in-Err-Shortage-clause-refused g c =
     inr (inr (inl (
       search rules,
-      refused_on (g.S.Sources.held c.args.sources.now) c.args.task.now c.in-Ok.read.0.start c.in-Ok.read.0.names
-          c.in-Ok.read.1.items (Shortage c.in-Err-Shortage.shortage)
-          c.in-Ok.ensures.read.0 c.in-Ok.ensures.read.1
-          (rw (← c.start.ensures, ← c.names.ensures.value, ← c.as_slice.ensures.value)
-          (rw c.in-Err-Shortage.field-0-is at c.in-Err-Shortage.ensures.refused)),
+      refused_lent (g.S.Sources.held c.args.sources.now) c.args.task.now (Shortage c.in-Err-Shortage.shortage)
+          c.start.ensures c.names.ensures.value c.as_slice.ensures.value c.in-Ok.ensures.read.0
+          c.in-Ok.ensures.read.1 c.in-Err-Shortage.ensures.refused,
       as_it_was c.args.output.now.contents,
     )))
 

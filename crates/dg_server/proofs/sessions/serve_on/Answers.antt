@@ -14,12 +14,12 @@ returns-in-Ok-ended-clause-done g c = (
     after = c.serve_seats-ended.new.seats;
     session = rw (c.requires.start, c.requires.row, c.requires.seats, ← c.names.ensures.value)
         c.in-Ok-ended.ensures.session;
-  }) c.in-Ok-close.history.pen.entries c.serve_seats-ended.ensures.numbers
+  }) c.in-Ok-close.history.pen.entries c.serve_seats-ended.ensures.session.numbers
       (rw (c.requires.start, c.requires.row, c.requires.seats)
       (subst (λ ys. IsClosed g.N.Name.start g.N.Name.seats (length g.N.Name.cells) ys
       c.in-Ok-close.history.pen.entries)
       (seats_back c.in-Ok.opened.1.len c.deref_mut.result.now c.serve_seats-ended.new.seats _ (search rules)
-      c.serve_seats-ended.ensures.numbers) c.in-Ok-close.ensures.0)),
+      c.serve_seats-ended.ensures.session.numbers) c.in-Ok-close.ensures.0)),
 )
 
 pub returns-in-Ok-close-clause-early : goal.returns-in-Ok-close-clause-early
@@ -31,9 +31,9 @@ returns-in-Ok-close-clause-early g c =
       after = c.serve_seats-ended.new.seats;
       session = rw (c.requires.start, c.requires.row, c.requires.seats, ← c.names.ensures.value)
           c.in-Err-ended.ensures.session;
-    }) c.in-Ok-close.history.pen.entries c.serve_seats-ended.ensures.numbers
+    }) c.in-Ok-close.history.pen.entries c.serve_seats-ended.ensures.session.numbers
     (rw (c.requires.start, c.requires.row, c.requires.seats)
     (subst (λ ys. IsClosed g.N.Name.start g.N.Name.seats (length g.N.Name.cells) ys
     c.in-Ok-close.history.pen.entries)
     (seats_back c.in-Ok.opened.1.len c.deref_mut.result.now c.serve_seats-ended.new.seats _ (search rules)
-    c.serve_seats-ended.ensures.numbers) c.in-Ok-close.ensures.0))
+    c.serve_seats-ended.ensures.session.numbers) c.in-Ok-close.ensures.0))

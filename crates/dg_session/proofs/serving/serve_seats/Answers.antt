@@ -1,5 +1,9 @@
 use Rattle.dg_session.proofs.Sessions.{numbers_of}
 use Rattle.dg_session.proofs.serving.serve_seats.Goals as goal
 
-pub returns-clause-numbers : goal.returns-clause-numbers
-returns-clause-numbers g c = numbers_of c.serve_lines-ended.ensures.session
+pub returns-clause-session : goal.returns-clause-session
+returns-clause-session g c = record {
+  over = c.serve_lines-ended.ensures.session;
+  found = c.have_pasts.ensures;
+  numbers = numbers_of c.serve_lines-ended.ensures.session;
+}
