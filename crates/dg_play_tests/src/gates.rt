@@ -1,8 +1,7 @@
-//! Gates that see who enters them.
+//! A gate that sees who enters it.
 
-use dg_log::{Log, Name};
 use dg_rank::Gate;
-use std::sync::atomic::{AtomicBool, AtomicU64, Ordering};
+use std::sync::atomic::{AtomicU64, Ordering};
 
 // Counts how often each number from 0 to 15 enters, in four bits for each.
 #[derive(Drop)]
@@ -26,27 +25,6 @@ impl Gate for Counts {
     fn enter(&self, piece: u32) {
         if piece < 16 {
             self.counts.fetch_add(1 << (4 * piece), Ordering::SeqCst);
-        }
-    }
-}
-
-// Counts the seats that enter, and reads the log for an entry of each: one that has any is late.
-#[derive(Drop)]
-pub(crate) struct Early<'a, N: Name> {
-    pub(crate) log: &'a Log<N>,
-    pub(crate) counts: Counts,
-    pub(crate) is_late: AtomicBool,
-}
-
-impl<'a, N: Name + Send + Sync> Gate for Early<'a, N> {
-    fn enter(&self, piece: u32) {
-        self.counts.enter(piece);
-        for number in 0..self.log.len() {
-            if let Some((_, entry)) = self.log.read(number) {
-                if u32::from(entry.seat) == piece {
-                    self.is_late.store(true, Ordering::SeqCst);
-                }
-            }
         }
     }
 }

@@ -1,5 +1,4 @@
-//! The tests of the locked table, of who plays on it or watches it, of sessions and parties, and of files that are read. They
-//! call only what the libraries make public.
+//! The tests of the locked table, and of who plays on it or watches it. They call only what the libraries make public.
 #![tactic(auto)]
 
 #[cfg(test)]
@@ -10,12 +9,6 @@ mod gates;
 mod observer;
 #[cfg(test)]
 mod openings;
-#[cfg(test)]
-mod party;
-#[cfg(test)]
-mod session;
-#[cfg(test)]
-mod sources;
 #[cfg(test)]
 mod strategy;
 #[cfg(test)]

@@ -3,8 +3,6 @@ ghost use Rattle.std.specs.Prelude.{◌≡◌};
 
 use crate::analyst::looks::{asks_too_much, judged, ranked};
 use crate::observer::watching::watched;
-use crate::party::gates::enter_first;
-use crate::session::streams::{Flow, Sip, serves};
 use crate::strategy::plays::played;
 use crate::table::filled::fills;
 use crate::table::meetings::{Meeting, meet};
@@ -15,7 +13,6 @@ use crate::table::turns::turns;
 use dg_chips::Start;
 use dg_game::{Plain, Reply};
 use dg_log::{Name, Row};
-use dg_session::SessionEnd;
 use dg_table::{Seat, Table, TableFault};
 use std::alloc::Global;
 use std::marker::Brand;
@@ -51,10 +48,6 @@ pub(crate) enum Scene<'a> {
     Strategies,
     // Seats play in threads.
     Meeting(&'a Meeting<'a>),
-    // Sessions enter a gate before their first lines.
-    Gate,
-    // A session over the stream leaves the writer with this answer, and ends so.
-    Session(Flow<'a>, Sip, &'a [u8], Result<u32, SessionEnd>),
 }
 
 // Plays the scene on a table whose history has so many cells, with this start and so many seats.
@@ -110,7 +103,6 @@ fn shown<N: Name + Send + Sync, R: Threads + Wait + Abort + Sync>(
         Scene::Calls(calls) => calls_are_entries(rt, alloc, table, seats, calls),
         Scene::Filled => fills(rt, alloc, table, seats),
         Scene::Meeting(meeting) => meet(rt, alloc, table, seats, meeting),
-        Scene::Gate => enter_first(rt, alloc, &table, seats.as_mut_slice()),
         scene => match seats.as_mut_slice() {
             [seat] => shown_to_one(rt, alloc, &table, seat, scene),
             [first, second] => shown_to_two(rt, alloc, &table, first, second, scene),
@@ -129,9 +121,6 @@ fn shown_to_one<N: Name, R: Threads + Wait + Abort>(
     match scene {
         Scene::Turns => turns(rt, alloc, table, seat),
         Scene::Strategies => played(rt, alloc, table, seat),
-        Scene::Session(reader, writer, answer, end) => {
-            serves(rt, alloc, table, seat, reader, writer, answer, end)
-        }
         _ => Err(Fail::from("a scene for more seats")),
     }
 }

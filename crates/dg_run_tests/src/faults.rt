@@ -30,8 +30,16 @@ const FAULTS: [(Fault, &str, u8); 10] = [
         "out of memory",
         4,
     ),
-    (Fault::Task(TaskFault::Shortage(Shortage::OutOfMemory)), "out of memory", 4),
-    (Fault::Task(TaskFault::Shortage(Shortage::Spawn)), "no thread", 4),
+    (
+        Fault::Task(TaskFault::Shortage(Shortage::OutOfMemory)),
+        "out of memory",
+        4,
+    ),
+    (
+        Fault::Task(TaskFault::Shortage(Shortage::Spawn)),
+        "no thread",
+        4,
+    ),
     (Fault::Shortage(Shortage::OutOfMemory), "out of memory", 4),
     (Fault::Shortage(Shortage::Spawn), "no thread", 4),
     (Fault::History, "history cell refused", 4),

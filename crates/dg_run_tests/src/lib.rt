@@ -1,14 +1,26 @@
-//! The tests of `dg_file`, `dg_lines`, `dg_sweep` and `dg_server`: what no row in tests/rows shows. They call only what those
-//! crates make public.
+//! The tests of `dg_sources`, `dg_file`, `dg_lines`, `dg_sweep`, `dg_session`, `dg_party` and `dg_server`: what no row in
+//! tests/rows shows. They call only what those crates make public.
 #![tactic(auto)]
 
 #[cfg(test)]
 mod faults;
 #[cfg(test)]
+mod gates;
+#[cfg(test)]
 mod names;
+#[cfg(test)]
+mod openings;
+#[cfg(test)]
+mod party;
+#[cfg(test)]
+mod session;
+#[cfg(test)]
+mod sources;
 #[cfg(test)]
 mod streams;
 #[cfg(test)]
 mod sweeps;
+#[cfg(test)]
+mod tables;
 #[cfg(test)]
 mod written;

@@ -20,6 +20,7 @@ fn a_read_that_fails_is_a_fault(rt: HostRuntime) -> Result<(), Fail> {
             most: 2_000_000,
             fault: Some(kind),
             is_interrupted: false,
+            is_held_back: None,
         };
         assert!(rt; read_within(alloc, torn).err() == Some(fault), "{size}");
     }

@@ -9,6 +9,7 @@ use dg_session::{SessionEnd, serve, streams_are_cut_in_one_way};
 use dg_streams::{Input, Output};
 use dg_table::{Seat, Table};
 use std::alloc::Global;
+use std::cell::Cell;
 use std::io;
 use std::io::{ErrorKind, Read, Write};
 use std::process::Abort;
@@ -21,13 +22,15 @@ const TEXT: &[u8] = b"look\nlend a\ncommit\ncommit\nlend z\ngift a 0\nclaim\n";
 const ANSWER: &[u8] =
     b"0 looked 0 a=2 b=-1 c=-1\n1 moved a=0 b=0 c=0\n2 winnable by a=0 b=0 c=0 to a=0 b=0 c=0\nbad look\nbad name\n3 refused gift\n4 won\n";
 
-// Gives the text, so many bytes a read at most; then it fails so, or ends. Each other read is interrupted.
+// Gives the text, so many bytes a read at most; then it fails so, or ends. Each other read is interrupted. It fails as well where
+// something was written that is not flushed.
 #[derive(Drop)]
 pub(crate) struct Flow<'a> {
     pub(crate) text: &'a [u8],
     pub(crate) most: usize,
     pub(crate) fault: Option<ErrorKind>,
     pub(crate) is_interrupted: bool,
+    pub(crate) is_held_back: Option<&'a Cell<bool>>,
 }
 
 impl<'a> Read for Flow<'a> {
@@ -35,6 +38,9 @@ impl<'a> Read for Flow<'a> {
         self.is_interrupted = !self.is_interrupted;
         if self.is_interrupted {
             return Err(io::Error::from(ErrorKind::Interrupted));
+        }
+        if let Some(true) = self.is_held_back.map(Cell::get) {
+            return Err(io::Error::from(ErrorKind::BrokenPipe));
         }
         if let (true, Some(kind)) = (self.text.is_empty(), self.fault) {
             return Err(io::Error::from(kind));
@@ -48,18 +54,18 @@ impl<'a> Read for Flow<'a> {
 }
 
 // Takes so many bytes a write, and fails where it holds so many; or takes none from there on. Each other write is
-// interrupted, and the first flush after one that is not. It notes how much it held when it was last flushed.
+// interrupted, and the first flush after one that is not. It notes whether something was written that is not flushed.
 #[derive(Drop)]
-pub(crate) struct Sip {
+pub(crate) struct Sip<'a> {
     pub(crate) held: Vec<u8>,
-    pub(crate) flushed: usize,
     pub(crate) most: usize,
     pub(crate) fails_at: usize,
     pub(crate) refuses: bool,
     pub(crate) is_interrupted: bool,
+    pub(crate) is_held_back: &'a Cell<bool>,
 }
 
-impl Write for Sip {
+impl<'a> Write for Sip<'a> {
     fn write(&mut self, text: &[u8]) -> io::Result<usize> {
         self.is_interrupted = !self.is_interrupted;
         if self.is_interrupted {
@@ -72,6 +78,7 @@ impl Write for Sip {
             return Err(io::Error::from(ErrorKind::Other));
         }
         let size = text.len().min(self.most);
+        self.is_held_back.set(true);
         match self.held.extend_from_slice(&text[..size]) {
             Ok(()) => Ok(size),
             Err(_) => Err(io::Error::from(ErrorKind::OutOfMemory)),
@@ -83,28 +90,33 @@ impl Write for Sip {
         if self.is_interrupted {
             return Err(io::Error::from(ErrorKind::Interrupted));
         }
-        self.flushed = self.held.len();
+        self.is_held_back.set(false);
         Ok(())
     }
 }
 
-fn new_flow(text: &[u8], most: usize, fault: Option<ErrorKind>) -> Flow<'_> {
+fn new_flow<'a>(
+    text: &'a [u8],
+    fault: Option<ErrorKind>,
+    is_held_back: &'a Cell<bool>,
+) -> Flow<'a> {
     Flow {
         text,
-        most,
+        most: 1,
         fault,
         is_interrupted: false,
+        is_held_back: Some(is_held_back),
     }
 }
 
-fn new_sip(alloc: Global, most: usize, fails_at: usize, refuses: bool) -> Sip {
+fn new_sip(alloc: Global, fails_at: usize, refuses: bool, is_held_back: &Cell<bool>) -> Sip<'_> {
     Sip {
         held: Vec::new(alloc),
-        flushed: 0,
-        most,
+        most: 1,
         fails_at,
         refuses,
         is_interrupted: false,
+        is_held_back,
     }
 }
 
@@ -135,8 +147,9 @@ fn ends_where_a_read_fails<R: Threads + Wait + Abort + Sync>(
     } else {
         (TEXT.len(), None, Ok(7))
     };
-    let reader = new_flow(&TEXT[..at], 1, fault);
-    let writer = new_sip(alloc, 1, 1_000, false);
+    let is_held_back = Cell::new(false);
+    let reader = new_flow(&TEXT[..at], fault, &is_held_back);
+    let writer = new_sip(alloc, 1_000, false, &is_held_back);
     on_a_table(
         rt,
         alloc,
@@ -178,8 +191,9 @@ fn ends_where_a_write_fails<R: Threads + Wait + Abort + Sync>(
     fails_at: usize,
     answer: &[u8],
 ) -> Result<(), Fail> {
-    let reader = new_flow(TEXT, 1, None);
-    let writer = new_sip(alloc, 1, fails_at, fails_at % 2 == 1);
+    let is_held_back = Cell::new(false);
+    let reader = new_flow(TEXT, None, &is_held_back);
+    let writer = new_sip(alloc, fails_at, fails_at % 2 == 1, &is_held_back);
     let end = Err(SessionEnd::Write);
     on_a_table(
         rt,
@@ -198,7 +212,7 @@ pub(crate) fn serves<N: Name, R: Threads + Wait + Abort>(
     table: &Table<N>,
     seat: &mut Seat<N>,
     reader: Flow<'_>,
-    writer: Sip,
+    writer: Sip<'_>,
     answer: &[u8],
     end: Result<u32, SessionEnd>,
 ) -> Result<(), Fail> {
@@ -216,7 +230,7 @@ pub(crate) fn serves<N: Name, R: Threads + Wait + Abort>(
     );
     let writer = writer.into_inner();
     assert!(rt; writer.held.as_slice() == answer);
-    assert!(rt; end == Err(SessionEnd::Write) || writer.flushed == answer.len());
+    assert!(rt; end == Err(SessionEnd::Write) || !writer.is_held_back.get());
     Ok(())
 }
 
@@ -228,7 +242,7 @@ fn ends_so<N: Name, R: Threads + Wait + Abort>(
     seat: &mut Seat<N>,
     names: &Names,
     reader: Flow<'_>,
-    writer: &mut Output<Sip>,
+    writer: &mut Output<Sip<'_>>,
     end: Result<u32, SessionEnd>,
 ) {
     assert!(rt; names.len() == table.start().graph().size());

@@ -1,6 +1,6 @@
 //! Sessions that enter a gate before their first lines.
 
-use crate::gates::{Counts, Early};
+use crate::gates::Early;
 use crate::openings::{Scene, on_a_table};
 use crate::party::meetings::scripts_of;
 use crate::tables::{TRIANGLE, triangle};
@@ -12,7 +12,7 @@ use dg_table::{Seat, Table};
 use std::alloc::Global;
 use std::process::Abort;
 use std::sync::Wait;
-use std::sync::atomic::{AtomicBool, Ordering};
+use std::sync::atomic::{AtomicBool, AtomicU64, Ordering};
 use std::test::Fail;
 use std::thread::Threads;
 
@@ -30,11 +30,11 @@ pub(crate) fn enter_first<N: Name + Send + Sync, R: Threads + Wait + Abort + Syn
 ) -> Result<(), Fail> {
     let gate = Early {
         log: table.log(),
-        counts: Counts::new(),
+        counts: AtomicU64::new(0),
         is_late: AtomicBool::new(false),
     };
     go_in(rt, alloc, table, seats, &gate)?;
-    assert!(rt; gate.counts.all() == 0x1110);
+    assert!(rt; gate.counts.load(Ordering::SeqCst) == 0x1110);
     assert!(rt; !gate.is_late.load(Ordering::SeqCst));
     Ok(())
 }
