@@ -38,7 +38,7 @@ returns-in-Err-Shortage-clause-refused g c =
       search rules,
       refused_lent (g.S.Sources.held c.args.sources.now) c.args.task.now (Shortage c.in-Err-Shortage.shortage)
           c.start.ensures c.names.ensures.value c.as_slice.ensures.value c.in-Ok.ensures.read.0
-          c.in-Ok.ensures.read.1 c.in-Err-Shortage.ensures.refused,
+          c.in-Ok.ensures.read.1 (rw c.in-Err-Shortage.field-0-is at c.in-Err-Shortage.ensures.refused),
       as_it_was c.args.output.now.contents,
     )))
 
