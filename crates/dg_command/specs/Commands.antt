@@ -6,7 +6,9 @@
 --   flag name                == `--name` alone
 --   command name arguments   == the command of that name
 --   judge, rank, riemann_roch, greedy, rehearse, serve, party == the seven commands
---   dollar                   == the program: it has a version, and one of the commands has to be named
+--   bare_program             == the program without its commands: it has a version, and one of them has
+--                               to be named
+--   dollar                   == the program
 use Rattle.std.specs.Prelude.{List, [], ◌∷◌, Some, true, false, codes}
 use Rattle.clap.specs.Lexer.{usize_max}
 use Rattle.clap.specs.Words.{App, Rule, Shape, Text, new_rule}
@@ -57,13 +59,18 @@ abbrev pub party : Shape
 party = command (codes "party")
     (word (codes "file") ∷ words (codes "script") ∷ option (codes "cap") ∷ [])
 
-unfoldable pub dollar : App
-dollar = record {
+abbrev pub bare_program : App
+bare_program = record {
   top = record (new_shape (codes "dollar")) {
-    is_leaf = false;
     has_version = true;
     subcommand_required = true;
     arg_required_else_help = true;
   };
+  subs = [];
+}
+
+unfoldable pub dollar : App
+dollar = record {
+  top = record bare_program.top { is_leaf = false };
   subs = judge ∷ rank ∷ riemann_roch ∷ greedy ∷ rehearse ∷ serve ∷ party ∷ [];
 }

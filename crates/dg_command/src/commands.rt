@@ -1,7 +1,8 @@
 //! The commands of the program and their arguments, as the library of command lines is told of them.
 ghost use Rattle.std.specs.Prelude.{◌≡◌, IfOk, codes};
-ghost use Rattle.clap.specs.Words.{app_of};
+ghost use Rattle.clap.specs.Words.{Shape, app_of, with_subcommand};
 ghost use Rattle.dg_command.specs.Commands.{
+  bare_program,
   dollar,
   flag,
   greedy,
@@ -28,19 +29,39 @@ use std::alloc::{AllocError, Global};
 pub(crate) fn dollar<'a>(alloc: Global) -> Result<Command<'a>, AllocError>
     ensures { IfOk result (λ program. app_of program ≡ dollar) }
 {
+    let program = with(bare_program(alloc), judge(alloc))?;
+    let program = with(program, rank(alloc))?;
+    let program = with(program, riemann_roch(alloc))?;
+    let program = with(program, greedy(alloc))?;
+    let program = with(program, rehearse(alloc))?;
+    let program = with(program, serve(alloc))?;
+    with(program, party(alloc))
+}
+
+/// The program, without its commands.
+fn bare_program<'a>(alloc: Global) -> Command<'a>
+    ensures { app_of result ≡ bare_program }
+{
     Command::new(alloc, "dollar")
         .about("Plays the dollar game on a graph, and tells whether a table is winnable")
         .version(VERSION)
         .after_help(MORE)
         .subcommand_required(true)
         .arg_required_else_help(true)
-        .subcommand(judge(alloc)?)?
-        .subcommand(rank(alloc)?)?
-        .subcommand(riemann_roch(alloc)?)?
-        .subcommand(greedy(alloc)?)?
-        .subcommand(rehearse(alloc)?)?
-        .subcommand(serve(alloc)?)?
-        .subcommand(party(alloc)?)
+}
+
+/// The program with one command more, where that could be made.
+fn with<'a>(
+    program: Command<'a>,
+    command: Result<Command<'a>, AllocError>,
+) -> Result<Command<'a>, AllocError>
+    ensures { (shape : Shape) → IfOk command.entry (IsCommand shape) →
+        IfOk result (λ made. app_of made ≡ with_subcommand (app_of program.entry) shape) }
+{
+    match command {
+        Ok(command) => program.subcommand(command),
+        Err(error) => Err(error),
+    }
 }
 
 pub(crate) fn judge<'a>(alloc: Global) -> Result<Command<'a>, AllocError>
