@@ -1,10 +1,10 @@
--- A command with one more argument, and one with one more subcommand.
+-- A command with one more argument.
 use Rattle.std.proofs.Common.{◌≡◌, ◌∙◌, ◌||◌, ap₂, false}
-use Rattle.clap.specs.Words.{AddsArg, AddsSubcommand, App, Rule, Shape, app_of, with_rule, with_subcommand}
+use Rattle.clap.specs.Words.{AddsArg, App, Rule, app_of, with_rule}
 use Rattle.clap.specs.declared.builder.arg.Arg.{Arg}
 use Rattle.clap.specs.declared.builder.command.Command.{Command}
 use Rattle.clap.specs.declared.builder.command.Command.TheViews.{out-Command as fields_of}
-use Rattle.dg_command.specs.Building.{IsArgument, IsCommand}
+use Rattle.dg_command.specs.Building.{IsArgument}
 
 pub adds : (old : Command) (a : Arg) (new : Command) (app : App) (rule : Rule) → AddsArg old a new → app_of old ≡ app →
     (fields_of old).has_globals ≡ false
@@ -14,8 +14,3 @@ adds old a new app rule h is none arg = (
   h.globals ∙ ap₂
       (λ x y. x || y) none arg.own,
 )
-
-pub adds_command : (old sub new : Command) (app : App) (shape : Shape) → AddsSubcommand old sub new → app_of old ≡ app
-    → IsCommand shape sub
-    → app_of new ≡ with_subcommand app shape
-adds_command old sub new app shape h is made = h.shape made.own ∙ ap₂ with_subcommand is made.reads
