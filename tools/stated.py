@@ -15,10 +15,9 @@ class Part:
     def __init__(self, path, begin="", end=None):
         self.path, whole = path, read(path)
         at = whole.find(begin)
-        self.is_there = at >= 0
-        self.at = at = max(at, 0)
-        self.text = whole[at:whole.find(end, at + len(begin))] if end else whole[at:]
-        self.before = whole[:at]
+        stop = whole.find(end, at + len(begin)) if end else len(whole)
+        self.is_there = at >= 0 and stop >= 0
+        self.before, self.text = (whole[:at], whole[at:stop]) if self.is_there else ("", "")
 
     def place(self, offset=0):
         return "%s:%d" % (self.path, (self.before + self.text[:offset]).count("\n") + 1)
@@ -37,8 +36,13 @@ class Part:
         for text in wanted:
             if text not in places:
                 yield "%s: the %s `%s` is wanted here" % (self.place(), what, text)
-        for text, place in places.items():
-            if both and text not in wanted:
+        if both:
+            yield from self.unknown(what, places.items(), wanted)
+
+    def unknown(self, what, found, known):
+        """Names what stands there and is none."""
+        for text, place in found:
+            if text not in known:
                 yield "%s: `%s` is no %s of the code's" % (place, text, what)
 
 
@@ -147,20 +151,19 @@ def bad_texts():
     part = Part(FORMATS, "A line that spells no step is refused with the first of these.", "\n\nIn an item")
     found = list(part.matches(r"^\| `(bad \w+)` \|"))
     yield from part.compare("fault of a line", found, lines)
-    if [text for text, _ in found] != lines:
+    if sorted(lines) == sorted(text for text, _ in found) and lines != [text for text, _ in found]:
         yield "%s: the order of the faults of a line is %s" % (part.place(), ", ".join(lines))
-    for path, both in (("docs/SESSIONS.md", True), (REFUSALS, True), (FORMATS, False), (HELP, True)):
+    pages = ["docs/SESSIONS.md", REFUSALS, HELP]
+    for path in pages + sorted(set(glob.glob("docs/*.md") + glob.glob("*.md") + ["examples/README.md"]) - set(pages)):
         part = Part(path)
-        wanted = lines if path == FORMATS else bad
-        yield from part.compare("answer to a bad line", part.matches(r"`(bad [a-z]+)`"), wanted if both else lines, both=both)
-    for path in sorted(glob.glob("docs/*.md") + ["README.md", "examples/README.md"]):
-        part = Part(path)
-        yield from part.compare("answer to a bad line", [], [], both=True)
-        for text, place in part.matches(r"`(bad [a-z]+)`"):
-            if text not in bad:
-                yield "%s: `%s` is no answer of a session" % (place, text)
+        if path in pages:
+            yield from part.compare("answer to a bad line", part.matches(r"`(bad [a-z]+)`"), bad)
+        else:
+            yield from part.unknown("answer to a bad line", part.matches(r"`(bad [a-z]+)`"), bad)
     part = Part(MODEL)
     yield from part.compare("answer to a bad line", part.matches(r'"(bad \w+)"'), [text for text in bad if text != "bad seat"])
+    for path in sorted(glob.glob("tests/*/*.py") + glob.glob("examples/*.py") + glob.glob("python/*/*.py")):
+        yield from Part(path).unknown("answer to a bad line", Part(path).matches(r"""["'](bad \w+)["']"""), bad)
 
 
 def file_fault_enums():
@@ -200,6 +203,11 @@ def faults():
     for text, status, place in rows:
         if text in wanted and wanted[text] != status:
             yield "%s: the status of `%s` is %d" % (place, text, wanted[text])
+    for path in sorted(glob.glob("docs/*.md")):
+        part = Part(path)
+        for row in re.finditer(r"^\|.*\| `dollar: ([^`]*)` \| (\d) \|", part.text, re.M):
+            if int(row[2]) != wanted.get(numbered(row[1])):
+                yield "%s: the status of `%s` is %s" % (part.place(row.start()), row[1], wanted.get(numbered(row[1]), "that of no fault"))
     part = Part(FORMATS, "The reader reports one fault, and looks for them in this order.", "\n\nWant of memory")
     found = [(numbered(text), place) for row, place in part.matches(r"^\| (`.*`) \|") for text in re.findall(r"`([^`]*)`", row)]
     yield from part.compare("fault of a table file", found, of_files)

@@ -105,8 +105,11 @@ def variants(name):
     text = re.sub(r"^ *//.*\n", "", read("crates/" + TYPES[name]), flags=re.M)
     body = text[text.index("pub enum %s {" % name):]
     body = body[:body.index("\n}")]
-    return [(found[2], found[1], re.findall(r"\b([A-Z]\w+)", found[3] or ""))
-            for found in re.finditer(r"#\[error\((.*)\)\]\n    (\w+)(\([^\n]*\)|\s\{[^}]*\})?,", body)]
+    found = [(each[2], each[1], re.findall(r"\b([A-Z]\w+)", each[3] or ""))
+             for each in re.finditer(r"#\[error\((.*)\)\]\n    (\w+)(\([^\n]*\)|\s\{[^}]*\})?,", body)]
+    if not found or len(found) < body.count("#[error("):
+        raise ValueError("%s: the variants of %s are not written as tools/words.py reads them" % (TYPES[name], name))
+    return found
 
 
 def told(teller, status=None):
@@ -114,7 +117,10 @@ def told(teller, status=None):
     text = read("crates/" + TELLERS[teller])
     body = text[text.index("fn %s(" % teller):]
     body = body[:body.index("\n}")]
-    for variant, literal, other in re.findall(r'\w+::(\w+)(?:\(\w+\))? => (?:"(.*)"|(\w+)\(fault\)),', body):
+    arms = re.findall(r'\w+::(\w+)(?:\(\w+\))? => (?:"(.*)"|(\w+)\(fault\)),', body)
+    if not arms or len(arms) < body.count("=>"):
+        raise ValueError("%s: the arms of %s are not written as tools/words.py reads them" % (TELLERS[teller], teller))
+    for variant, literal, other in arms:
         number = status(variant) if callable(status) else status
         if other:
             yield from told(other, number)
