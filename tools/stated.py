@@ -76,7 +76,8 @@ def example_commands():
     def shape(line):
         return line.split(" ")[0] + " _" * line.count(" ")
     wanted = [shape(form) for form in words.command_forms()]
-    for path, begin in (("examples/class.py", "def line_of("), ("tests/browser/classes.py", "def line_of("), (MODEL, "def some_script(")):
+    for path, begin in (("examples/class.py", "def line_of("), ("tests/browser/classes.py", "def line_of("), (MODEL, "def some_script("),
+                        ("tests/python/test_session.py", "def some_line(")):
         part = Part(path, begin, "\n\n\n")
         found = [(shape(line), place) for line, place in part.matches(r'"([a-z][^"]*)"')]
         yield from part.compare("line of the command", found, wanted, both=False)
@@ -105,6 +106,8 @@ def replies():
         part = Part(BOARD, begin, end)
         more = ["unread"] if "mark" in begin else []
         yield from part.compare("kind of reply", part.matches(r'(?<=[\s{])"?([a-z-]+)"?(?=: )'), kinds + more)
+    part = Part("board/viewer.js", "const TELLING", "];")
+    yield from part.compare("kind of reply", part.matches(r'"([a-z-]+)"'), kinds + ["unread"])
     part = Part(BOARD, "const CAUSES", "};")
     yield from part.compare("refusal", part.matches(r'(\w+): "'), [text.split(" ")[1] for text in refusals])
     for path in (FORMATS, REFUSALS):
@@ -130,6 +133,9 @@ def answers():
         from dollar import answers as package
     finally:
         del sys.path[0]
+    part = Part(ANSWERS, "`word` is `", "`gifts` is")
+    heads = [re.match("not won|rank at least|rank below|[a-z]+", form)[0] for form in words.replies()]
+    yield from part.compare("word of an answer", part.matches(r"`([a-z][a-z ]*)`(?! is)"), list(dict.fromkeys(heads + ["turns", "bad"])))
     part = Part(ANSWERS, "FORMS = [", "\n\n\n")
     texts = [words.sample(form) for form in words.replies()] + words.bad_texts() + ["turns"]
     for text in texts:
@@ -233,8 +239,8 @@ def faults():
         yield from part.compare("exit status", part.matches(form), statuses)
 
 
-# Constants of crates that do not know each other, which are one limit.
-SAME = [("dg_sweep::MAX_LINE", "dg_sources::MAX_FILE")]
+# Constants that are one limit: of crates that do not know each other, or of other types.
+SAME = [("dg_sweep::MAX_LINE", "dg_sources::MAX_FILE"), ("dg_game::MAX_GIFT", "dg_chips::MAX_AMOUNT")]
 
 
 def constants():
