@@ -15,10 +15,9 @@ class Part:
     def __init__(self, path, begin="", end=None):
         self.path, whole = path, read(path)
         at = whole.find(begin)
-        self.is_there = at >= 0
-        self.at = at = max(at, 0)
-        self.text = whole[at:whole.find(end, at + len(begin))] if end else whole[at:]
-        self.before = whole[:at]
+        stop = whole.find(end, at + len(begin)) if end else len(whole)
+        self.is_there = at >= 0 and stop >= 0
+        self.before, self.text = (whole[:at], whole[at:stop]) if self.is_there else ("", "")
 
     def place(self, offset=0):
         return "%s:%d" % (self.path, (self.before + self.text[:offset]).count("\n") + 1)
@@ -37,8 +36,13 @@ class Part:
         for text in wanted:
             if text not in places:
                 yield "%s: the %s `%s` is wanted here" % (self.place(), what, text)
-        for text, place in places.items():
-            if both and text not in wanted:
+        if both:
+            yield from self.unknown(what, places.items(), wanted)
+
+    def unknown(self, what, found, known):
+        """Names what stands there and is none."""
+        for text, place in found:
+            if text not in known:
                 yield "%s: `%s` is no %s of the code's" % (place, text, what)
 
 
@@ -72,7 +76,8 @@ def example_commands():
     def shape(line):
         return line.split(" ")[0] + " _" * line.count(" ")
     wanted = [shape(form) for form in words.command_forms()]
-    for path, begin in (("examples/class.py", "def line_of("), ("tests/browser/classes.py", "def line_of("), (MODEL, "def some_script(")):
+    for path, begin in (("examples/class.py", "def line_of("), ("tests/browser/classes.py", "def line_of("), (MODEL, "def some_script("),
+                        ("tests/python/test_session.py", "def some_line(")):
         part = Part(path, begin, "\n\n\n")
         found = [(shape(line), place) for line, place in part.matches(r'"([a-z][^"]*)"')]
         yield from part.compare("line of the command", found, wanted, both=False)
@@ -101,6 +106,8 @@ def replies():
         part = Part(BOARD, begin, end)
         more = ["unread"] if "mark" in begin else []
         yield from part.compare("kind of reply", part.matches(r'(?<=[\s{])"?([a-z-]+)"?(?=: )'), kinds + more)
+    part = Part("board/viewer.js", "const TELLING", "];")
+    yield from part.compare("kind of reply", part.matches(r'"([a-z-]+)"'), kinds + ["unread"])
     part = Part(BOARD, "const CAUSES", "};")
     yield from part.compare("refusal", part.matches(r'(\w+): "'), [text.split(" ")[1] for text in refusals])
     for path in (FORMATS, REFUSALS):
@@ -126,6 +133,9 @@ def answers():
         from dollar import answers as package
     finally:
         del sys.path[0]
+    part = Part(ANSWERS, "`word` is `", "`gifts` is")
+    heads = [re.match("not won|rank at least|rank below|[a-z]+", form)[0] for form in words.replies()]
+    yield from part.compare("word of an answer", part.matches(r"`([a-z][a-z ]*)`(?! is)"), list(dict.fromkeys(heads + ["turns", "bad"])))
     part = Part(ANSWERS, "FORMS = [", "\n\n\n")
     texts = [words.sample(form) for form in words.replies()] + words.bad_texts() + ["turns"]
     for text in texts:
@@ -147,20 +157,19 @@ def bad_texts():
     part = Part(FORMATS, "A line that spells no step is refused with the first of these.", "\n\nIn an item")
     found = list(part.matches(r"^\| `(bad \w+)` \|"))
     yield from part.compare("fault of a line", found, lines)
-    if [text for text, _ in found] != lines:
+    if sorted(lines) == sorted(text for text, _ in found) and lines != [text for text, _ in found]:
         yield "%s: the order of the faults of a line is %s" % (part.place(), ", ".join(lines))
-    for path, both in (("docs/tools.md", True), (REFUSALS, True), (FORMATS, False), (HELP, True)):
+    pages = ["docs/tools.md", REFUSALS, HELP]
+    for path in pages + sorted(set(glob.glob("docs/*.md") + glob.glob("*.md") + ["examples/README.md"]) - set(pages)):
         part = Part(path)
-        wanted = lines if path == FORMATS else bad
-        yield from part.compare("answer to a bad line", part.matches(r"`(bad [a-z]+)`"), wanted if both else lines, both=both)
-    for path in sorted(glob.glob("docs/*.md") + ["README.md", "examples/README.md"]):
-        part = Part(path)
-        yield from part.compare("answer to a bad line", [], [], both=True)
-        for text, place in part.matches(r"`(bad [a-z]+)`"):
-            if text not in bad:
-                yield "%s: `%s` is no answer of a session" % (place, text)
+        if path in pages:
+            yield from part.compare("answer to a bad line", part.matches(r"`(bad [a-z]+)`"), bad)
+        else:
+            yield from part.unknown("answer to a bad line", part.matches(r"`(bad [a-z]+)`"), bad)
     part = Part(MODEL)
     yield from part.compare("answer to a bad line", part.matches(r'"(bad \w+)"'), [text for text in bad if text != "bad seat"])
+    for path in sorted(glob.glob("tests/*/*.py") + glob.glob("examples/*.py") + glob.glob("python/*/*.py")):
+        yield from Part(path).unknown("answer to a bad line", Part(path).matches(r"""["'](bad \w+)["']"""), bad)
 
 
 def file_fault_enums():
@@ -200,6 +209,11 @@ def faults():
     for text, status, place in rows:
         if text in wanted and wanted[text] != status:
             yield "%s: the status of `%s` is %d" % (place, text, wanted[text])
+    for path in sorted(glob.glob("docs/*.md")):
+        part = Part(path)
+        for row in re.finditer(r"^\|.*\| `dollar: ([^`]*)` \| (\d) \|", part.text, re.M):
+            if int(row[2]) != wanted.get(numbered(row[1])):
+                yield "%s: the status of `%s` is %s" % (part.place(row.start()), row[1], wanted.get(numbered(row[1]), "that of no fault"))
     part = Part(FORMATS, "The reader reports one fault, and looks for them in this order.", "\n\nWant of memory")
     found = [(numbered(text), place) for row, place in part.matches(r"^\| (`.*`) \|") for text in re.findall(r"`([^`]*)`", row)]
     yield from part.compare("fault of a table file", found, of_files)
@@ -225,8 +239,8 @@ def faults():
         yield from part.compare("exit status", part.matches(form), statuses)
 
 
-# Constants of crates that do not know each other, which are one limit.
-SAME = [("dg_sweep::MAX_LINE", "dg_sources::MAX_FILE")]
+# Constants that are one limit: of crates that do not know each other, or of other types.
+SAME = [("dg_sweep::MAX_LINE", "dg_sources::MAX_FILE"), ("dg_game::MAX_GIFT", "dg_chips::MAX_AMOUNT")]
 
 
 def constants():

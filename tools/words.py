@@ -41,6 +41,8 @@ def texts(path, name):
             return [given[0][0]]
         if word == "pairs":
             return ["P"]
+        if word not in defined:
+            raise ValueError("%s: the part `%s` of a text is not written as tools/words.py reads it" % (path, part))
         return [text for _, body in defined[word] for text in whole(body)]
 
     def whole(body):
@@ -54,12 +56,17 @@ def texts(path, name):
 
 def commands():
     """The commands, each with the kinds of the words after it."""
-    rows = (re.fullmatch(r'\(codes "(\w+)", (.*)\)', body) for _, body in equations(COMMANDS)["row"])
+    rows = [re.fullmatch(r'\(codes "(\w+)", (.*)\)', body) for _, body in equations(COMMANDS).get("row", [])]
+    if not rows or None in rows:
+        raise ValueError("%s: the rows of commands are not written as tools/words.py reads them" % COMMANDS)
     return {row[1]: [kind for kind in row[2].split(" ∷ ") if kind != "[]"] for row in rows}
 
 
 def command_forms():
     """The commands as pages show them, as `gift V x`."""
+    unknown = {kind for kinds in commands().values() for kind in kinds} - KINDS.keys()
+    if unknown:
+        raise ValueError("tools/words.py: KINDS says of no page how it shows a word of the kind %s" % ", ".join(sorted(unknown)))
     return [" ".join([word, *(KINDS[kind] for kind in kinds)]) for word, kinds in commands().items()]
 
 
@@ -106,8 +113,11 @@ def variants(name):
     text = re.sub(r"^ *//.*\n", "", read("crates/" + TYPES[name]), flags=re.M)
     body = text[text.index("pub enum %s {" % name):]
     body = body[:body.index("\n}")]
-    return [(found[2], found[1], re.findall(r"\b([A-Z]\w+)", found[3] or ""))
-            for found in re.finditer(r"#\[error\((.*)\)\]\n    (\w+)(\([^\n]*\)|\s\{[^}]*\})?,", body)]
+    found = [(each[2], each[1], re.findall(r"\b([A-Z]\w+)", each[3] or ""))
+             for each in re.finditer(r"#\[error\((.*)\)\]\n    (\w+)(\([^\n]*\)|\s\{[^}]*\})?,", body)]
+    if not found or len(found) < body.count("#[error("):
+        raise ValueError("%s: the variants of %s are not written as tools/words.py reads them" % (TYPES[name], name))
+    return found
 
 
 def told(teller, status=None):
@@ -116,7 +126,10 @@ def told(teller, status=None):
     body = text[text.index("fn %s(" % teller):]
     body = body[:body.index("\n}")]
     arm = r'\w+::(\w+)(?:\(\w+\))? => (?:"(.*)"|(\w+)\(fault\)|(Shortage::\w+|shortage)\.text\(\)),'
-    for variant, literal, other, shortage in re.findall(arm, body):
+    arms = re.findall(arm, body)
+    if not arms or len(arms) < body.count("=>"):
+        raise ValueError("%s: the arms of %s are not written as tools/words.py reads them" % (TELLERS[teller], teller))
+    for variant, literal, other, shortage in arms:
         number = status(variant) if callable(status) else status
         if other:
             yield from told(other, number)

@@ -3,9 +3,9 @@
 --   Kind                             == a vertex, a set of vertices, a script, the degree of a rank
 --                                       test, or dollars
 --   name_part item                   == what stands before the first `=` of the item, or all of it
---                                       where there is none
+--                                       if there is none
 --   number_part item                 == what stands after the first `=` of the item, and nothing
---                                       where there is none
+--                                       if there is none
 --   names_in kind word               == the names that a word of that kind gives, in their order
 --   numbers_in kind word             == the numbers that it gives, in their order
 --   IsNumberWithin low high text     == the text is the decimal of a number from low to high
@@ -17,10 +17,10 @@
 --   AreNamed names kinds rest        == the names that each of the words gives are given so
 --   AreNumbers kinds rest            == all numbers that they give may stand in a word of its kind
 --   IsSetOf names given set          == set has just the vertices of the names given
---   number_given given numbers name  == the number beside the name, and 0 where the name is not
+--   number_given given numbers name  == the number beside the name, and 0 if the name is not
 --                                       given
 --   IsScriptOf names given numbers s == s has at each vertex the number given for its name, and 0
---                                       where none is
+--                                       if none is
 --   IsScriptWord names word s        == the items of the word spell the script: each a name, `=` and
 --                                       a number
 use Rattle.std.specs.Prelude.{◌≡◌, ℕ, ◌<◌, ◌≤◌, ◌-◌, ◌^◌, ℤ, pos, neg_ℤ, ◌≤ℤ◌, List, [], ◌∷◌, length, map, cond, All, IsTrue, bytes_eq, unwrap_or}

@@ -25,7 +25,7 @@ pub(crate) enum Keyword {
     Rank,
 }
 
-/// The command word that the bytes are, where they are one, and how many words follow it: three at most.
+/// The command word that the bytes are, if they are one, and how many words follow it: three at most.
 #[tactic(auto, using(crate::proofs::Keywords::bytes_tell), unfolding(crate::specs::Commands::kinds_beside))]
 pub(crate) fn keyword_of(word: &[u8]) -> Option<(Keyword, usize)>
     ensures { MatchOption result

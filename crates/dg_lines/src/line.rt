@@ -86,7 +86,7 @@ pub fn parse_step(line: &[u8], names: &Names) -> Result<Step, LineFault>
 
 /// The command that a line spells: a command word and what belongs to it. It takes no memory.
 ///
-/// Refused with `Word` where the first word is no command, then with `Form`, then with `Name`, then with `Number`.
+/// Refused with `Word` if the first word is no command, then with `Form`, then with `Name`, then with `Number`.
 pub fn parse_line(line: &[u8], names: &Names) -> Result<Command, LineFault>
     ensures command { IfOk result (λ command. IsCommandLine names.now command line.now) }
     ensures refused { IfErr result (λ fault. IsLineFault names.now fault line.now) }
@@ -101,7 +101,7 @@ pub fn parse_line(line: &[u8], names: &Names) -> Result<Command, LineFault>
     command_of(keyword, first, second, third, names)
 }
 
-/// The words of what follows the command word, where there are just so many, at most three, and none is empty. The others of
+/// The words of what follows the command word, if there are just so many, at most three, and none is empty. The others of
 /// the three are empty.
 fn words_of(rest: Option<&[u8]>, count: usize) -> Option<(&[u8], &[u8], &[u8])>
     requires { count ≤ 3 }
@@ -127,7 +127,7 @@ fn words_of(rest: Option<&[u8]>, count: usize) -> Option<(&[u8], &[u8], &[u8])>
     }
 }
 
-/// The one word of what follows the command word, where there is just one and it is not empty.
+/// The one word of what follows the command word, if there is just one and it is not empty.
 fn one_word(rest: Option<&[u8]>) -> Option<&[u8]>
     ensures { MatchOption result
         (¬ AreWords 1 (words_after (option_copied rest.entry)))
@@ -147,7 +147,7 @@ fn one_word(rest: Option<&[u8]>) -> Option<&[u8]>
     }
 }
 
-/// The two words of what follows the command word, where there are just two and none is empty.
+/// The two words of what follows the command word, if there are just two and none is empty.
 fn two_words(rest: Option<&[u8]>) -> Option<(&[u8], &[u8])>
     ensures { MatchOption result
         (¬ AreWords 2 (words_after (option_copied rest.entry)))
@@ -167,7 +167,7 @@ fn two_words(rest: Option<&[u8]>) -> Option<(&[u8], &[u8])>
     }
 }
 
-/// The three words of what follows the command word, where there are just three and none is empty.
+/// The three words of what follows the command word, if there are just three and none is empty.
 fn three_words(rest: Option<&[u8]>) -> Option<(&[u8], &[u8], &[u8])>
     ensures { MatchOption result
         (¬ AreWords 3 (words_after (option_copied rest.entry)))

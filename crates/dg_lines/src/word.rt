@@ -39,7 +39,7 @@ pub(crate) fn degree_of(word: &[u8]) -> Result<u32, LineFault>
     }
 }
 
-/// The number of dollars, a levy where it is negative.
+/// The number of dollars; a negative one is a levy.
 pub(crate) fn dollars_of(word: &[u8]) -> Result<i64, LineFault>
     ensures { MatchResult result
         (λ x. (word.now ≡ signed_decimal x) × FitsSigned w64 x)
@@ -51,7 +51,7 @@ pub(crate) fn dollars_of(word: &[u8]) -> Result<i64, LineFault>
     }
 }
 
-/// The set of the vertices that the items name, where each item names one that no earlier item names.
+/// The set of the vertices that the items name, if each names one that no earlier item names.
 pub(crate) fn set_of(text: &[u8], names: &Names) -> Result<u16, LineFault>
     ensures { MatchResult result
         (IsSetOf names.now (items text.now))
