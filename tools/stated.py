@@ -89,11 +89,26 @@ def example_commands():
 
 
 def replies():
-    """Lists of the replies' forms."""
+    """Lists of the replies' forms, and of the refusals."""
     forms, refusals = words.replies(), words.refusals()
     part = Part(FORMATS, "| Reply | Text |", "\n\n")
     found = [(each, place) for text, place in part.matches(r"^\|[^|]*\|(.*)\|$") for each in re.findall(r"`([^`]*)`", text)]
     yield from part.compare("reply", found, forms)
+    for path in (FORMATS, REFUSALS):
+        yield from Part(path).compare("refusal", Part(path).matches(r"`(refused \w+)`"), refusals)
+    part = Part(MODEL, "class Game", "\ndef trials(")
+    played = [form for form in forms if form not in ("refused vertex", "refused empty", "refused script")]
+    yield from part.compare("refusal", part.matches(r'"(refused \w+)"'), [form for form in played if form.startswith("refused")])
+    for form in played:
+        told = re.sub(r"\b[gk]\b", "%d", form.replace("P", "%s"))
+        if not any(text in part.text for text in (told, re.sub("%s$", '" +', told), re.sub("^(un)?winnable", "%swinnable", told))):
+            yield "%s: the model lacks the reply `%s`" % (part.place(), form)
+    yield from board_replies()
+    yield from answers()
+
+
+def board_replies():
+    """The forms by which the board's script reads replies, and what it has for each kind of reply and for each refusal."""
     part = Part(BOARD, "const FORMS", ".map(")
     rows = list(re.finditer(r'\["([\w-]+)", ["`](.*?)["`], ', part.text))
     kinds = list(dict.fromkeys(row[1] for row in rows))
@@ -101,29 +116,15 @@ def replies():
     def shown(form):
         return re.sub(r"\bP\b", "${PAIRS}", re.sub(r"\b[gk]\b", r"(\\d+)", re.sub("^refused .*", r"refused (\\w+)", form)))
     found = [(re.sub(r"\\+", r"\\", row[2]), part.place(row.start())) for row in rows]
-    yield from part.compare("reply", found, list(dict.fromkeys(map(shown, forms))))
-    for begin, end in (("function replyWords", "}[reply.kind]"), ("function markOf", "};")):
-        part = Part(BOARD, begin, end)
-        more = ["unread"] if "mark" in begin else []
-        yield from part.compare("kind of reply", part.matches(r'(?<=[\s{])"?([a-z-]+)"?(?=: )'), kinds + more)
-    part = Part("board/viewer.js", "const TELLING", "];")
-    yield from part.compare("kind of reply", part.matches(r'"([a-z-]+)"'), kinds + ["unread"])
+    yield from part.compare("reply", found, list(dict.fromkeys(map(shown, words.replies()))))
+    for path, begin, end, form, more in (
+            (BOARD, "function replyWords", "}[reply.kind]", r'(?<=[\s{])"?([a-z-]+)"?(?=: )', []),
+            (BOARD, "function markOf", "};", r'(?<=[\s{])"?([a-z-]+)"?(?=: )', ["unread"]),
+            ("board/viewer.js", "const TELLING", "];", r'"([a-z-]+)"', ["unread"])):
+        part = Part(path, begin, end)
+        yield from part.compare("kind of reply", part.matches(form), kinds + more)
     part = Part(BOARD, "const CAUSES", "};")
-    yield from part.compare("refusal", part.matches(r'(\w+): "'), [text.split(" ")[1] for text in refusals])
-    for path in (FORMATS, REFUSALS):
-        part = Part(path)
-        outside = ["refused `", "refused not", "refused shape", "refused file", "refused no"]
-        found = [pair for pair in part.matches(r"`(refused \w+)`") if not pair[0].startswith(tuple(outside))]
-        yield from part.compare("refusal", found, refusals)
-    part = Part(MODEL, "class Game", "\ndef trials(")
-    found = [pair for pair in part.matches(r'"(refused \w+)"')]
-    played = [form for form in forms if form not in ("refused vertex", "refused empty", "refused script")]
-    yield from part.compare("refusal", found, [form for form in played if form.startswith("refused")])
-    for form in played:
-        told = re.sub(r"\b[gk]\b", "%d", form.replace("P", "%s"))
-        if not any(text in part.text for text in (told, re.sub("%s$", '" +', told), re.sub("^(un)?winnable", "%swinnable", told))):
-            yield "%s: the model lacks the reply `%s`" % (part.place(), form)
-    yield from answers()
+    yield from part.compare("refusal", part.matches(r'(\w+): "'), [text.split(" ")[1] for text in words.refusals()])
 
 
 def answers():
@@ -172,16 +173,8 @@ def bad_texts():
         yield from Part(path).unknown("answer to a bad line", Part(path).matches(r"""["'](bad \w+)["']"""), bad)
 
 
-def file_fault_enums():
-    """The faults of table files, which an answer to a line tells as the fault line does."""
-    path = words.FILE_FAULTS
-    part = Part(path, "abbrev pub shape_text")
-    said = {re.sub(r"\b[iv]\b", "#", text) for text in words.file_faults()}
-    told = {re.sub(r"\{\w*\}", "#", text) for text, _ in words.faults_of("FileFault", 0)}
-    for text in sorted(told - said):
-        yield "%s: a text is wanted here that says `%s`, as #[error] does" % (part.place(), text)
-    for text in sorted(said - told):
-        yield "%s: `%s` is said by no #[error]" % (part.place(), text)
+# The definitions of what is said of a table in answer to a line, and the enums whose #[error] says the same.
+SAID = {"shape_text": "Shape", "graph_text": "GraphFault", "chip_text": "ChipFault", "file_fault_text": "FileFault"}
 
 
 def told_twice():
@@ -190,51 +183,67 @@ def told_twice():
 
 
 def numbered(text):
-    """The text with # for each number or its letter."""
-    return re.sub(r"(?<![\w-])(?:[LSIiv]|\d[\d,]*)(?![\w,])", "#", text.strip())
+    """The text with # for each number, its letter or its name in braces."""
+    return re.sub(r"\{\w*\}|(?<![\w-])(?:[LSIiv]|\d[\d,]*)(?![\w,])", "#", text.strip())
 
 
-def faults():
-    """Faults and exit statuses on pages, in the board's script and in the second reader of table files."""
-    yield from file_fault_enums()
-    all_faults = words.faults()
-    of_files = {re.sub(r"\b[iv]\b", "#", text) for text in words.file_faults()} - {"out of memory"}
-    in_lines = {"line #: " + text for text in words.line_faults()}
-    wanted = {text: status for text, status in all_faults if text not in of_files and text not in in_lines}
-    wanted.update({"line #:": 3, "amount of vertex #": 3})
+def table_faults():
+    """The faults of table files: each variant is told in an answer as on the fault line, on the page, and in the second reader."""
+    for name, enum in SAID.items():
+        part = Part(words.FILE_FAULTS, "abbrev pub %s" % name)
+        own = {variant: numbered(text.strip('"')) for variant, text, _ in words.variants(enum) if text != "transparent"}
+        for variant, text in words.texts_by_variant(words.FILE_FAULTS, name):
+            if variant in own and numbered(text) != own[variant]:
+                yield "%s: %s::%s says `%s`, not `%s`" % (part.place(), enum, variant, own[variant], text)
+    of_files = {numbered(text) for text in told_twice()}
+    part = Part(FORMATS, "The reader reports one fault, and looks for them in this order.", "\n\nWant of memory")
+    found = [(numbered(text), place) for row, place in part.matches(r"^\| (`.*`) \|") for text in re.findall(r"`([^`]*)`", row)]
+    yield from part.compare("fault of a table file", found, of_files)
+    part = Part("tests/damage/reader.py")
+    found = [(text.replace("%d", "#"), place) for text, place in part.matches(r'Refused\("([^"]*)"')]
+    yield from part.compare("fault of a table file", found, of_files)
+
+
+def fault_tables():
+    """The tables of faults and exit statuses on pages."""
+    statuses, of_files = dict(words.faults()), {numbered(text) for text in told_twice()}
+    bad = {"line #: " + text for text in words.line_faults()}
+    wanted = {text: status for text, status in statuses.items() if text not in of_files | bad}
+    wanted["line #:"], wanted["amount of vertex #"] = statuses[min(bad)], statuses["amount of vertex #"]
     part = Part(FORMATS, "| Fault | Text | Status |", "\n\n")
     rows = [(numbered(row[1]), int(row[2]), part.place(row.start()))
             for row in re.finditer(r"^\|[^|]*\| `([^`]*)`[^|]* \| (\d) \|$", part.text, re.M)]
     yield from part.compare("fault", [(text, place) for text, _, place in rows], list(wanted))
-    for text, status, place in rows:
-        if text in wanted and wanted[text] != status:
-            yield "%s: the status of `%s` is %d" % (place, text, wanted[text])
     for path in sorted(glob.glob("docs/*.md")):
-        part = Part(path)
-        for row in re.finditer(r"^\|.*\| `dollar: ([^`]*)` \| (\d) \|", part.text, re.M):
-            if int(row[2]) != wanted.get(numbered(row[1])):
-                yield "%s: the status of `%s` is %s" % (part.place(row.start()), row[1], wanted.get(numbered(row[1]), "that of no fault"))
-    part = Part(FORMATS, "The reader reports one fault, and looks for them in this order.", "\n\nWant of memory")
-    found = [(numbered(text), place) for row, place in part.matches(r"^\| (`.*`) \|") for text in re.findall(r"`([^`]*)`", row)]
-    yield from part.compare("fault of a table file", found, of_files)
+        page = Part(path)
+        rows += [(numbered(row[1]), int(row[2]), page.place(row.start()))
+                 for row in re.finditer(r"^\|.*\| `dollar: ([^`]*)` \| (\d) \|", page.text, re.M)]
+    rows += [("not JSON", int(status), place) for status, place in part.matches(r"^\| a refused table file \| as above \| (\d) \|$")]
+    for text, status, place in rows:
+        if status != {**statuses, **wanted}.get(text, status):
+            yield "%s: the status of `%s` is %d" % (place, text, {**statuses, **wanted}[text])
     part = Part(REFUSALS)
     told = [(numbered(text), place) for row, place in part.matches(r"^\|(.*?)\|.*$") for text in re.findall(r"`([^`]*)`", row)]
     told += [(numbered(re.sub("^dollar: ", "", text)), place) for text, place in told]
     yield from part.compare("fault", told, sorted((set(wanted) | of_files) - {"line #:"}), both=False)
-    part = Part("tests/damage/reader.py")
-    found = [(text.replace("%d", "#"), place) for text, place in part.matches(r'Refused\("([^"]*)"')]
-    yield from part.compare("fault of a table file", found, of_files)
+
+
+def faults():
+    """Faults and exit statuses on pages, in the board's script and in the second reader of table files."""
+    yield from table_faults()
+    yield from fault_tables()
     part = Part(BOARD, "const FAULTS", "\n];")
     forms = [re.compile(form.replace(r"\/", "/")) for form, _ in part.matches(r"^  \[/(.*)/, ")]
-    texts = [text.replace("#", "1") for text in sorted(of_files)] + words.bad_texts() + [
-        text.replace("#", "1") for text, status in all_faults if text.startswith(("step", "too many trials", "file too", "the history"))]
-    for text in texts:
+    # What a page of the board can meet.
+    ends = [text for text, _ in words.faults() if text.startswith(("step", "too many trials", "file too", "the history"))]
+    texts = [numbered(text).replace("#", "1") for text in [*told_twice(), *words.bad_texts(), *ends]]
+    for text in sorted(texts):
         if not any(form.search(text) for form in forms):
             yield "%s: a form is wanted that fits `%s`" % (part.place(), text)
     for form in forms:
         if not any(form.search(text) for text in texts):
             yield "%s: the form /%s/ fits no fault of the program" % (part.place(), form.pattern)
-    statuses = [str(status) for status in sorted({0} | {status for _, status in all_faults})]
+    statuses = sorted({"0"} | {str(status) for _, status in words.faults()})
     for part, form in ((Part(HELP, "The status is\n", '"#;'), r"^    (\d)  "), (Part(PAGE, ".SH EXIT STATUS", "The script"), r"^\.B (\d)$")):
         yield from part.compare("exit status", part.matches(form), statuses)
 

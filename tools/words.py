@@ -27,8 +27,9 @@ def equations(path):
     return found
 
 
-def texts(path, name):
-    """The texts that a definition gives: a number is the first letter of its name, and P stands for the amounts of all vertices."""
+def texts_by_variant(path, name):
+    """The texts that a definition by cases gives, with the variant of each: a number is the first letter of its name, and P stands
+    for the amounts of all vertices."""
     defined = equations(path)
 
     def of(part):
@@ -51,7 +52,12 @@ def texts(path, name):
             found = [before + after for before in found for after in of(part)]
         return found
 
-    return [text for _, body in defined[name] for text in whole(body)]
+    return [(given.strip("()").split(" ")[0], text) for given, body in defined[name] for text in whole(body)]
+
+
+def texts(path, name):
+    """The texts alone."""
+    return [text for _, text in texts_by_variant(path, name)]
 
 
 def commands():
