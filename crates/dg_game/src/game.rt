@@ -196,7 +196,7 @@ impl Game {
     {
         match apply(&self.graph, &self.amounts, play) {
             Ok(amounts) => *reply = Reply::Moved(amounts),
-            Err(fault) => *reply = Reply::Refused(Refusal::from(fault)),
+            Err(fault) => refuse(reply, Refusal::from(fault)),
         }
     }
 
@@ -207,7 +207,7 @@ impl Game {
     {
         match self.after_gift(v, dollars) {
             Ok(amounts) => *reply = Reply::Given(self.gifts + 1, amounts),
-            Err(refusal) => *reply = Reply::Refused(refusal),
+            Err(refusal) => refuse(reply, refusal),
         }
     }
 
@@ -218,7 +218,7 @@ impl Game {
     {
         match self.graph.join(u, v) {
             Ok(_) => *reply = Reply::Joined(self.gifts + 1, self.amounts),
-            Err(fault) => *reply = Reply::Refused(Refusal::from(fault)),
+            Err(fault) => refuse(reply, Refusal::from(fault)),
         }
     }
 
@@ -411,6 +411,15 @@ impl Game {
         }
         self.amounts.with_more(v, dollars).ok_or(Refusal::Range)
     }
+}
+
+/// Writes a refusal. It stands apart, so that no room for it is cleared where another reply is written.
+#[cold]
+#[inline(never)]
+fn refuse(reply: &mut Reply, refusal: Refusal)
+    ensures { reply.new ≡ Refused refusal }
+{
+    *reply = Reply::Refused(refusal);
 }
 
 /// A move lends, and borrows, at most 1,000,000,000 times at each vertex.

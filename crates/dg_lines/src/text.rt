@@ -31,6 +31,7 @@ pub fn reply_text<A: Allocator + Drop>(
 }
 
 /// The line of an entry of the history, after the text: its number, a space, the text of its reply and a newline.
+#[inline(always)]
 pub fn push_entry<A: Allocator>(
     text: &mut Vec<u8, A>,
     number: usize,
@@ -49,6 +50,7 @@ pub fn push_entry<A: Allocator>(
 }
 
 /// The text of a reply, with no number and no newline, after the text.
+#[inline(always)]
 pub fn push_reply<A: Allocator>(
     text: &mut Vec<u8, A>,
     reply: &Reply,
