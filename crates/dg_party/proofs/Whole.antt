@@ -30,7 +30,6 @@ use Rattle.dg_totals.specs.Printed.{entries_text, seat_text, seats_text, calls_t
 use Rattle.dg_party.specs.Parties.{IsParty, IsPartyRefused}
 use Rattle.dg_party.specs.declared.ending.PartyRefusal.TheVariants.{Log}
 
-
 number_kept : {o : Opening} {seats cap : ℕ} {names : List (List ℕ)} {script : List ℕ} {x y : SeatView}
     {end : Result ℕ SessionEnd}
     → IsSessionOver o seats cap names script x y end → y.number ≡ x.number

@@ -78,7 +78,9 @@ fn party_of<N: Name + Send + Sync, R: Threads + Wait + Sync, G: Gate>(
     let (table, mut seats) = match Table::<N>::open(alloc, row, start, count as u8) {
         Ok(opened) => opened,
         Err((_, TableFault::Seats)) => unreachable!(),
-        Err((_, TableFault::OutOfMemory)) => return Err(PartyRefusal::Shortage(Shortage::OutOfMemory)),
+        Err((_, TableFault::OutOfMemory)) => return Err(PartyRefusal::Shortage(
+            Shortage::OutOfMemory,
+        )),
     };
     let ends = match sessions(rt, alloc, &table, &mut seats, names, scripts, gate) {
         Ok(ends) => ends,
