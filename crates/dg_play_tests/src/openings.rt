@@ -46,8 +46,8 @@ pub(crate) enum Scene<'a> {
     Watched,
     // Strategies are played.
     Strategies,
-    // Seats play in threads.
-    Meeting(&'a Meeting<'a>),
+    // Seats play in threads. In a box: where no scene owns anything, the toolchain finds no proof.
+    Meeting(Box<Meeting<'a>>),
 }
 
 // Plays the scene on a table whose history has so many cells, with this start and so many seats.
@@ -102,7 +102,7 @@ fn shown<N: Name + Send + Sync, R: Threads + Wait + Abort + Sync>(
         Scene::Pen | Scene::NoSeats => Err(Fail::from("a table that is not wanted")),
         Scene::Calls(calls) => calls_are_entries(rt, alloc, table, seats, calls),
         Scene::Filled => fills(rt, alloc, table, seats),
-        Scene::Meeting(meeting) => meet(rt, alloc, table, seats, meeting),
+        Scene::Meeting(meeting) => meet(rt, alloc, table, seats, &*meeting),
         scene => match seats.as_mut_slice() {
             [seat] => shown_to_one(rt, alloc, &table, seat, scene),
             [first, second] => shown_to_two(rt, alloc, &table, first, second, scene),

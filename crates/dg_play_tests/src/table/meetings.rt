@@ -123,13 +123,14 @@ fn many_seats_make_one_history(rt: HostRuntime) -> Result<(), Fail> {
             players,
             end,
         };
+        let meeting = Box::new(rt.alloc(), meeting).ok().ok_or("memory")?;
         on_a_table(
             &rt,
             rt.alloc(),
             cells,
             start,
             seats,
-            Scene::Meeting(&meeting),
+            Scene::Meeting(meeting),
         )?;
     }
     Ok(())
@@ -170,13 +171,14 @@ fn many_seats_play_on_ten_vertices(rt: HostRuntime) -> Result<(), Fail> {
             players,
             end,
         };
+        let meeting = Box::new(rt.alloc(), meeting).ok().ok_or("memory")?;
         on_a_table(
             &rt,
             rt.alloc(),
             cells,
             start,
             seats,
-            Scene::Meeting(&meeting),
+            Scene::Meeting(meeting),
         )?;
     }
     Ok(())
