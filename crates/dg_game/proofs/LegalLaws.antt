@@ -60,11 +60,8 @@ pub legal_part : (o : Opening) (K L : List Entry) → IsLegal o (K ++ L) → IsL
 legal_part o K L legal = subst (IsLegal o) (take-append_seam K L) (legal_take o (K ++ L) (length K) legal)
 
 pub back_asked : (H : List Entry) (p : Plain) → LooksBack H (asked p)
-back_asked H (plain.Move m) = tt
-back_asked H (plain.Gift v x) = tt
-back_asked H (plain.Join u v) = tt
 back_asked H plain.Look = tt
-back_asked H plain.Claim = tt
+back_asked H p = tt
 
 pub back_for : (o : Opening) (H : List Entry) (x : LookData) (f : Finding) → IsLookAt o H x →
     LooksBack H (asked_for x.number f)

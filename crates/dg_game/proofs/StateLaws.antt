@@ -1,6 +1,7 @@
 -- States and histories go on together.
 --   start_leads      the empty history leads to the state at the start
 --   shows_joined     what shows a position shows it on the graph with one more edge
+--   shows_after      what shows the position shows it after the entry, with the amounts after the reply
 --   replies_after    a reply that is right in a state is right after a history that leads to it
 --   right_in         and the other way round
 --   leads_more       a reply that is right after the history leads with its entry to the next state
@@ -61,7 +62,7 @@ shows_joined p u v d shows = record {
   amounts = λ w below. shows.amounts w (subst (λ (n : ℕ). w < n) (size_stays p.graph u v) below);
 }
 
-shows_after : (o : Opening) (H : List Entry) (d : Vector) (request : Request) (reply : Reply) →
+pub shows_after : (o : Opening) (H : List Entry) (d : Vector) (request : Request) (reply : Reply) →
     Shows (position_after o H) d →
     Replies o H request reply → Shows (after_reply (position_after o H) request reply) (amounts_after d reply)
 shows_after o H d (Move m) (Moved e) shows right = record { size = right.size; amounts = right.amounts }

@@ -29,7 +29,7 @@ use Rattle.dg_game.specs.declared.entry.Entry.{Entry}
 use Rattle.dg_game.specs.declared.entry.Request.{Request}
 use Rattle.dg_game.specs.declared.entry.Request.TheVariants.{Move, Gift, Join}
 use Rattle.dg_game.specs.declared.entry.Reply.{Reply}
-use Rattle.dg_game.specs.declared.entry.Reply.TheVariants.{Moved, Given, Joined}
+use Rattle.dg_game.specs.declared.entry.Reply.TheVariants.{Moved, Given, Joined, Looked, Verdict, Rank, Stale, Won, NotWon, Refused}
 
 abbrev pub nothing : Amounts
 nothing v = pos 0
@@ -45,7 +45,14 @@ scripts_played (e ∷ H) v = script_by e.request e.reply v +ℤ scripts_played H
 abbrev pub is_change : Reply → Bool
 is_change (Given g d) = true
 is_change (Joined g d) = true
-is_change reply = false
+is_change (Moved d) = false
+is_change (Looked g d graph) = false
+is_change (Verdict x) = false
+is_change (Rank x) = false
+is_change (Stale g) = false
+is_change Won = false
+is_change NotWon = false
+is_change (Refused refusal) = false
 
 abbrev pub changed : Position → Request → Reply → Position
 changed p (Gift v x) (Given g d) = record { graph = p.graph; amounts = with_gift p v x }

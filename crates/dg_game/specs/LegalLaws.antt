@@ -24,7 +24,7 @@ use Rattle.dg_game.specs.Look.{IsLookAt}
 use Rattle.dg_game.specs.declared.entry.Entry.{Entry}
 use Rattle.dg_game.specs.declared.entry.Request.TheVariants.{Look}
 use Rattle.dg_game.specs.declared.entry.Reply.{Reply}
-use Rattle.dg_game.specs.declared.entry.Reply.TheVariants.{Moved, Given, Joined, Looked, Verdict, Rank}
+use Rattle.dg_game.specs.declared.entry.Reply.TheVariants.{Moved, Given, Joined, Looked, Verdict, Rank, Stale, Won, NotWon, Refused}
 use Rattle.dg_game.specs.declared.look.LookData.{LookData}
 
 abbrev pub EmptyIsLegal : Type 0
@@ -49,7 +49,10 @@ HasSize n (Looked gifts d graph) = (d.size ≡ n) × (graph.size ≡ n)
 HasSize n (Verdict x) = (x.script.size ≡ n) × (x.reduced.size ≡ n)
 HasSize n (Rank (AtLeast k)) = ⊤
 HasSize n (Rank (Below k d)) = d.size ≡ n
-HasSize n reply = ⊤
+HasSize n (Stale gifts) = ⊤
+HasSize n Won = ⊤
+HasSize n NotWon = ⊤
+HasSize n (Refused refusal) = ⊤
 
 abbrev pub LegalIsSized : Type 0
 LegalIsSized = (o : Opening) (H : List Entry) (i : ℕ) (e : Entry) → IsLegal o H →

@@ -26,7 +26,7 @@ use Rattle.dg_game.specs.declared.entry.Entry.{Entry}
 use Rattle.dg_game.specs.declared.entry.Request.{Request}
 use Rattle.dg_game.specs.declared.entry.Request.TheVariants.{Join}
 use Rattle.dg_game.specs.declared.entry.Reply.{Reply}
-use Rattle.dg_game.specs.declared.entry.Reply.TheVariants.{Moved, Given, Joined}
+use Rattle.dg_game.specs.declared.entry.Reply.TheVariants.{Moved, Given, Joined, Looked, Verdict, Rank, Stale, Won, NotWon, Refused}
 use Rattle.dg_game.specs.declared.game.TheConstants.{MAX_ENTRIES}
 
 pub record State : Type 0 where
@@ -64,12 +64,26 @@ IsRightIn s request reply =
 abbrev pub amounts_after : Vector → Reply → Vector
 amounts_after d (Moved e) = e
 amounts_after d (Given g e) = e
-amounts_after d reply = d
+amounts_after d (Joined g e) = d
+amounts_after d (Looked g e graph) = d
+amounts_after d (Verdict x) = d
+amounts_after d (Rank x) = d
+amounts_after d (Stale g) = d
+amounts_after d Won = d
+amounts_after d NotWon = d
+amounts_after d (Refused refusal) = d
 
 abbrev pub gifts_after : ℕ → Reply → ℕ
 gifts_after n (Given g e) = g
 gifts_after n (Joined g e) = g
-gifts_after n reply = n
+gifts_after n (Moved e) = n
+gifts_after n (Looked g e graph) = n
+gifts_after n (Verdict x) = n
+gifts_after n (Rank x) = n
+gifts_after n (Stale g) = n
+gifts_after n Won = n
+gifts_after n NotWon = n
+gifts_after n (Refused refusal) = n
 
 abbrev pub graph_after : Multigraph → Request → Reply → Multigraph
 graph_after g (Join u v) (Joined n e) = with_edge g u v

@@ -2,8 +2,6 @@
 --   counted n                 == one more than n, as far as 64 bits go
 --   gifts_after_entry n e     == that where the reply of the entry e is a change, and n where it is
 --                                none
---   shown_by reply d          == the amounts that the reply shows as it changed them, and d where
---                                it changed nothing
 --   is_move request           == whether the request is a move
 --   is_refused reply          == whether the reply is a refusal
 --   is_refused_move e         == whether the entry is a move that was refused
@@ -22,11 +20,12 @@ use Rattle.dg_chips.specs.Vector.{Vector}
 use Rattle.dg_game.specs.History.{is_change, gifts_in, position_after}
 use Rattle.dg_game.specs.Legal.{IsLegal}
 use Rattle.dg_game.specs.Position.{Shows}
+use Rattle.dg_game.specs.State.{amounts_after}
 use Rattle.dg_game.specs.declared.entry.Entry.{Entry}
 use Rattle.dg_game.specs.declared.entry.Request.{Request}
 use Rattle.dg_game.specs.declared.entry.Request.TheVariants.{Move}
 use Rattle.dg_game.specs.declared.entry.Reply.{Reply}
-use Rattle.dg_game.specs.declared.entry.Reply.TheVariants.{Moved, Given, Refused}
+use Rattle.dg_game.specs.declared.entry.Reply.TheVariants.{Refused}
 use Rattle.dg_observer.specs.Folds.{Folds}
 
 abbrev pub counted : ℕ → ℕ
@@ -34,11 +33,6 @@ counted n = min (n + 1) (2 ^ 64 - 1)
 
 abbrev pub gifts_after_entry : ℕ → Entry → ℕ
 gifts_after_entry n e = if is_change e.reply then counted n else n
-
-abbrev pub shown_by : Reply → Vector → Vector
-shown_by (Moved d) old = d
-shown_by (Given gifts d) old = d
-shown_by reply old = old
 
 abbrev pub is_move : Request → Bool
 is_move (Move m) = true
@@ -66,5 +60,5 @@ GiftsAreCounted = (H : List Entry) (n : ℕ) → length H < 2 ^ 64
 
 abbrev pub PositionsAreShown : Type 0
 PositionsAreShown = (o : Opening) (H : List Entry) (d : Vector) → IsOpening o → IsLegal o H
-    → Folds (λ first. first ≡ o.divisor) (λ old e next. next ≡ shown_by e.reply old) H d
+    → Folds (λ first. first ≡ o.divisor) (λ old e next. next ≡ amounts_after old e.reply) H d
     → Shows (position_after o H) d

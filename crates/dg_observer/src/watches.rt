@@ -48,13 +48,13 @@ pub struct Positions<N> {
 
 impl<N: Name> Watch for Positions<N> {
     ghost use Rattle.std.specs.Prelude.{◌≡◌};
-    ghost use Rattle.dg_observer.specs.Watched.{shown_by};
+    ghost use Rattle.dg_game.specs.State.{amounts_after};
 
     type State = Divisor;
 
     ghost begins = { λ d. d ≡ N.start.divisor };
 
-    ghost goes_on = { λ old e next. next ≡ shown_by e.reply old };
+    ghost goes_on = { λ old e next. next ≡ amounts_after old e.reply };
 
     /// A move or a gift that was accepted shows the amounts after it. A join leaves them.
     fn step(&self, position: &Divisor, entry: &Entry) -> Result<Divisor, AllocError> {

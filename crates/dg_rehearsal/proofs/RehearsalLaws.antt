@@ -112,11 +112,8 @@ looks_set o H e steps step looks x there places its keeps kept seat is = elim (c
 
 -- a call that is no look uses none
 no_look : (p : Plain) → (p ≡ plain.Look → ⊥) → ¬ UsesLook (Call p)
-no_look (plain.Move m) other uses = uses
-no_look (plain.Gift v x) other uses = uses
-no_look (plain.Join u v) other uses = uses
 no_look plain.Look other uses = other refl
-no_look plain.Claim other uses = uses
+no_look p other uses = uses
 
 -- the looks kept after a call that is a look, and after one that is not
 pub looks_looked : (o : Opening) (H : List Entry) (steps : List Step) (r : Rehearsal) (seat : ℕ) (p : Plain)
