@@ -5,7 +5,7 @@ import glob, os, re, sys
 import words
 from words import read
 
-HELP, FORMATS, REFUSALS, PAGE = "crates/dg_command/src/help_texts.rt", "docs/FORMATS.md", "docs/REFUSALS.md", "docs/dollar.1"
+HELP, FORMATS, PAGE = "crates/dg_command/src/help_texts.rt", "docs/formats.md", "docs/dollar.1"
 MODEL, BOARD, ANSWERS = "examples/party.py", "board/words.js", "python/dollar/answers.py"
 
 
@@ -94,8 +94,7 @@ def replies():
     part = Part(FORMATS, "| Reply | Text |", "\n\n")
     found = [(each, place) for text, place in part.matches(r"^\|[^|]*\|(.*)\|$") for each in re.findall(r"`([^`]*)`", text)]
     yield from part.compare("reply", found, forms)
-    for path in (FORMATS, REFUSALS):
-        yield from Part(path).compare("refusal", Part(path).matches(r"`(refused \w+)`"), refusals)
+    yield from Part(FORMATS).compare("refusal", Part(FORMATS).matches(r"`(refused \w+)`"), refusals)
     part = Part(MODEL, "class Game", "\ndef trials(")
     played = [form for form in forms if form not in ("refused vertex", "refused empty", "refused script")]
     yield from part.compare("refusal", part.matches(r'"(refused \w+)"'), [form for form in played if form.startswith("refused")])
@@ -160,7 +159,7 @@ def bad_texts():
     yield from part.compare("fault of a line", found, lines)
     if sorted(lines) == sorted(text for text, _ in found) and lines != [text for text, _ in found]:
         yield "%s: the order of the faults of a line is %s" % (part.place(), ", ".join(lines))
-    pages = ["docs/tools.md", REFUSALS, HELP]
+    pages = ["docs/tools.md", FORMATS, HELP]
     for path in pages + sorted(set(glob.glob("docs/*.md") + glob.glob("*.md") + ["examples/README.md"]) - set(pages)):
         part = Part(path)
         if path in pages:
@@ -196,8 +195,8 @@ def table_faults():
             if variant in own and numbered(text) != own[variant]:
                 yield "%s: %s::%s says `%s`, not `%s`" % (part.place(), enum, variant, own[variant], text)
     of_files = {numbered(text) for text in told_twice()}
-    part = Part(FORMATS, "The reader reports one fault, and looks for them in this order.", "\n\nWant of memory")
-    found = [(numbered(text), place) for row, place in part.matches(r"^\| (`.*`) \|") for text in re.findall(r"`([^`]*)`", row)]
+    part = Part(FORMATS, "The reader reports one fault, the first in this order.", "\n\nA number with a fraction")
+    found = [(numbered(text), place) for text, place in part.matches(r"^\| `([^`|]*)` \|")]
     yield from part.compare("fault of a table file", found, of_files)
     part = Part("tests/damage/reader.py")
     found = [(text.replace("%d", "#"), place) for text, place in part.matches(r'Refused\("([^"]*)"')]
@@ -210,22 +209,18 @@ def fault_tables():
     bad = {"line #: " + text for text in words.line_faults()}
     wanted = {text: status for text, status in statuses.items() if text not in of_files | bad}
     wanted["line #:"], wanted["amount of vertex #"] = statuses[min(bad)], statuses["amount of vertex #"]
-    part = Part(FORMATS, "| Fault | Text | Status |", "\n\n")
+    part = Part(FORMATS, "| Fault | Text | Causes, and what helps | Status |", "\n\n")
     rows = [(numbered(row[1]), int(row[2]), part.place(row.start()))
-            for row in re.finditer(r"^\|[^|]*\| `([^`]*)`[^|]* \| (\d) \|$", part.text, re.M)]
+            for row in re.finditer(r"^\|[^|]*\| `([^`]*)`[^|]*\|[^|]*\| (\d) \|$", part.text, re.M)]
     yield from part.compare("fault", [(text, place) for text, _, place in rows], list(wanted))
     for path in sorted(glob.glob("docs/*.md")):
         page = Part(path)
         rows += [(numbered(row[1]), int(row[2]), page.place(row.start()))
                  for row in re.finditer(r"^\|.*\| `dollar: ([^`]*)` \| (\d) \|", page.text, re.M)]
-    rows += [("not JSON", int(status), place) for status, place in part.matches(r"^\| a refused table file \| as above \| (\d) \|$")]
+    rows += [("not JSON", int(status), place) for status, place in part.matches(r"^\| a refused table file \| as above \|[^|]*\| (\d) \|$")]
     for text, status, place in rows:
         if status != {**statuses, **wanted}.get(text, status):
             yield "%s: the status of `%s` is %d" % (place, text, {**statuses, **wanted}[text])
-    part = Part(REFUSALS)
-    told = [(numbered(text), place) for row, place in part.matches(r"^\|(.*?)\|.*$") for text in re.findall(r"`([^`]*)`", row)]
-    told += [(numbered(re.sub("^dollar: ", "", text)), place) for text, place in told]
-    yield from part.compare("fault", told, sorted((set(wanted) | of_files) - {"line #:"}), both=False)
 
 
 def faults():
@@ -280,12 +275,10 @@ def limits():
     for one, other in SAME:
         if known[one] != known[other]:
             yield "%s is %s, and %s is %s: they are one limit" % (one, known[one], other, known[other])
-    part = Part("docs/BOUNDS.md", "## What users meet", "\n\nMemory has no bound")
-    for row in re.finditer(r"^\| ([\d,]+(?: and [\d,]+)?) \| `(dg_\w+)::(\w+)`(?:, `(\w+)`)? \|", part.text, re.M):
-        for number, name in zip(row[1].split(" and "), row.groups()[2:]):
-            value = known.get("%s::%s" % (row[2], name), "no constant")
-            if value != number.replace(",", ""):
-                yield "%s: %s::%s is %s, not %s" % (part.place(row.start()), row[2], name, value, number)
+    part = Part(FORMATS, "| What | Limit | Name in the code | Why |", "\n\n")
+    for row in re.finditer(r"^\|[^|]*\| ([\d,]+) \| `(dg_\w+::\w+)` \|", part.text, re.M):
+        if known.get(row[2], "no constant") != row[1].replace(",", ""):
+            yield "%s: %s is %s, not %s" % (part.place(row.start()), row[2], known.get(row[2], "no constant"), row[1])
 
 
 CHECKS = {"command words": commands, "lines of commands": example_commands, "reply words": replies, "bad texts": bad_texts,

@@ -162,7 +162,7 @@ def both_ranks(checks, board, place):
 
 
 def small_stacks(checks):
-    """The least stack that docs/BOUNDS.md tells is enough for the deepest texts and the largest graphs."""
+    """The least stack that docs/formats.md tells is enough for the deepest texts and the largest graphs."""
     def limited():
         resource.setrlimit(resource.RLIMIT_STACK, (STACK, resource.RLIM_INFINITY))
 

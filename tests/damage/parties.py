@@ -128,7 +128,7 @@ LARGE = [
 
 
 def large_parties(checks):
-    """64 scripts of 16,384 lines: the history is full, or has no entry, in memory that docs/BOUNDS.md tells."""
+    """64 scripts of 16,384 lines: the history is full, or has no entry, in memory that docs/formats.md tells."""
     table = checks.put("complete", COMPLETE)
     for what, script, are_entries in LARGE:
         path = checks.put("large", script)

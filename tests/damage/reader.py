@@ -1,4 +1,4 @@
-"""A second reader of table files, written from docs/FORMATS.md and from nothing of the program. It is slow and short, and
+"""A second reader of table files, written from docs/formats.md and from nothing of the program. It is slow and short, and
 takes nothing from Python's own reader of JSON, which lets through what is no JSON."""
 import math, re
 

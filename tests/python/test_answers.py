@@ -12,7 +12,7 @@ from dollar import Entry, Fault, Refused, RiemannRoch, Table, Verdict, answer
 TRIANGLE = {"vertices": ["a", "b", "c"], "edges": [["a", "b", 1], ["b", "c", 1], ["a", "c", 1]], "amounts": [2, -1, -1], "q": "a"}
 LOOPING = dict(TRIANGLE, edges=[["a", "a", 1]])
 
-# The texts of docs/FORMATS.md, and their parts.
+# The texts of docs/formats.md, and their parts.
 TEXTS = [
     ("moved a=0 b=-10", ("moved", {"a": 0, "b": -10})),
     ("given 3 a=0 b=1", ("given", 3, {"a": 0, "b": 1})),

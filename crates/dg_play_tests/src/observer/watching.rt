@@ -14,7 +14,7 @@ use std::process::Abort;
 use std::sync::Wait;
 use std::test::Fail;
 
-// Counts entries, as docs/TABLE.md has it.
+// Counts entries, as docs/library.md has it.
 #[derive(Clone, Copy)]
 struct Entries;
 

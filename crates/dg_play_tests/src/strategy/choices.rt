@@ -34,7 +34,7 @@ impl Choose for BorrowFirst {
     }
 }
 
-// The richest vertex lends, the first of those that have the most; as docs/TABLE.md has it.
+// The richest vertex lends, the first of those that have the most; as docs/library.md has it.
 #[derive(Clone, Copy)]
 pub(crate) struct LendRichest;
 
