@@ -13,5 +13,5 @@ def asset(name):
 
 def assembled(name, words):
     """A page with its parts, and words in it, which are escaped."""
-    parts = {name: part(name + ".html") for name in ("board", "controls", "now", "whole", "hands")}
+    parts = {name: part(name + ".html") for name in ("board", "controls", "now", "whole", "legend", "hands")}
     return filled(part(name), {**parts, **{key: html.escape(word) for key, word in words.items()}}).encode()

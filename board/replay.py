@@ -79,7 +79,7 @@ def page(title, text, steps, lines, history=None, own=None):
     style = "\n" + part("page.css")
     policy = "default-src 'none'; script-src %s; style-src %s; img-src data:; base-uri 'none'; form-action 'none'" % (
         digest(code), digest(style))
-    parts = {name: part(name + ".html") for name in ("board", "controls", "now", "whole")}
+    parts = {name: part(name + ".html") for name in ("board", "controls", "now", "whole", "legend")}
     return filled(part("replay.html"), {
         **parts, "title": html.escape(title), "policy": policy, "style": part("page.css"), "table": in_page(text),
         "steps": steps, "printed": shown, "layout": in_page(json.dumps(layout(table, amounts, own))),

@@ -1,6 +1,6 @@
 """Places outside the proved code that state its words and its limits, each compared with the code. tools/lint prints what differs,
 with the file and the line, and what is wanted there."""
-import glob, os, re, sys
+import glob, html, json, os, re, sys
 
 import words
 from words import read
@@ -122,6 +122,11 @@ def board_replies():
             ("board/viewer.js", "const TELLING", "];", r'"([a-z-]+)"', ["unread"])):
         part = Part(path, begin, end)
         yield from part.compare("kind of reply", part.matches(form), kinds + more)
+    marks = re.findall(r'"([^"]+)"', Part(BOARD, "function markOf", "};").text.split("sign = {", 1)[-1].replace('"not-won":', ""))
+    shown = html.unescape(read("board/legend.html"))
+    for mark in sorted(set(json.loads('"%s"' % mark) for mark in marks) - {"\u00b7", "?"}):
+        if "<b>%s</b>" % mark not in shown:
+            yield "board/legend.html: the mark %s is wanted" % mark
     part = Part(BOARD, "const CAUSES", "};")
     yield from part.compare("refusal", part.matches(r'(\w+): "'), [text.split(" ")[1] for text in words.refusals()])
 
