@@ -19,7 +19,7 @@ use crate::first_loss::first_loss;
 use crate::rank_fault::RankFault;
 use dg_chips::{Divisor, Wide};
 use dg_graph::Graph;
-use dg_reduce::reduce_wide;
+use dg_reduce::{Aim, reduce_certified};
 
 /// Whether the rank of a divisor is at least k: whether every effective divisor of degree k can be lost and the rest still
 /// won. The test is made of the divisor or of its dual, where that has fewer trials.
@@ -28,6 +28,19 @@ use dg_reduce::reduce_wide;
 pub fn has_rank(graph: &Graph, q: usize, divisor: &Divisor, k: u32) -> Result<bool, RankFault>
     requires size { divisor.now.size ≡ graph.now.size }
     requires vertex { q < graph.now.size }
+    ensures { MatchResult result
+        (λ b. MatchBool b
+        (HasRankAtLeast graph.now (at divisor.now) k)
+        (¬ HasRankAtLeast graph.now (at divisor.now) k))
+        (λ e. (e ≡ TooMany) × BothArePast graph.now (at divisor.now) k) }
+{
+    passes(graph, &Aim::new(graph, 0), divisor, k)
+}
+
+/// What `has_rank` answers, whatever is aimed by.
+pub(crate) fn passes(graph: &Graph, aim: &Aim, divisor: &Divisor, k: u32) -> Result<bool, RankFault>
+    requires size { divisor.now.size ≡ graph.now.size }
+    requires some { 0 < graph.now.size }
     ensures { MatchResult result
         (λ b. MatchBool b
         (HasRankAtLeast graph.now (at divisor.now) k)
@@ -50,9 +63,9 @@ pub fn has_rank(graph: &Graph, q: usize, divisor: &Divisor, k: u32) -> Result<bo
         return Err(RankFault::TooMany);
     };
     if k <= other {
-        Ok(all_win(graph, q, &Wide::of(divisor), k, count))
+        Ok(all_win(graph, aim, &Wide::of(divisor), k, count))
     } else {
-        Ok(all_win(graph, q, &dual_of(graph, divisor), other, count))
+        Ok(all_win(graph, aim, &dual_of(graph, divisor), other, count))
     }
 }
 
@@ -80,14 +93,14 @@ pub(crate) enum Told {
 /// can be fired to.
 pub(crate) fn told_by_dual(
     graph: &Graph,
-    q: usize,
+    aim: &Aim,
     divisor: &Divisor,
     chips: &Wide,
     k: u32,
     most: u32,
 ) -> Told
     requires size { divisor.now.size ≡ graph.now.size }
-    requires vertex { q < graph.now.size }
+    requires some { 0 < graph.now.size }
     requires unsettled { IsUnsettled graph.now (at divisor.now) k }
     requires chips { chips.now.size ≡ graph.now.size }
     requires fired { AreEquivalent graph.now (at divisor.now) (at chips.now) }
@@ -107,10 +120,10 @@ pub(crate) fn told_by_dual(
     if fewer > most {
         return Told::Open(0);
     }
-    if let Some(trial) = first_loss(graph, chips, k, 0, fewer) {
+    if let Some(trial) = first_loss(graph, aim, chips, k, 0, fewer) {
         return Told::Lost(trial);
     }
-    if all_win(graph, q, &dual_of(graph, divisor), other, fewer) {
+    if all_win(graph, aim, &dual_of(graph, divisor), other, fewer) {
         return Told::Won;
     }
     Told::Open(fewer)
@@ -119,6 +132,7 @@ pub(crate) fn told_by_dual(
 /// The first loss of all trials, of which so much is told; `None` where there is none.
 pub(crate) fn loss_after(
     graph: &Graph,
+    aim: &Aim,
     chips: &Wide,
     k: u32,
     count: u32,
@@ -133,7 +147,7 @@ pub(crate) fn loss_after(
     match told {
         Told::Lost(trial) => Some(trial),
         Told::Won => None,
-        Told::Open(from) => first_loss(graph, chips, k, from, count),
+        Told::Open(from) => first_loss(graph, aim, chips, k, from, count),
     }
 }
 
@@ -175,10 +189,9 @@ fn dual_of(graph: &Graph, divisor: &Divisor) -> Wide
 }
 
 /// Whether all trials of degree k win, of which there are so many.
-fn all_win(graph: &Graph, q: usize, amounts: &Wide, k: u32, count: u32) -> bool
+fn all_win(graph: &Graph, aim: &Aim, amounts: &Wide, k: u32, count: u32) -> bool
     requires graph { IsGraph graph.now }
     requires size { amounts.now.size ≡ graph.now.size }
-    requires vertex { q < graph.now.size }
     requires range { (v : ℕ) → v < graph.now.size → unsigned_abs (at amounts.now v) ≤ MAX_START }
     requires unsettled { IsUnsettled graph.now (at amounts.now) k }
     requires limits { IsWithinLimits graph.now.size k count }
@@ -186,6 +199,6 @@ fn all_win(graph: &Graph, q: usize, amounts: &Wide, k: u32, count: u32) -> bool
         (HasRankAtLeast graph.now (at amounts.now) k)
         (¬ HasRankAtLeast graph.now (at amounts.now) k) }
 {
-    let chips = reduce_wide(graph, q, amounts).divisor;
-    first_loss(graph, &chips, k, 0, count).is_none()
+    let chips = reduce_certified(graph, aim, 0, amounts).reduced.divisor;
+    first_loss(graph, aim, &chips, k, 0, count).is_none()
 }
