@@ -56,7 +56,7 @@ pub fn first_loss(
 }
 
 /// Amounts without debts that amounts without a trial's can be fired to; `None` where those can't be won.
-fn left_without(graph: &Graph, aim: &Aim, chips: &Wide, trial: &Trial) -> Option<Form>
+pub(crate) fn left_without(graph: &Graph, aim: &Aim, chips: &Wide, trial: &Trial) -> Option<Form>
     requires graph { IsGraph graph.now }
     requires size { chips.now.size ≡ graph.now.size }
     requires range { (v : ℕ) → v < graph.now.size → unsigned_abs (at chips.now v) ≤ 1999000 }

@@ -12,7 +12,7 @@ ghost use Rattle.dg_rank.specs.Ranks.{IsWithin, IsUnsettled};
 ghost use Rattle.dg_rank.specs.declared.rank_fault.RankFault.TheVariants.{TooMany};
 
 use crate::counting::trials;
-use crate::duals::{degree_left, loss_after, told_by_dual};
+use crate::duals::{degree_left, loss_after, told_before};
 use crate::enumeration::Trial;
 use crate::rank_fault::RankFault;
 use dg_chips::{Divisor, Wide};
@@ -46,7 +46,7 @@ pub fn rank_at_least(
     }
     let aim = Aim::new(graph, 0);
     let chips = small_amounts(graph, &aim, divisor, k);
-    let told = told_by_dual(graph, &aim, divisor, &chips, k, count / 2);
+    let told = told_before(graph, &aim, divisor, &chips, k, count, count / 2);
     let loss = loss_after(graph, &aim, &chips, k, count, told);
     Ok(verdict_on(k, loss))
 }

@@ -6,7 +6,7 @@ ghost use Rattle.dg_rank.specs.Ranks.{IsWithin, IsRankFault, MayHaveWorkers};
 ghost use Rattle.dg_rank.specs.declared.rank_fault.RankFault.TheVariants.{Spawn};
 
 use crate::counting::trials;
-use crate::duals::{Told, told_by_dual};
+use crate::duals::{Told, told_before};
 use crate::pieces::{Search, first_loss_among};
 use crate::rank_fault::RankFault;
 use crate::ranks::{settled, small_amounts, verdict_on};
@@ -72,7 +72,8 @@ pub fn rank_with<R: Threads + Wait, G: Gate>(
     let aim = Aim::new(graph, 0);
     let chips = small_amounts(graph, &aim, divisor, k);
     // The first trials and the dual's are made before there are threads to share the rest.
-    match told_by_dual(graph, &aim, divisor, &chips, k, count / (2 * workers)) {
+    let most = count / (2 * workers);
+    match told_before(graph, &aim, divisor, &chips, k, count, most) {
         Told::Lost(trial) => {
             let verdict = verdict_on(k, Some(trial));
             after_the_gate(rt, graph, k, workers, gate, verdict)

@@ -3,19 +3,13 @@ use Rattle.dg_rank.specs.Limits.{IsWithinLimits}
 use Rattle.dg_rank.proofs.FirstLosses.{found_trial}
 use Rattle.dg_rank.proofs.ranks.rank_at_least.Goals as goal
 
-pub told_by_dual-told-requires-clause-range : goal.told_by_dual-told-requires-clause-range
-told_by_dual-told-requires-clause-range c =
+pub told_before-told-requires-clause-range : goal.told_before-told-requires-clause-range
+told_before-told-requires-clause-range c =
     c.small_amounts-chips.ensures.small
 
 pub loss_after-loss-requires-clause-range : goal.loss_after-loss-requires-clause-range
 loss_after-loss-requires-clause-range c =
     c.small_amounts-chips.ensures.small
-
-pub loss_after-loss-requires-clause-told : goal.loss_after-loss-requires-clause-told
-loss_after-loss-requires-clause-told c =
-    let within : IsWithinLimits c.args.graph.now.size c.args.k c.in-Some.count =
-    rw c.size-size.ensures.size at c.in-Some.ensures in
-    c.told_by_dual-told.ensures c.in-Some.count within
 
 pub verdict_on-requires : goal.verdict_on-requires
 verdict_on-requires c =

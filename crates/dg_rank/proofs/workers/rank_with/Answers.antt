@@ -9,8 +9,8 @@ use Rattle.dg_rank.proofs.FirstLosses.{found_trial, loss-trial, found_rank}
 use Rattle.dg_rank.proofs.Gated.{known_verdict}
 use Rattle.dg_rank.proofs.workers.rank_with.Goals as goal
 
-pub told_by_dual-requires-clause-range : goal.told_by_dual-requires-clause-range
-told_by_dual-requires-clause-range g c =
+pub told_before-requires-clause-range : goal.told_before-requires-clause-range
+told_before-requires-clause-range g c =
     c.small_amounts-chips.ensures.small
 
 pub verdict_on-verdict-requires : goal.verdict_on-verdict-requires
@@ -18,7 +18,7 @@ verdict_on-verdict-requires g c =
     let limits : IsWithinLimits c.args.graph.now.size c.args.k c.in-Some.count =
     rw c.size-size.ensures.size at c.in-Some.ensures in
     let loss : IsLossIn c.args.graph.now (at c.small_amounts-chips.result) c.args.k 0 c.in-Some.count c.in-Lost.trial =
-    rw c.in-Lost.is at (c.told_by_dual.ensures c.in-Some.count limits) in (
+    rw c.in-Lost.is at c.told_before.ensures in (
       c.args.graph.now.size,
       c.in-Some.count,
       limits,
@@ -31,7 +31,7 @@ returns-in-Lost g c =
     let limits : IsWithinLimits c.args.graph.now.size c.args.k c.in-Some.count =
     rw c.size-size.ensures.size at c.in-Some.ensures in
     let loss : IsLossIn c.args.graph.now (at c.small_amounts-chips.result) c.args.k 0 c.in-Some.count c.in-Lost.trial =
-    rw c.in-Lost.is at (c.told_by_dual.ensures c.in-Some.count limits) in
+    rw c.in-Lost.is at c.told_before.ensures in
     known_verdict c.args.graph.now (at c.args.divisor.now) c.args.k c.args.workers c.verdict_on-verdict.result
     c.after_the_gate-in-Lost.result (c.in-Some.count, limits) (omega arith, c.if-workers-gt-MAX_WORKERS.false)
     (c.verdict_on-verdict.ensures c.args.graph.now (at c.args.divisor.now)
@@ -45,7 +45,7 @@ returns-in-Won g c =
     rw c.size-size.ensures.size at c.in-Some.ensures in
     let rank : HasRankAtLeast c.args.graph.now (at c.small_amounts-chips.result) c.args.k =
     found_rank c.args.graph.now (at c.small_amounts-chips.result) c.args.k c.in-Some.count limits
-    (rw c.in-Won.is at (c.told_by_dual.ensures c.in-Some.count limits)) in
+    (rw c.in-Won.is at c.told_before.ensures) in
     known_verdict c.args.graph.now (at c.args.divisor.now) c.args.k c.args.workers (AtLeast c.args.k)
     c.after_the_gate-in-Won.result (c.in-Some.count, limits) (omega arith, c.if-workers-gt-MAX_WORKERS.false) (
       refl,
