@@ -2,6 +2,7 @@
 --   IsBlock P n r m k base i   == the trial of degree k on m places that begins with the amounts P, and holds after
 --                                 those, at n places, what the trial number i of degree r does, has the number base + i
 --   block_of                   there is such a base for all that begin with P and hold r in all after it
+--   first_empty                the trial with the number 0 holds nothing before its last place
 --   first_held                 where all is held at the last place, the number is 0
 --   all_first                  where all is held at the first place, it is the greatest
 --   IsSplit n k c i d r E      == E is the trial number i of c, and from place d on holds r at its last place and
@@ -93,6 +94,16 @@ block_of : (P : List ℕ) (n r m k : ℕ) → length P + n ≡ m → sum P + r �
     (base : ℕ) × ((i : ℕ) → i < trial_count n r → IsBlock P n r m k base i)
 block_of P n r m k size all = rw (← size, ← all) (blocked P n r)
 
+none_first : (m s : ℕ) → nth_trial (suc (suc m)) s 0 ≡ 0 ∷ nth_trial (suc m) s 0
+none_first m zero = nth_broke (suc m) 0
+none_first m (suc s) = nth_low (suc m) s 0 (some_trial (suc m) (suc s) (omega arith))
+
+pub first_empty : (n k u : ℕ) → u < n → slice_index (nth_trial (suc n) k 0) u ≡ 0
+first_empty zero k u low = absurd (omega arith)
+first_empty (suc n) k zero low = ap (λ (T : List ℕ). slice_index T 0) (none_first n k)
+first_empty (suc n) k (suc u) low =
+    ap (λ (T : List ℕ). slice_index T (suc u)) (none_first n k) ∙ first_empty n k u (omega arith)
+
 pub first_held : (n r : ℕ) (T : List ℕ) → length T ≡ suc n → ((u : ℕ) → u < n → slice_index T u ≡ 0) →
     slice_index T n ≡ r →
     T ≡ nth_trial (suc n) r 0
@@ -103,10 +114,6 @@ first_held zero r (a ∷ b ∷ T) places empty held = absurd (omega arith)
 first_held (suc n) r (a ∷ T) places empty held =
     let rest : T ≡ nth_trial (suc n) r 0 = first_held n r T (omega arith) (λ u low. empty (suc u) (omega arith)) held in
     ap (λ (x : ℕ). x ∷ T) (empty 0 (omega arith)) ∙ ap (λ (L : List ℕ). 0 ∷ L) rest ∙ sym (none_first n r)
-  where
-    none_first : (m s : ℕ) → nth_trial (suc (suc m)) s 0 ≡ 0 ∷ nth_trial (suc m) s 0
-    none_first m zero = nth_broke (suc m) 0
-    none_first m (suc s) = nth_low (suc m) s 0 (some_trial (suc m) (suc s) (omega arith))
 
 pub all_first : (n r : ℕ) (T : List ℕ) → length T ≡ suc n → slice_index T 0 ≡ r →
     ((u : ℕ) → 0 < u → slice_index T u ≡ 0) →

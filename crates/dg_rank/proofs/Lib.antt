@@ -19,6 +19,8 @@ pub mod Elsewhere
 pub mod LeapForms
 -- The reduced divisor in place of the one given.
 pub mod SmallAmounts
+-- Trials that are reduced for the last vertex.
+pub mod ReducedTrials
 -- Ranks and rank tests by the dual.
 pub mod DualTests
 pub mod TestDegrees

@@ -9,7 +9,7 @@ ghost use Rattle.dg_reduce.specs.declared.limits.TheConstants.{MAX_START};
 ghost use Rattle.dg_graph.specs.Graph.{IsGraph};
 ghost use Rattle.dg_chips.specs.Vector.{at};
 ghost use Rattle.dg_rank.specs.Limits.{IsWithinLimits};
-ghost use Rattle.dg_rank.specs.Losses.{IsFound, IsTold};
+ghost use Rattle.dg_rank.specs.Losses.{AllWin, IsFound, IsTold};
 ghost use Rattle.dg_rank.specs.Ranks.{IsUnsettled, BothArePast};
 ghost use Rattle.dg_rank.specs.declared.rank_fault.RankFault.TheVariants.{TooMany};
 
@@ -17,9 +17,10 @@ use crate::counting::trials;
 use crate::enumeration::Trial;
 use crate::first_loss::first_loss;
 use crate::rank_fault::RankFault;
+use crate::reduced_trials::told_by_reduced;
 use dg_chips::{Divisor, Wide};
 use dg_graph::Graph;
-use dg_reduce::reduce_wide;
+use dg_reduce::{Aim, reduce_certified};
 
 /// Whether the rank of a divisor is at least k: whether every effective divisor of degree k can be lost and the rest still
 /// won. The test is made of the divisor or of its dual, where that has fewer trials.
@@ -28,6 +29,19 @@ use dg_reduce::reduce_wide;
 pub fn has_rank(graph: &Graph, q: usize, divisor: &Divisor, k: u32) -> Result<bool, RankFault>
     requires size { divisor.now.size ≡ graph.now.size }
     requires vertex { q < graph.now.size }
+    ensures { MatchResult result
+        (λ b. MatchBool b
+        (HasRankAtLeast graph.now (at divisor.now) k)
+        (¬ HasRankAtLeast graph.now (at divisor.now) k))
+        (λ e. (e ≡ TooMany) × BothArePast graph.now (at divisor.now) k) }
+{
+    passes(graph, &Aim::new(graph, 0), divisor, k)
+}
+
+/// What `has_rank` answers, whatever is aimed by.
+pub(crate) fn passes(graph: &Graph, aim: &Aim, divisor: &Divisor, k: u32) -> Result<bool, RankFault>
+    requires size { divisor.now.size ≡ graph.now.size }
+    requires some { 0 < graph.now.size }
     ensures { MatchResult result
         (λ b. MatchBool b
         (HasRankAtLeast graph.now (at divisor.now) k)
@@ -50,9 +64,9 @@ pub fn has_rank(graph: &Graph, q: usize, divisor: &Divisor, k: u32) -> Result<bo
         return Err(RankFault::TooMany);
     };
     if k <= other {
-        Ok(all_win(graph, q, &Wide::of(divisor), k, count))
+        Ok(all_win(graph, aim, &Wide::of(divisor), k, count))
     } else {
-        Ok(all_win(graph, q, &dual_of(graph, divisor), other, count))
+        Ok(all_win(graph, aim, &dual_of(graph, divisor), other, count))
     }
 }
 
@@ -75,19 +89,77 @@ pub(crate) enum Told {
     Open(u32),
 }
 
+/// How many trials are made before those that are reduced for the last vertex are asked.
+const FIRST_TRIALS: u32 = 256;
+
+/// How many trials there are for each visit that those may take: where they tell nothing, little is lost.
+const TRIALS_A_VISIT: u32 = 256;
+
+/// From so many trials on they are asked.
+const MANY: u32 = 8192;
+
+/// What is told of the trials before all are made: by some of them, by those of the dual, and by those that are reduced for the
+/// last vertex. The amounts are what the divisor can be fired to.
+pub(crate) fn told_before(
+    graph: &Graph,
+    aim: &Aim,
+    divisor: &Divisor,
+    chips: &Wide,
+    k: u32,
+    count: u32,
+    most: u32,
+) -> Told
+    requires size { divisor.now.size ≡ graph.now.size }
+    requires unsettled { IsUnsettled graph.now (at divisor.now) k }
+    requires chips { chips.now.size ≡ graph.now.size }
+    requires fired { AreEquivalent graph.now (at divisor.now) (at chips.now) }
+    requires range { (v : ℕ) → v < graph.now.size → unsigned_abs (at chips.now v) ≤ 1999000 }
+    requires limits { IsWithinLimits graph.now.size k count }
+    requires most { most ≤ count }
+    ensures { IsTold graph.now (at chips.now) k count result }
+{
+    match told_by_dual(graph, aim, divisor, chips, k, most) {
+        Told::Lost(trial) => Told::Lost(trial),
+        Told::Won => Told::Won,
+        Told::Open(from) => told_after(graph, aim, chips, k, from, count),
+    }
+}
+
+/// What is told of all trials where those before a number win: by some more, and by those that are reduced for the last vertex.
+fn told_after(graph: &Graph, aim: &Aim, chips: &Wide, k: u32, from: u32, count: u32) -> Told
+    requires size { chips.now.size ≡ graph.now.size }
+    requires range { (v : ℕ) → v < graph.now.size → unsigned_abs (at chips.now v) ≤ 1999000 }
+    requires limits { IsWithinLimits graph.now.size k count }
+    requires from { from ≤ count }
+    requires before { AllWin graph.now (at chips.now) k 0 from }
+    ensures { IsTold graph.now (at chips.now) k count result }
+{
+    if count < MANY {
+        return Told::Open(from);
+    }
+    let to = count.min(from + FIRST_TRIALS);
+    if let Some(trial) = first_loss(graph, aim, chips, k, from, to) {
+        return Told::Lost(trial);
+    }
+    match told_by_reduced(graph, aim, chips, k, count / TRIALS_A_VISIT) {
+        Some(true) => Told::Won,
+        _ => Told::Open(to),
+    }
+}
+
 /// What is told of the trials by as many of them as the dual has in all, and then by those of the dual; nothing where the
 /// dual has more than `most`, and where the degree of the test is too high for it to pass. The amounts are what the divisor
 /// can be fired to.
-pub(crate) fn told_by_dual(
+fn told_by_dual(
     graph: &Graph,
-    q: usize,
+    aim: &Aim,
     divisor: &Divisor,
     chips: &Wide,
     k: u32,
     most: u32,
 ) -> Told
     requires size { divisor.now.size ≡ graph.now.size }
-    requires vertex { q < graph.now.size }
+    requires some { 0 < graph.now.size }
     requires unsettled { IsUnsettled graph.now (at divisor.now) k }
     requires chips { chips.now.size ≡ graph.now.size }
     requires fired { AreEquivalent graph.now (at divisor.now) (at chips.now) }
@@ -107,10 +179,10 @@ pub(crate) fn told_by_dual(
     if fewer > most {
         return Told::Open(0);
     }
-    if let Some(trial) = first_loss(graph, chips, k, 0, fewer) {
+    if let Some(trial) = first_loss(graph, aim, chips, k, 0, fewer) {
         return Told::Lost(trial);
     }
-    if all_win(graph, q, &dual_of(graph, divisor), other, fewer) {
+    if all_win(graph, aim, &dual_of(graph, divisor), other, fewer) {
         return Told::Won;
     }
     Told::Open(fewer)
@@ -119,6 +191,7 @@ pub(crate) fn told_by_dual(
 /// The first loss of all trials, of which so much is told; `None` where there is none.
 pub(crate) fn loss_after(
     graph: &Graph,
+    aim: &Aim,
     chips: &Wide,
     k: u32,
     count: u32,
@@ -133,7 +206,7 @@ pub(crate) fn loss_after(
     match told {
         Told::Lost(trial) => Some(trial),
         Told::Won => None,
-        Told::Open(from) => first_loss(graph, chips, k, from, count),
+        Told::Open(from) => first_loss(graph, aim, chips, k, from, count),
     }
 }
 
@@ -175,10 +248,9 @@ fn dual_of(graph: &Graph, divisor: &Divisor) -> Wide
 }
 
 /// Whether all trials of degree k win, of which there are so many.
-fn all_win(graph: &Graph, q: usize, amounts: &Wide, k: u32, count: u32) -> bool
+fn all_win(graph: &Graph, aim: &Aim, amounts: &Wide, k: u32, count: u32) -> bool
     requires graph { IsGraph graph.now }
     requires size { amounts.now.size ≡ graph.now.size }
-    requires vertex { q < graph.now.size }
     requires range { (v : ℕ) → v < graph.now.size → unsigned_abs (at amounts.now v) ≤ MAX_START }
     requires unsettled { IsUnsettled graph.now (at amounts.now) k }
     requires limits { IsWithinLimits graph.now.size k count }
@@ -186,6 +258,10 @@ fn all_win(graph: &Graph, q: usize, amounts: &Wide, k: u32, count: u32) -> bool
         (HasRankAtLeast graph.now (at amounts.now) k)
         (¬ HasRankAtLeast graph.now (at amounts.now) k) }
 {
-    let chips = reduce_wide(graph, q, amounts).divisor;
-    first_loss(graph, &chips, k, 0, count).is_none()
+    let chips = reduce_certified(graph, aim, 0, amounts).reduced.divisor;
+    match told_by_reduced(graph, aim, &chips, k, u32::MAX) {
+        Some(wins) => wins,
+        // This never comes: there are fewer trials.
+        None => first_loss(graph, aim, &chips, k, 0, count).is_none(),
+    }
 }

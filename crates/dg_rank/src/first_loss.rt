@@ -19,12 +19,19 @@ use crate::counting::count;
 use crate::enumeration::{Moved, Trial};
 use dg_chips::Wide;
 use dg_graph::Graph;
-use dg_reduce::{Form, reduce_wide};
+use dg_reduce::{Aim, Form, reduce_certified};
 
 /// The first trial of degree k, of those from one number up to another, whose loss leaves what can't be won; `None`
 /// where there is none. What is left of one trial is not far from what is left of the next, so each starts from it; and those
 /// that are seen to win by what is left of one before them are passed over.
-pub fn first_loss(graph: &Graph, chips: &Wide, k: u32, from: u32, to: u32) -> Option<Trial>
+pub fn first_loss(
+    graph: &Graph,
+    aim: &Aim,
+    chips: &Wide,
+    k: u32,
+    from: u32,
+    to: u32,
+) -> Option<Trial>
     requires size { chips.now.size ≡ graph.now.size }
     requires range { (v : ℕ) → v < graph.now.size → unsigned_abs (at chips.now v) ≤ 1999000 }
     requires limits { (c : ℕ) × IsWithinLimits graph.now.size k c × (to ≤ c) }
@@ -34,7 +41,7 @@ pub fn first_loss(graph: &Graph, chips: &Wide, k: u32, from: u32, to: u32) -> Op
         return None;
     }
     let mut trial = Trial::with_number(graph.size(), k, from);
-    let Some(mut left) = left_without(graph, chips, &trial) else {
+    let Some(mut left) = left_without(graph, aim, chips, &trial) else {
         return Some(trial);
     };
     let mut number = from + leap(&mut trial, &mut left);
@@ -49,7 +56,7 @@ pub fn first_loss(graph: &Graph, chips: &Wide, k: u32, from: u32, to: u32) -> Op
 }
 
 /// Amounts without debts that amounts without a trial's can be fired to; `None` where those can't be won.
-fn left_without(graph: &Graph, chips: &Wide, trial: &Trial) -> Option<Form>
+pub(crate) fn left_without(graph: &Graph, aim: &Aim, chips: &Wide, trial: &Trial) -> Option<Form>
     requires graph { IsGraph graph.now }
     requires size { chips.now.size ≡ graph.now.size }
     requires range { (v : ℕ) → v < graph.now.size → unsigned_abs (at chips.now v) ≤ 1999000 }
@@ -60,7 +67,9 @@ fn left_without(graph: &Graph, chips: &Wide, trial: &Trial) -> Option<Form>
         (IsEffectiveForm graph.now (less (at chips.now) (amounts_of trial.now))) }
 {
     let lost = trial.to_divisor();
-    let left = reduce_wide(graph, 0, &chips.less(&lost)).divisor;
+    let left = reduce_certified(graph, aim, 0, &chips.less(&lost))
+        .reduced
+        .divisor;
     if left.get(0) < 0 {
         return None;
     }

@@ -10,6 +10,7 @@ mod numbers;
 mod pieces;
 mod rank_fault;
 mod ranks;
+mod reduced_trials;
 mod workers;
 
 pub use counting::{MAX_DEGREE, MAX_TRIALS, trial, trials};

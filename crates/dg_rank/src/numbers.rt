@@ -8,9 +8,10 @@ ghost use Rattle.dg_chips.specs.Vector.{at};
 ghost use Rattle.dg_rank.specs.Ranks.{IsRankInLimits, NeedsTooMany, NeedsPastTests, FailsFirstAt};
 
 use crate::counting::trials;
-use crate::duals::{has_rank, ranks_apart};
+use crate::duals::{passes, ranks_apart};
 use dg_chips::Divisor;
 use dg_graph::Graph;
+use dg_reduce::Aim;
 
 /// The rank of a divisor: the greatest k of which its rank is at least k, and -1 where it is not winnable. `None` where a
 /// test past the limits would be needed.
@@ -21,7 +22,7 @@ pub fn rank(graph: &Graph, q: usize, divisor: &Divisor) -> Option<i64>
         (NeedsTooMany graph.now (at divisor.now))
         (IsRankInLimits graph.now (at divisor.now)) }
 {
-    let fails = first_failing(graph, q, divisor)?;
+    let fails = first_failing(graph, divisor)?;
     trials(graph.size(), fails)?;
     Some(i64::from(fails) - 1)
 }
@@ -37,7 +38,7 @@ pub fn both_ranks(graph: &Graph, q: usize, divisor: &Divisor) -> Option<(i64, i6
         × IsRank graph.now (less (canonical graph.now) (at divisor.now)) r.1) }
 {
     let _size = graph.size();
-    let fails = first_failing(graph, q, divisor)?;
+    let fails = first_failing(graph, divisor)?;
     let rank = i64::from(fails) - 1;
     Some((rank, rank - ranks_apart(graph, divisor)))
 }
@@ -53,7 +54,7 @@ pub fn both_ranks_in_limits(graph: &Graph, q: usize, divisor: &Divisor) -> Optio
         (λ r. IsRankInLimits graph.now (at divisor.now) r.0
         × IsRankInLimits graph.now (less (canonical graph.now) (at divisor.now)) r.1) }
 {
-    let fails = first_failing(graph, q, divisor)?;
+    let fails = first_failing(graph, divisor)?;
     let dual_fails = first_failing_of_dual(graph, divisor, fails);
     trials(graph.size(), fails)?;
     trials(graph.size(), dual_fails)?;
@@ -62,9 +63,9 @@ pub fn both_ranks_in_limits(graph: &Graph, q: usize, divisor: &Divisor) -> Optio
 
 /// The least degree at which the rank test of a divisor fails. `None` where a test is needed that is past the limits, as is
 /// that of the dual.
-fn first_failing(graph: &Graph, q: usize, divisor: &Divisor) -> Option<u32>
+fn first_failing(graph: &Graph, divisor: &Divisor) -> Option<u32>
     requires size { divisor.now.size ≡ graph.now.size }
-    requires vertex { q < graph.now.size }
+    requires some { 0 < graph.now.size }
     ensures { MatchOption result
         (NeedsPastTests graph.now (at divisor.now))
         (FailsFirstAt graph.now (at divisor.now)) }
@@ -73,8 +74,9 @@ fn first_failing(graph: &Graph, q: usize, divisor: &Divisor) -> Option<u32>
     // A divisor passes all tests for which it is rich, and from the genus on no others.
     let first = ranks_apart(graph, divisor).max(0);
     let end = first.max(i64::from(graph.genus())) + 1;
+    let aim = Aim::new(graph, 0);
     for k in first as u32..end as u32 {
-        match has_rank(graph, q, divisor, k) {
+        match passes(graph, &aim, divisor, k) {
             Ok(true) => {}
             Ok(false) => return Some(k),
             Err(_) => return None,

@@ -13,6 +13,7 @@ use crate::rank_fault::RankFault;
 use crate::workers::Gate;
 use dg_chips::Wide;
 use dg_graph::Graph;
+use dg_reduce::Aim;
 use std::sync::Wait;
 use std::sync::atomic::{AtomicU32, Ordering};
 use std::thread;
@@ -54,6 +55,7 @@ pub(crate) fn first_loss_among<R: Threads + Wait, G: Gate>(
         // This never comes: a piece gives up only where an earlier one has lost.
         Ok(Outcome::GaveUp) => Ok(first_loss(
             &search.graph,
+            &Aim::new(&search.graph, 0),
             &search.chips,
             search.k,
             0,
@@ -190,13 +192,18 @@ fn outcome_of(search: &Search, lost: &AtomicU32, piece: u32) -> Outcome
 {
     let end = start_of(search, piece + 1);
     let start = start_of(search, piece);
+    if start >= end {
+        return Outcome::Won;
+    }
+    let aim = Aim::new(&search.graph, 0);
     let mut from = start;
     while from < end {
         if lost.load(Ordering::SeqCst) < piece {
             return Outcome::GaveUp;
         }
         let to = end.min(from + FIRST_LOOK.max(from - start));
-        if let Some(trial) = first_loss(&search.graph, &search.chips, search.k, from, to) {
+        let loss = first_loss(&search.graph, &aim, &search.chips, search.k, from, to);
+        if let Some(trial) = loss {
             lost.fetch_min(piece, Ordering::SeqCst);
             return Outcome::Lost(trial);
         }

@@ -1,5 +1,6 @@
 //! Rank tests.
-ghost use Rattle.std.specs.Prelude.{◌≡◌, ℕ, ◌<◌, ⊤, MatchOption, MatchResult};
+ghost use Rattle.std.specs.Prelude.{◌≡◌, ℕ, ◌<◌, ◌≤◌, ⊤, MatchOption, MatchResult};
+ghost use Rattle.std.specs.Int.RustNames.{unsigned_abs};
 ghost use Rattle.dg_theory.specs.Multigraph.{Multigraph};
 ghost use Rattle.dg_theory.specs.Firing.{Amounts, AreEquivalent};
 ghost use Rattle.dg_chips.specs.Vector.{at};
@@ -11,13 +12,13 @@ ghost use Rattle.dg_rank.specs.Ranks.{IsWithin, IsUnsettled};
 ghost use Rattle.dg_rank.specs.declared.rank_fault.RankFault.TheVariants.{TooMany};
 
 use crate::counting::trials;
-use crate::duals::{degree_left, loss_after, told_by_dual};
+use crate::duals::{degree_left, loss_after, told_before};
 use crate::enumeration::Trial;
 use crate::rank_fault::RankFault;
-use dg_chips::Divisor;
+use dg_chips::{Divisor, Wide};
 use dg_graph::Graph;
 use dg_ranked::RankVerdict;
-use dg_reduce::reduce;
+use dg_reduce::{Aim, reduce_certified};
 
 /// Tests whether the rank of a divisor is at least k: whether every effective divisor of degree k can be lost and the
 /// rest still won. If not, the answer names the first that can't, in the order of trials. Where the dual of the divisor has
@@ -43,10 +44,29 @@ pub fn rank_at_least(
     if let Some(verdict) = settled(graph, divisor, k) {
         return Ok(verdict);
     }
-    let chips = reduce(graph, q, divisor).divisor;
-    let told = told_by_dual(graph, q, divisor, &chips, k, count / 2);
-    let loss = loss_after(graph, &chips, k, count, told);
+    let aim = Aim::new(graph, 0);
+    let chips = small_amounts(graph, &aim, divisor, k);
+    let told = told_before(graph, &aim, divisor, &chips, k, count, count / 2);
+    let loss = loss_after(graph, &aim, &chips, k, count, told);
     Ok(verdict_on(k, loss))
+}
+
+/// The amounts that are reduced for the first vertex and that a divisor can be fired to, where the degree does not settle its
+/// test: all of them are small.
+pub(crate) fn small_amounts(graph: &Graph, aim: &Aim, divisor: &Divisor, k: u32) -> Wide
+    requires size { divisor.now.size ≡ graph.now.size }
+    requires limits { IsWithin graph.now.size k }
+    requires unsettled { IsUnsettled graph.now (at divisor.now) k }
+    ensures size { result.size ≡ graph.now.size }
+    ensures fired { AreEquivalent graph.now (at divisor.now) (at result) }
+    ensures small { (v : ℕ) → v < graph.now.size → unsigned_abs (at result v) ≤ 1999000 }
+{
+    let _size = graph.size();
+    // The clause of `size` says that the amounts are within their limit.
+    let _amounts = divisor.size();
+    reduce_certified(graph, aim, 0, &Wide::of(divisor))
+        .reduced
+        .divisor
 }
 
 /// The answer of a rank test that the degree alone settles. `None` where trials must be made.

@@ -6,14 +6,14 @@ ghost use Rattle.dg_rank.specs.Ranks.{IsWithin, IsRankFault, MayHaveWorkers};
 ghost use Rattle.dg_rank.specs.declared.rank_fault.RankFault.TheVariants.{Spawn};
 
 use crate::counting::trials;
-use crate::duals::{Told, told_by_dual};
+use crate::duals::{Told, told_before};
 use crate::pieces::{Search, first_loss_among};
 use crate::rank_fault::RankFault;
-use crate::ranks::{settled, verdict_on};
+use crate::ranks::{settled, small_amounts, verdict_on};
 use dg_chips::{Divisor, Wide};
 use dg_graph::Graph;
 use dg_ranked::RankVerdict;
-use dg_reduce::reduce;
+use dg_reduce::Aim;
 use std::marker::Sync;
 use std::sync::Wait;
 use std::thread::Threads;
@@ -69,9 +69,11 @@ pub fn rank_with<R: Threads + Wait, G: Gate>(
     if let Some(verdict) = settled(graph, divisor, k) {
         return after_the_gate(rt, graph, k, workers, gate, verdict);
     }
-    let chips = reduce(graph, q, divisor).divisor;
+    let aim = Aim::new(graph, 0);
+    let chips = small_amounts(graph, &aim, divisor, k);
     // The first trials and the dual's are made before there are threads to share the rest.
-    match told_by_dual(graph, q, divisor, &chips, k, count / (2 * workers)) {
+    let most = count / (2 * workers);
+    match told_before(graph, &aim, divisor, &chips, k, count, most) {
         Told::Lost(trial) => {
             let verdict = verdict_on(k, Some(trial));
             after_the_gate(rt, graph, k, workers, gate, verdict)

@@ -16,14 +16,33 @@ const A_BIT_MORE: f64 = 0.001;
 pub struct Aim {
     /// The vertex q.
     q: usize,
+    /// The number of vertices.
+    size: usize,
     /// How often each vertex lends so that one of them, and then q, has a dollar less, fractions too.
     inverse: [[f64; 16]; 16],
     /// What that comes to for the dollars that are left to the vertices: half of those that would keep them from burning.
     shift: [f64; 16],
+    /// What lending does.
+    pub(crate) lending: Lending,
+}
+
+/// What lending does on a graph, without a look at a vertex q.
+#[derive(Clone, Copy)]
+pub(crate) struct Lending {
     /// What each vertex but q gets when one of them lends.
     pub(crate) rows: [[i32; 16]; 16],
     /// The number of edges at each vertex.
     pub(crate) valences: [i32; 16],
+}
+
+impl Lending {
+    /// What it does on a graph.
+    pub(crate) fn new(graph: &Graph, q: usize) -> Lending {
+        Lending {
+            rows: lending_rows(graph, q),
+            valences: valences_of(graph),
+        }
+    }
 }
 
 impl Aim {
@@ -32,24 +51,24 @@ impl Aim {
         let inverse = inverse_of(graph.size(), &equations(graph, q));
         Aim {
             q,
+            size: graph.size(),
             inverse,
             shift: shift_of(graph, q, &inverse),
-            rows: lending_rows(graph, q),
-            valences: valences_of(graph),
+            lending: Lending::new(graph, q),
         }
     }
 
     /// Whether this may serve a graph and a vertex q: the vertex is the one that it was made for, and so many edges meet at
     /// each vertex. A graph to which edges were added since has more.
     pub fn may_serve(&self, graph: &Graph, q: usize) -> bool {
-        self.q == q && self.valences == valences_of(graph)
+        self.q == q && self.lending.valences == valences_of(graph)
     }
 
     /// How often each vertex lends, fractions too, so that all off q keep as much as they are aimed at, where they hold so
     /// much.
     pub(crate) fn lendings(&self, chips: &[i32; 16]) -> [f64; 16] {
         let mut sum = self.shift;
-        for v in 0..16 {
+        for v in 0..self.size.min(MAX_VERTICES) {
             sum = plus_times(&sum, &self.inverse[v], f64::from(chips[v]));
         }
         sum
@@ -104,54 +123,116 @@ fn equations(graph: &Graph, q: usize) -> [[f64; 16]; 16] {
 fn equation(graph: &Graph, q: usize, v: usize) -> [f64; 16]
     requires { v < graph.now.size }
 {
-    let size = graph.size();
+    let _size = graph.size();
     let mut row = [0.0; 16];
     if v == q {
         row[v] = 1.0;
         return row;
     }
-    for w in 0..size {
-        if w != q {
-            row[w] = -f64::from(graph.edges(v, w));
-        }
+    let edges = graph.row(v);
+    for w in 0..16 {
+        row[w] = -f64::from(edges[w]);
+    }
+    if q < 16 {
+        row[q] = 0.0;
     }
     row[v] = f64::from(graph.valence(v));
     row
 }
 
-/// The inverse of a matrix, as far as it has rows: the steps that turn it into the identity, done to the identity.
+/// The inverse of a matrix, as far as it has rows, made in its place: a column of the identity, once it is there, is
+/// replaced by the one that the inverse has so far.
 fn inverse_of(size: usize, matrix: &[[f64; 16]; 16]) -> [[f64; 16]; 16]
     requires { size ≤ MAX_VERTICES }
 {
     let mut rows = *matrix;
-    let mut inverse = [[0.0; 16]; 16];
-    for v in 0..size {
-        inverse[v][v] = 1.0;
-    }
     for pivot in 0..size {
-        take_pivot(size, &mut rows, &mut inverse, pivot);
+        take_pivot(size, &mut rows, pivot);
     }
-    inverse
+    rows
 }
 
 /// Divides the pivot's row so that it has 1 at the pivot, and takes multiples of it from all others, so that they have 0
-/// there.
-fn take_pivot(size: usize, rows: &mut [[f64; 16]; 16], inverse: &mut [[f64; 16]; 16], pivot: usize)
+/// there; then the pivot's column is that of the inverse.
+fn take_pivot(size: usize, rows: &mut [[f64; 16]; 16], pivot: usize)
     requires few { size ≤ MAX_VERTICES }
     requires pivot { pivot < size }
 {
-    let whole = 1.0 / rows[pivot][pivot];
-    let row = times(&rows[pivot], whole);
-    let same = times(&inverse[pivot], whole);
+    let mut row = rows[pivot];
+    let whole = 1.0 / row[pivot];
+    row[pivot] = 1.0;
+    let row = times(&row, whole);
     for v in 0..size {
-        let factor = -rows[v][pivot];
-        if factor != 0.0 {
-            rows[v] = plus_times(&rows[v], &row, factor);
-            inverse[v] = plus_times(&inverse[v], &same, factor);
+        let mut other = rows[v];
+        let factor = -other[pivot];
+        if v != pivot && factor != 0.0 {
+            other[pivot] = 0.0;
+            rows[v] = plus_times(&other, &row, factor);
         }
     }
     rows[pivot] = row;
-    inverse[pivot] = same;
+}
+
+/// How often each vertex lends, fractions too, as an aim has it, where there is none: one solution of the equations in place
+/// of the inverse.
+pub(crate) fn lendings_once(graph: &Graph, q: usize, chips: &[i32; 16]) -> [f64; 16] {
+    let mut rows = equations(graph, q);
+    let mut wanted = wanted_of(graph, q, chips);
+    let size = graph.size();
+    for pivot in 0..size {
+        clear_below(size, &mut rows, &mut wanted, pivot);
+    }
+    solved(size, &rows, &wanted)
+}
+
+/// What the equations come to: what each vertex holds, less what it is to keep.
+fn wanted_of(graph: &Graph, q: usize, chips: &[i32; 16]) -> [f64; 16] {
+    let mut wanted = [0.0; 16];
+    for v in 0..graph.size() {
+        if v != q {
+            wanted[v] = f64::from(chips[v]) - kept_by(graph, v);
+        }
+    }
+    wanted
+}
+
+/// Takes multiples of the pivot's row from all below it, so that they have 0 at the pivot.
+fn clear_below(size: usize, rows: &mut [[f64; 16]; 16], wanted: &mut [f64; 16], pivot: usize)
+    requires few { size ≤ MAX_VERTICES }
+    requires pivot { pivot < size }
+{
+    let row = rows[pivot];
+    let whole = -1.0 / row[pivot];
+    for v in pivot + 1..size {
+        let factor = rows[v][pivot] * whole;
+        if factor != 0.0 {
+            rows[v] = plus_times(&rows[v], &row, factor);
+            wanted[v] += wanted[pivot] * factor;
+        }
+    }
+}
+
+/// The solution of equations that have 0 before the diagonal, from the last on.
+fn solved(size: usize, rows: &[[f64; 16]; 16], wanted: &[f64; 16]) -> [f64; 16]
+    requires { size ≤ MAX_VERTICES }
+{
+    let mut lendings = [A_BIT_MORE; 16];
+    let mut found = [0.0; 16];
+    for v in (0..size).rev() {
+        let row = &rows[v];
+        found[v] = (wanted[v] - product(row, &found)) / row[v];
+        lendings[v] += found[v];
+    }
+    lendings
+}
+
+/// The sum of the products of two rows.
+fn product(row: &[f64; 16], other: &[f64; 16]) -> f64 {
+    let mut sum = 0.0;
+    for w in 0..16 {
+        sum += row[w] * other[w];
+    }
+    sum
 }
 
 /// The lendings that leave what is aimed at, where nobody holds anything before: a vertex of valence 3 or more is to keep
@@ -159,12 +240,24 @@ fn take_pivot(size: usize, rows: &mut [[f64; 16]; 16], inverse: &mut [[f64; 16];
 fn shift_of(graph: &Graph, q: usize, inverse: &[[f64; 16]; 16]) -> [f64; 16] {
     let mut shift = [A_BIT_MORE; 16];
     for v in 0..graph.size() {
-        let valence = f64::from(graph.valence(v));
-        if v != q && valence > 2.0 {
-            shift = plus_times(&shift, &inverse[v], 1.0 - valence / 2.0);
+        let kept = kept_by(graph, v);
+        if v != q && kept != 0.0 {
+            shift = plus_times(&shift, &inverse[v], -kept);
         }
     }
     shift
+}
+
+/// What a vertex is to keep.
+fn kept_by(graph: &Graph, v: usize) -> f64
+    requires { v < graph.now.size }
+{
+    let valence = f64::from(graph.valence(v));
+    if valence > 2.0 {
+        valence / 2.0 - 1.0
+    } else {
+        0.0
+    }
 }
 
 /// A row, so many times.

@@ -130,6 +130,20 @@ impl Form {
         true
     }
 
+    /// Whether the amounts are reduced for a vertex: whether burning from it leaves nothing.
+    pub fn is_reduced(&self, graph: &Graph, v: usize) -> bool
+        requires size { self.now.size ≡ graph.now.size }
+        requires vertex { v < graph.now.size }
+        requires no_debt { HasNoDebtOff graph.now v (at self.now) }
+        ensures { MatchBool result
+            (IsReduced graph.now v (at self.now))
+            (¬ IsReduced graph.now v (at self.now)) }
+    {
+        let _size = graph.size();
+        let seen = burn_counted(graph, v, &self.held());
+        seen.burnt.unburnt == 0
+    }
+
     /// What burning from a vertex leaves, with its counts, if it leaves something.
     fn rest(&self, graph: &Graph, v: usize) -> Option<Counted>
         requires size { self.now.size ≡ graph.now.size }

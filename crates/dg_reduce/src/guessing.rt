@@ -11,11 +11,11 @@ ghost use Rattle.dg_chips.specs.declared.limits.TheConstants.{MAX_ENTRY};
 ghost use Rattle.dg_reduce.specs.declared.limits.TheConstants.{MAX_START};
 ghost use Rattle.dg_reduce.specs.Burnings.{IsWhole};
 
-use crate::aim::Aim;
+use crate::aim::{Aim, Lending, lendings_once};
 use crate::certificate::Burning;
 use dg_burn::burn_counted;
 use dg_chips::{Script, Wide};
-use dg_graph::{Graph, contains};
+use dg_graph::{Graph, MAX_VERTICES, contains};
 use std::num::f64_to_bits_with_nan;
 
 /// The most lendings, and the most borrowings, that are guessed.
@@ -62,13 +62,46 @@ pub fn guess(graph: &Graph, aim: &Aim, q: usize, chips: &Wide) -> Guessed
 {
     let _size = graph.size();
     let amounts = amounts_off(q, chips);
+    guess_near(graph, &aim.lending, q, &amounts, &aim.lendings(&amounts))
+}
+
+/// The same where no other reduction on the graph is asked for: what is made for one alone costs less than an aim.
+pub fn guess_once(graph: &Graph, q: usize, chips: &Wide) -> Guessed
+    requires size { chips.now.size ≡ graph.now.size }
+    requires vertex { q < graph.now.size }
+    requires range { (v : ℕ) → v < graph.now.size → unsigned_abs (at chips.now v) ≤ MAX_START }
+    ensures size { result.script.size ≡ graph.now.size }
+    ensures at_q { at result.script q ≡ pos 0 }
+    ensures burning { IfSome result.burning (λ x. IsWhole graph.now q x) }
+{
+    let _size = graph.size();
+    let amounts = amounts_off(q, chips);
+    let lending = Lending::new(graph, q);
+    let lendings = lendings_once(graph, q, &amounts);
+    guess_near(graph, &lending, q, &amounts, &lendings)
+}
+
+/// The guess that begins with so many lendings.
+fn guess_near(
+    graph: &Graph,
+    lending: &Lending,
+    q: usize,
+    amounts: &[i32; 16],
+    lendings: &[f64; 16],
+) -> Guessed
+    requires { q < graph.now.size }
+    ensures size { result.script.size ≡ graph.now.size }
+    ensures at_q { at result.script q ≡ pos 0 }
+    ensures burning { IfSome result.burning (λ x. IsWhole graph.now q x) }
+{
+    let _size = graph.size();
     let mut near = Near {
-        chips: amounts,
-        script: rounded(&aim.lendings(&amounts)),
+        chips: *amounts,
+        script: rounded(lendings),
     };
-    lend_all(aim, &mut near);
-    pay(aim, &mut near);
-    let burning = burn_down(graph, aim, q, &mut near);
+    lend_all(graph.size(), lending, &mut near);
+    pay(lending, &mut near);
+    let burning = burn_down(graph, lending, q, &mut near);
     Guessed {
         script: script_of(graph, q, &near.script),
         burning,
@@ -89,12 +122,14 @@ fn amounts_off(q: usize, chips: &Wide) -> [i32; 16]
 }
 
 /// Lets all lend so often.
-fn lend_all(aim: &Aim, near: &mut Near) {
-    for v in 0..16 {
+fn lend_all(size: usize, lending: &Lending, near: &mut Near)
+    requires { size ≤ MAX_VERTICES }
+{
+    for v in 0..size {
         let times = near.script[v];
         // The test also keeps the compiler from taking four rows together, which is slower than one after the other.
         if times != 0 {
-            lend(&mut near.chips, &aim.rows[v], times);
+            lend(&mut near.chips, &lending.rows[v], times);
         }
     }
 }
@@ -124,13 +159,13 @@ fn lend(chips: &mut [i32; 16], row: &[i32; 16], times: i32) {
 
 /// Lets the least who owes borrow until it owes no more, again and again. In whatever turn they borrow, each does so as often
 /// in the end.
-fn pay(aim: &Aim, near: &mut Near) {
+fn pay(lending: &Lending, near: &mut Near) {
     for _ in 0..PAYINGS {
         let Some(v) = first_owing(&near.chips) else {
             return;
         };
-        let times = times_to_pay(near.chips[v], aim.valences[v]);
-        lend(&mut near.chips, &aim.rows[v], times);
+        let times = times_to_pay(near.chips[v], lending.valences[v]);
+        lend(&mut near.chips, &lending.rows[v], times);
         near.script[v] = near.script[v].wrapping_add(times);
     }
 }
@@ -156,7 +191,7 @@ fn times_to_pay(chips: i32, valence: i32) -> i32 {
 }
 
 /// Lets those who do not burn lend together, again and again, until all burn: that burning is the result.
-fn burn_down(graph: &Graph, aim: &Aim, q: usize, near: &mut Near) -> Option<Burning>
+fn burn_down(graph: &Graph, lending: &Lending, q: usize, near: &mut Near) -> Option<Burning>
     requires { q < graph.now.size }
     ensures { IfSome result (λ x. IsWhole graph.now q x) }
 {
@@ -173,7 +208,7 @@ fn burn_down(graph: &Graph, aim: &Aim, q: usize, near: &mut Near) -> Option<Burn
         } else {
             most_times(set, &counted.joined, &near.chips)
         };
-        fire(aim, set, &counted.joined, times, near);
+        fire(lending, set, &counted.joined, times, near);
     }
     None
 }
@@ -201,11 +236,11 @@ fn held_by(chips: &[i32; 16]) -> [u8; 16] {
 }
 
 /// Lets the vertices of a set lend together so many times; `joined` are the edges of each vertex to those that are not in it.
-fn fire(aim: &Aim, set: u16, joined: &[u8; 16], times: i32, near: &mut Near) {
+fn fire(lending: &Lending, set: u16, joined: &[u8; 16], times: i32, near: &mut Near) {
     for v in 0..16 {
         let lends = i32::from(contains(set, v));
         let out = i32::from(joined[v]);
-        let got = (1i32.wrapping_sub(lends)).wrapping_mul(aim.valences[v]);
+        let got = (1i32.wrapping_sub(lends)).wrapping_mul(lending.valences[v]);
         let gains = got.wrapping_sub(out).wrapping_mul(times);
         near.chips[v] = near.chips[v].wrapping_add(gains);
         near.script[v] = near.script[v].wrapping_add(lends.wrapping_mul(times));

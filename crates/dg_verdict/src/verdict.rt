@@ -1,12 +1,13 @@
 //! Verdicts, and how they are made.
 
-ghost use Rattle.std.specs.Prelude.{◌≡◌, ◌<◌, pos};
+ghost use Rattle.std.specs.Prelude.{◌≡◌, ℕ, ◌<◌, pos, IfSome};
 ghost use Rattle.dg_chips.specs.Vector.{at};
+ghost use Rattle.dg_reduce.specs.Burnings.{IsWhole};
 ghost use Rattle.dg_verdict.specs.Right.{IsVerdictOn};
 
 use dg_chips::{Divisor, Script, Wide};
 use dg_graph::Graph;
-use dg_reduce::{Aim, certified_by, guess, order_by};
+use dg_reduce::{Aim, Guessed, certified_by, guess, guess_once, order_by};
 
 /// Whether a divisor is winnable, with what shows it.
 #[derive(Clone, Copy, PartialEq, Eq)]
@@ -28,7 +29,12 @@ pub fn judge(graph: &Graph, q: usize, divisor: &Divisor) -> Verdict
     requires vertex { q < graph.now.size }
     ensures { IsVerdictOn graph.now q (at divisor.now) result }
 {
-    judge_by(graph, &Aim::new(graph, q), q, divisor)
+    // The clauses of `size` say that graph and divisor are within their limits.
+    let _size = graph.size();
+    let _amounts = divisor.size();
+    let chips = Wide::of(divisor);
+    let guess = guess_once(graph, q, &chips);
+    judge_guessed(graph, q, divisor, &chips, &guess)
 }
 
 /// The verdict as `judge` gives it, whatever is aimed by: an aim that was made for the graph and q saves the time to make
@@ -56,6 +62,27 @@ fn judge_by(graph: &Graph, aim: &Aim, q: usize, divisor: &Divisor) -> Verdict
     let _amounts = divisor.size();
     let chips = Wide::of(divisor);
     let guess = guess(graph, aim, q, &chips);
+    judge_guessed(graph, q, divisor, &chips, &guess)
+}
+
+/// The verdict where a script was guessed.
+fn judge_guessed(
+    graph: &Graph,
+    q: usize,
+    divisor: &Divisor,
+    chips: &Wide,
+    guess: &Guessed,
+) -> Verdict
+    requires size { divisor.now.size ≡ graph.now.size }
+    requires vertex { q < graph.now.size }
+    requires chips { (chips.now.size ≡ graph.now.size) ×
+        ((v : ℕ) → v < graph.now.size → at chips.now v ≡ at divisor.now v) }
+    requires script { (guess.now.script.size ≡ graph.now.size) × (at guess.now.script q ≡ pos 0) }
+    requires burning { IfSome guess.now.burning (λ x. IsWhole graph.now q x) }
+    ensures { IsVerdictOn graph.now q (at divisor.now) result }
+{
+    let _size = graph.size();
+    let _amounts = divisor.size();
     let reduced = chips.fired_by(graph, &guess.script);
     let Some(order) = order_by(graph, q, &reduced, &guess.burning) else {
         return judge_after(graph, q, divisor, &guess.script);

@@ -12,7 +12,7 @@ use Rattle.dg_reduce.specs.Effective.{IsEffectiveForm}
 use Rattle.dg_rank.specs.Divisors.{amounts_of}
 use Rattle.dg_rank.proofs.Elsewhere.{left_degree, left_small, form_kept, rich_small}
 use Rattle.dg_rank.proofs.first_loss.left_without.Goals as goal
-use Rattle.dg_rank.proofs.first_loss.left_without.Goals.{After-less, After-reduce_wide-left}
+use Rattle.dg_rank.proofs.first_loss.left_without.Goals.{After-less, After-reduce_certified-left}
 
 -- the amounts without the trial's
 left : (c : After-less) →
@@ -27,62 +27,62 @@ left c v inside =
     )
 
 -- they are fired to the reduced ones
-led : (c : After-reduce_wide-left) →
+led : (c : After-reduce_certified-left) →
     AgreeOn c.args.graph.now.size (less (at c.args.chips.now) (amounts_of c.args.trial.now)) (at c.less.result) →
     AreEquivalent c.args.graph.now (less (at c.args.chips.now) (amounts_of c.args.trial.now))
-    (at c.reduce_wide-left.result.divisor)
+    (at c.reduce_certified-left.result.reduced.divisor)
 led c same = equivalent-trans c.args.graph.now _ (at c.less.result) _
     (equivalent-refl c.args.graph.now _ (at c.less.result) same)
-    (at c.reduce_wide-left.result.script, c.reduce_wide-left.ensures.led)
+    (at c.reduce_certified-left.result.reduced.script, c.reduce_certified-left.ensures.reduction.led)
 
 -- so the reduced ones, where q owes nothing, are a form of them
-form : (c : After-reduce_wide-left) →
+form : (c : After-reduce_certified-left) →
     AgreeOn c.args.graph.now.size (less (at c.args.chips.now) (amounts_of c.args.trial.now)) (at c.less.result) →
-    pos 0 ≤ℤ at c.reduce_wide-left.result.divisor 0 →
+    pos 0 ≤ℤ at c.reduce_certified-left.result.reduced.divisor 0 →
     IsEffectiveForm c.args.graph.now
-    (less (at c.args.chips.now) (amounts_of c.args.trial.now)) c.reduce_wide-left.result.divisor
+    (less (at c.args.chips.now) (amounts_of c.args.trial.now)) c.reduce_certified-left.result.reduced.divisor
 form c same paid = record {
-  size = c.reduce_wide-left.ensures.sizes.0;
+  size = c.reduce_certified-left.ensures.reduction.sizes.0;
   effective = effective_from c.args.graph.now 0
-      (at c.reduce_wide-left.result.divisor) c.reduce_wide-left.ensures.reduced paid;
+      (at c.reduce_certified-left.result.reduced.divisor) c.reduce_certified-left.ensures.reduction.reduced paid;
   led = led c same;
 }
 
-pub reduce_wide-left-requires-clause-range : goal.reduce_wide-left-requires-clause-range
-reduce_wide-left-requires-clause-range c v inside =
+pub reduce_certified-left-requires-clause-range : goal.reduce_certified-left-requires-clause-range
+reduce_certified-left-requires-clause-range c v inside =
     let (k, count, within, trial) = c.requires.trial in
     left_small c.args.graph.now.size k count c.args.trial.now (at c.args.chips.now)
     (at c.less.result) v within trial inside
     (c.requires.range v inside)
-    (omega (arith, ints, left (goal.at.reduce_wide-left-requires-clause-range c).After-less v inside))
+    (omega (arith, ints, left (goal.at.reduce_certified-left-requires-clause-range c).After-less v inside))
 
 pub returns-then-get-lt0 : goal.returns-then-get-lt0
 returns-then-get-lt0 c = λ win.
-    let paid : pos 0 ≤ℤ at c.reduce_wide-left.result.divisor 0 =
+    let paid : pos 0 ≤ℤ at c.reduce_certified-left.result.reduced.divisor 0 =
     (reduced_decides c.args.graph.now 0 (less (at c.args.chips.now) (amounts_of c.args.trial.now))
-    (at c.reduce_wide-left.result.divisor)
+    (at c.reduce_certified-left.result.reduced.divisor)
     (omega (arith, c.requires.graph.some))
-    (led (goal.at.returns-then-get-lt0 c).After-reduce_wide-left (left (goal.at.returns-then-get-lt0 c).After-less))
-    c.reduce_wide-left.ensures.reduced).0 win in
+    (led (goal.at.returns-then-get-lt0 c).After-reduce_certified-left (left (goal.at.returns-then-get-lt0 c).After-less))
+    c.reduce_certified-left.ensures.reduction.reduced).0 win in
     absurd (omega (arith, ints))
 
 pub of-requires : goal.of-requires
 of-requires c = record {
   range = λ v inside.
       let good : IsEffectiveForm c.args.graph.now
-      (less (at c.args.chips.now) (amounts_of c.args.trial.now)) c.reduce_wide-left.result.divisor =
-      form (goal.at.of-requires c).After-reduce_wide-left (left (goal.at.of-requires c).After-less)
+      (less (at c.args.chips.now) (amounts_of c.args.trial.now)) c.reduce_certified-left.result.reduced.divisor =
+      form (goal.at.of-requires c).After-reduce_certified-left (left (goal.at.of-requires c).After-less)
       (omega (arith, ints)) in
-      let small : unsigned_abs (at c.reduce_wide-left.result.divisor v) ≤ 32000000 =
-      rich_small c.args.graph.now.size (at c.reduce_wide-left.result.divisor) 32000000 v good.effective
+      let small : unsigned_abs (at c.reduce_certified-left.result.reduced.divisor v) ≤ 32000000 =
+      rich_small c.args.graph.now.size (at c.reduce_certified-left.result.reduced.divisor) 32000000 v good.effective
       (left_degree c.args.graph.now
-      (at c.args.chips.now) c.args.trial.now c.reduce_wide-left.result.divisor c.requires.graph
-      c.requires.range good) (omega (arith, c.reduce_wide-left.ensures.sizes.0)) in
+      (at c.args.chips.now) c.args.trial.now c.reduce_certified-left.result.reduced.divisor c.requires.graph
+      c.requires.range good) (omega (arith, c.reduce_certified-left.ensures.reduction.sizes.0)) in
       omega arith;
 }
 
 pub returns : goal.returns
-returns c = form_kept c.args.graph.now _ _ c.reduce_wide-left.result.divisor c.of.result (λ v inside. refl)
-    (form (goal.at.returns c).After-reduce_wide-left (left (goal.at.returns c).After-less) (omega (arith, ints)))
-    (c.of.ensures.size ∙ c.reduce_wide-left.ensures.sizes.0)
-    (λ v inside. c.of.ensures.amounts v (omega (arith, c.reduce_wide-left.ensures.sizes.0)))
+returns c = form_kept c.args.graph.now _ _ c.reduce_certified-left.result.reduced.divisor c.of.result (λ v inside. refl)
+    (form (goal.at.returns c).After-reduce_certified-left (left (goal.at.returns c).After-less) (omega (arith, ints)))
+    (c.of.ensures.size ∙ c.reduce_certified-left.ensures.reduction.sizes.0)
+    (λ v inside. c.of.ensures.amounts v (omega (arith, c.reduce_certified-left.ensures.reduction.sizes.0)))

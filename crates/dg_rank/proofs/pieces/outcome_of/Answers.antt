@@ -5,8 +5,8 @@ use Rattle.dg_rank.specs.Pieces.{piece_start}
 use Rattle.dg_rank.proofs.PieceLosses.{piece_within, wins_both, loss_before, loss_after}
 use Rattle.dg_rank.proofs.pieces.outcome_of.Goals as goal
 
-pub first_loss-requires-clause-limits : goal.first_loss-requires-clause-limits
-first_loss-requires-clause-limits c =
+pub first_loss-loss-requires-clause-limits : goal.first_loss-loss-requires-clause-limits
+first_loss-loss-requires-clause-limits c =
     let (count, within, few) = c.requires.search.limits in
     let s = c.args.search.now in
     let inside : piece_start s.count s.workers (c.args.piece + 1) ≤ s.count =

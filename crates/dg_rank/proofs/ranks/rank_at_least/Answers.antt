@@ -1,33 +1,22 @@
 use Rattle.dg_chips.specs.Vector.{at}
 use Rattle.dg_rank.specs.Limits.{IsWithinLimits}
 use Rattle.dg_rank.proofs.FirstLosses.{found_trial}
-use Rattle.dg_rank.proofs.SmallAmounts.{unsettled_small}
 use Rattle.dg_rank.proofs.ranks.rank_at_least.Goals as goal
 
-pub told_by_dual-told-requires-clause-range : goal.told_by_dual-told-requires-clause-range
-told_by_dual-told-requires-clause-range c =
-    unsettled_small c.args.graph.now c.args.q (at c.args.divisor.now) (at c.reduce-chips.result.divisor) c.args.k
-    c.size-size.ensures.graph c.requires.vertex c.in-Some.ensures.small c.in_default-settled.ensures
-    (at c.reduce-chips.result.script, c.reduce-chips.ensures.led) c.reduce-chips.ensures.reduced
+pub told_before-told-requires-clause-range : goal.told_before-told-requires-clause-range
+told_before-told-requires-clause-range c =
+    c.small_amounts-chips.ensures.small
 
 pub loss_after-loss-requires-clause-range : goal.loss_after-loss-requires-clause-range
 loss_after-loss-requires-clause-range c =
-    unsettled_small c.args.graph.now c.args.q (at c.args.divisor.now) (at c.reduce-chips.result.divisor) c.args.k
-    c.size-size.ensures.graph c.requires.vertex c.in-Some.ensures.small c.in_default-settled.ensures
-    (at c.reduce-chips.result.script, c.reduce-chips.ensures.led) c.reduce-chips.ensures.reduced
-
-pub loss_after-loss-requires-clause-told : goal.loss_after-loss-requires-clause-told
-loss_after-loss-requires-clause-told c =
-    let within : IsWithinLimits c.args.graph.now.size c.args.k c.in-Some.count =
-    rw c.size-size.ensures.size at c.in-Some.ensures in
-    c.told_by_dual-told.ensures c.in-Some.count within
+    c.small_amounts-chips.ensures.small
 
 pub verdict_on-requires : goal.verdict_on-requires
 verdict_on-requires c =
     let within : IsWithinLimits c.args.graph.now.size c.args.k c.in-Some.count =
     rw c.size-size.ensures.size at c.in-Some.ensures in
     found_trial c.args.graph.now
-    (at c.reduce-chips.result.divisor) c.args.k c.in-Some.count c.loss_after-loss.result within
+    (at c.small_amounts-chips.result) c.args.k c.in-Some.count c.loss_after-loss.result within
     c.loss_after-loss.ensures
 
 pub returns : goal.returns
@@ -36,6 +25,6 @@ returns c =
     rw c.size-size.ensures.size at c.in-Some.ensures in (
       (c.in-Some.count, within),
       c.verdict_on.ensures c.args.graph.now (at c.args.divisor.now)
-          (at c.reduce-chips.result.divisor) c.in-Some.count within
-          (at c.reduce-chips.result.script, c.reduce-chips.ensures.led) c.loss_after-loss.ensures,
+          (at c.small_amounts-chips.result) c.in-Some.count within
+          c.small_amounts-chips.ensures.fired c.loss_after-loss.ensures,
     )

@@ -5,17 +5,17 @@ use Rattle.std.proofs.Math.IntN.{ℤ, pos, ◌+ℤ◌}
 use Rattle.dg_theory.specs.Firing.{gain}
 use Rattle.dg_chips.specs.Vector.{at}
 use Rattle.dg_verdict.proofs.Verdicts.{is_right}
-use Rattle.dg_verdict.proofs.verdict.judge_by.Goals as goal
+use Rattle.dg_verdict.proofs.verdict.judge_guessed.Goals as goal
 
 -- the script leads from the amounts of the divisor themselves
 pub returns : goal.returns
 returns c = record {
   right =
       is_right c.args.graph.now c.args.q (at c.args.divisor.now) _ c.requires.vertex
-      c.guess-guess.ensures.size c.fired_by-reduced.ensures.size c.guess-guess.ensures.at_q
+      c.requires.script.0 c.fired_by-reduced.ensures.size c.requires.script.1
       (λ v inside. c.fired_by-reduced.ensures.amounts v inside
-      ∙ ap (λ (z : ℤ). z +ℤ gain c.args.graph.now (at c.guess-guess.result.script) v)
-      (c.of-chips.ensures.amounts v (omega (arith, c.requires.size))))
+      ∙ ap (λ (z : ℤ). z +ℤ gain c.args.graph.now (at c.args.guess.now.script) v)
+      (c.requires.chips.1 v inside))
       c.in-Some.ensures.0 c.in-Some.ensures.1.burns (
         λ told. omega (arith, ints),
         λ (paid : pos 0 ≤ℤ at c.fired_by-reduced.result c.args.q). sym (omega (arith, ints)),

@@ -9,8 +9,8 @@ use Rattle.dg_theory.proofs.DualityLaws.{high_rank}
 use Rattle.dg_chips.specs.Vector.{at}
 use Rattle.dg_rank.specs.Limits.{IsPastLimits}
 use Rattle.dg_rank.proofs.DualTests.{decided, unsettled-cong, unsettled_dual, dual_passes, both_past}
-use Rattle.dg_rank.proofs.duals.has_rank.Goals.{then-rest-lt0-via-then-rest-lt0, then-rest-lt0-via-else-rest-lt0+then-from-genus}
-use Rattle.dg_rank.proofs.duals.has_rank.Goals as goal
+use Rattle.dg_rank.proofs.duals.passes.Goals.{then-rest-lt0-via-then-rest-lt0, then-rest-lt0-via-else-rest-lt0+then-from-genus}
+use Rattle.dg_rank.proofs.duals.passes.Goals as goal
 
 pub returns-then-rest-genus : goal.returns-then-rest-genus
 returns-then-rest-genus c =

@@ -1,0 +1,7 @@
+use Rattle.std.proofs.Common.{◌+◌, ◌-◌}
+use Rattle.std.specs.Int.RustNames.{unsigned_abs}
+use Rattle.dg_chips.specs.Vector.{at}
+use Rattle.dg_rank.proofs.reduced_trials.+reduced_win.Given as goal
+
+abbrev pub decreases-reduced_win : goal.decreases-reduced_win
+decreases-reduced_win l = l.graph.now.size - l.place + unsigned_abs (at l.lost.now (l.graph.now.size - 1))
