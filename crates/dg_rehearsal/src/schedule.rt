@@ -206,8 +206,7 @@ impl Rehearsal {
         k: u32,
         entry: &mut Entry,
     ) -> Result<(), RehearseFault>
-        requires playing { (o : Opening) × (H : List Entry) × (steps : List Step) ×
-            IsPlaying o steps H self.old }
+        requires playing { IsInPlay self.old }
         requires kept { (o : Opening) (H : List Entry) (steps : List Step) →
             IsPlaying o steps H self.old → KeepsLook o H steps seat (Some look.now) }
         requires stale { look.now.gifts ≢ self.old.game.gifts }
