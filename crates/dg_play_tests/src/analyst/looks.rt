@@ -104,7 +104,8 @@ fn enters_on_a_look_of<N: Name, R: Wait + Abort>(
     second: &mut Seat<N>,
 ) -> Result<(), Fail> {
     let taken = look(table, rt, alloc, second)?;
-    let receipt = commit_look(table, rt, alloc, first, &taken)?;
+    let mut aim = *table.aim();
+    let receipt = commit_look(table, rt, alloc, first, &taken, &mut aim)?;
     assert!(rt; taken.receipt().number() == 3 && receipt.number() == 4);
     assert!(rt; is_won(&table.log().entry(&receipt).reply));
     Ok(())
