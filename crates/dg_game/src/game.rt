@@ -165,6 +165,7 @@ impl Game {
 
     /// Writes the reply to a call, as the game answers it after its history. The game stays as it is: `follow` takes the entry
     /// into the history.
+    #[inline(always)]
     pub fn answer(&self, plain: &Plain, reply: &mut Reply)
         ensures here { (before : ℕ → ℕ) →
             RepliesAt (position_of self.now) self.now.q before self.now.gifts (asked plain.now) reply.new }
@@ -176,7 +177,9 @@ impl Game {
         self.answer_now(plain, reply);
     }
 
-    /// Writes the reply to a call that is right as the game stands.
+    /// Writes the reply to a call that is right as the game stands. Where the caller knows that the game and the reply lie apart,
+    /// what a look shows is copied once.
+    #[inline(always)]
     fn answer_now(&self, plain: &Plain, reply: &mut Reply)
         ensures { (before : ℕ → ℕ) →
             RepliesAt (position_of self.now) self.now.q before self.now.gifts (asked plain.now) reply.new }
@@ -362,7 +365,7 @@ impl Game {
             LeadsTo o H self.now → IsLookAt o H look.now → IsLegal o H → IsSeat seat →
             IsLegal o (with_entry H seat (asked_on look.now.number asks) reply.new) }
     {
-        *reply = Reply::Stale(self.gifts);
+        *reply = Reply::Stale(self.gifts());
     }
 
     /// The verdict on an earlier position, carried over to the position now.

@@ -284,6 +284,7 @@ impl Rehearsal {
         entry.request = asks.request(look.number);
         self.game.answer_stale(look, &mut entry.reply);
         self.game.follow(entry);
-        self.looks[usize::from(seat)] = None;
+        let place = usize::from(seat);
+        self.looks[place] = None;
     }
 }

@@ -249,25 +249,26 @@ impl<N: Name> Held<N> {
         log: &Log<N>,
         seat: &mut Seat<N>,
         slot: Box<Entry>,
-        look: &Receipt<N>,
+        taken: &Receipt<N>,
         shown: &LookData,
         asks: &Question,
     ) -> Result<Option<Receipt<N>>, Fault>
         requires space { seat.old.space ≡ true }
-        requires look { IsLookOf look.now shown.now }
+        requires look { IsLookOf taken.now shown.now }
         ensures settled { IfOk result (λ found. MatchOption found
             ((self.new ≡ self.old) × (seat.new ≡ seat.old) × (shown.now.gifts ≡ gifts_in self.old.entries))
-            (λ r. IsStaleAfter N.start N.seats (length N.cells) self.old.entries look.now shown.now asks.now r seat.old seat.new ×
+            (λ r. IsStaleAfter N.start N.seats (length N.cells) self.old.entries taken.now shown.now
+            asks.now r seat.old seat.new ×
             (self.new ≡ record { entries = self.old.entries ++ r.1 ∷ []; stuck = false }))) }
         ensures refused { IfErr result
             (λ f. (self.new.entries ≡ self.old.entries) × Meets self.old.entries seat.old seat.new ×
-            RefusesSettling N.start N.seats (length N.cells) self.old.entries look.now.0 seat.old
+            RefusesSettling N.start N.seats (length N.cells) self.old.entries taken.now.0 seat.old
             self.old.stuck self.new.stuck f) }
     {
         if self.game.gifts() == shown.gifts {
             return Ok(None);
         }
-        match self.ready_on(log, seat, look) {
+        match self.ready_on(log, seat, taken) {
             Ok(()) => {}
             Err(fault) => {
                 self.meet(seat);
@@ -280,7 +281,7 @@ impl<N: Name> Held<N> {
         entry.request = asks.request(shown.number);
         self.game.answer_stale(shown, &mut entry.reply);
         let receipt = self.enter(log, seat, slot)?;
-        seat.hear(look);
+        seat.hear(taken);
         Ok(Some(receipt))
     }
 
