@@ -18,4 +18,4 @@ returns c = λ o H steps command playing keeps there up trials asks.
     playing there c.requires.seat keeps up trials asks
     (c.answer_stale.ensures.legal o H c.args.asks.now c.args.seat playing.leads keeps.1 playing.legal c.requires.seat)
     (leads_more o H _ _ _ playing.leads replies (rw c.request-entry.ensures at c.follow.ensures.next)) refl
-    (ap (λ i. set c.args.self.now.looks i None) c.from.ensures))
+    (ap (λ i. set c.args.self.now.looks i None) c.from-place.ensures))
