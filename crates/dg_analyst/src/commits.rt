@@ -1,15 +1,16 @@
 //! Entering what was reckoned on a look.
-ghost use Rattle.std.specs.Prelude.{◌≡◌, length, IfOk, IfErr};
+ghost use Rattle.std.specs.Prelude.{◌≡◌, length, IfOk, IfErr, MatchOption};
 ghost use Rattle.dg_verdict.specs.declared.verdict.Verdict.{Verdict as VerdictData};
 ghost use Rattle.dg_analyst.specs.Views.{IsJudged};
 ghost use Rattle.dg_table.specs.Faults.{RefusesCall};
 ghost use Rattle.dg_table.specs.Seats.{Keeps};
-ghost use Rattle.dg_table.specs.Settled.{IsSettled};
+ghost use Rattle.dg_table.specs.Settled.{IsSettled, IsStale};
 
 use crate::looks::Look;
 use crate::reckoning::{Reckoned, Tried};
-use dg_game::Finding;
+use dg_game::{Finding, Question, renew};
 use dg_log::{Name, Receipt};
+use dg_reduce::Aim;
 use dg_table::{Fault, Seat, Table};
 use dg_verdict::judge_aimed;
 use std::alloc::Global;
@@ -43,8 +44,32 @@ pub fn commit<N: Name>(
     }
 }
 
-/// Reckons the verdict on a look, by the aim of the table, and enters it, as `reckon_aimed` and `commit` do one after the
-/// other. The look stays the caller's.
+/// Enters a question on a look as stale, as `commit` and `commit_rank` enter what was reckoned for it, if gifts, levies or joins
+/// were accepted since the look; so nothing need be reckoned on a look that is stale. `None`, and no entry, if none was. The
+/// look stays the caller's; the seat is told of it, and need not be the one that looked.
+///
+/// It waits for the lock, twice where it makes an entry. Refused as `commit`; then the seat knows what it knew, and there is no
+/// entry.
+pub fn commit_stale<N: Name>(
+    table: &Table<N>,
+    rt: &impl Wait,
+    alloc: Global,
+    seat: &mut Seat<N>,
+    look: &Look<N>,
+    asks: &Question,
+) -> Result<Option<Receipt<N>>, Fault>
+    ensures settled { IfOk result (λ found. MatchOption found
+        (Keeps seat.old seat.new × (seat.new.met ≡ seat.old.met))
+        (λ r. IsStale N.start N.seats (length N.cells) look.now.receipt look.now.shown asks.now r
+        seat.old seat.new)) }
+    ensures fault { IfErr result (λ f. Keeps seat.old seat.new ×
+        RefusesCall N.start N.seats (length N.cells) seat.new f) }
+{
+    table.settle_stale(rt, alloc, seat, &look.receipt, &look.shown, asks)
+}
+
+/// Reckons the verdict on a look, by an aim that is first made anew unless it may serve, and enters it, as `reckon_aimed` and
+/// `commit` do one after the other. The look stays the caller's.
 ///
 /// It waits and is refused as `commit`; then the seat knows what it knew, and there is no entry.
 pub fn commit_look<N: Name>(
@@ -53,6 +78,7 @@ pub fn commit_look<N: Name>(
     alloc: Global,
     seat: &mut Seat<N>,
     look: &Look<N>,
+    aim: &mut Aim,
 ) -> Result<Receipt<N>, Fault>
     ensures settled { (v : VerdictData) × IsJudged N.start.q look.now v ×
         IfOk result (λ r. IsSettled N.start N.seats (length N.cells) look.now.receipt
@@ -62,7 +88,8 @@ pub fn commit_look<N: Name>(
 {
     let shown = &look.shown;
     let q = usize::from(look.q);
-    let verdict = judge_aimed(&shown.graph, table.aim(), q, &shown.position);
+    renew(aim, q, shown);
+    let verdict = judge_aimed(&shown.graph, aim, q, &shown.position);
     let finding = Finding::Judged(verdict);
     table.settle(rt, alloc, seat, &look.receipt, shown, &finding)
 }

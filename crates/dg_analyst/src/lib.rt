@@ -6,7 +6,7 @@ mod looking;
 mod looks;
 mod reckoning;
 
-pub use commits::{commit, commit_look, commit_rank};
+pub use commits::{commit, commit_look, commit_rank, commit_stale};
 pub use looking::look;
 pub use looks::Look;
 pub use reckoning::{Reckoned, Tried, reckon, reckon_aimed, try_rank};

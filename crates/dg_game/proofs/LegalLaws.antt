@@ -6,6 +6,7 @@
 --   legal_part         the first part of a legal history is legal
 --   back_asked         a call of the game looks back to nothing
 --   back_for           what is entered on a look of the history looks back to that look
+--   back_on            and so does a question on it
 --   sized_reply        a right reply has the size of the graph
 --   legal_sized        each reply of a legal history has the size of the start
 --   legal_looks        each look of a legal history is what is kept of it
@@ -20,7 +21,7 @@ use Rattle.dg_game.specs.History.{position_after}
 use Rattle.dg_game.specs.Replies.{Replies}
 use Rattle.dg_game.specs.Legal.{IsSeat, LooksBack, IsLegal}
 use Rattle.dg_game.specs.LegalLaws.{HasSize, LegalIsSized, LooksAreShown}
-use Rattle.dg_game.specs.Look.{IsLookAt, asked_for}
+use Rattle.dg_game.specs.Look.{IsLookAt, asked_for, asked_on}
 use Rattle.dg_game.specs.Requests.{asked}
 use Rattle.dg_game.specs.declared.entry.Entry.{Entry}
 use Rattle.dg_game.specs.declared.entry.Plain.{Plain}
@@ -31,6 +32,8 @@ use Rattle.dg_game.specs.declared.entry.Reply.{Reply}
 use Rattle.dg_game.specs.declared.entry.Reply.TheVariants.{Moved, Given, Joined, Looked, Verdict, Rank as RankReply, Stale, Won, NotWon, Refused}
 use Rattle.dg_game.specs.declared.finding.Finding.{Finding}
 use Rattle.dg_game.specs.declared.finding.Finding.TheVariants.{Judged, Ranked}
+use Rattle.dg_game.specs.declared.finding.Question.{Question}
+use Rattle.dg_game.specs.declared.finding.Question.TheVariants as question
 use Rattle.dg_game.specs.declared.look.LookData.{LookData}
 use Rattle.dg_game.proofs.ListLaws.{more_holds, slice_get_taken}
 use Rattle.dg_game.proofs.StepLaw.{vertices_stay}
@@ -67,6 +70,11 @@ pub back_for : (o : Opening) (H : List Entry) (x : LookData) (f : Finding) → I
     LooksBack H (asked_for x.number f)
 back_for o H x (Judged v) look = look.look
 back_for o H x (Ranked v) look = look.look
+
+pub back_on : (o : Opening) (H : List Entry) (x : LookData) (asks : Question) → IsLookAt o H x →
+    LooksBack H (asked_on x.number asks)
+back_on o H x question.Judge look = look.look
+back_on o H x (question.Rank k) look = look.look
 
 sized_reply : (o : Opening) (H : List Entry) (n : ℕ) (request : Request) (reply : Reply) →
     (position_after o H).graph.size ≡ n →

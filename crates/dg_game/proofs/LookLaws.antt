@@ -3,13 +3,15 @@
 --                           on the graph of the look, which is that of the state
 --   judged_after            a verdict that is right in a state is a right reply after a history that leads to it
 --   ranked_after            the answer of a rank test that is right for a look is a right reply
+--   stale_after             where the gift count is another than that of the look, stale is a right reply to all that is
+--                           asked on it
 --   look_fits               a look shows an amount for each vertex of its graph
 --   look_vertices           the graph of a look has as many vertices as that of the state
 --   look_kept               a look stays a look of the history when an entry is added
 --   look_new                an entry that is a look is a look of the history
 --   look_size               a look shows as many vertices as the state
 --   carried                 a verdict can be carried along a drift that leads to the amounts of a state
-use Rattle.std.proofs.Common.{◌≡◌, ℕ, ◌+◌, ◌<◌, ◌≤◌, List, [], ◌∷◌, ◌++◌, length, take, drop, slice_get, arith, sym, ap, subst, ◌∙◌}
+use Rattle.std.proofs.Common.{◌≡◌, ◌≢◌, ℕ, ◌+◌, ◌<◌, ◌≤◌, List, [], ◌∷◌, ◌++◌, length, take, drop, slice_get, arith, refl, sym, ap, subst, ◌∙◌}
 use Rattle.std.proofs.Math.Seq.{take-append_seam}
 use Rattle.std.proofs.lemmas.Int.{ints}
 use Rattle.std.proofs.lemmas.List.{take-append-le, take-append-drop}
@@ -25,12 +27,14 @@ use Rattle.dg_ranked.specs.RankTests.{IsRankTest}
 use Rattle.dg_ranked.specs.declared.rank_verdict.RankVerdict.{RankVerdict}
 use Rattle.dg_game.specs.Position.{Position, fired_by}
 use Rattle.dg_game.specs.History.{position_after, scripts_played, gifts_in}
-use Rattle.dg_game.specs.Look.{IsLookAt}
+use Rattle.dg_game.specs.Look.{IsLookAt, asked_on}
 use Rattle.dg_game.specs.Replies.{Replies}
 use Rattle.dg_game.specs.State.{State, IsState, LeadsTo}
 use Rattle.dg_game.specs.declared.entry.Entry.{Entry}
 use Rattle.dg_game.specs.declared.entry.Request.TheVariants.{Look, Judge, Rank as RankRequest}
-use Rattle.dg_game.specs.declared.entry.Reply.TheVariants.{Verdict, Rank as RankReply}
+use Rattle.dg_game.specs.declared.entry.Reply.TheVariants.{Verdict, Rank as RankReply, Stale}
+use Rattle.dg_game.specs.declared.finding.Question.{Question}
+use Rattle.dg_game.specs.declared.finding.Question.TheVariants as question
 use Rattle.dg_game.specs.declared.look.LookData.{LookData}
 use Rattle.dg_game.proofs.HistoryLaws.{gifts_in-append}
 use Rattle.dg_game.proofs.ListLaws.{slice_get-append, slice_get-seam}
@@ -79,6 +83,14 @@ ranked_after o H s x k verdict leads look same right =
     let then' : IsRankTest s.graph (at x.position) k verdict = rw graph right in
     replies_after o H s (RankRequest x.number k) (RankReply verdict) leads
     (sym look.gifts ∙ sym same, rank_test_led s.graph (at x.position) (at s.amounts) t k verdict led then')
+
+pub stale_after : (o : Opening) (H : List Entry) (s : State) (x : LookData) (asks : Question) → LeadsTo o H s →
+    IsLookAt o H x →
+    x.gifts ≢ s.gifts → Replies o H (asked_on x.number asks) (Stale s.gifts)
+stale_after o H s x question.Judge leads look other =
+    replies_after o H s (Judge x.number) (Stale s.gifts) leads ((λ same. other (look.gifts ∙ same)), refl)
+stale_after o H s x (question.Rank k) leads look other =
+    replies_after o H s (RankRequest x.number k) (Stale s.gifts) leads ((λ same. other (look.gifts ∙ same)), refl)
 
 -- a look stays what it was when an entry is added
 pub look_kept : (o : Opening) (H : List Entry) (e : Entry) (x : LookData) → IsLookAt o H x → IsLookAt o (H ++ e ∷ []) x

@@ -5,6 +5,7 @@
 --   IsFoundFor q x f     == the finding f is right on the graph of the look x, from the vertex q,
 --                           for its amounts
 --   asked_for i f        == the request by which the finding f on the look of number i is entered
+--   asked_on i question  == the request by which the question is asked on the look of number i
 --   KeepsFinding f reply == a verdict entered keeps the reduced divisor and the burning order that
 --                           were found, and that of a rank test is entered as it was found
 use Rattle.std.specs.Prelude.{◌≡◌, ℕ, List, take, ⊤}
@@ -25,6 +26,8 @@ use Rattle.dg_game.specs.declared.entry.Reply.TheVariants.{Verdict, Rank as Rank
 use Rattle.dg_game.specs.declared.look.LookData.{LookData}
 use Rattle.dg_game.specs.declared.finding.Finding.{Finding}
 use Rattle.dg_game.specs.declared.finding.Finding.TheVariants.{Judged, Ranked}
+use Rattle.dg_game.specs.declared.finding.Question.{Question}
+use Rattle.dg_game.specs.declared.finding.Question.TheVariants as question
 
 pub record IsLookAt (o : Opening) (H : List Entry) (x : LookData) : Type 0 where
   pub look : IsLookIn H x.number
@@ -43,6 +46,10 @@ IsFoundFor q x (Ranked v) = IsRankTest x.graph (at x.position) (degree_of v) v
 abbrev pub asked_for : ℕ → Finding → Request
 asked_for i (Judged v) = Judge i
 asked_for i (Ranked v) = RankRequest i (degree_of v)
+
+abbrev pub asked_on : ℕ → Question → Request
+asked_on i question.Judge = Judge i
+asked_on i (question.Rank k) = RankRequest i k
 
 abbrev pub KeepsFinding : Finding → Reply → Type 0
 KeepsFinding (Judged v) (Verdict w) = (w.reduced ≡ v.reduced) × (w.order ≡ v.order)

@@ -1,13 +1,35 @@
-//! What is reckoned on a look, with no game at hand: verdicts and rank tests.
+//! What is asked on a look, and what is reckoned on it with no game at hand: verdicts and rank tests.
 ghost use Rattle.std.specs.Prelude.{◌≡◌, ℕ, ◌<◌};
-ghost use Rattle.dg_game.specs.Look.{IsFoundFor, asked_for};
+ghost use Rattle.dg_game.specs.Look.{IsFoundFor, asked_for, asked_on};
 ghost use Rattle.dg_game.specs.declared.entry.Request.TheVariants.{Judge as JudgeRequest};
 
 use crate::entry::Request;
 use crate::look::LookData;
+use dg_graph::Graph;
 use dg_ranked::RankVerdict;
 use dg_reduce::Aim;
 use dg_verdict::{Verdict, judge_aimed};
+
+/// What is asked on a look, whatever is found.
+#[derive(Clone, Copy, PartialEq, Eq)]
+pub enum Question {
+    /// Whether the position is winnable.
+    Judge,
+    /// Whether it passes the rank test of this degree.
+    Rank(u32),
+}
+
+impl Question {
+    /// What the entry of the question asks, where it was asked on the look with this number.
+    pub fn request(&self, number: u32) -> Request
+        ensures { result ≡ asked_on number self.now }
+    {
+        match self {
+            Question::Judge => Request::Judge(number),
+            Question::Rank(k) => Request::Rank(number, *k),
+        }
+    }
+}
 
 /// What was reckoned on a look.
 #[derive(Clone, Copy)]
@@ -51,4 +73,18 @@ pub fn judge_look_aimed(aim: &Aim, q: usize, look: &LookData) -> Finding
     ensures asks { (i : ℕ) → asked_for i result ≡ JudgeRequest i }
 {
     Finding::Judged(judge_aimed(&look.graph, aim, q, &look.position))
+}
+
+/// Makes an aim anew, unless it may serve the verdict on a look, reckoned from the vertex q. Nothing is promised of it.
+pub fn renew(aim: &mut Aim, q: usize, look: &LookData) {
+    if !aim.may_serve(&look.graph, q) {
+        make_anew(aim, q, &look.graph);
+    }
+}
+
+/// Makes an aim anew. It stands apart, so that no room for an aim is cleared where the one that is kept serves.
+#[cold]
+#[inline(never)]
+fn make_anew(aim: &mut Aim, q: usize, graph: &Graph) {
+    *aim = Aim::new(graph, q);
 }

@@ -1,5 +1,5 @@
 //! The game as it stands, and what calls and findings do to it.
-ghost use Rattle.std.specs.Prelude.{◌≡◌, ℕ, ◌+◌, ◌<◌, ◌≤◌, List, [], ◌∷◌, ◌++◌, MatchOption, MatchResult, ⊤};
+ghost use Rattle.std.specs.Prelude.{◌≡◌, ◌≢◌, ℕ, ◌+◌, ◌<◌, ◌≤◌, List, [], ◌∷◌, ◌++◌, MatchOption, MatchResult, ⊤};
 ghost use Rattle.std.specs.Int.RustNames.{unsigned_abs};
 ghost use Rattle.dg_chips.specs.Opening.{Opening};
 ghost use Rattle.dg_chips.specs.Vector.{at};
@@ -12,11 +12,12 @@ ghost use Rattle.dg_game.specs.JoinReplies.{RepliesToJoin};
 ghost use Rattle.dg_game.specs.Replies.{Replies, RepliesAt, RepliesToClaim};
 ghost use Rattle.dg_game.specs.History.{with_entry};
 ghost use Rattle.dg_game.specs.Legal.{IsSeat, IsLegal};
-ghost use Rattle.dg_game.specs.Look.{IsLookAt, IsFoundFor, asked_for, KeepsFinding};
+ghost use Rattle.dg_game.specs.Look.{IsLookAt, IsFoundFor, asked_for, asked_on, KeepsFinding};
 ghost use Rattle.dg_game.specs.State.{IsState, LeadsTo, IsRightIn, IsNext, position_of};
 ghost use Rattle.dg_game.specs.Requests.{asked};
 ghost use Rattle.dg_game.specs.declared.entry.Entry.{Entry as EntryData};
-ghost use Rattle.dg_game.specs.declared.entry.Reply.TheVariants.{Given, Refused};
+ghost use Rattle.dg_game.specs.declared.entry.Reply.TheVariants.{Given, Refused, Stale};
+ghost use Rattle.dg_game.specs.declared.finding.Question.{Question as QuestionData};
 
 use crate::entry::{BLANK, Entry, MAX_GIFT, Plain, Refusal, Reply, Request};
 use crate::finding::Finding;
@@ -164,6 +165,7 @@ impl Game {
 
     /// Writes the reply to a call, as the game answers it after its history. The game stays as it is: `follow` takes the entry
     /// into the history.
+    #[inline(always)]
     pub fn answer(&self, plain: &Plain, reply: &mut Reply)
         ensures here { (before : ℕ → ℕ) →
             RepliesAt (position_of self.now) self.now.q before self.now.gifts (asked plain.now) reply.new }
@@ -175,7 +177,9 @@ impl Game {
         self.answer_now(plain, reply);
     }
 
-    /// Writes the reply to a call that is right as the game stands.
+    /// Writes the reply to a call that is right as the game stands. Where the caller knows that the game and the reply lie apart,
+    /// what a look shows is copied once.
+    #[inline(always)]
     fn answer_now(&self, plain: &Plain, reply: &mut Reply)
         ensures { (before : ℕ → ℕ) →
             RepliesAt (position_of self.now) self.now.q before self.now.gifts (asked plain.now) reply.new }
@@ -346,6 +350,22 @@ impl Game {
             }
             Finding::Ranked(verdict) => *reply = Reply::Rank(*verdict),
         }
+    }
+
+    /// Writes the reply to whatever was asked on a look, where gifts, levies or joins were accepted since: `Stale`, as `settle`
+    /// gives it for each finding, so nothing has to be reckoned. The game stays as it is: `follow` takes the entry into the
+    /// history. The condition is that their number is another than that before the look.
+    pub fn answer_stale(&self, look: &LookData, reply: &mut Reply)
+        requires { look.now.gifts ≢ self.now.gifts }
+        ensures stale { reply.new ≡ Stale self.now.gifts }
+        ensures replies { (o : Opening) (H : List EntryData) (asks : QuestionData) →
+            LeadsTo o H self.now → IsLookAt o H look.now →
+            Replies o H (asked_on look.now.number asks) reply.new }
+        ensures legal { (o : Opening) (H : List EntryData) (asks : QuestionData) (seat : ℕ) →
+            LeadsTo o H self.now → IsLookAt o H look.now → IsLegal o H → IsSeat seat →
+            IsLegal o (with_entry H seat (asked_on look.now.number asks) reply.new) }
+    {
+        *reply = Reply::Stale(self.gifts());
     }
 
     /// The verdict on an earlier position, carried over to the position now.

@@ -8,7 +8,8 @@
 --   looks_looked   the looks kept after a call that is a look
 --   looks_left     the looks kept after a call that is no look
 --   called         a call plays the schedule on
---   entered        a finding that was reckoned on the seat's look plays the schedule on when it is entered
+--   entered        what is asked on the seat's look plays the schedule on when it is entered
+--   aimed          the schedule goes on with any aim
 --   past_limits    a rank test past the limits is the first fault, where the seat keeps a look
 --   told_err       a refusal that is handed on tells what it told before
 use Rattle.std.proofs.Common.{◌≡◌, ℕ, ◌+◌, ◌<◌, List, [], ◌∷◌, ◌++◌, length, length-append, slice_get, Option, Some, None, Result, Ok, Err, set, arith, refl, sym, ap, ◌∙◌, inl, inr, length-set, replicate}
@@ -19,7 +20,6 @@ use Rattle.std.proofs.lemmas.List.{get_or-set_same, get_or-set_other, get_or-rep
 use Rattle.dg_chips.specs.Opening.{Opening}
 use Rattle.dg_rank.specs.Limits.{IsPastLimits}
 use Rattle.dg_game.specs.Legal.{IsSeat, IsLegal}
-use Rattle.dg_game.specs.Look.{asked_for}
 use Rattle.dg_rehearsal.specs.Rehearsal.{KeepsLook, IsPlaying}
 use Rattle.dg_game.specs.Requests.{asked}
 use Rattle.dg_rehearsal.specs.Schedule.{UsesUp, UsesLook, IsKept, IsAsked, IsEntryOf, HasLook, HasTrials, IsGood, AreGoodBefore}
@@ -29,7 +29,7 @@ use Rattle.dg_game.specs.declared.entry.Entry.{Entry}
 use Rattle.dg_game.specs.declared.entry.Plain.{Plain}
 use Rattle.dg_game.specs.declared.entry.Plain.TheVariants as plain
 use Rattle.dg_game.specs.declared.entry.Reply.{Reply}
-use Rattle.dg_game.specs.declared.finding.Finding.{Finding}
+use Rattle.dg_game.specs.declared.entry.Request.{Request}
 use Rattle.dg_game.specs.declared.game.TheConstants.{MAX_ENTRIES}
 use Rattle.dg_game.specs.declared.look.LookData.{LookData}
 use Rattle.dg_rehearsal.specs.declared.schedule.Rehearsal.{Rehearsal}
@@ -159,22 +159,34 @@ has_look steps seat j i Commit kept = (i, kept)
 has_look steps seat j i (Rank k) kept = (i, kept)
 
 pub entered : (o : Opening) (H : List Entry) (steps : List Step) (r t : Rehearsal) (seat : ℕ) (c : Command)
-    (x : LookData) (finding : Finding)
+    (x : LookData) (request : Request)
     (reply : Reply) → IsPlaying o steps H r → slice_get steps (length H) ≡ Some (record { seat = seat; command = c }) →
     IsSeat seat →
     KeepsLook o H steps seat (Some x) → UsesUp c → HasTrials o.graph.size c →
-    IsAsked steps seat (length H) c (asked_for x.number finding) →
-    IsLegal o (H ++ (record { seat = seat; request = asked_for x.number finding; reply = reply }) ∷ []) →
-    LeadsTo o (H ++ (record { seat = seat; request = asked_for x.number finding; reply = reply }) ∷ []) t.game →
+    IsAsked steps seat (length H) c request →
+    IsLegal o (H ++ (record { seat = seat; request = request; reply = reply }) ∷ []) →
+    LeadsTo o (H ++ (record { seat = seat; request = request; reply = reply }) ∷ []) t.game →
     t.q ≡ r.q → t.looks ≡ set r.looks seat None →
-    IsPlaying o steps (H ++ (record { seat = seat; request = asked_for x.number finding; reply = reply }) ∷ []) t
-entered o H steps r t seat c x finding reply playing there is (kept, look) up trials asks legal leads q replaced =
+    IsPlaying o steps (H ++ (record { seat = seat; request = request; reply = reply }) ∷ []) t
+entered o H steps r t seat c x request reply playing there is (kept, look) up trials asks legal leads q replaced =
     let step : Step = record { seat = seat; command = c } in
-    let e : Entry = record { seat = seat; request = asked_for x.number finding; reply = reply } in
+    let e : Entry = record { seat = seat; request = request; reply = reply } in
     playing_more o H steps r t step e playing there (is, has_look steps seat (length H) x.number c kept, trials)
     (record { seat = refl; request = asks }) legal leads q (ap length replaced ∙ length-set _ _ _ ∙ playing.places)
     (rw replaced (looks_set o H e steps step r.looks None there playing.places is
     (keeps_none o H e steps seat c there up) playing.looks))
+
+pub aimed : (o : Opening) (H : List Entry) (steps : List Step) (r t : Rehearsal) → t.game ≡ r.game → t.q ≡ r.q →
+    t.looks ≡ r.looks → IsPlaying o steps H r → IsPlaying o steps H t
+aimed o H steps r t game q looks playing = record {
+  leads = rw game playing.leads;
+  q = q ∙ playing.q;
+  legal = playing.legal;
+  good = playing.good;
+  entries = playing.entries;
+  places = ap length looks ∙ playing.places;
+  looks = rw looks playing.looks;
+}
 
 pub playing_none : (o : Opening) (steps : List Step) (r : Rehearsal) → LeadsTo o [] r.game → r.q ≡ o.q →
     r.looks ≡ replicate 65 None → IsPlaying o steps [] r

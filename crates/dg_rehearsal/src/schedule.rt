@@ -1,8 +1,8 @@
 //! Schedules: their steps are played one after another.
-ghost use Rattle.std.specs.Prelude.{◌≡◌, ℕ, ◌<◌, ◌≤◌, List, [], ◌∷◌, ◌++◌, length, slice_get, Some, MatchResult, MatchOption, OnErr, None};
+ghost use Rattle.std.specs.Prelude.{◌≡◌, ◌≢◌, ℕ, ◌<◌, ◌≤◌, List, [], ◌∷◌, ◌++◌, length, slice_get, Some, MatchResult, MatchOption, OnErr, None};
 ghost use Rattle.dg_chips.specs.Opening.{Opening};
 ghost use Rattle.dg_game.specs.Legal.{IsSeat};
-ghost use Rattle.dg_game.specs.Look.{IsFoundFor, asked_for};
+ghost use Rattle.dg_game.specs.Look.{IsFoundFor, asked_for, asked_on};
 ghost use Rattle.dg_rehearsal.specs.Schedule.{UsesUp, IsKept, IsAsked, HasTrials, IsRehearsal};
 ghost use Rattle.dg_rehearsal.specs.ScheduleFaults.{IsFirstFault};
 ghost use Rattle.dg_rehearsal.specs.Rehearsal.{KeepsLook, IsPlaying, IsInPlay, PlaysOn, StopsPlay};
@@ -14,9 +14,10 @@ ghost use Rattle.dg_game.specs.declared.step.Command.TheVariants.{Call, Commit, 
 use crate::ranking::rank_look;
 use dg_chips::Start;
 use dg_game::{
-    BLANK, Command, Entry, Finding, Game, LookData, MAX_ENTRIES, MAX_SEATS, Plain, Step,
-    judge_look_aimed,
+    BLANK, Command, Entry, Finding, Game, LookData, MAX_ENTRIES, MAX_SEATS, Plain, Question, Step,
+    judge_look_aimed, renew,
 };
+use dg_rank::trials;
 use dg_reduce::Aim;
 use std::alloc::Allocator;
 
@@ -42,7 +43,7 @@ pub struct Rehearsal {
     pub game: Game,
     /// The vertex from which verdicts are reckoned.
     pub q: usize,
-    /// What serves its verdicts until an edge is added; no answer depends on it.
+    /// What serves its verdicts, made anew after an edge was added; no answer depends on it.
     pub aim: Aim,
     /// The look that a seat has taken last and not used up, at the place of the seat's number.
     pub looks: [Option<LookData>; 65],
@@ -162,7 +163,13 @@ impl Rehearsal {
         let Some(look) = self.kept(seat) else {
             return Err(RehearseFault::NoLook(i));
         };
-        let finding = judge_look_aimed(&self.aim, self.q(), &look);
+        if look.gifts != self.game.gifts() {
+            self.enter_stale(seat, &look, &Question::Judge, entry);
+            return Ok(());
+        }
+        let q = self.q();
+        renew(&mut self.aim, q, &look);
+        let finding = judge_look_aimed(&self.aim, q, &look);
         self.enter(seat, &look, &finding, entry);
         Ok(())
     }
@@ -181,10 +188,40 @@ impl Rehearsal {
         let Some(look) = self.kept(seat) else {
             return Err(RehearseFault::NoLook(i));
         };
+        if look.gifts != self.game.gifts() {
+            return self.rank_stale(seat, &look, k, entry);
+        }
         let Ok(finding) = rank_look(self.q(), &look, k) else {
             return Err(RehearseFault::TooMany(i));
         };
         self.enter(seat, &look, &finding, entry);
+        Ok(())
+    }
+
+    /// Enters the rank test of degree k as stale, on the look that a seat keeps, which is used up; or why it can't be entered.
+    fn rank_stale(
+        &mut self,
+        seat: u8,
+        look: &LookData,
+        k: u32,
+        entry: &mut Entry,
+    ) -> Result<(), RehearseFault>
+        requires playing { IsInPlay self.old }
+        requires kept { (o : Opening) (H : List Entry) (steps : List Step) →
+            IsPlaying o steps H self.old → KeepsLook o H steps seat (Some look.now) }
+        requires stale { look.now.gifts ≢ self.old.game.gifts }
+        requires room { self.old.game.entries < MAX_ENTRIES }
+        requires seat { IsSeat seat }
+        ensures plays { MatchResult result
+            (λ _. PlaysOn self.old (record { seat = seat; command = Rank k }) entry.new self.new)
+            (StopsPlay self.old (record { seat = seat; command = Rank k })) }
+        ensures same { OnErr result ((self.new ≡ self.old) × (entry.new ≡ entry.old)) }
+    {
+        let i = self.game.entries() as usize;
+        let Some(_) = trials(look.graph.size(), k) else {
+            return Err(RehearseFault::TooMany(i));
+        };
+        self.enter_stale(seat, look, &Question::Rank(k), entry);
         Ok(())
     }
 
@@ -227,5 +264,27 @@ impl Rehearsal {
         self.game.answer_finding(look, finding, &mut entry.reply);
         self.game.follow(entry);
         self.looks[usize::from(seat)] = None;
+    }
+
+    /// Enters a question as stale, on the look that a seat keeps, writes the entry, and uses the look up.
+    fn enter_stale(&mut self, seat: u8, look: &LookData, asks: &Question, entry: &mut Entry)
+        requires playing { (o : Opening) × (H : List Entry) × (steps : List Step) ×
+            IsPlaying o steps H self.old × KeepsLook o H steps seat (Some look.now) }
+        requires stale { look.now.gifts ≢ self.old.game.gifts }
+        requires room { self.old.game.entries < MAX_ENTRIES }
+        requires seat { IsSeat seat }
+        ensures { (o : Opening) (H : List Entry) (steps : List Step) (c : Command) →
+            IsPlaying o steps H self.old → KeepsLook o H steps seat (Some look.now) →
+            slice_get steps (length H) ≡ Some (record { seat = seat; command = c }) →
+            UsesUp c → HasTrials o.graph.size c →
+            IsAsked steps seat (length H) c (asked_on look.now.number asks.now) →
+            IsPlaying o steps (H ++ entry.new ∷ []) self.new }
+    {
+        entry.seat = seat;
+        entry.request = asks.request(look.number);
+        self.game.answer_stale(look, &mut entry.reply);
+        self.game.follow(entry);
+        let place = usize::from(seat);
+        self.looks[place] = None;
     }
 }

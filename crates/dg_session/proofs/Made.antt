@@ -5,6 +5,7 @@
 --   call_made       so by that of a call
 --   settled_made    so by that of a finding on a look, and it is asked for on the look's number
 --   rank_made       so by that of a rank test
+--   stale_made      so by that of a question on a stale look
 --   rank_within     a rank test that was made is within the limits
 --   rank_past       and one with too many trials is not
 --   named           there are names for its amounts
@@ -19,7 +20,7 @@ use Rattle.dg_rank.specs.Limits.{IsPastLimits}
 use Rattle.dg_rank.proofs.CountedOnce.{counted_once}
 use Rattle.dg_ranked.specs.declared.rank_verdict.RankVerdict.{RankVerdict}
 use Rattle.dg_ranked.specs.declared.rank_verdict.RankVerdict.TheVariants.{AtLeast, Below}
-use Rattle.dg_game.specs.Look.{degree_of, asked_for}
+use Rattle.dg_game.specs.Look.{degree_of, asked_for, asked_on}
 use Rattle.dg_game.specs.Requests.{asked}
 use Rattle.dg_game.specs.declared.entry.Entry.{Entry}
 use Rattle.dg_game.specs.declared.entry.Plain.{Plain}
@@ -28,6 +29,7 @@ use Rattle.dg_game.specs.declared.entry.Request.{Request}
 use Rattle.dg_game.specs.declared.entry.Request.TheVariants.{Rank as RankRequest}
 use Rattle.dg_game.specs.declared.finding.Finding.TheVariants.{Ranked}
 use Rattle.dg_game.specs.declared.finding.Finding.{Finding}
+use Rattle.dg_game.specs.declared.finding.Question.{Question}
 use Rattle.dg_game.specs.declared.step.Command.{Command}
 use Rattle.dg_analyst.specs.Views.{LookView, IsTaken, IsTried}
 use Rattle.dg_lines.specs.Texts.{HasNames, entry_text}
@@ -39,7 +41,7 @@ use Rattle.dg_table.specs.Seats.{SeatView, Keeps}
 use Rattle.dg_table.specs.Faults.{RefusesCall}
 use Rattle.dg_table.specs.declared.fault.Fault.{Fault}
 use Rattle.dg_table.specs.Answered.{IsEnteredAfter, IsAnswered}
-use Rattle.dg_table.specs.Settled.{IsSettled}
+use Rattle.dg_table.specs.Settled.{IsSettled, IsStale}
 use Rattle.dg_session.specs.Saying.{Gains, Enters, kept_after, look_after, AnswersCommand}
 use Rattle.dg_session.specs.declared.ends.SessionEnd.{SessionEnd}
 use Rattle.dg_session.specs.declared.ends.SessionEnd.TheVariants.{Table}
@@ -109,6 +111,13 @@ settled_made {o} {seats} {cap} {look} {found} {f} {r} {x} {y} same taken settled
     let of = rw same at settled.1 in
     subst (λ i. Stands o (asked_for i f) r x y) taken.look.number
     (entry_made o seats cap settled.0 (asked_for look.shown.number f) _ (look.receipt ∷ []) r x y refl of.entered)
+
+pub stale_made : {o : Opening} {seats cap : ℕ} {look : LookView} {r : ℕ × Entry} {x y : SeatView} (asks : Question)
+    → IsTaken o look → IsStale o seats cap look.receipt look.shown asks r x y
+    → Stands o (asked_on look.receipt.0 asks) r x y
+stale_made {o} {seats} {cap} {look} {r} {x} {y} asks taken stale =
+    subst (λ i. Stands o (asked_on i asks) r x y) taken.look.number
+    (entry_made o seats cap stale.0 (asked_on look.shown.number asks) _ (look.receipt ∷ []) r x y refl stale.1.entered)
 
 degree_kept : (look : LookView) (k w : ℕ) (v : RankVerdict) → IsTried look k w v → degree_of v ≡ k
 degree_kept look k w (AtLeast j) tried = tried.right.0

@@ -8,12 +8,13 @@ ghost use Rattle.dg_session.specs.SoFar.{heard, speaker, Tells, Hears, Obeys};
 
 use crate::addressing::Addressing;
 use crate::ends::SessionEnd;
-use dg_analyst::{Look, commit_look, commit_rank, look, try_rank};
-use dg_game::{Command, Plain};
+use dg_analyst::{Look, commit_look, commit_rank, commit_stale, look, try_rank};
+use dg_game::{Command, Plain, Question};
 use dg_lines::{parse_line, push_entry};
 use dg_log::{Name, Receipt};
 use dg_names::Names;
-use dg_rank::{OpenGate, RankFault};
+use dg_rank::{OpenGate, RankFault, trials};
+use dg_reduce::Aim;
 use dg_table::{Seat, Table};
 use std::alloc::Global;
 use std::sync::Wait;
@@ -32,13 +33,15 @@ pub(crate) struct Shared<'a, N: Name, R: Threads + Wait> {
     ghost helped: { MayHaveWorkers workers },
 }
 
-/// What was said and is not written yet: always whole lines.
+/// What was said and is not written yet, always whole lines; and what serves to find what is said.
 #[derive(Drop)]
 pub(crate) struct Said {
     /// `None` where nobody hears it.
     pub(crate) text: Option<Vec<u8>>,
     /// Where the line of an entry is made.
     pub(crate) line: Vec<u8>,
+    /// What serves the verdicts, made anew after an edge was added; no answer depends on it.
+    pub(crate) aim: Aim,
 }
 
 impl Said {
@@ -170,8 +173,39 @@ fn call<N: Name, R: Threads + Wait>(
     }
 }
 
-/// Enters the verdict on the look that is kept, and uses it up.
+/// Enters the verdict on the look that is kept, and uses it up; nothing is reckoned where the look is stale.
 fn enter_verdict<N: Name, R: Threads + Wait>(
+    shared: &Shared<N, R>,
+    kept: &mut Option<Look<N>>,
+    said: &mut Said,
+    seat: &mut Seat<N>,
+) -> Result<(), SessionEnd>
+    ensures { Obeys (setup shared.now.how N.start N.seats (length N.cells) shared.now.names.now)
+        Commit (speaker seat.old kept.old said.old) (speaker seat.new kept.new said.new) result }
+{
+    if let Some(look) = kept {
+        let _receipt = look.receipt();
+        match commit_stale(
+            shared.table,
+            shared.rt,
+            shared.alloc,
+            seat,
+            look,
+            &Question::Judge,
+        ) {
+            Ok(Some(receipt)) => {
+                *kept = None;
+                return said.say_entry(shared.table, shared.names, &receipt);
+            }
+            Ok(None) => {}
+            Err(fault) => return Err(SessionEnd::Table(fault)),
+        }
+    }
+    reckon_verdict(shared, kept, said, seat)
+}
+
+/// Reckons the verdict on the look that is kept, enters it, and uses the look up.
+fn reckon_verdict<N: Name, R: Threads + Wait>(
     shared: &Shared<N, R>,
     kept: &mut Option<Look<N>>,
     said: &mut Said,
@@ -184,7 +218,14 @@ fn enter_verdict<N: Name, R: Threads + Wait>(
         return said.say(b"bad look\n");
     };
     let _receipt = look.receipt();
-    match commit_look(shared.table, shared.rt, shared.alloc, seat, look) {
+    match commit_look(
+        shared.table,
+        shared.rt,
+        shared.alloc,
+        seat,
+        look,
+        &mut said.aim,
+    ) {
         Ok(receipt) => {
             *kept = None;
             said.say_entry(shared.table, shared.names, &receipt)
@@ -193,9 +234,43 @@ fn enter_verdict<N: Name, R: Threads + Wait>(
     }
 }
 
-/// Tries a rank on the look that is kept, enters the answer, and uses the look up. The look stays where there would be too
-/// many trials.
+/// Enters the rank test of degree k on the look that is kept, and uses it up; nothing is tried where the look is stale. It stays
+/// where there would be too many trials.
 fn enter_rank<N: Name, R: Threads + Wait>(
+    shared: &Shared<N, R>,
+    kept: &mut Option<Look<N>>,
+    said: &mut Said,
+    seat: &mut Seat<N>,
+    k: u32,
+) -> Result<(), SessionEnd>
+    ensures { Obeys (setup shared.now.how N.start N.seats (length N.cells) shared.now.names.now)
+        (Rank k) (speaker seat.old kept.old said.old) (speaker seat.new kept.new said.new) result }
+{
+    if let Some(look) = kept
+        && let Some(_) = trials(look.graph().size(), k)
+    {
+        let _receipt = look.receipt();
+        match commit_stale(
+            shared.table,
+            shared.rt,
+            shared.alloc,
+            seat,
+            look,
+            &Question::Rank(k),
+        ) {
+            Ok(Some(receipt)) => {
+                *kept = None;
+                return said.say_entry(shared.table, shared.names, &receipt);
+            }
+            Ok(None) => {}
+            Err(fault) => return Err(SessionEnd::Table(fault)),
+        }
+    }
+    try_kept(shared, kept, said, seat, k)
+}
+
+/// Tries a rank on the look that is kept, enters the answer, and uses the look up. It stays where there would be too many trials.
+fn try_kept<N: Name, R: Threads + Wait>(
     shared: &Shared<N, R>,
     kept: &mut Option<Look<N>>,
     said: &mut Said,

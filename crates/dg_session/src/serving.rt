@@ -156,7 +156,7 @@ fn serve_lines<N: Name, R: Threads + Wait, I: Read, O: Write>(
     let Ok(mut buffer) = vec![in shared.alloc; 0u8; READ_SIZE] else {
         return Err(SessionEnd::Memory);
     };
-    let Some(mut progress) = Progress::new(shared.alloc, seats, text) else {
+    let Some(mut progress) = Progress::new(shared.alloc, seats, text, shared.table.aim()) else {
         return Err(SessionEnd::Memory);
     };
     'reads: loop {

@@ -3,28 +3,34 @@
 --   holds_more    a history that holds what a seat knows, with one more entry of the seat, holds what it then knows
 --   kept_more     what a seat keeps fits together after one more call of its own
 --   answered      how a call is answered by the receipt of an entry that the game allows
---   settled       how a finding is entered, where its call is answered, its look stands and the seat is told of the
---                 look
+--   told_of       how a request is entered by a seat that is told of an entry, where its call is answered and the entry
+--                 stands
+--   settled       how a finding is so entered, where the entry is its look
+--   staled        how a question is so entered, where the entry is its look, and gifts were accepted since
 --   settling_refused   how a finding is refused, where its seat is admissible, its look's number is in the history, and
 --                      the step
 --                 is refused
 --   held_none     what the lock holds at the start
 --   held_more     what the lock holds after one more entry
-use Rattle.std.proofs.Common.{inl, inr, Bool, ◌≡◌, Option, ℕ, ◌+◌, ◌<◌, ◌≤◌, List, [], ◌∷◌, ◌++◌, length, get_or, set, slice_get, Some, arith, refl, sym, ap, subst, ◌∙◌}
+use Rattle.std.proofs.Common.{inl, inr, Bool, ◌≡◌, ◌≢◌, Option, take, ℕ, ◌+◌, ◌<◌, ◌≤◌, List, [], ◌∷◌, ◌++◌, length, get_or, set, slice_get, Some, arith, refl, sym, ap, subst, ◌∙◌}
 use Rattle.std.proofs.lemmas.List.{length-set, length_push, append-nil}
 use Rattle.std.proofs.lemmas.Option.{slice_get_within}
 use Rattle.dg_chips.specs.Opening.{Opening}
 use Rattle.dg_game.specs.Legal.{IsLegal}
-use Rattle.dg_game.specs.Look.{asked_for, KeepsFinding}
+use Rattle.dg_game.specs.History.{gifts_in}
+use Rattle.dg_game.specs.Look.{IsLookAt, asked_for, asked_on, KeepsFinding}
 use Rattle.dg_game.specs.Replies.{Replies}
 use Rattle.dg_game.specs.State.{State, LeadsTo}
 use Rattle.dg_game.specs.declared.entry.Entry.{Entry}
 use Rattle.dg_game.specs.declared.entry.TheConstants.{MAX_SEATS}
+use Rattle.dg_game.specs.declared.entry.Reply.TheVariants.{Stale}
+use Rattle.dg_game.specs.declared.entry.Request.{Request}
 use Rattle.dg_game.specs.declared.finding.Finding.{Finding}
+use Rattle.dg_game.specs.declared.finding.Question.{Question}
 use Rattle.dg_game.specs.declared.look.LookData.{LookData}
 use Rattle.dg_game.proofs.LegalLaws.{legal_none}
 use Rattle.dg_game.proofs.ListLaws.{slice_get-append}
-use Rattle.dg_table.specs.Answered.{IsAnsweredAfter}
+use Rattle.dg_table.specs.Answered.{IsEnteredAfter, IsAnsweredAfter}
 use Rattle.dg_table.specs.Faults.{RefusesStep, RefusesSettling}
 use Rattle.dg_table.specs.declared.fault.Fault.{Fault}
 use Rattle.dg_table.specs.declared.fault.Fault.TheVariants.{OutOfMemory, Full, Log}
@@ -33,7 +39,7 @@ use Rattle.dg_log.specs.Numbered.{IsBeginning}
 use Rattle.dg_table.specs.Histories.{IsHistoryOf}
 use Rattle.dg_table.specs.Looks.{IsLookOf}
 use Rattle.dg_table.specs.Seats.{SeatView, Holds, IsAdmissible, AreSeated, entries_of}
-use Rattle.dg_table.specs.Settled.{IsSettledAfter}
+use Rattle.dg_table.specs.Settled.{IsSettledAfter, IsStaleAfter}
 use Rattle.dg_table.proofs.Entries.{own_more}
 use Rattle.dg_table.proofs.Findings.{stale_both, carried_over}
 use Rattle.dg_table.proofs.Numbered.{stand_more, stand_longer}
@@ -95,6 +101,36 @@ answered {o} {n} {cap} {H} {x} e y replies history holds own number mine told pa
   met = met;
 }
 
+pub told_of : {o : Opening} {n cap : ℕ} {H : List Entry} {request : Request} {r : ℕ × Entry} {s m : SeatView}
+    (look : ℕ × Entry) (t : SeatView) →
+    IsAnsweredAfter o n cap H request r s m → slice_get H look.0 ≡ Some look.1 →
+    t.number ≡ m.number → t.mine ≡ m.mine → t.told ≡ m.told ++ look ∷ [] → t.past ≡ m.past →
+    t.met ≡ m.met →
+    IsEnteredAfter o n cap H request (s.told ++ look ∷ []) r s t
+told_of {o} {n} {cap} {H} {request} {r} {s} {m} look t answered stands number mine told past met =
+    let hears : t.told ≡ s.told ++ look ∷ [] = told ∙ ap (λ ps. ps ++ look ∷ []) answered.told in
+    let there : slice_get (H ++ r.1 ∷ []) look.0 ≡ Some look.1 =
+    slice_get-append H (r.1 ∷ []) look.0 (slice_get_within H look.0 look.1 stands) ∙ stands in
+    record {
+      place = answered.place;
+      seat = answered.seat;
+      request' = answered.request';
+      reply = answered.reply;
+      before = answered.before;
+      history = answered.history;
+      holds = record {
+        past = subst (λ K. IsBeginning K (H ++ r.1 ∷ [])) (sym past) answered.holds.past;
+        met = subst (λ K. IsBeginning K (H ++ r.1 ∷ [])) (sym met) answered.holds.met;
+        mine = ap (λ n. entries_of n (H ++ r.1 ∷ [])) number ∙ answered.holds.mine ∙ sym mine;
+        told = rw told (stand_more (H ++ r.1 ∷ []) m.told look answered.holds.told there);
+      };
+      number = number ∙ answered.number;
+      mine = mine ∙ answered.mine;
+      told = hears;
+      past = past ∙ answered.past;
+      met = met ∙ answered.met;
+    }
+
 pub settled : (o : Opening) (n cap : ℕ) (H : List Entry) (look : ℕ × Entry) (x : LookData) (f : Finding) (r : ℕ × Entry)
     (s m t : SeatView) →
     IsAnsweredAfter o n cap H (asked_for x.number f) r s m → IsLookOf look x → slice_get H look.0 ≡ Some look.1 →
@@ -103,35 +139,30 @@ pub settled : (o : Opening) (n cap : ℕ) (H : List Entry) (look : ℕ × Entry)
     t.met ≡ m.met →
     IsSettledAfter o n cap H look x f r s t
 settled o n cap H look x f r s m t answered of stands kept number mine told past met =
-    let hears : t.told ≡ s.told ++ look ∷ [] = told ∙ ap (λ ps. ps ++ look ∷ []) answered.told in
-    let there : slice_get (H ++ r.1 ∷ []) look.0 ≡ Some look.1 =
-    slice_get-append H (r.1 ∷ []) look.0 (slice_get_within H look.0 look.1 stands) ∙ stands in
     let replies : Replies o H (asked_for look.0 f) r.1.reply =
     subst (λ i. Replies o H (asked_for i f) r.1.reply) of.number answered.reply in
     record {
-      entered = record {
-        place = answered.place;
-        seat = answered.seat;
-        request' = answered.request';
-        reply = answered.reply;
-        before = answered.before;
-        history = answered.history;
-        holds = record {
-          past = subst (λ K. IsBeginning K (H ++ r.1 ∷ [])) (sym past) answered.holds.past;
-          met = subst (λ K. IsBeginning K (H ++ r.1 ∷ [])) (sym met) answered.holds.met;
-          mine = ap (λ n. entries_of n (H ++ r.1 ∷ [])) number ∙ answered.holds.mine ∙ sym mine;
-          told = rw told (stand_more (H ++ r.1 ∷ []) m.told look answered.holds.told there);
-        };
-        number = number ∙ answered.number;
-        mine = mine ∙ answered.mine;
-        told = hears;
-        past = past ∙ answered.past;
-        met = met ∙ answered.met;
-      };
+      entered = told_of look t answered stands number mine told past met;
       stands = stands;
       kept = kept;
       stale = stale_both o H look.0 f r.1.reply replies;
       carried = carried_over o H look.0 f r.1.reply kept replies;
+    }
+
+pub staled : (o : Opening) (n cap : ℕ) (H : List Entry) (look : ℕ × Entry) (x : LookData) (asks : Question)
+    (game : State) (r : ℕ × Entry)
+    (s m t : SeatView) →
+    IsAnsweredAfter o n cap H (asked_on x.number asks) r s m → IsLookOf look x → slice_get H look.0 ≡ Some look.1 →
+    LeadsTo o H game → IsLookAt o H x → x.gifts ≢ game.gifts → r.1.reply ≡ Stale game.gifts →
+    t.number ≡ m.number → t.mine ≡ m.mine → t.told ≡ m.told ++ look ∷ [] → t.past ≡ m.past →
+    t.met ≡ m.met →
+    IsStaleAfter o n cap H look x asks r s t
+staled o n cap H look x asks game r s m t answered of stands leads at other reply number mine told past met =
+    record {
+      entered = told_of look t answered stands number mine told past met;
+      stands = stands;
+      since = λ same. other (at.gifts ∙ ap (λ i. gifts_in (take i H)) of.number ∙ same ∙ sym leads.gifts);
+      stale = reply ∙ ap Stale leads.gifts;
     }
 
 pub settling_refused : (o : Opening) (n cap : ℕ) (H : List Entry) (i : ℕ) (x : SeatView) (b c : Bool) (f : Fault) →

@@ -8,6 +8,12 @@
 --                                   the receipt r after the history H, and leaves the seat t, which
 --                                   was told of the look
 --   IsSettled o n cap look x f r s t   == it is so entered after some history
+--   IsStaleAfter o n cap H look x asks r s t   == the question on the look, of which x is kept, is
+--                                                 entered as stale by the seat s with the receipt r
+--                                                 after the history H, in which gifts were accepted
+--                                                 since the look, and leaves the seat t, which was
+--                                                 told of the look
+--   IsStale o n cap look x asks r s t   == it is so entered after some history
 use Rattle.std.specs.Prelude.{◌≡◌, ◌≢◌, ◌↔◌, ℕ, List, [], ◌∷◌, ◌++◌, take, slice_get, Some}
 use Rattle.dg_theory.specs.Firing.{FiresTo}
 use Rattle.dg_chips.specs.Opening.{Opening}
@@ -16,12 +22,13 @@ use Rattle.dg_verdict.specs.Right.{IsRight}
 use Rattle.dg_ranked.specs.RankTests.{IsRankTest}
 use Rattle.dg_game.specs.Position.{Position}
 use Rattle.dg_game.specs.History.{position_after, gifts_in}
-use Rattle.dg_game.specs.Look.{asked_for, degree_of, KeepsFinding}
+use Rattle.dg_game.specs.Look.{asked_for, asked_on, degree_of, KeepsFinding}
 use Rattle.dg_game.specs.declared.entry.Entry.{Entry}
 use Rattle.dg_game.specs.declared.entry.Reply.{Reply}
 use Rattle.dg_game.specs.declared.entry.Reply.TheVariants.{Verdict, Rank, Stale}
 use Rattle.dg_game.specs.declared.finding.Finding.{Finding}
 use Rattle.dg_game.specs.declared.finding.Finding.TheVariants.{Judged, Ranked}
+use Rattle.dg_game.specs.declared.finding.Question.{Question}
 use Rattle.dg_game.specs.declared.look.LookData.{LookData}
 use Rattle.dg_table.specs.Answered.{IsEnteredAfter}
 use Rattle.dg_table.specs.Seats.{SeatView}
@@ -47,3 +54,16 @@ pub record IsSettledAfter (o : Opening) (n cap : ℕ) (H : List Entry) (look : �
 abbrev pub IsSettled : Opening → ℕ → ℕ → ℕ × Entry → LookData → Finding → ℕ × Entry → SeatView →
     SeatView → Type 0
 IsSettled o n cap look x f r s t = (H : List Entry) × IsSettledAfter o n cap H look x f r s t
+
+pub record IsStaleAfter (o : Opening) (n cap : ℕ) (H : List Entry) (look : ℕ × Entry)
+    (x : LookData) (asks : Question) (r : ℕ × Entry)
+    (s t : SeatView) : Type 0 where
+  pub entered : IsEnteredAfter o n cap H (asked_on x.number asks) (s.told ++ look ∷ []) r s t
+  pub stands : slice_get H look.0 ≡ Some look.1
+  pub since : gifts_in (take look.0 H) ≢ gifts_in H
+  pub stale : r.1.reply ≡ Stale (gifts_in H)
+
+abbrev pub IsStale : Opening → ℕ → ℕ → ℕ × Entry → LookData → Question → ℕ × Entry → SeatView
+    → SeatView → Type 0
+IsStale o n cap look x asks r s t =
+    (H : List Entry) × IsStaleAfter o n cap H look x asks r s t

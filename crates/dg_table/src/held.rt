@@ -1,6 +1,7 @@
 //! What the lock of a table holds.
 ghost use Rattle.std.specs.Prelude.{ℕ, List, Some, slice_get, ◌≡◌, ◌<◌, ◌≤◌, ◌↔◌, [], ◌∷◌, ◌++◌, true, false, length, IsTrue, IfOk, IfSome, IfErr, MatchOption, MatchResult, MatchBool};
 ghost use Rattle.dg_chips.specs.Opening.{Opening};
+ghost use Rattle.dg_game.specs.History.{gifts_in};
 ghost use Rattle.dg_game.specs.Legal.{IsSeat, IsLegal};
 ghost use Rattle.dg_game.specs.Look.{IsFoundFor};
 ghost use Rattle.dg_game.specs.Replies.{Replies};
@@ -16,14 +17,14 @@ ghost use Rattle.dg_table.specs.Lock.{IsReady, IsKeptLook};
 ghost use Rattle.dg_table.specs.Looks.{IsLookOf};
 ghost use Rattle.dg_table.specs.Opened.{MayHaveSeats};
 ghost use Rattle.dg_table.specs.Seats.{SeatView, Holds, IsAdmissible, Meets};
-ghost use Rattle.dg_table.specs.Settled.{IsSettledAfter};
+ghost use Rattle.dg_table.specs.Settled.{IsSettledAfter, IsStaleAfter};
 ghost use Rattle.dg_table.specs.Turns.{MayBeAsked, request_for, IsTurnAfter, RefusesTurnAfter};
 
 use crate::audit::Audit;
 use crate::fault::Fault;
 use crate::seat::Seat;
 use dg_chips::{Divisor, Move, Start};
-use dg_game::{Entry, Finding, Game, LookData, Plain, Reply};
+use dg_game::{Entry, Finding, Game, LookData, Plain, Question, Reply};
 use dg_graph::Graph;
 use dg_log::{Log, Name, Pen, Receipt};
 use std::marker::Model;
@@ -231,6 +232,57 @@ impl<N: Name> Held<N> {
         let receipt = self.enter(log, seat, slot)?;
         seat.hear(look);
         Ok(receipt)
+    }
+
+    /// Whether gifts, levies or joins were accepted since a look of the history. If so, they were in each later history too.
+    pub(crate) fn is_past(&self, shown: &LookData) -> bool {
+        self.game.gifts() != shown.gifts
+    }
+
+    /// Enters a question on a look as stale, as `settle` enters each finding on it, where gifts, levies or joins were accepted
+    /// since. The conditions are that the seat has the space, and that the data is that of the look, whatever its drift; the box
+    /// is used for the entry. `None`, and nothing is done, where none was accepted.
+    ///
+    /// Refused as `settle`.
+    pub fn settle_stale(
+        &mut self,
+        log: &Log<N>,
+        seat: &mut Seat<N>,
+        slot: Box<Entry>,
+        taken: &Receipt<N>,
+        shown: &LookData,
+        asks: &Question,
+    ) -> Result<Option<Receipt<N>>, Fault>
+        requires space { seat.old.space ≡ true }
+        requires look { IsLookOf taken.now shown.now }
+        ensures settled { IfOk result (λ found. MatchOption found
+            ((self.new ≡ self.old) × (seat.new ≡ seat.old) × (shown.now.gifts ≡ gifts_in self.old.entries))
+            (λ r. IsStaleAfter N.start N.seats (length N.cells) self.old.entries taken.now shown.now
+            asks.now r seat.old seat.new ×
+            (self.new ≡ record { entries = self.old.entries ++ r.1 ∷ []; stuck = false }))) }
+        ensures refused { IfErr result
+            (λ f. (self.new.entries ≡ self.old.entries) × Meets self.old.entries seat.old seat.new ×
+            RefusesSettling N.start N.seats (length N.cells) self.old.entries taken.now.0 seat.old
+            self.old.stuck self.new.stuck f) }
+    {
+        if self.game.gifts() == shown.gifts {
+            return Ok(None);
+        }
+        match self.ready_on(log, seat, taken) {
+            Ok(()) => {}
+            Err(fault) => {
+                self.meet(seat);
+                return Err(fault);
+            }
+        }
+        let mut slot = slot;
+        let entry = &mut *slot;
+        entry.seat = seat.number();
+        entry.request = asks.request(shown.number);
+        self.game.answer_stale(shown, &mut entry.reply);
+        let receipt = self.enter(log, seat, slot)?;
+        seat.hear(taken);
+        Ok(Some(receipt))
     }
 
     /// Whether the history has room for an entry of the seat, which knows nothing that the history does not hold, and

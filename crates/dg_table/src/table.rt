@@ -1,5 +1,5 @@
 //! The table that seats call.
-ghost use Rattle.std.specs.Prelude.{◌≡◌, ◌≢◌, ◌<◌, length, true, IfOk, IfErr, MatchResult};
+ghost use Rattle.std.specs.Prelude.{◌≡◌, ◌≢◌, ◌<◌, length, true, IfOk, IfErr, MatchOption, MatchResult};
 ghost use Rattle.dg_game.specs.Look.{IsFoundFor};
 ghost use Rattle.dg_game.specs.Requests.{asked};
 ghost use Rattle.dg_table.specs.Answered.{IsAnswered};
@@ -8,7 +8,7 @@ ghost use Rattle.dg_table.specs.Faults.{RefusesCall};
 ghost use Rattle.dg_table.specs.Looks.{IsLookOf};
 ghost use Rattle.dg_table.specs.Opened.{AreFresh, RefusesOpening};
 ghost use Rattle.dg_table.specs.Seats.{Keeps};
-ghost use Rattle.dg_table.specs.Settled.{IsSettled};
+ghost use Rattle.dg_table.specs.Settled.{IsSettled, IsStale};
 ghost use Rattle.dg_table.specs.Turns.{MayBeAsked, IsTurn, RefusesTurn};
 ghost use Rattle.dg_table.specs.declared.fault.Fault.TheVariants.{Log as LogFault};
 
@@ -17,7 +17,7 @@ use crate::fault::{Fault, TableFault};
 use crate::held::Held;
 use crate::seat::Seat;
 use dg_chips::{Divisor, Move, Start};
-use dg_game::{Entry, Finding, LookData, MAX_SEATS, Plain};
+use dg_game::{Entry, Finding, LookData, MAX_SEATS, Plain, Question};
 use dg_graph::Graph;
 use dg_log::{Log, Name, Receipt, Row};
 use dg_reduce::Aim;
@@ -175,6 +175,37 @@ impl<N: Name> Table<N> {
         self.held
             .lock(rt)
             .settle(&self.log, seat, slot, look, shown, finding)
+    }
+
+    /// Enters a question on the look of a receipt as stale, as `settle` enters each finding on it, if gifts, levies or joins were
+    /// accepted since; so nothing need be reckoned on a look that is stale. The seat is told of the look. The condition is that
+    /// the data is that of the look, whatever its drift. `None`, and no entry, where none was accepted before it had the lock.
+    ///
+    /// It waits for the lock, twice where it makes an entry. Refused as `settle`.
+    pub fn settle_stale(
+        &self,
+        rt: &impl Wait,
+        alloc: Global,
+        seat: &mut Seat<N>,
+        look: &Receipt<N>,
+        shown: &LookData,
+        asks: &Question,
+    ) -> Result<Option<Receipt<N>>, Fault>
+        requires { IsLookOf look.now shown.now }
+        ensures settled { IfOk result (λ found. MatchOption found
+            (Keeps seat.old seat.new × (seat.new.met ≡ seat.old.met))
+            (λ r. IsStale N.start N.seats
+            (length N.cells) look.now shown.now asks.now r seat.old seat.new)) }
+        ensures fault { IfErr result (λ f. Keeps seat.old seat.new ×
+            RefusesCall N.start N.seats (length N.cells) seat.new f) }
+    {
+        if !self.held.lock(rt).is_past(shown) {
+            return Ok(None);
+        }
+        let slot = self.room(alloc, seat)?;
+        self.held
+            .lock(rt)
+            .settle_stale(&self.log, seat, slot, look, shown, asks)
     }
 
     /// The start of the game.

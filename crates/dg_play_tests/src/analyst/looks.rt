@@ -4,10 +4,11 @@ use crate::gates::Counts;
 use crate::openings::{Scene, on_a_table};
 use crate::tables::{triangle, winnable};
 use dg_analyst::{
-    Look, Reckoned, Tried, commit, commit_look, commit_rank, look, reckon, reckon_aimed, try_rank,
+    Look, Reckoned, Tried, commit, commit_look, commit_rank, commit_stale, look, reckon,
+    reckon_aimed, try_rank,
 };
 use dg_chips::{Divisor, Move, Start};
-use dg_game::{Plain, Reply};
+use dg_game::{Plain, Question, Reply, Request};
 use dg_log::{Log, Name, Receipt};
 use dg_rank::{OpenGate, RankFault};
 use dg_ranked::RankVerdict;
@@ -35,7 +36,7 @@ fn findings_are_entered_on_what_is_found(rt: HostRuntime) -> Result<(), Fail> {
         (&owing, Scene::TooMuch),
         (&owing, Scene::Drift),
     ] {
-        on_a_table(&rt, rt.alloc(), 5, start, 2, scene)?;
+        on_a_table(&rt, rt.alloc(), 6, start, 2, scene)?;
     }
     Ok(())
 }
@@ -104,7 +105,8 @@ fn enters_on_a_look_of<N: Name, R: Wait + Abort>(
     second: &mut Seat<N>,
 ) -> Result<(), Fail> {
     let taken = look(table, rt, alloc, second)?;
-    let receipt = commit_look(table, rt, alloc, first, &taken)?;
+    let mut aim = *table.aim();
+    let receipt = commit_look(table, rt, alloc, first, &taken, &mut aim)?;
     assert!(rt; taken.receipt().number() == 3 && receipt.number() == 4);
     assert!(rt; is_won(&table.log().entry(&receipt).reply));
     Ok(())
@@ -134,6 +136,26 @@ pub(crate) fn ranked<N: Name, R: Threads + Wait + Abort>(
         .ok()
         .ok_or("an entry")?;
     is_third(rt, table.log(), &receipt, &Reply::Rank(below));
+    asks_on_a_stale_look(rt, alloc, table, first, second)
+}
+
+// A question on a look is entered as stale after a join, and not before; the seat that asks need not have looked.
+fn asks_on_a_stale_look<N: Name, R: Wait + Abort>(
+    rt: &R,
+    alloc: Global,
+    table: &Table<N>,
+    first: &mut Seat<N>,
+    second: &mut Seat<N>,
+) -> Result<(), Fail> {
+    let taken = look(table, rt, alloc, first)?;
+    let early = commit_stale(table, rt, alloc, second, &taken, &Question::Judge)?;
+    assert!(rt; early.is_none() && second.calls() == 1);
+    table.call(rt, alloc, second, Plain::Join(0, 1))?;
+    let receipt = commit_stale(table, rt, alloc, second, &taken, &Question::Rank(2))?
+        .ok_or("an entry")?;
+    let entry = table.log().entry(&receipt);
+    assert!(rt; receipt.number() == 5 && second.calls() == 3);
+    assert!(rt; entry.request == Request::Rank(3, 2) && entry.reply == Reply::Stale(1));
     Ok(())
 }
 

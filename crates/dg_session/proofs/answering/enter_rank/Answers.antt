@@ -1,54 +1,23 @@
-use Rattle.std.proofs.Common.{◌∙◌, ap, sym, refl, subst, inl, inr, Some, codes}
-use Rattle.dg_rank.specs.Ranks.{IsRankFault}
-use Rattle.dg_analyst.specs.Views.{LookView}
-use Rattle.dg_session.specs.Speakers.{kept_number}
-use Rattle.dg_session.proofs.Made.{rank_made, rank_within, rank_past, gains_same, entered, any_ok, words_said, call_refused, with_look, with_none}
+use Rattle.std.proofs.Common.{refl, inr}
+use Rattle.dg_rank.specs.Ranks.{IsWithin}
+use Rattle.dg_game.specs.declared.finding.Question.TheVariants as question
+use Rattle.dg_session.proofs.Made.{stale_made, rank_within, entered, any_ok, call_refused, with_look}
 use Rattle.dg_session.proofs.answering.enter_rank.Goals as goal
 
-pub returns-in_default : goal.returns-in_default
-returns-in_default g c =
-    with_none (sym c.take.ensures.value ∙ c.in_default.is) c.take.ensures.after (refl, refl, refl) c.say.ensures
-
-pub returns-in-Ok-commit_rank : goal.returns-in-Ok-commit_rank
-returns-in-Ok-commit_rank g c =
-    let (same, tried) = c.in-Ok.ensures in
-    with_look (sym c.take.ensures.value ∙ c.in-Some.is)
-    (entered (rank_made same c.receipt-receipt.ensures.taken tried c.in-Ok-commit_rank.ensures.settled)
-    (λ made after text enters. inr (rank_within c.receipt-receipt.ensures.taken tried.within, enters))
-    (any_ok _ (ap kept_number c.take.ensures.after)) c.say_entry.ensures)
+pub returns-in-Ok-Some : goal.returns-in-Ok-Some
+returns-in-Ok-Some g c =
+    let within : IsWithin c.in-Some.look.shown.graph.size c.args.k =
+    (_, rw (c.size.ensures.size, c.graph.ensures) at c.in-Some-trials.ensures) in
+    with_look c.in-Some.is
+    (entered (stale_made (question.Rank c.args.k) c.receipt-receipt.ensures.taken
+    (rw c.in-Ok-Some.field-0-is at c.in-Ok-Some.ensures.settled))
+    (λ made after text enters. inr (rank_within c.receipt-receipt.ensures.taken within, enters))
+    (any_ok _ refl) c.say_entry.ensures)
 
 pub returns-in-Err : goal.returns-in-Err
 returns-in-Err g c =
-    let (same, tried) = c.in-Ok.ensures in
-    with_look (sym c.take.ensures.value ∙ c.in-Some.is)
-    (call_refused (rank_within c.receipt-receipt.ensures.taken tried.within) c.in-Err.ensures.fault.1
-    c.in-Err.ensures.fault.2 refl)
-
-pub returns-in-Ok-say : goal.returns-in-Ok-say
-returns-in-Ok-say g c =
-    let (same, past) = c.in-Err-default-TooMany.ensures in
-    with_look (sym c.take.ensures.value ∙ c.in-Some.is)
-    (words_said (codes "bad trials\n")
-    (inl (
-      rank_past c.receipt-receipt.ensures.taken
-          (subst (IsRankFault c.in-Some.look.shown.graph.size c.args.k c.args.shared.now.workers)
-          c.in-Err-default-TooMany.field-0-1-is past),
-      (refl, ap (λ (l : LookView). Some l.receipt.0) same, refl),
-    )) c.in-Ok-say.ensures)
-
-pub returns-in-Err-say : goal.returns-in-Err-say
-returns-in-Err-say g c =
-    with_look (sym c.take.ensures.value ∙ c.in-Some.is) (words_said (codes "bad trials\n") tt c.in-Err-say.ensures)
-
-pub returns-in-Err-default-OutOfMemory : goal.returns-in-Err-default-OutOfMemory
-returns-in-Err-default-OutOfMemory g c =
-    with_look (sym c.take.ensures.value ∙ c.in-Some.is) (words_said (codes "bad trials\n") tt (refl, refl))
-
-pub returns-in-Err-default-Spawn : goal.returns-in-Err-default-Spawn
-returns-in-Err-default-Spawn g c =
-    let (same, spawn) = c.in-Err-default-Spawn.ensures in
-    let within = rank_within c.receipt-receipt.ensures.taken
-    (subst (IsRankFault c.in-Some.look.shown.graph.size c.args.k c.args.shared.now.workers)
-    c.in-Err-default-Spawn.field-0-1-is spawn).0 in
-    with_look (sym c.take.ensures.value ∙ c.in-Some.is)
-    (record { done = tt; refused = (within, gains_same c.args.seat.now); unsaid = refl })
+    let within : IsWithin c.in-Some.look.shown.graph.size c.args.k =
+    (_, rw (c.size.ensures.size, c.graph.ensures) at c.in-Some-trials.ensures) in
+    with_look c.in-Some.is
+    (call_refused (rank_within c.receipt-receipt.ensures.taken within) c.in-Err.ensures.fault.0
+    c.in-Err.ensures.fault.1 refl)

@@ -1,15 +1,13 @@
 use Rattle.std.proofs.Common.{refl}
-use Rattle.dg_session.proofs.Made.{settled_made, entered, any_ok, call_refused, with_look, with_none}
+use Rattle.dg_game.specs.declared.finding.Question.TheVariants as question
+use Rattle.dg_session.proofs.Made.{stale_made, entered, any_ok, call_refused, with_look}
 use Rattle.dg_session.proofs.answering.enter_verdict.Goals as goal
 
-pub returns-in_default : goal.returns-in_default
-returns-in_default g c = with_none c.in_default.is c.in_default.is (refl, refl, refl) c.say.ensures
-
-pub returns-in-Ok : goal.returns-in-Ok
-returns-in-Ok g c =
-    let (verdict, judged, settled) = c.in-Ok.ensures.settled in
+pub returns-in-Ok-Some : goal.returns-in-Ok-Some
+returns-in-Ok-Some g c =
     with_look c.in-Some.is
-    (entered (settled_made refl c.receipt-receipt.ensures.taken settled)
+    (entered (stale_made question.Judge c.receipt-receipt.ensures.taken
+    (rw c.in-Ok-Some.field-0-is at c.in-Ok-Some.ensures.settled))
     (λ made after text enters. enters) (any_ok _ refl) c.say_entry.ensures)
 
 pub returns-in-Err : goal.returns-in-Err

@@ -18,7 +18,7 @@ pub returns : goal.returns
 returns c = λ o H steps command playing keeps there up trials asks.
     let replies = c.answer_finding.ensures.replies o H playing.leads keeps.1 in
     rw c.request-entry.ensures
-    (entered o H steps c.args.self.now _ c.args.seat command c.args.look.now c.args.finding.now _
+    (entered o H steps c.args.self.now _ c.args.seat command c.args.look.now _ _
     playing there c.requires.seat keeps up trials asks
     (c.answer_finding.ensures.legal o H c.args.seat playing.leads keeps.1 playing.legal c.requires.seat)
     (leads_more o H _ _ _ playing.leads replies (rw c.request-entry.ensures at c.follow.ensures.next)) refl
