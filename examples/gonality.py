@@ -8,7 +8,7 @@ prints the gonality of the graph of each line of FILE, a table each; what it hol
 examples below, and its last line is 'N passed, M failed'.
 
 A divisor of rank at least 1 can be fired to one that is effective and has a dollar at q, so those alone are tried: for each
-degree one run of the program, over all of them.
+degree one run of the program, over all of them as divisors of one table.
 
     >>> gonality(graph(5, [(0, 1), (1, 2), (1, 3), (3, 4)])), gonality(graph(7, [(i, (i + 1) % 7) for i in range(7)]))
     (1, 2)
@@ -37,14 +37,15 @@ def graph(size, edges):
 
 
 def placed(table, degree):
-    """The table with so many dollars in each way in which q has one of them at least."""
+    """So many dollars in each way in which q has one of them at least."""
     for more in itertools.combinations_with_replacement(table.vertices, degree - 1):
-        yield dict(table, amounts=[(name == table.q) + more.count(name) for name in table.vertices])
+        yield [(name == table.q) + more.count(name) for name in table.vertices]
 
 
 def gonality(table):
     """The least degree of an effective divisor of rank at least 1: at most a dollar for each vertex."""
-    return next(degree for degree in itertools.count(1) if any(dollar.rank_all(placed(table, degree), 1, errors="raise")))
+    return next(degree for degree in itertools.count(1)
+                if any(dollar.rank_all(table, 1, divisors=placed(table, degree), errors="raise")))
 
 
 def main(words):

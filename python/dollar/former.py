@@ -8,7 +8,7 @@ from typing import Any, Iterable, Iterator, Optional, Union
 from dollar.answers import Refused, RefusedVerdict
 from dollar.program import Fault, Place, fault_of, script
 from dollar.session import one_line
-from dollar.sweeps import swept, sweep_words
+from dollar.sweeps import asked, swept
 from dollar.table import Table
 
 __all__ = ["fault", "lines_answered", "one_line", "script", "table_of"]
@@ -26,6 +26,6 @@ def lines_answered(command: str, tables: Iterable[Any], *given: object,
                    program: Optional[Place] = None) -> Iterator[Union[str, Fault]]:
     """`judge_all`, `rank_all` and `rr_all` do it, with the parameter `workers`. The texts of answers, as they come."""
     warnings.warn("judge_all, rank_all and rr_all have all that lines_answered has", DeprecationWarning, stacklevel=2)
-    words = sweep_words(command, *map(str, given), workers=None, errors="row")
-    for row in swept(words, tables, lambda text, _: text, RefusedVerdict, "row", program):
+    words, lines = asked(command, [str(word) for word in given], tables, None, None, "row", False)
+    for row in swept(words, lines, lambda text, _: text, RefusedVerdict, "row", program):
         yield Fault(row.text, row.status, row.table) if isinstance(row, Refused) else row

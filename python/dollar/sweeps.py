@@ -1,4 +1,4 @@
-"""The commands for many tables, in one run of the program."""
+"""The commands for many tables, or for many divisors of one, in one run of the program."""
 
 from __future__ import annotations
 
@@ -10,31 +10,36 @@ import tempfile
 import time
 import warnings
 from collections import deque
+from contextlib import ExitStack
 from typing import Any, Callable, Deque, Iterable, Iterator, List, Literal, Optional, Sequence, Tuple, TypeVar, Union, overload
 
 from dollar.answers import (
     RankTest, RefusedRankTest, RefusedRiemannRoch, RefusedVerdict, RiemannRoch, Row, Verdict, rank_test_of, refusal, riemann_roch_of,
     verdict_of)
 from dollar.commands import option
-from dollar.program import Fault, Place, fault_of, find_program
-from dollar.table import iterate, whole
+from dollar.program import Fault, Place, fault_of, find_program, open_files
+from dollar.table import Table, iterate, iterate_divisors, one_line, whole
 
 AT_ONCE, PIECE, PATIENCE = 1 << 16, 1 << 16, 0.05
 Found = TypeVar("Found")
 
 
 class Sweep:
-    """One run of a command with --lines. All is done in the thread of the caller: the tables are taken there, and sent as far as the
-    pipe takes them, and the answers are read as they come."""
+    """One run of a command over lines. All is done in the thread of the caller: the tables are taken there, and sent as far as the
+    pipe takes their lines, and the answers are read as they come. A word as bytes stands for a file with these bytes."""
 
-    def __init__(self, words: Sequence[str], tables: Iterable[Any], program: Optional[Place]) -> None:
+    def __init__(self, words: Sequence[Union[str, bytes]], tables: Iterator[Tuple[Any, bytes]], program: Optional[Place]) -> None:
         self.said = tempfile.TemporaryFile()
-        self.child = subprocess.Popen([find_program(program), *words], bufsize=0, stdin=subprocess.PIPE, stdout=subprocess.PIPE,
-                                      stderr=self.said)
+        with ExitStack() as until:
+            names, descriptors = open_files((word for word in words if isinstance(word, bytes)), until)
+            left = iter(names)
+            line = [next(left) if isinstance(word, bytes) else word for word in words]
+            self.child = subprocess.Popen([find_program(program), *line], bufsize=0, stdin=subprocess.PIPE, stdout=subprocess.PIPE,
+                                          stderr=self.said, pass_fds=descriptors)
         assert self.child.stdin is not None and self.child.stdout is not None
         self.input, self.output = self.child.stdin, self.child.stdout
         os.set_blocking(self.input.fileno(), False)
-        self.tables = iterate(tables)
+        self.tables = tables
         self.waiting: Deque[Any] = deque()
         self.unsent, self.unread = b"", b""
         self.are_all_taken = False
@@ -125,8 +130,8 @@ def shown(tables: Iterable[Any], progress: bool) -> Iterable[Any]:
     return bar
 
 
-def swept(words: Sequence[str], tables: Iterable[Any], read: Callable[[str, Any], Found], kind: Callable[..., Row], errors: str,
-          program: Optional[Place]) -> Iterator[Union[Found, Row]]:
+def swept(words: Sequence[Union[str, bytes]], tables: Iterator[Tuple[Any, bytes]], read: Callable[[str, Any], Found],
+          kind: Callable[..., Row], errors: str, program: Optional[Place]) -> Iterator[Union[Found, Row]]:
     """What is read of each answer, and a row of this kind for each table that is refused."""
     sweep = Sweep(words, tables, program)
     try:
@@ -144,25 +149,30 @@ def swept(words: Sequence[str], tables: Iterable[Any], read: Callable[[str, Any]
         sweep.close()
 
 
-def sweep_words(command: str, *given: str, workers: Optional[int], errors: str) -> List[str]:
-    """The words of a command with --lines."""
+def asked(command: str, given: Sequence[str], tables: Any, divisors: Optional[Iterable[Any]], workers: Optional[int], errors: str,
+          progress: bool) -> Tuple[List[Union[str, bytes]], Iterator[Tuple[Any, bytes]]]:
+    """The words of a command over lines; and its tables, each with its line."""
     if errors not in ("row", "raise"):
         raise ValueError("errors are either 'row' or 'raise', and not %r" % (errors,))
-    return [command, "--lines", "/dev/stdin", *given, *option("--workers", workers)]
+    rest = [*given, *option("--workers", workers)]
+    if divisors is None:
+        return [command, "--lines", "/dev/stdin", *rest], iterate(shown(tables, progress))
+    table = tables if isinstance(tables, Table) else Table(tables)
+    return [command, one_line(table), "--divisors", "/dev/stdin", *rest], iterate_divisors(table, shown(divisors, progress))
 
 
 @overload
-def judge_all(tables: Iterable[Any], program: Optional[Place] = ..., *, workers: Optional[int] = ..., errors: Literal["raise"],
-              progress: bool = ...) -> Iterator[Verdict]: ...
+def judge_all(tables: Any, program: Optional[Place] = ..., *, workers: Optional[int] = ..., errors: Literal["raise"],
+              divisors: Optional[Iterable[Any]] = ..., progress: bool = ...) -> Iterator[Verdict]: ...
 
 
 @overload
-def judge_all(tables: Iterable[Any], program: Optional[Place] = ..., *, workers: Optional[int] = ..., errors: Literal["row"] = ...,
-              progress: bool = ...) -> Iterator[Union[Verdict, RefusedVerdict]]: ...
+def judge_all(tables: Any, program: Optional[Place] = ..., *, workers: Optional[int] = ..., errors: Literal["row"] = ...,
+              divisors: Optional[Iterable[Any]] = ..., progress: bool = ...) -> Iterator[Union[Verdict, RefusedVerdict]]: ...
 
 
-def judge_all(tables: Iterable[Any], program: Optional[Place] = None, *, workers: Optional[int] = None, errors: str = "row",
-              progress: bool = False) -> Iterator[Union[Verdict, RefusedVerdict]]:
+def judge_all(tables: Any, program: Optional[Place] = None, *, workers: Optional[int] = None, errors: str = "row",
+              divisors: Optional[Iterable[Any]] = None, progress: bool = False) -> Iterator[Union[Verdict, RefusedVerdict]]:
     """The verdicts on the tables, in order, as they come.
 
     The tables may be any number, and come from anywhere: they are taken in the thread of the caller, some ahead of their answers.
@@ -174,53 +184,65 @@ def judge_all(tables: Iterable[Any], program: Optional[Place] = None, *, workers
     >>> pair = Table([[0, 2], [2, 0]])
     >>> [verdict.winnable for verdict in judge_all(Table(pair, [amount, -1]) for amount in range(4))]
     [False, False, True, True]
+
+    With `divisors` the first parameter is one table, and each of them has amounts for it, as a list in the order of the vertices or
+    as a dict. The answers are those for the table with these amounts, at a small part of the cost.
+
+    >>> [verdict.winnable for verdict in judge_all(pair, divisors=([amount, -1] for amount in range(4)))]
+    [False, False, True, True]
     """
-    words = sweep_words("judge", workers=workers, errors=errors)
-    return swept(words, shown(tables, progress), verdict_of, RefusedVerdict, errors, program)
+    words, lines = asked("judge", [], tables, divisors, workers, errors, progress)
+    return swept(words, lines, verdict_of, RefusedVerdict, errors, program)
 
 
 @overload
-def rank_all(tables: Iterable[Any], degree: int, program: Optional[Place] = ..., *, workers: Optional[int] = ...,
-             errors: Literal["raise"], progress: bool = ...) -> Iterator[RankTest]: ...
+def rank_all(tables: Any, degree: int, program: Optional[Place] = ..., *, workers: Optional[int] = ...,
+             errors: Literal["raise"], divisors: Optional[Iterable[Any]] = ...,
+             progress: bool = ...) -> Iterator[RankTest]: ...
 
 
 @overload
-def rank_all(tables: Iterable[Any], degree: int, program: Optional[Place] = ..., *, workers: Optional[int] = ...,
-             errors: Literal["row"] = ..., progress: bool = ...) -> Iterator[Union[RankTest, RefusedRankTest]]: ...
+def rank_all(tables: Any, degree: int, program: Optional[Place] = ..., *, workers: Optional[int] = ...,
+             errors: Literal["row"] = ..., divisors: Optional[Iterable[Any]] = ...,
+             progress: bool = ...) -> Iterator[Union[RankTest, RefusedRankTest]]: ...
 
 
-def rank_all(tables: Iterable[Any], degree: int, program: Optional[Place] = None, *, workers: Optional[int] = None,
-             errors: str = "row", progress: bool = False) -> Iterator[Union[RankTest, RefusedRankTest]]:
+def rank_all(tables: Any, degree: int, program: Optional[Place] = None, *, workers: Optional[int] = None,
+             errors: str = "row", divisors: Optional[Iterable[Any]] = None,
+             progress: bool = False) -> Iterator[Union[RankTest, RefusedRankTest]]:
     """The rank tests of a degree, as `judge_all` has verdicts. One past the limits that a law settles has no first loss.
 
     >>> from dollar import Table
     >>> pair = Table([[0, 1], [1, 0]])
     >>> [str(test) for test in rank_all([Table(pair, [2, 0]), Table(pair, [0, 1])], 2)]
     ['rank at least 2', 'rank below 2 at 0=0 1=2']
+    >>> [str(test) for test in rank_all(pair, 2, divisors=[[2, 0], {"1": 1}])]
+    ['rank at least 2', 'rank below 2 at 0=0 1=2']
     """
-    words = sweep_words("rank", str(whole(degree, "the degree")), workers=workers, errors=errors)
-    return swept(words, shown(tables, progress), lambda text, _: rank_test_of(text), RefusedRankTest, errors, program)
+    words, lines = asked("rank", [str(whole(degree, "the degree"))], tables, divisors, workers, errors, progress)
+    return swept(words, lines, lambda text, _: rank_test_of(text), RefusedRankTest, errors, program)
 
 
 @overload
-def rr_all(tables: Iterable[Any], program: Optional[Place] = ..., *, workers: Optional[int] = ..., errors: Literal["raise"],
-           progress: bool = ...) -> Iterator[RiemannRoch]: ...
+def rr_all(tables: Any, program: Optional[Place] = ..., *, workers: Optional[int] = ..., errors: Literal["raise"],
+           divisors: Optional[Iterable[Any]] = ..., progress: bool = ...) -> Iterator[RiemannRoch]: ...
 
 
 @overload
-def rr_all(tables: Iterable[Any], program: Optional[Place] = ..., *, workers: Optional[int] = ..., errors: Literal["row"] = ...,
-           progress: bool = ...) -> Iterator[Union[RiemannRoch, RefusedRiemannRoch]]: ...
+def rr_all(tables: Any, program: Optional[Place] = ..., *, workers: Optional[int] = ..., errors: Literal["row"] = ...,
+           divisors: Optional[Iterable[Any]] = ..., progress: bool = ...) -> Iterator[Union[RiemannRoch, RefusedRiemannRoch]]: ...
 
 
-def rr_all(tables: Iterable[Any], program: Optional[Place] = None, *, workers: Optional[int] = None, errors: str = "row",
-           progress: bool = False) -> Iterator[Union[RiemannRoch, RefusedRiemannRoch]]:
+def rr_all(tables: Any, program: Optional[Place] = None, *, workers: Optional[int] = None, errors: str = "row",
+           divisors: Optional[Iterable[Any]] = None, progress: bool = False) -> Iterator[Union[RiemannRoch, RefusedRiemannRoch]]:
     """The four numbers of the tables, as `judge_all` has verdicts; None for a rank past the limits.
 
     >>> from dollar import Table
     >>> pair = Table([[0, 3], [3, 0]])
     >>> [numbers.rank for numbers in rr_all(Table(pair, [amount, 1]) for amount in range(4))]
     [0, 1, 1, 2]
+    >>> [numbers.rank for numbers in rr_all(pair, divisors=([amount, 1] for amount in range(4)))]
+    [0, 1, 1, 2]
     """
-    words = sweep_words("rr", workers=workers, errors=errors)
-    return swept(words, shown(tables, progress), lambda text, _: riemann_roch_of(text.split(" ")), RefusedRiemannRoch, errors,
-                 program)
+    words, lines = asked("rr", [], tables, divisors, workers, errors, progress)
+    return swept(words, lines, lambda text, _: riemann_roch_of(text.split(" ")), RefusedRiemannRoch, errors, program)

@@ -445,3 +445,34 @@ def iterate(tables: Iterable[Any]) -> Iterator[Tuple[Any, bytes]]:
             yield made, one_line(made) + b"\n"
         except (TypeError, ValueError) as error:
             raise type(error)("table %d: %s" % (number, error)) from None
+
+
+class Placed(AbstractMapping[str, Any]):
+    """A table with other amounts, which are given in the order of its vertices: its members, as a table file has them."""
+
+    __slots__ = ("_amounts", "_table")
+
+    def __init__(self, table: Table, amounts: List[int]) -> None:
+        self._table, self._amounts = table, amounts
+
+    def __iter__(self) -> Iterator[str]:
+        return iter(MEMBERS)
+
+    def __len__(self) -> int:
+        return len(MEMBERS)
+
+    def __getitem__(self, member: str) -> Any:
+        return list(self._amounts) if member == "amounts" else self._table[member]
+
+
+def iterate_divisors(table: Table, divisors: Iterable[Any]) -> Iterator[Tuple[Any, bytes]]:
+    """For each of the divisors the table with these amounts, and their line. A dict has 0 dollars where it has no vertex."""
+    places = {name: place for place, name in enumerate(table.vertices)}
+    for number, divisor in enumerate(divisors):
+        try:
+            if divisor is None:
+                raise TypeError("amounts are a list in the order of the vertices, or a dict, and not None")
+            amounts = list(held(divisor, places, table.vertices))
+        except (TypeError, ValueError) as error:
+            raise type(error)("divisor %d: %s" % (number, error)) from None
+        yield Placed(table, amounts), " ".join(map(str, amounts)).encode() + b"\n"

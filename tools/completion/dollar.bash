@@ -3,7 +3,7 @@
 #     source tools/completion/dollar.bash
 #
 # A command is completed, then its options, and its files: for FILE those that end in .json, and folders; where neither
-# fits, and for STEPS and SCRIPT, any file. A number is completed to nothing. `./dollar` is completed as `dollar` is.
+# fits, and for STEPS, SCRIPT and LINES, any file. A number is completed to nothing. `./dollar` is completed as `dollar` is.
 
 # Replies with the files that begin with the word $1. Where $2 is table, those come first that may be tables.
 _dollar_files() {
@@ -49,7 +49,17 @@ _dollar() {
                 i=$((i + 1))
                 if [ "$i" -ge "$COMP_CWORD" ]; then return; fi
                 ;;
-            --cap=* | --seats=* | --workers=* | --lines) ;;
+            --divisors)
+                # The file is the next word, or the one after `=`.
+                if [ "${COMP_WORDS[i + 1]}" = = ]; then i=$((i + 1)); fi
+                i=$((i + 1))
+                if [ "$i" -ge "$COMP_CWORD" ]; then
+                    if [ "$word" = = ]; then word=; fi
+                    _dollar_files "$word" any
+                    return
+                fi
+                ;;
+            --divisors=* | --cap=* | --seats=* | --workers=* | --lines) ;;
             -h | --help | -V | --version) return ;;
             *)
                 if [ "$command" ]; then place=$((place + 1)); else command=${COMP_WORDS[i]}; fi
@@ -58,9 +68,9 @@ _dollar() {
     done
     case $command in
         '') arguments=(COMMAND) options=(--help --version) ;;
-        judge) arguments=(FILE) options=(--lines --workers --help) ;;
-        rank) arguments=(FILE K) options=(--lines --workers --help) ;;
-        rr) arguments=(FILE) options=(--lines --workers --help) ;;
+        judge) arguments=(FILE) options=(--lines --divisors --workers --help) ;;
+        rank) arguments=(FILE K) options=(--lines --divisors --workers --help) ;;
+        rr) arguments=(FILE) options=(--lines --divisors --workers --help) ;;
         greedy) arguments=(FILE TURNS) ;;
         rehearse) arguments=(FILE STEPS) ;;
         serve) arguments=(FILE) options=(--seats --cap --workers --help) ;;

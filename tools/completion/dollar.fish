@@ -2,10 +2,10 @@
 #
 #     source tools/completion/dollar.fish
 #
-# A command is completed, then its options, and its files: for FILE those that end in .json come first, for STEPS and
-# SCRIPT any file. A number is completed to nothing. `./dollar` is completed as `dollar` is.
+# A command is completed, then its options, and its files: for FILE those that end in .json come first, for STEPS,
+# SCRIPT and LINES any file. A number is completed to nothing. `./dollar` is completed as `dollar` is.
 
-# The words before the one that is asked for which are neither options nor their numbers: the command and its arguments.
+# The words before the one that is asked for which are neither options nor their values: the command and its arguments.
 function __dollar_words
     set -l is_number no
     set -l ended no
@@ -15,7 +15,7 @@ function __dollar_words
             set is_number no
         else if test $ended = no; and string match -q -- '-*' $word
             switch $word
-                case --cap --seats --workers
+                case --cap --divisors --seats --workers
                     set is_number yes
                 case --
                     set ended yes
@@ -56,6 +56,7 @@ for place in __dollar_has_no_command '__dollar_place_is 0 help'
     complete -c dollar -n $place -a help -d 'print the help of a command'
 end
 complete -c dollar -n '__dollar_command_is judge rank rr' -l lines -d 'FILE has a table on each line'
+complete -c dollar -n '__dollar_command_is judge rank rr' -l divisors -r -F -d 'a file with amounts on each line'
 complete -c dollar -n '__dollar_command_is judge rank rr serve' -l workers -x -d 'how many threads'
 complete -c dollar -n '__dollar_command_is serve party' -l cap -x -d 'how many entries'
 complete -c dollar -n '__dollar_command_is serve' -l seats -x -d 'how many seats'

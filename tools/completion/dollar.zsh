@@ -5,7 +5,7 @@
 #     source tools/completion/dollar.zsh
 #
 # A command is completed, then its options, and its files: for FILE those that end in .json, and folders; where neither
-# fits, and for STEPS and SCRIPT, any file. A number is completed to nothing. `./dollar` is completed as `dollar` is.
+# fits, and for STEPS, SCRIPT and LINES, any file. A number is completed to nothing. `./dollar` is completed as `dollar` is.
 
 _dollar_commands() {
     local -a commands=(
@@ -26,6 +26,7 @@ _dollar() {
     local -A opt_args
     local -a help=('(- *)'{-h,--help}'[print the help]')
     local -a lines=('--lines[FILE has a table on each line]')
+    local -a divisors=('--divisors=[a file with amounts on each line]:lines:_files')
     local -a workers=('--workers=[how many threads]:number:')
     local -a cap=('--cap=[how many entries]:number:')
     local -a seats=('--seats=[how many seats]:number:')
@@ -34,8 +35,8 @@ _dollar() {
     [[ $state == arguments ]] || return
     curcontext=${curcontext%:*:*}:dollar-$line[1]:
     case $line[1] in
-        judge | rr) _arguments $help $lines $workers $table ;;
-        rank) _arguments $help $lines $workers $table '2:degree:' ;;
+        judge | rr) _arguments $help $lines $divisors $workers $table ;;
+        rank) _arguments $help $lines $divisors $workers $table '2:degree:' ;;
         greedy) _arguments $help $table '2:turns:' ;;
         rehearse) _arguments $help $table '2:steps:_files' ;;
         serve) _arguments $help $seats $cap $workers $table ;;

@@ -88,7 +88,7 @@ pub enum Asked<'a> {
     Serve(ServeTask<'a>),
     /// Scripts to play, and the history that they make to print.
     Party(PartyTask<'a>),
-    /// The lines of a file to answer, each of which is a table.
+    /// The lines of a file to answer, each of which is a table or has amounts for one.
     Sweep(SweepTask<'a>),
     /// A text to print, as after `--help`.
     Text(String),

@@ -13,11 +13,13 @@ pub enum Question {
     RiemannRoch,
 }
 
-/// A sweep over the lines of a file, each of which is a table.
+/// A sweep over lines, each of which is a table, or has amounts for the vertices of one table.
 #[derive(Drop)]
 pub struct SweepTask<'a> {
-    /// The name of the file.
+    /// The name of the file of lines that are tables; or, where there are lines of amounts, of the table file.
     pub file: &'a str,
+    /// The name of the file of lines of amounts, if there is one.
+    pub divisors: Option<&'a str>,
     /// What is asked of each table.
     pub question: Question,
     /// How many workers share the lines, 1 to 16.

@@ -9,7 +9,7 @@ use Rattle.clap.specs.declared.error.kind.ErrorKind.TheVariants.{ArgumentConflic
 use Rattle.dg_asked.specs.declared.question.Question.TheVariants.{Judge, Rank, RiemannRoch}
 use Rattle.dg_command.specs.Commands.{dollar}
 use Rattle.dg_command.specs.Numbers.{IsGiven, IsNumber}
-use Rattle.dg_command.specs.CommandLines.{CommandLinesAsk, IsFault, IsGreedy, IsHelp, IsJudge, IsNothing, IsParty, IsRank, IsRehearse, IsRiemannRoch, IsServe, IsSweep, IsVersion}
+use Rattle.dg_command.specs.CommandLines.{CommandLinesAsk, IsFault, IsGreedy, IsHelp, IsJudge, IsNothing, IsParty, IsRank, IsRehearse, IsRiemannRoch, IsServe, IsSweep, IsSweepOf, IsVersion}
 use Rattle.dg_command.proofs.Nothing.{no_given, nothing_by, only_greedy, only_judge, only_party, only_rank, only_riemann_roch, only_serve, past, zero_first}
 
 number : (low high n : ℕ) (text : Text) → text ≡ decimal n → low ≤ n → n ≤ high → (m : ℕ) → m ≡ n → IsNumber low high text m
@@ -67,15 +67,15 @@ d65537 =
 
 judge : IsJudge (codes "judge" ∷ codes "t" ∷ []) (codes "t")
 unfolding dollar clap_on_literals
-judge f file = (refl, (refl, ap Some (sym file), (not_set, refl)))
+judge f file = (refl, (refl, ap Some (sym file), ((not_set, refl), refl)))
 
 after_dashes : IsJudge (codes "judge" ∷ codes "--" ∷ codes "-t" ∷ []) (codes "-t")
 unfolding dollar clap_on_literals
-after_dashes f file = (refl, (refl, ap Some (sym file), (not_set, refl)))
+after_dashes f file = (refl, (refl, ap Some (sym file), ((not_set, refl), refl)))
 
 riemann_roch : IsRiemannRoch (codes "rr" ∷ codes "t" ∷ []) (codes "t")
 unfolding dollar clap_on_literals
-riemann_roch f file = (refl, (refl, ap Some (sym file), (not_set, refl)))
+riemann_roch f file = (refl, (refl, ap Some (sym file), ((not_set, refl), refl)))
 
 rehearse : IsRehearse (codes "rehearse" ∷ codes "t" ∷ codes "s" ∷ []) (codes "t") (codes "s")
 unfolding dollar clap_on_literals
@@ -93,7 +93,7 @@ rank t file degree workers = (
           (omega arith) _ degree;
       workers = workers;
     },
-    not_set,
+    (not_set, refl),
   ),
 )
 
@@ -109,7 +109,7 @@ rank_workers t file degree workers = (
           (omega arith) _ degree;
       workers = number _ _ 3 _ d3 (omega arith) (omega arith) _ workers;
     },
-    not_set,
+    (not_set, refl),
   ),
 )
 
@@ -125,7 +125,7 @@ rank_most_workers t file degree workers = (
           (omega arith) (omega arith) _ degree;
       workers = number _ _ 16 _ d16 (omega arith) (omega arith) _ workers;
     },
-    not_set,
+    (not_set, refl),
   ),
 )
 
@@ -145,9 +145,10 @@ greedy t file turns = (
 
 judge_lines : IsSweep (codes "judge" ∷ codes "--lines" ∷ codes "t" ∷ []) (codes "t") Judge 1
 unfolding dollar clap_on_literals
-judge_lines t file question workers = (
+judge_lines t file divisors question workers = (
   refl,
   record {
+    divisors = divisors;
     lines = refl;
     file = ap Some (sym file);
     question = rw question refl;
@@ -157,9 +158,10 @@ judge_lines t file question workers = (
 
 rank_lines : IsSweep (codes "rank" ∷ codes "t" ∷ codes "--lines" ∷ codes "1" ∷ []) (codes "t") (Rank 1) 1
 unfolding dollar clap_on_literals
-rank_lines t file question workers = (
+rank_lines t file divisors question workers = (
   refl,
   record {
+    divisors = divisors;
     lines = refl;
     file = ap Some (sym file);
     question = rw question (
@@ -173,13 +175,60 @@ rank_lines t file question workers = (
 riemann_roch_lines : IsSweep (codes "rr" ∷ codes "--workers" ∷ codes "2" ∷ codes "--lines" ∷ codes "t" ∷ [])
     (codes "t") RiemannRoch 2
 unfolding dollar clap_on_literals
-riemann_roch_lines t file question workers = (
+riemann_roch_lines t file divisors question workers = (
   refl,
   record {
+    divisors = divisors;
     lines = refl;
     file = ap Some (sym file);
     question =
         rw question refl;
+    workers = number _ _ 2 _ d2 (omega arith) (omega arith) _ workers;
+  },
+)
+
+judge_divisors : IsSweepOf (codes "judge" ∷ codes "t" ∷ codes "--divisors" ∷ codes "s" ∷ []) (codes "t") (Some (codes "s"))
+    Judge 1
+unfolding dollar clap_on_literals
+judge_divisors t file divisors question workers = (
+  refl,
+  record {
+    divisors = divisors;
+    lines = not_set;
+    file = ap Some (sym file);
+    question = rw question refl;
+    workers = workers;
+  },
+)
+
+rank_divisors : IsSweepOf (codes "rank" ∷ codes "--divisors=s" ∷ codes "t" ∷ codes "1" ∷ []) (codes "t") (Some (codes "s"))
+    (Rank 1) 1
+unfolding dollar clap_on_literals
+rank_divisors t file divisors question workers = (
+  refl,
+  record {
+    divisors = divisors;
+    lines = not_set;
+    file = ap Some (sym file);
+    question = rw question (
+      refl,
+      number _ _ 1 _ d1 (omega arith) (omega arith) _ refl,
+    );
+    workers = workers;
+  },
+)
+
+riemann_roch_divisors : IsSweepOf
+    (codes "rr" ∷ codes "t" ∷ codes "--divisors" ∷ codes "s" ∷ codes "--workers" ∷ codes "2" ∷ []) (codes "t")
+    (Some (codes "s")) RiemannRoch 2
+unfolding dollar clap_on_literals
+riemann_roch_divisors t file divisors question workers = (
+  refl,
+  record {
+    divisors = divisors;
+    lines = not_set;
+    file = ap Some (sym file);
+    question = rw question refl;
     workers = number _ _ 2 _ d2 (omega arith) (omega arith) _ workers;
   },
 )
@@ -338,6 +387,10 @@ judge_lines_twice : IsFault (codes "judge" ∷ codes "--lines" ∷ codes "--line
 unfolding dollar clap_on_literals
 judge_lines_twice = refl
 
+judge_no_divisors : IsFault (codes "judge" ∷ codes "t" ∷ codes "--divisors" ∷ []) (InvalidValue ∷ [])
+unfolding dollar clap_on_literals
+judge_no_divisors = refl
+
 rank_no_degree : IsFault (codes "rank" ∷ codes "t" ∷ []) (MissingRequiredArgument ∷ [])
 unfolding dollar clap_on_literals
 rank_no_degree = refl
@@ -404,13 +457,18 @@ party_workers : IsFault (codes "party" ∷ codes "t" ∷ codes "s" ∷ codes "--
 unfolding dollar clap_on_literals
 party_workers = refl
 
+judge_lines_and_divisors : IsNothing
+    (codes "judge" ∷ codes "t" ∷ codes "--lines" ∷ codes "--divisors" ∷ codes "s" ∷ [])
+unfolding dollar clap_on_literals
+judge_lines_and_divisors = nothing_by _ _ _ only_judge refl refl (λ never. never refl, inl (λ one. one.0 refl))
+
 judge_workers_alone : IsNothing (codes "judge" ∷ codes "t" ∷ codes "--workers" ∷ codes "1" ∷ [])
 unfolding dollar clap_on_literals
-judge_workers_alone = nothing_by _ _ _ only_judge refl refl (not_set, is_some _)
+judge_workers_alone = nothing_by _ _ _ only_judge refl refl (not_set, inr (is_some _))
 
 riemann_roch_workers_alone : IsNothing (codes "rr" ∷ codes "t" ∷ codes "--workers" ∷ codes "2" ∷ [])
 unfolding dollar clap_on_literals
-riemann_roch_workers_alone = nothing_by _ _ _ only_riemann_roch refl refl (not_set, is_some _)
+riemann_roch_workers_alone = nothing_by _ _ _ only_riemann_roch refl refl (not_set, inr (is_some _))
 
 rank_zero_first : IsNothing (codes "rank" ∷ codes "t" ∷ codes "01" ∷ [])
 unfolding dollar clap_on_literals
@@ -465,6 +523,9 @@ law = record {
   judge_lines = judge_lines;
   rank_lines = rank_lines;
   riemann_roch_lines = riemann_roch_lines;
+  judge_divisors = judge_divisors;
+  rank_divisors = rank_divisors;
+  riemann_roch_divisors = riemann_roch_divisors;
   serve = serve;
   serve_options = serve_options;
   serve_seats = serve_seats;
@@ -488,6 +549,7 @@ law = record {
   judge_two_files = judge_two_files;
   judge_lines_value = judge_lines_value;
   judge_lines_twice = judge_lines_twice;
+  judge_no_divisors = judge_no_divisors;
   rank_no_degree = rank_no_degree;
   rank_hyphen = rank_hyphen;
   rank_no_workers = rank_no_workers;
@@ -504,6 +566,7 @@ law = record {
   party_no_script = party_no_script;
   party_seats = party_seats;
   party_workers = party_workers;
+  judge_lines_and_divisors = judge_lines_and_divisors;
   judge_workers_alone = judge_workers_alone;
   riemann_roch_workers_alone = riemann_roch_workers_alone;
   rank_zero_first = rank_zero_first;

@@ -12,7 +12,7 @@ use Rattle.dg_asked.specs.declared.question.Question.TheVariants.{Judge, Rank, R
 use Rattle.dg_asked.specs.declared.limits.TheConstants.{MAX_SEATS, MAX_TURNS}
 use Rattle.dg_command.specs.Commands.{dollar}
 use Rattle.dg_command.specs.Numbers.{IsGiven, IsNumber}
-use Rattle.dg_command.specs.Asks.{AsksFor, AsksQuestion, HasCapacity, HasDegree, HasLines, HasNumber, HasWorkers, word_of}
+use Rattle.dg_command.specs.Asks.{AsksFor, AsksQuestion, HasCapacity, HasDegree, HasNumber, HasOneTable, HasWorkers, IsAlone, LinesAre, divisors_of, word_of}
 use Rattle.dg_command.specs.Refusals.{AskNothing}
 use Rattle.dg_command.proofs.Parsing.{ask_nothing}
 
@@ -78,9 +78,16 @@ only_rank rows out (asked.Serve t) h = absurd (omega (arith, ap (λ t. slice_ind
 only_rank rows out (asked.Party t) h = absurd (omega (arith, ap (λ t. slice_index t 0) h.0))
 only_rank rows out (asked.Text text) h = h
 
-pub only_judge : (rows : List Row) → ((HasLines rows → ⊥) × (word_of (codes "workers") rows ≡ None → ⊥)) → (it : Asked)
+abbrev pub NeverLines : List Row → Type 0
+NeverLines rows = LinesAre rows (divisors_of rows) → ⊥
+
+not_alone : (rows : List Row) → ((HasOneTable rows → ⊥) ⊎ (word_of (codes "workers") rows ≡ None → ⊥)) → IsAlone rows → ⊥
+not_alone rows out alone = elim out [ inl never ↦ never alone.0 | inr never ↦ never alone.1 ]
+
+pub only_judge : (rows : List Row)
+    → (NeverLines rows × ((HasOneTable rows → ⊥) ⊎ (word_of (codes "workers") rows ≡ None → ⊥))) → (it : Asked)
     → AsksFor (codes "judge") rows it → ⊥
-only_judge rows out (asked.Task (task.Judge f)) h = out.1 h.2.1
+only_judge rows out (asked.Task (task.Judge f)) h = not_alone rows out.1 h.2
 only_judge rows out (asked.Task (task.RiemannRoch f)) h = absurd (omega (arith, ap (λ t. slice_index t 0) h.0))
 only_judge rows out (asked.Task (task.Rank t)) h = absurd (omega (arith, ap (λ t. slice_index t 0) h.0))
 only_judge rows out (asked.Task (task.Greedy t)) h = absurd (omega (arith, ap (λ t. slice_index t 0) h.0))
@@ -90,10 +97,11 @@ only_judge rows out (asked.Serve t) h = absurd (omega (arith, ap (λ t. slice_in
 only_judge rows out (asked.Party t) h = absurd (omega (arith, ap (λ t. slice_index t 0) h.0))
 only_judge rows out (asked.Text text) h = h
 
-pub only_riemann_roch : (rows : List Row) → ((HasLines rows → ⊥) × (word_of (codes "workers") rows ≡ None → ⊥)) → (it : Asked)
+pub only_riemann_roch : (rows : List Row)
+    → (NeverLines rows × ((HasOneTable rows → ⊥) ⊎ (word_of (codes "workers") rows ≡ None → ⊥))) → (it : Asked)
     → AsksFor (codes "rr") rows it → ⊥
 only_riemann_roch rows out (asked.Task (task.Judge f)) h = absurd (omega (arith, ap (λ t. slice_index t 0) h.0))
-only_riemann_roch rows out (asked.Task (task.RiemannRoch f)) h = out.1 h.2.1
+only_riemann_roch rows out (asked.Task (task.RiemannRoch f)) h = not_alone rows out.1 h.2
 only_riemann_roch rows out (asked.Task (task.Rank t)) h = absurd (omega (arith, ap (λ t. slice_index t 1) h.0))
 only_riemann_roch rows out (asked.Task (task.Greedy t)) h = absurd (omega (arith, ap (λ t. slice_index t 0) h.0))
 only_riemann_roch rows out (asked.Task (task.Rehearse f steps)) h = absurd (omega (arith, ap (λ t. slice_index t 1) h.0))

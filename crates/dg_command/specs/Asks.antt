@@ -5,6 +5,10 @@
 --   words_of name rows               == all its words
 --   HasFile rows file                == the file is the word for `file`
 --   HasLines rows                    == the flag `--lines` is there
+--   divisors_of rows                 == the name of the file of amounts, where there is one
+--   LinesAre rows divisors           == there are lines, of one kind: the flag is there where no file of
+--                                       amounts is named, and nowhere else
+--   HasOneTable rows                 == there are no lines
 --   HasNumber name low high rows n   == the word of that argument is there, and is n, from low to high
 --   HasDegree rows n                 == so many dollars are lost, from 0 to 2^32 - 1
 --   HasWorkers rows n                == so many workers are given, from 1 to 16; or 1, where none are
@@ -12,8 +16,7 @@
 --   AsksRank, AsksGreedy, AsksSweep, AsksServe, AsksParty
 --                                    == the rows have the file and the numbers of the task, and what
 --                                       else it has
---   IsAlone rows                     == the command reads one table: there are no lines, and no
---                                       workers, which share lines
+--   IsAlone rows                     == there are no lines, and no workers, which share lines
 --   AsksQuestion name rows question  == the command of that name asks this of each line
 --   AsksTask name rows task          == the command of that name asks for the task
 --   AsksFor name rows asked          == the command of that name asks for this
@@ -21,7 +24,7 @@
 --   Asks words asked                 == the words ask for this: for a text where they call for help
 --                                       or the version, and else for what their command asks for,
 --                                       if the library finds no fault
-use Rattle.std.specs.Prelude.{◌≡◌, ◌-◌, ◌^◌, ◌⊎◌, ℕ, List, [], Option, None, Some, IsSomeAnd, codes, map}
+use Rattle.std.specs.Prelude.{◌≡◌, ◌-◌, ◌^◌, ◌⊎◌, ℕ, List, [], Option, None, Some, IsSomeAnd, codes, map, option_map}
 use Rattle.clap.specs.Words.{IsAmong, Kinds, Row, Text, all_of, fault_of, first_of, subcommand_of}
 use Rattle.clap.specs.declared.error.kind.ErrorKind.TheVariants.{DisplayHelp, DisplayVersion}
 use Rattle.dg_asked.specs.declared.asked.Asked.{Asked}
@@ -47,6 +50,16 @@ words_of name rows = all_of name rows
 
 abbrev pub HasLines : List Row → Type 0
 HasLines rows = word_of (codes "lines") rows ≡ Some (codes "true")
+
+abbrev pub divisors_of : List Row → Option Text
+divisors_of rows = word_of (codes "divisors") rows
+
+abbrev pub LinesAre : List Row → Option Text → Type 0
+LinesAre rows None = HasLines rows
+LinesAre rows (Some name) = HasLines rows → ⊥
+
+abbrev pub HasOneTable : List Row → Type 0
+HasOneTable rows = (HasLines rows → ⊥) × (divisors_of rows ≡ None)
 
 abbrev pub HasFile : List Row → Text → Type 0
 HasFile rows file = word_of (codes "file") rows ≡ Some file
@@ -89,19 +102,20 @@ AsksQuestion name rows (question.Rank degree) = (name ≡ codes "rank") × HasDe
 AsksQuestion name rows question.RiemannRoch = name ≡ codes "rr"
 
 pub record AsksSweep (name : Text) (rows : List Row) (task : SweepTask) : Type 0 where
-  pub lines : HasLines rows
+  pub divisors : option_map (λ name. name.now) task.divisors ≡ divisors_of rows
+  pub lines : LinesAre rows (divisors_of rows)
   pub file : HasFile rows task.file.now
   pub question : AsksQuestion name rows task.question
   pub workers : HasWorkers rows task.workers
 
 abbrev pub IsAlone : List Row → Type 0
-IsAlone rows = (HasLines rows → ⊥) × (word_of (codes "workers") rows ≡ None)
+IsAlone rows = HasOneTable rows × (word_of (codes "workers") rows ≡ None)
 
 abbrev pub AsksTask : Text → List Row → Task → Type 0
 AsksTask name rows (Judge file) = (name ≡ codes "judge") × HasFile rows file.now × IsAlone rows
 AsksTask name rows (RiemannRoch file) = (name ≡ codes "rr") × HasFile rows file.now × IsAlone rows
 AsksTask name rows (Rank task) =
-    (name ≡ codes "rank") × AsksRank rows task × (HasLines rows → ⊥)
+    (name ≡ codes "rank") × AsksRank rows task × HasOneTable rows
 AsksTask name rows (Greedy task) = (name ≡ codes "greedy") × AsksGreedy rows task
 AsksTask name rows (Rehearse file steps) =
     (name ≡ codes "rehearse") × HasFile rows file.now

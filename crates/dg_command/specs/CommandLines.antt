@@ -6,7 +6,7 @@
 --   IsFault words kinds == the library finds a fault in the words, of one of these kinds
 --   IsNothing words     == it finds none, and the words ask for nothing
 --   CommandLinesAsk     == each of the command lines asks for what stands beside it
-use Rattle.std.specs.Prelude.{◌≡◌, ℕ, List, [], ◌∷◌, Option, None, Some, codes, map}
+use Rattle.std.specs.Prelude.{◌≡◌, ℕ, List, [], ◌∷◌, Option, None, Some, codes, map, option_map}
 use Rattle.std.specs.Borrow.{Bor}
 use Rattle.clap.specs.Words.{Kinds, Text, fault_of}
 use Rattle.clap.specs.declared.error.kind.ErrorKind.TheVariants.{ArgumentConflict, DisplayHelp, DisplayHelpOnMissingArgumentOrSubcommand, DisplayVersion, InvalidSubcommand, InvalidValue, MissingRequiredArgument, TooManyValues, UnknownArgument}
@@ -45,9 +45,13 @@ abbrev pub IsGreedy : List Text → Text → ℕ → Type 0
 IsGreedy words file turns = (t : GreedyTask) → t.file.now ≡ file → t.turns ≡ turns
     → Asks (called words) (asked.Task (task.Greedy t))
 
-abbrev pub IsSweep : List Text → Text → Question → ℕ → Type 0
-IsSweep words file question workers = (t : SweepTask) → t.file.now ≡ file → t.question ≡ question
+abbrev pub IsSweepOf : List Text → Text → Option Text → Question → ℕ → Type 0
+IsSweepOf words file divisors question workers = (t : SweepTask) → t.file.now ≡ file
+    → option_map (λ name. name.now) t.divisors ≡ divisors → t.question ≡ question
     → t.workers ≡ workers → Asks (called words) (asked.Sweep t)
+
+abbrev pub IsSweep : List Text → Text → Question → ℕ → Type 0
+IsSweep words file question workers = IsSweepOf words file None question workers
 
 abbrev pub IsServe : List Text → Text → Option ℕ → ℕ → ℕ → Type 0
 IsServe words file seats capacity workers = (t : ServeTask) → t.file.now ≡ file → t.seats ≡ seats
@@ -83,6 +87,13 @@ pub record CommandLinesAsk : Type 0 where
   pub rank_lines : IsSweep (codes "rank" ∷ codes "t" ∷ codes "--lines" ∷ codes "1" ∷ []) (codes "t") (Rank 1) 1
   pub riemann_roch_lines : IsSweep (codes "rr" ∷ codes "--workers" ∷ codes "2" ∷ codes "--lines" ∷ codes "t" ∷ [])
       (codes "t") RiemannRoch 2
+  pub judge_divisors : IsSweepOf (codes "judge" ∷ codes "t" ∷ codes "--divisors" ∷ codes "s" ∷ []) (codes "t")
+      (Some (codes "s")) Judge 1
+  pub rank_divisors : IsSweepOf (codes "rank" ∷ codes "--divisors=s" ∷ codes "t" ∷ codes "1" ∷ []) (codes "t")
+      (Some (codes "s")) (Rank 1) 1
+  pub riemann_roch_divisors : IsSweepOf
+      (codes "rr" ∷ codes "t" ∷ codes "--divisors" ∷ codes "s" ∷ codes "--workers" ∷ codes "2" ∷ []) (codes "t")
+      (Some (codes "s")) RiemannRoch 2
   pub serve : IsServe (codes "serve" ∷ codes "t" ∷ []) (codes "t") None 65536 1
   pub serve_options : IsServe (codes "serve" ∷ codes "--cap" ∷ codes "1" ∷ codes "--workers" ∷ codes "16" ∷ codes "t" ∷ [])
       (codes "t") None 1 16
@@ -109,6 +120,7 @@ pub record CommandLinesAsk : Type 0 where
   pub judge_two_files : IsFault (codes "judge" ∷ codes "t" ∷ codes "s" ∷ []) (UnknownArgument ∷ [])
   pub judge_lines_value : IsFault (codes "judge" ∷ codes "--lines=t" ∷ codes "t" ∷ []) (TooManyValues ∷ [])
   pub judge_lines_twice : IsFault (codes "judge" ∷ codes "--lines" ∷ codes "--lines" ∷ codes "t" ∷ []) (ArgumentConflict ∷ [])
+  pub judge_no_divisors : IsFault (codes "judge" ∷ codes "t" ∷ codes "--divisors" ∷ []) (InvalidValue ∷ [])
   pub rank_no_degree : IsFault (codes "rank" ∷ codes "t" ∷ []) (MissingRequiredArgument ∷ [])
   pub rank_hyphen : IsFault (codes "rank" ∷ codes "t" ∷ codes "-1" ∷ []) (UnknownArgument ∷ [])
   pub rank_no_workers : IsFault (codes "rank" ∷ codes "t" ∷ codes "1" ∷ codes "--workers" ∷ []) (InvalidValue ∷ [])
@@ -127,6 +139,8 @@ pub record CommandLinesAsk : Type 0 where
   pub party_no_script : IsFault (codes "party" ∷ codes "t" ∷ []) (MissingRequiredArgument ∷ [])
   pub party_seats : IsFault (codes "party" ∷ codes "t" ∷ codes "s" ∷ codes "--seats" ∷ codes "3" ∷ []) (UnknownArgument ∷ [])
   pub party_workers : IsFault (codes "party" ∷ codes "t" ∷ codes "s" ∷ codes "--workers" ∷ codes "1" ∷ []) (UnknownArgument ∷ [])
+  pub judge_lines_and_divisors : IsNothing
+      (codes "judge" ∷ codes "t" ∷ codes "--lines" ∷ codes "--divisors" ∷ codes "s" ∷ [])
   pub judge_workers_alone : IsNothing (codes "judge" ∷ codes "t" ∷ codes "--workers" ∷ codes "1" ∷ [])
   pub riemann_roch_workers_alone : IsNothing (codes "rr" ∷ codes "t" ∷ codes "--workers" ∷ codes "2" ∷ [])
   pub rank_zero_first : IsNothing (codes "rank" ∷ codes "t" ∷ codes "01" ∷ [])

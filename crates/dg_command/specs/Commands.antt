@@ -33,16 +33,18 @@ command name arguments = record (new_shape name) { rules = arguments }
 
 abbrev pub judge : Shape
 judge = command (codes "judge")
-    (word (codes "file") ∷ flag (codes "lines") ∷ option (codes "workers") ∷ [])
+    (word (codes "file") ∷ flag (codes "lines") ∷ option (codes "divisors")
+    ∷ option (codes "workers") ∷ [])
 
 abbrev pub rank : Shape
 rank = command (codes "rank")
-    (word (codes "file") ∷ flag (codes "lines") ∷ word (codes "degree")
-    ∷ option (codes "workers") ∷ [])
+    (word (codes "file") ∷ flag (codes "lines") ∷ option (codes "divisors")
+    ∷ word (codes "degree") ∷ option (codes "workers") ∷ [])
 
 abbrev pub riemann_roch : Shape
 riemann_roch = command (codes "rr")
-    (word (codes "file") ∷ flag (codes "lines") ∷ option (codes "workers") ∷ [])
+    (word (codes "file") ∷ flag (codes "lines") ∷ option (codes "divisors")
+    ∷ option (codes "workers") ∷ [])
 
 abbrev pub greedy : Shape
 greedy = command (codes "greedy") (word (codes "file") ∷ word (codes "turns") ∷ [])

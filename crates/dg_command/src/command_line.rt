@@ -100,6 +100,13 @@ fn error_of(
                 "the following required arguments were not provided:\n  --lines",
             )
         }
+        Refusal::Both => {
+            let mut command = shown_command(alloc, name.unwrap_or(""))?;
+            command.error(
+                ErrorKind::ArgumentConflict,
+                "the argument '--lines' cannot be used with '--divisors <LINES>'",
+            )
+        }
         Refusal::Number(argument, word) => {
             number_refused(alloc, name.unwrap_or(""), argument, word)
         }

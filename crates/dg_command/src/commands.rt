@@ -19,9 +19,10 @@ ghost use Rattle.dg_command.specs.Commands.{
 ghost use Rattle.dg_command.specs.Building.{IsArgument, IsCommand};
 
 use crate::help_texts::{
-    CAPACITY_HELP, DEGREE_HELP, FILE_HELP, GREEDY_MORE, JUDGE_MORE, LINE_WORKERS_HELP, LINES_HELP,
-    MORE, PARTY_MORE, RANK_MORE, RANK_WORKERS_HELP, REHEARSE_MORE, RIEMANN_ROCH_MORE, SCRIPT_HELP,
-    SEATS_HELP, SERVE_MORE, STEPS_HELP, TURNS_HELP, VERSION, WORKERS_HELP,
+    CAPACITY_HELP, DEGREE_HELP, DIVISORS_HELP, FILE_HELP, GREEDY_MORE, JUDGE_MORE,
+    LINE_WORKERS_HELP, LINES_HELP, MORE, PARTY_MORE, RANK_MORE, RANK_WORKERS_HELP, REHEARSE_MORE,
+    RIEMANN_ROCH_MORE, SCRIPT_HELP, SEATS_HELP, SERVE_MORE, STEPS_HELP, TURNS_HELP, VERSION,
+    WORKERS_HELP,
 };
 use clap::{Arg, ArgAction, Command};
 use std::alloc::{AllocError, Global};
@@ -72,6 +73,7 @@ pub(crate) fn judge<'a>(alloc: Global) -> Result<Command<'a>, AllocError>
         .after_help(JUDGE_MORE)
         .arg(table_file(alloc))?
         .arg(lines(alloc))?
+        .arg(divisors(alloc))?
         .arg(line_workers(alloc))
 }
 
@@ -83,6 +85,7 @@ pub(crate) fn rank<'a>(alloc: Global) -> Result<Command<'a>, AllocError>
         .after_help(RANK_MORE)
         .arg(table_file(alloc))?
         .arg(lines(alloc))?
+        .arg(divisors(alloc))?
         .arg(degree(alloc))?
         .arg(rank_workers(alloc))
 }
@@ -95,6 +98,7 @@ pub(crate) fn riemann_roch<'a>(alloc: Global) -> Result<Command<'a>, AllocError>
         .after_help(RIEMANN_ROCH_MORE)
         .arg(table_file(alloc))?
         .arg(lines(alloc))?
+        .arg(divisors(alloc))?
         .arg(line_workers(alloc))
 }
 
@@ -215,6 +219,15 @@ fn lines<'a>(alloc: Global) -> Arg<'a>
         .long("lines")
         .action(ArgAction::SetTrue)
         .help(LINES_HELP)
+}
+
+fn divisors<'a>(alloc: Global) -> Arg<'a>
+    ensures { IsArgument (option (codes "divisors")) result }
+{
+    Arg::new(alloc, "divisors")
+        .long("divisors")
+        .value_name("LINES")
+        .help(DIVISORS_HELP)
 }
 
 fn capacity<'a>(alloc: Global) -> Arg<'a>

@@ -37,6 +37,8 @@ pub(crate) const SEATS_HELP: &str = "How many seats lines name, 1 to 64; default
 
 pub(crate) const LINES_HELP: &str = "FILE has a table on each line, and each line is answered";
 
+pub(crate) const DIVISORS_HELP: &str = "LINES has amounts for the table on each line";
+
 pub(crate) const CAPACITY_HELP: &str = "How many entries there may be, 1 to 65536; default 65536";
 
 pub(crate) const MORE: &str =
@@ -67,8 +69,8 @@ vertices and edges from 0, and lines and steps from 1: `edge 0 is empty` tells
 of the first edge, and `line 1: bad seat` of the first line.
 
 A run that fails prints nothing but a line that says why, on standard error; but
-`serve` and `--lines` have answered the lines before, and `party` prints the
-history where a session ended early. The status is
+`serve`, `--lines` and `--divisors` have answered the lines before, and `party`
+prints the history where a session ended early. The status is
 
     0  where there is an answer, also `unwinnable` and `rank below ..`
     2  where the command line is refused
@@ -101,6 +103,21 @@ that is no table is answered by the fault of such a file:
     winnable by a=0 b=-1 to a=0 b=0
     unwinnable by a=0 b=-1 to a=-1 b=1
     refused shape of top
+With --divisors, LINES has amounts for the table of FILE on each line, in the
+order of its vertices, with one space between two. The answer is that for the
+table with these amounts, or the fault that they would have in a table file:
+
+    $ cat amounts.txt
+    2 -1 -1
+    4 -1 -1
+    1 -1
+    $ dollar judge triangle.json --divisors amounts.txt
+    winnable by a=0 b=-1 c=-1 to a=0 b=0 c=0
+    winnable by a=0 b=-1 c=-1 to a=2 b=0 c=0
+    refused number of amounts
+
+A word that is no whole number gives `shape of amounts`; after that a wrong
+number of them is told, and then the first that is out of range.
 ";
 
 pub(crate) const RANK_MORE: &str = "\
@@ -135,6 +152,21 @@ that is no table is answered by the fault of such a file:
 
 There a test past the limits is answered where a law or the trials of the dual
 settle it, without the first loss: `rank below 12 at ?`.
+With --divisors, LINES has amounts for the table of FILE on each line, in the
+order of its vertices, with one space between two. The answer is that for the
+table with these amounts, or the fault that they would have in a table file:
+
+    $ cat amounts.txt
+    2 -1 -1
+    4 -1 -1
+    1 -1
+    $ dollar rank triangle.json 1 --divisors amounts.txt
+    rank below 1 at a=0 b=0 c=1
+    rank at least 1
+    refused number of amounts
+
+A word that is no whole number gives `shape of amounts`; after that a wrong
+number of them is told, and then the first that is out of range.
 ";
 
 pub(crate) const RIEMANN_ROCH_MORE: &str = "\
@@ -173,6 +205,21 @@ that is no table is answered by the fault of such a file:
 
 There one rank may be told by the other, and each of them is `?` only where both
 would need a test past the limits.
+With --divisors, LINES has amounts for the table of FILE on each line, in the
+order of its vertices, with one space between two. The answer is that for the
+table with these amounts, or the fault that they would have in a table file:
+
+    $ cat amounts.txt
+    2 -1 -1
+    4 -1 -1
+    1 -1
+    $ dollar rr triangle.json --divisors amounts.txt
+    degree 0 genus 1 rank 0 dual 0
+    degree 2 genus 1 rank 1 dual -1
+    refused number of amounts
+
+A word that is no whole number gives `shape of amounts`; after that a wrong
+number of them is told, and then the first that is out of range.
 ";
 
 pub(crate) const GREEDY_MORE: &str = "\

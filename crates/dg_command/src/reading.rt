@@ -13,6 +13,7 @@ ghost use Rattle.dg_command.specs.Asks.{
   AsksSweep,
   AsksTask,
   HasLines,
+  HasOneTable,
   IsAlone,
   word_of,
   words_of,
@@ -96,6 +97,8 @@ pub(crate) enum Refusal<'a> {
     Number(NumberArgument, &'a str),
     /// There are workers, but no lines.
     Lines,
+    /// Lines are both tables and amounts.
+    Both,
 }
 
 /// What the words ask for, by the command that they name.
@@ -122,7 +125,9 @@ fn command_in<'a>(
         "party" => Ok(Asked::Party(party_in(alloc, inner)?)),
         "greedy" => Ok(Asked::Task(Task::Greedy(greedy_in(inner)?))),
         "rehearse" => Ok(Asked::Task(rehearsal_in(inner)?)),
-        _ if has_lines(inner) => Ok(Asked::Sweep(sweep_in(name, inner)?)),
+        _ if has_lines(inner) || divisors_in(inner).is_some() => {
+            Ok(Asked::Sweep(sweep_in(name, inner)?))
+        }
         _ => Ok(Asked::Task(task_in(name, inner)?)),
     }
 }
@@ -159,18 +164,23 @@ fn party_in<'a>(alloc: Global, inner: &ArgMatches<'a>) -> Result<PartyTask<'a>, 
     })
 }
 
-/// The lines of a file, where the flag for lines is there.
+/// The lines of a file, where the flag for lines or the option for amounts is there.
 ///
-/// Refused for the number of workers, then for the degree.
+/// Refused where both are there, then for the number of workers, then for the degree.
 fn sweep_in<'a>(name: &str, inner: &ArgMatches<'a>) -> Result<SweepTask<'a>, Refusal<'a>>
-    requires { HasLines (rows_in inner.now) }
+    requires { (word_of (codes "divisors") (rows_in inner.now) ≡ None) → HasLines (rows_in inner.now) }
     ensures { Tells (AsksSweep name.now (rows_in inner.now)) result }
 {
     let file = word_in(inner, "file")?;
+    let divisors = divisors_in(inner);
+    if divisors.is_some() && has_lines(inner) {
+        return Err(Refusal::Both);
+    }
     let workers = workers_in(inner)?;
     let question = question_in(name, inner)?;
     Ok(SweepTask {
         file,
+        divisors,
         question,
         workers,
     })
@@ -188,9 +198,9 @@ fn question_in<'a>(name: &str, inner: &ArgMatches<'a>) -> Result<Question, Refus
     }
 }
 
-/// The task of a command that may have the flag for lines, where the flag is not there.
+/// The task of a command that may have lines, where it has none.
 fn task_in<'a>(name: &str, inner: &ArgMatches<'a>) -> Result<Task<'a>, Refusal<'a>>
-    requires lines { HasLines (rows_in inner.now) → ⊥ }
+    requires lines { HasOneTable (rows_in inner.now) }
     requires others { (name.now ≢ codes "greedy") × (name.now ≢ codes "rehearse") }
     ensures { Tells (AsksTask name.now (rows_in inner.now)) result }
 {
@@ -259,6 +269,13 @@ fn has_lines(inner: &ArgMatches<'_>) -> bool
     ensures { IsTrue result ↔ HasLines (rows_in inner.now) }
 {
     matches!(text_in(inner, "lines"), Some("true"))
+}
+
+/// The name of the file of amounts, if there is one.
+fn divisors_in<'a>(inner: &ArgMatches<'a>) -> Option<&'a str>
+    ensures { option_map (λ text. text.now) result ≡ word_of (codes "divisors") (rows_in inner.now) }
+{
+    text_in(inner, "divisors")
 }
 
 /// The word of an argument, if it has one.

@@ -1,34 +1,67 @@
 -- Sweeps over the lines of a file. `held` tells what is known of the file of each name, and old and
 -- new what the output held and holds, where that is known.
---   IsSwept held task old new result == bytes that the file which is named may have were swept,
---                         with that result
+--   LinesIn held file question divisors P == P holds of the file of lines, and of what answers them:
+--                         as tables, where none of amounts is named; or else as amounts, for the table
+--                         that the file describes
+--   HasLines held task P  == the same for the files that the task names
+--   IsSwept old new result h right == bytes that the file h may have were swept, with that result,
+--                         where `right` says what answers a line
 --   Sweeps held task old new         == all its lines were answered
---   RefusesSweeping held task fault old new == the file can't be opened, and the output is as it
+--   RefusesLines h fault == the file h of lines can't be opened
+--   RefusesFiles held file divisors fault == the file of lines can't be opened; or the table file is
+--                         refused, which comes first where the lines are amounts
+--   RefusesSweeping held task fault old new == the files are refused so, and the output is as it
 --                         was; or the sweep ended early
-use Rattle.std.specs.Prelude.{ℕ, List, Option, Result, Ok, Err}
+use Rattle.std.specs.Prelude.{◌⊎◌, ℕ, List, Option, None, Some, Result, Ok, Err}
+use Rattle.std.specs.Borrow.{Bor}
 use Rattle.std.specs.Io.KnownBytes.{Keeps}
+use Rattle.dg_asked.specs.declared.question.Question.{Question}
 use Rattle.dg_asked.specs.declared.question.SweepTask.{SweepTask}
 use Rattle.dg_sources.specs.Held.{Held}
 use Rattle.dg_sources.specs.Streams.{MayGive, RefusesStream}
+use Rattle.dg_sweep.specs.Answers.{AnswersTableWithin}
+use Rattle.dg_sweep.specs.Divisors.{AnswersAmounts}
 use Rattle.dg_sweep.specs.Sweeps.{IsSweep}
 use Rattle.dg_sweep.specs.declared.ends.SweepEnd.{SweepEnd}
+use Rattle.dg_tasks.specs.Tasks.{IsOnTable, RefusesItsTable}
+use Rattle.dg_tasks.specs.declared.fault.TaskFault.{TaskFault}
 use Rattle.dg_tasks.specs.declared.fault.TaskFault.TheVariants.{Source}
 use Rattle.dg_server.specs.declared.fault.Fault.{Fault}
 use Rattle.dg_server.specs.declared.fault.Fault.TheVariants.{Task, Sweep}
 
-pub record IsSwept (held : List ℕ → Held) (task : SweepTask) (old new : Option (List ℕ))
-    (result : Result (Unit {0}) SweepEnd) : Type 0 where
+abbrev pub LinesIn : (List ℕ → Held) → List ℕ → Question → Option (Bor (List ℕ))
+    → (Held → (List ℕ → List ℕ → Type 0) → Type 0) → Type 0
+LinesIn held file question None P = P (held file) (AnswersTableWithin question)
+LinesIn held file question (Some lines) P =
+    IsOnTable (held file) (λ o names. P (held lines.now) (AnswersAmounts question o names))
+
+abbrev pub HasLines : (List ℕ → Held) → SweepTask
+    → (Held → (List ℕ → List ℕ → Type 0) → Type 0) → Type 0
+HasLines held task P = LinesIn held task.file.now task.question task.divisors P
+
+pub record IsSwept (old new : Option (List ℕ)) (result : Result (Unit {0}) SweepEnd) (h : Held)
+    (right : List ℕ → List ℕ → Type 0) : Type 0 where
   pub input : Option (List ℕ)
   pub rest : Option (List ℕ)
-  pub given : MayGive (held task.file.now) input
-  pub swept : IsSweep task.question input rest old new result
+  pub given : MayGive h input
+  pub swept : IsSweep right input rest old new result
 
 abbrev pub Sweeps : (List ℕ → Held) → SweepTask → Option (List ℕ) → Option (List ℕ) → Type 0
-Sweeps held task old new = IsSwept held task old new (Ok tt)
+Sweeps held task old new = HasLines held task (IsSwept old new (Ok tt))
+
+abbrev pub RefusesLines : Held → TaskFault → Type 0
+RefusesLines h (Source fault) = RefusesStream h fault
+RefusesLines h fault = ⊥
+
+abbrev pub RefusesFiles : (List ℕ → Held) → List ℕ → Option (Bor (List ℕ)) → TaskFault → Type 0
+RefusesFiles held file None fault = RefusesLines (held file) fault
+RefusesFiles held file (Some lines) fault =
+    RefusesItsTable (held file) fault
+    ⊎ IsOnTable (held file) (λ o names. RefusesLines (held lines.now) fault)
 
 abbrev pub RefusesSweeping : (List ℕ → Held) → SweepTask → Fault → Option (List ℕ) → Option (List ℕ)
     → Type 0
-RefusesSweeping held task (Task (Source fault)) old new = RefusesStream (held task.file.now) fault
-    × Keeps old new
-RefusesSweeping held task (Sweep end) old new = IsSwept held task old new (Err end)
+RefusesSweeping held task (Task fault) old new =
+    RefusesFiles held task.file.now task.divisors fault × Keeps old new
+RefusesSweeping held task (Sweep end) old new = HasLines held task (IsSwept old new (Err end))
 RefusesSweeping held task fault old new = ⊥

@@ -1,5 +1,5 @@
 //! Sweeps over the lines of a file.
-ghost use Rattle.std.specs.Prelude.{◌≡◌, true, IfErr, OnOk};
+ghost use Rattle.std.specs.Prelude.{◌≡◌, true, IfErr, OnOk, Some, None};
 ghost use Rattle.dg_server.specs.Sweeping.{Sweeps, RefusesSweeping};
 ghost use Rattle.dg_server.specs.Streams.{IsOfInput, IsOfOutput};
 
@@ -7,14 +7,14 @@ use crate::fault::Fault;
 use dg_asked::SweepTask;
 use dg_sources::Sources;
 use dg_streams::{Input, Output};
-use dg_sweep::sweep;
-use dg_tasks::TaskFault;
+use dg_sweep::{sweep, sweep_divisors};
+use dg_tasks::{TaskFault, table_in};
 use std::io::Write;
 use std::rt::Files;
 use std::sync::Wait;
 use std::thread::Threads;
 
-/// Answers the lines of the file that is named.
+/// Answers the lines of the file that is named. A table file is read and judged before the file of its lines is opened.
 pub(crate) fn sweep_file<R, S, O>(
     rt: &R,
     task: &SweepTask<'_>,
@@ -25,6 +25,31 @@ where
     R: Files + AllocGlobal + Threads + Wait + Sync,
     S: Sources,
     O: Write,
+    ensures done { OnOk result
+        (Sweeps (S.held sources.now) task.now output.old.contents output.new.contents) }
+    ensures read { IfErr result (λ fault. ¬ IsOfInput fault) }
+    ensures write { IfErr result (λ fault. IsOfOutput fault → output.new.has_failed ≡ true) }
+    ensures refused { IfErr result (λ fault. RefusesSweeping (S.held sources.now) task.now fault
+        output.old.contents output.new.contents) }
+{
+    match task.divisors {
+        Some(lines) => sweep_amounts(rt, task, lines, sources, output),
+        None => sweep_tables(rt, task, sources, output),
+    }
+}
+
+/// Answers the lines of a file of tables.
+fn sweep_tables<R, S, O>(
+    rt: &R,
+    task: &SweepTask<'_>,
+    sources: &S,
+    output: &mut Output<O>,
+) -> Result<(), Fault>
+where
+    R: Files + AllocGlobal + Threads + Wait + Sync,
+    S: Sources,
+    O: Write,
+    requires { task.now.divisors ≡ None }
     ensures done { OnOk result
         (Sweeps (S.held sources.now) task.now output.old.contents output.new.contents) }
     ensures read { IfErr result (λ fault. ¬ IsOfInput fault) }
@@ -47,5 +72,48 @@ where
     ) {
         Ok(()) => Ok(()),
         Err(end) => Err(Fault::Sweep(end)),
+    }
+}
+
+/// Answers the lines of a file of amounts for one table.
+fn sweep_amounts<R, S, O>(
+    rt: &R,
+    task: &SweepTask<'_>,
+    lines: &str,
+    sources: &S,
+    output: &mut Output<O>,
+) -> Result<(), Fault>
+where
+    R: Files + AllocGlobal + Threads + Wait + Sync,
+    S: Sources,
+    O: Write,
+    requires { task.now.divisors ≡ Some lines }
+    ensures done { OnOk result
+        (Sweeps (S.held sources.now) task.now output.old.contents output.new.contents) }
+    ensures read { IfErr result (λ fault. ¬ IsOfInput fault) }
+    ensures write { IfErr result (λ fault. IsOfOutput fault → output.new.has_failed ≡ true) }
+    ensures refused { IfErr result (λ fault. RefusesSweeping (S.held sources.now) task.now fault
+        output.old.contents output.new.contents) }
+{
+    let table = match table_in(rt, sources, task.file) {
+        Ok(table) => table,
+        Err(fault) => return Err(Fault::Task(fault)),
+    };
+    let stream = match sources.open(rt, lines) {
+        Ok(stream) => stream,
+        Err(fault) => return Err(Fault::Task(TaskFault::Source(fault))),
+    };
+    let mut reader = Input::new(stream);
+    match sweep_divisors(
+        rt,
+        rt.alloc(),
+        task.question,
+        &table,
+        task.workers,
+        &mut reader,
+        output,
+    ) {
+        Ok(()) => Ok(()),
+        Err(early_end) => Err(Fault::Sweep(early_end)),
     }
 }

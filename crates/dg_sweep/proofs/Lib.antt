@@ -1,3 +1,4 @@
 -- The lemmas that the proofs cite, each file over plain variables.
 pub mod Taken
 pub mod Swept
+pub mod Amounts

@@ -18,17 +18,16 @@ use Rattle.dg_lines.proofs.Streams.{begins_none, begins_more, begins_then, one_c
 use Rattle.dg_streams.specs.Streams.{AppendsFront}
 use Rattle.dg_streams.proofs.Growing.{appends_none, appends_more}
 use Rattle.dg_streams.proofs.Reading.{consumes_none, consumes_more, consumes_kept}
-use Rattle.dg_sweep.specs.Answers.{AnswersTableLines}
+use Rattle.dg_sweep.specs.Answers.{AnswersLines}
 use Rattle.dg_sweep.specs.Sweeps.{IsSweep, EndsAfter, WritesAnswers}
 use Rattle.dg_sweep.specs.Steps.{StandsFor, TakesBytes, AnswersLast, Passes}
-use Rattle.dg_asked.specs.declared.question.Question.{Question}
 use Rattle.dg_sweep.specs.declared.ends.TheConstants.{READ_SIZE}
 use Rattle.dg_sweep.specs.declared.ends.SweepEnd.{SweepEnd}
 use Rattle.dg_sweep.specs.declared.ends.SweepEnd.TheVariants.{Read, Write, Shortage}
 use Rattle.dg_beside.specs.declared.shortage.Shortage.TheVariants.{OutOfMemory}
 use Rattle.dg_sweep.proofs.Taken.{answers_none, answers_more}
 
-pub record HasSwept (question : Question) (input rest old new : Option (List ℕ)) (pending : List ℕ) : Type 0 where
+pub record HasSwept (right : List ℕ → List ℕ → Type 0) (input rest old new : Option (List ℕ)) (pending : List ℕ) : Type 0 where
   pub stream : List ℕ
   pub read : Consumes input rest stream
   pub ls : List (List ℕ)
@@ -36,12 +35,12 @@ pub record HasSwept (question : Question) (input rest old new : Option (List ℕ
   pub cut : Begins HasNoNewline stream ls part
   pub stands : StandsFor pending part
   pub text : List ℕ
-  pub answers : AnswersTableLines question ls text
+  pub answers : AnswersLines right ls text
   pub written : Appends old new text
 
-pub swept_none : (question : Question) (input old : Option (List ℕ)) (pending : List ℕ) → pending ≡ []
-    → HasSwept question input input old old pending
-swept_none question input old pending none = record {
+pub swept_none : (right : List ℕ → List ℕ → Type 0) (input old : Option (List ℕ)) (pending : List ℕ) → pending ≡ []
+    → HasSwept right input input old old pending
+swept_none right input old pending none = record {
   stream = [];
   read = consumes_none input;
   ls = [];
@@ -49,21 +48,21 @@ swept_none question input old pending none = record {
   cut = begins_none [];
   stands = record { no_newline = All-nil (λ byte. byte ≢ 10); same = inl none };
   text = [];
-  answers = answers_none question;
+  answers = answers_none right;
   written = appends_none old;
 }
 
 plain : (line : List ℕ) → HasNoNewline line → HasNoNewline line
 plain line none = none
 
-module _ {question : Question} {input rest old mid : Option (List ℕ)} {pending : List ℕ}
-    (far : HasSwept question input rest old mid pending) where
+module _ {right : List ℕ → List ℕ → Type 0} {input rest old mid : Option (List ℕ)} {pending : List ℕ}
+    (far : HasSwept right input rest old mid pending) where
   grown : (new : Option (List ℕ)) (text : List ℕ) → Appends mid new text → Appends old new (far.text ++ text)
   grown new text passed = appends_more old mid new far.text text far.written passed
 
   pub swept_more : {rest' new : Option (List ℕ)} (bytes pending' : List ℕ) → Consumes rest rest' bytes
-      → (text : List ℕ) × TakesBytes question pending bytes pending' text × Appends mid new text
-      → HasSwept question input rest' old new pending'
+      → (text : List ℕ) × TakesBytes right pending bytes pending' text × Appends mid new text
+      → HasSwept right input rest' old new pending'
   swept_more {rest'} {new} bytes pending' read passed =
       let taken = passed.1 far.part far.stands in
       record {
@@ -74,16 +73,16 @@ module _ {question : Question} {input rest old mid : Option (List ℕ)} {pending
         cut = begins_then (begins_more bytes far.cut) taken.cut;
         stands = taken.stands;
         text = far.text ++ passed.0;
-        answers = answers_more question far.ls taken.ls far.text passed.0 far.answers taken.answers;
+        answers = answers_more right far.ls taken.ls far.text passed.0 far.answers taken.answers;
         written = grown new passed.0 passed.2;
       }
 
   is_sweep : {rest' new : Option (List ℕ)} (result : Result (Unit {0}) SweepEnd) (bytes text : List ℕ)
       (last : List (List ℕ)) → Consumes rest rest' bytes
       → HaveCome HasNoNewline (IsAtEnd rest') (far.part ++ bytes) last → length last ≤ READ_SIZE
-      → AnswersTableLines question last text → WritesAnswers result old new far.text text
+      → AnswersLines right last text → WritesAnswers result old new far.text text
       → EndsAfter (IsAtEnd rest') (far.stream ++ bytes) (far.ls ++ last) result
-      → IsSweep question input rest' old new result
+      → IsSweep right input rest' old new result
   is_sweep {rest'} result bytes text last read came few answered written ends = record {
     stream = far.stream ++ bytes;
     read = consumes_more input rest rest' far.stream bytes far.read read;
@@ -102,15 +101,15 @@ module _ {question : Question} {input rest old mid : Option (List ℕ)} {pending
   unwritten : {rest' new : Option (List ℕ)} (end : SweepEnd) (bytes : List ℕ) → Consumes rest rest' bytes
       → WritesAnswers (Err end) old new far.text []
       → EndsAfter (IsAtEnd rest') (far.stream ++ bytes) (far.ls ++ []) (Err end)
-      → IsSweep question input rest' old new (Err end)
+      → IsSweep right input rest' old new (Err end)
   unwritten end bytes read written ends =
       is_sweep (Err end) bytes [] [] read (inl (far.part ++ bytes, begins_none (far.part ++ bytes))) (omega arith)
-      (answers_none question) written ends
+      (answers_none right) written ends
 
-  pub sweep_unsaid : IsSweep question input rest old mid (Err (Shortage OutOfMemory))
+  pub sweep_unsaid : IsSweep right input rest old mid (Err (Shortage OutOfMemory))
   sweep_unsaid = unwritten (Shortage OutOfMemory) [] (consumes_none rest) (grown mid [] (appends_none mid)) tt
 
-  pub sweep_reads : {rest' : Option (List ℕ)} → Keeps rest rest' → IsSweep question input rest' old mid (Err Read)
+  pub sweep_reads : {rest' : Option (List ℕ)} → Keeps rest rest' → IsSweep right input rest' old mid (Err Read)
   sweep_reads {rest'} keeps =
       unwritten Read [] (consumes_kept rest rest' keeps) (grown mid [] (appends_none mid)) (
         far.part ++ [],
@@ -119,10 +118,10 @@ module _ {question : Question} {input rest old mid : Option (List ℕ)} {pending
       )
 
   over_last : {rest' new : Option (List ℕ)} (result : Result (Unit {0}) SweepEnd) (text : List ℕ)
-      → Consumes rest rest' [] → IsAtEnd rest' → AnswersLast question pending text
+      → Consumes rest rest' [] → IsAtEnd rest' → AnswersLast right pending text
       → WritesAnswers result old new far.text text
       → EndsAfter (IsAtEnd rest') (far.stream ++ []) (far.ls ++ last_line far.part) result
-      → IsSweep question input rest' old new result
+      → IsSweep right input rest' old new result
   over_last {rest'} result text read over answered written ends =
       is_sweep result [] text (last_line far.part) read
       (subst (λ l. HaveCome HasNoNewline (IsAtEnd rest') l (last_line far.part)) (sym (append-nil far.part))
@@ -140,8 +139,8 @@ module _ {question : Question} {input rest old mid : Option (List ℕ)} {pending
       far.stands.no_newline
 
   pub sweep_ends : {rest' new : Option (List ℕ)} → Consumes rest rest' [] → IsAtEnd rest'
-      → (text : List ℕ) × AnswersLast question pending text × Appends mid new text
-      → IsSweep question input rest' old new (Ok tt)
+      → (text : List ℕ) × AnswersLast right pending text × Appends mid new text
+      → IsSweep right input rest' old new (Ok tt)
   sweep_ends {new = new} read over passed =
       over_last (Ok tt) passed.0 read over passed.1 (grown new passed.0 passed.2) (over, sym all_lines)
 
@@ -150,8 +149,8 @@ module _ {question : Question} {input rest old mid : Option (List ℕ)} {pending
   front new text passed = (passed.0, passed.1, grown new (take passed.0 text) passed.2)
 
   pub sweep_halts : {rest' new : Option (List ℕ)} (bytes pending' : List ℕ) (end : SweepEnd) → Consumes rest rest' bytes
-      → length bytes ≤ READ_SIZE → Passes (TakesBytes question pending bytes pending') mid new (Err end)
-      → IsSweep question input rest' old new (Err end)
+      → length bytes ≤ READ_SIZE → Passes (TakesBytes right pending bytes pending') mid new (Err end)
+      → IsSweep right input rest' old new (Err end)
   sweep_halts bytes pending' Read read small passed = absurd passed
   sweep_halts {new = new} bytes pending' Write read small passed =
       let taken = passed.1 far.part far.stands in
@@ -161,7 +160,7 @@ module _ {question : Question} {input rest old mid : Option (List ℕ)} {pending
       unwritten (Shortage lack) bytes read (grown new [] passed) tt
 
   pub sweep_halts_last : {rest' new : Option (List ℕ)} (end : SweepEnd) → Consumes rest rest' [] → IsAtEnd rest'
-      → Passes (AnswersLast question pending) mid new (Err end) → IsSweep question input rest' old new (Err end)
+      → Passes (AnswersLast right pending) mid new (Err end) → IsSweep right input rest' old new (Err end)
   sweep_halts_last Read read over passed = absurd passed
   sweep_halts_last {new = new} Write read over passed =
       over_last (Err Write) passed.0 read over passed.1 (front new passed.0 passed.2) tt

@@ -11,78 +11,77 @@ use Rattle.std.proofs.Common.{◌≡◌, ◌≢◌, ℕ, ◌+◌, ◌-◌, ◌�
 use Rattle.std.proofs.lemmas.List.Elements.{All-append, All-head, All-tail}
 use Rattle.std.proofs.Math.Seq.{take-append_seam}
 use Rattle.std.proofs.lemmas.List.{take-append-drop}
-use Rattle.dg_sweep.specs.Answers.{AnswersTableLine, AnswersTableLines}
+use Rattle.dg_sweep.specs.Answers.{AnswersLine, AnswersLines}
 use Rattle.dg_lines.specs.Streams.{HasNoNewline, Begins, with_newline, last_line}
 use Rattle.dg_lines.proofs.Streams.{begins_none, begins_one, begins_more, begins_then}
 use Rattle.dg_sweep.specs.Steps.{StandsFor, KeepsPart, AnswersFront, EndsLine, TakesBytes, AnswersLast}
-use Rattle.dg_asked.specs.declared.question.Question.{Question}
 
-pub answers_none : (question : Question) → AnswersTableLines question [] []
-unfolding AnswersTableLines
-answers_none question = refl
+pub answers_none : (right : List ℕ → List ℕ → Type 0) → AnswersLines right [] []
+unfolding AnswersLines
+answers_none right = refl
 
-pub answers_more : (question : Question) (ls ls' : List (List ℕ)) (t t' : List ℕ)
-    → AnswersTableLines question ls t → AnswersTableLines question ls' t'
-    → AnswersTableLines question (ls ++ ls') (t ++ t')
-unfolding AnswersTableLines
-answers_more question [] ls' t t' p q =
-    subst (λ text. AnswersTableLines question ls' text) (sym (ap (λ text. text ++ t') p)) q
-answers_more question (line ∷ ls) ls' t t' p q =
+pub answers_more : (right : List ℕ → List ℕ → Type 0) (ls ls' : List (List ℕ)) (t t' : List ℕ)
+    → AnswersLines right ls t → AnswersLines right ls' t'
+    → AnswersLines right (ls ++ ls') (t ++ t')
+unfolding AnswersLines
+answers_more right [] ls' t t' p q =
+    subst (λ text. AnswersLines right ls' text) (sym (ap (λ text. text ++ t') p)) q
+answers_more right (line ∷ ls) ls' t t' p q =
     let (front, back, answer, more, text) = p in (
       front,
       back ++ t',
       answer,
-      answers_more question ls ls' back t' more q,
+      answers_more right ls ls' back t' more q,
       ap (λ l. l ++ t') text ∙ append_assoc front back t',
     )
 
-pub answers_one : (question : Question) (line t : List ℕ) → AnswersTableLine question line t
-    → AnswersTableLines question (line ∷ []) t
-unfolding AnswersTableLines
-answers_one question line t p = (t, [], p, refl, sym (append-nil t))
+pub answers_one : (right : List ℕ → List ℕ → Type 0) (line t : List ℕ) → AnswersLine right line t
+    → AnswersLines right (line ∷ []) t
+unfolding AnswersLines
+answers_one right line t p = (t, [], p, refl, sym (append-nil t))
 
 begins_line : (bytes line rest : List ℕ) → HasNoNewline line → bytes ≡ line ++ 10 ∷ rest
     → Begins HasNoNewline bytes (line ∷ []) rest
 begins_line bytes line rest none e = subst (λ l. Begins HasNoNewline l (line ∷ []) rest) (sym e) (begins_one rest none)
 
 -- the lines of bytes, up to what is left of them
-pub record IsSoFar (question : Question) (bytes rest old new : List ℕ) : Type 0 where
+pub record IsSoFar (right : List ℕ → List ℕ → Type 0) (bytes rest old new : List ℕ) : Type 0 where
   pub ls : List (List ℕ)
   pub cut : Begins HasNoNewline bytes ls rest
   pub few : length ls + length rest ≤ length bytes
   pub said : List ℕ
-  pub answers : AnswersTableLines question ls said
+  pub answers : AnswersLines right ls said
   pub text : new ≡ old ++ said
 
-pub so_far_none : (question : Question) (bytes text : List ℕ) → IsSoFar question bytes bytes text text
-so_far_none question bytes text = record {
+pub so_far_none : (right : List ℕ → List ℕ → Type 0) (bytes text : List ℕ) → IsSoFar right bytes bytes text text
+so_far_none right bytes text = record {
   ls = [];
   cut = begins_none bytes;
   few = omega arith;
   said = [];
-  answers = answers_none question;
+  answers = answers_none right;
   text = sym (append-nil text);
 }
 
-pub so_far_line : (question : Question) (bytes rest old new line rest' answer new' : List ℕ)
-    → IsSoFar question bytes rest old new
-    → HasNoNewline line → rest ≡ line ++ 10 ∷ rest' → AnswersTableLine question line answer → new' ≡ new ++ answer
-    → IsSoFar question bytes rest' old new'
-so_far_line question bytes rest old new line rest' answer new' far none e answered grown = record {
+pub so_far_line : (right : List ℕ → List ℕ → Type 0) (bytes rest old new line rest' answer new' : List ℕ)
+    → IsSoFar right bytes rest old new
+    → HasNoNewline line → rest ≡ line ++ 10 ∷ rest' → AnswersLine right line answer → new' ≡ new ++ answer
+    → IsSoFar right bytes rest' old new'
+so_far_line right bytes rest old new line rest' answer new' far none e answered grown = record {
   ls = far.ls ++ line ∷ [];
   cut = begins_then far.cut (begins_line rest line rest' none e);
   few = let size = length-append far.ls (line ∷ []) in let left = length-append line (10 ∷ rest') in
       omega (arith, size, left, ap length e, far.few);
   said = far.said ++ answer;
-  answers = answers_more question far.ls (line ∷ []) far.said answer far.answers
-      (answers_one question line answer answered);
+  answers = answers_more right far.ls (line ∷ []) far.said answer far.answers
+      (answers_one right line answer answered);
   text = grown ∙ ap (λ l. l ++ answer) far.text ∙ append_assoc old far.said answer;
 }
 
-pub so_far_rest : (question : Question) (bytes rest old new line : List ℕ) → IsSoFar question bytes rest old new
-    → HasNoNewline line → rest ≡ line ++ [] → (said : List ℕ) × AnswersFront question bytes line said
+pub so_far_rest : (right : List ℕ → List ℕ → Type 0) (bytes rest old new line : List ℕ) → IsSoFar right bytes rest old new
+    → HasNoNewline line → rest ≡ line ++ [] → (said : List ℕ) × AnswersFront right bytes line said
     × (new ≡ old ++ said)
-so_far_rest question bytes rest old new line far none e = (
+so_far_rest right bytes rest old new line far none e = (
   far.said,
   record {
     ls = far.ls;
@@ -133,12 +132,12 @@ front_ends bytes early later part after n e1 e2 e =
     ap (λ n. take n bytes) size ∙ ap (take (length front)) whole ∙ take-append_seam front after in
     (omega (arith, ap length whole, sum), (early ++ part, same), whole ∙ ap (λ l. l ++ after) (sym same))
 
-pub pieces_both : (question : Question) (bytes front back rest rest' last said said' text : List ℕ) → EndsLine front
+pub pieces_both : (right : List ℕ → List ℕ → Type 0) (bytes front back rest rest' last said said' text : List ℕ) → EndsLine front
     → bytes ≡ front ++ back
-    → AnswersFront question front rest said → AnswersFront question back rest' said' → last ≡ rest'
+    → AnswersFront right front rest said → AnswersFront right back rest' said' → last ≡ rest'
     → text ≡ said ++ said'
-    → AnswersFront question bytes last text
-pieces_both question bytes front back rest rest' last said said' text ends e here there left both =
+    → AnswersFront right bytes last text
+pieces_both right bytes front back rest rest' last said said' text ends e here there left both =
     let none : rest ≡ [] = nothing_left front rest here.ls here.cut here.no_newline ends in
     let cut : Begins HasNoNewline front here.ls [] = subst (λ l. Begins HasNoNewline front here.ls l) none here.cut in
     let cut' : Begins HasNoNewline (front ++ back) (here.ls ++ there.ls) rest' =
@@ -150,8 +149,8 @@ pieces_both question bytes front back rest rest' last said said' text ends e her
       no_newline = subst HasNoNewline (sym left) there.no_newline;
       few = let size = length-append front back in let lines = length-append here.ls there.ls in
           omega (arith, ap length e, size, lines, here.few, there.few);
-      answers = subst (AnswersTableLines question (here.ls ++ there.ls)) (sym both)
-          (answers_more question here.ls there.ls said said' here.answers there.answers);
+      answers = subst (AnswersLines right (here.ls ++ there.ls)) (sym both)
+          (answers_more right here.ls there.ls said said' here.answers there.answers);
     }
 
 -- what is pending still stands for the part of the line, with more of it
@@ -175,21 +174,21 @@ stands_more old more new part stands none kept = record {
 }
 
 -- what stands for a line is answered as it
-same_answer : (question : Question) (pending part text : List ℕ) → StandsFor pending part
-    → AnswersTableLine question pending text
-    → AnswersTableLine question part text
-same_answer question pending part text stands answered = elim stands.same [
-  | inl e ↦ subst (λ l. AnswersTableLine question l text) e answered
+same_answer : (right : List ℕ → List ℕ → Type 0) (pending part text : List ℕ) → StandsFor pending part
+    → AnswersLine right pending text
+    → AnswersLine right part text
+same_answer right pending part text stands answered = elim stands.same [
+  | inl e ↦ subst (λ l. AnswersLine right l text) e answered
   | inr long ↦ elim answered [
     | inl refused ↦ inl (long.1, refused.1)
     | inr short ↦ absurd (omega (arith, long.0, short.0))
   ]
 ]
 
-pub takes_part : (question : Question) (old bytes part new text : List ℕ) → text ≡ [] → HasNoNewline part
+pub takes_part : (right : List ℕ → List ℕ → Type 0) (old bytes part new text : List ℕ) → text ≡ [] → HasNoNewline part
     → bytes ≡ part ++ [] → KeepsPart old part new
-    → TakesBytes question old bytes new text
-takes_part question old bytes part new text unsaid none e kept p stands =
+    → TakesBytes right old bytes new text
+takes_part right old bytes part new text unsaid none e kept p stands =
     let whole : part ≡ bytes = sym (e ∙ append-nil part) in
     record {
       ls = [];
@@ -197,16 +196,16 @@ takes_part question old bytes part new text unsaid none e kept p stands =
       cut = begins_none (p ++ bytes);
       stands = subst (λ l. StandsFor new (p ++ l)) whole (stands_more old part new p stands none kept);
       few = omega arith;
-      answers = subst (AnswersTableLines question []) (sym unsaid) (answers_none question);
+      answers = subst (AnswersLines right []) (sym unsaid) (answers_none right);
     }
 
-pub takes_lines : (question : Question) (old bytes part after mid first text rest new : List ℕ) → HasNoNewline part
+pub takes_lines : (right : List ℕ → List ℕ → Type 0) (old bytes part after mid first text rest new : List ℕ) → HasNoNewline part
     → bytes ≡ part ++ 10 ∷ after
-    → KeepsPart old part mid → (line : List ℕ) → line ≡ mid → AnswersTableLine question line first
-    → (said : List ℕ) × AnswersFront question after rest said × (text ≡ first ++ said) → (empty : List ℕ) → empty ≡ []
+    → KeepsPart old part mid → (line : List ℕ) → line ≡ mid → AnswersLine right line first
+    → (said : List ℕ) × AnswersFront right after rest said × (text ≡ first ++ said) → (empty : List ℕ) → empty ≡ []
     → KeepsPart empty rest new
-    → TakesBytes question old bytes new text
-takes_lines question old bytes part after mid first text rest new none e kept shown is_mid answered lines empty is_empty
+    → TakesBytes right old bytes new text
+takes_lines right old bytes part after mid first text rest new none e kept shown is_mid answered lines empty is_empty
     kept' p stands =
     let (said, front, grown) = lines in
     let line = p ++ part in
@@ -218,11 +217,11 @@ takes_lines question old bytes part after mid first text rest new none e kept sh
       cut = begins_then (begins_line (p ++ bytes) line after is_line.no_newline cut) front.cut;
       stands = stands_alone rest new front.no_newline (subst (λ l. KeepsPart l rest new) is_empty kept');
       few = let size = length-append part (10 ∷ after) in omega (arith, ap length e, size, front.few);
-      answers = subst (AnswersTableLines question (line ∷ front.ls)) (sym grown)
-          (answers_more question (line ∷ []) front.ls first said
-          (answers_one question line first
-          (same_answer question mid line first is_line
-          (subst (λ l. AnswersTableLine question l first) is_mid answered))) front.answers);
+      answers = subst (AnswersLines right (line ∷ front.ls)) (sym grown)
+          (answers_more right (line ∷ []) front.ls first said
+          (answers_one right line first
+          (same_answer right mid line first is_line
+          (subst (λ l. AnswersLine right l first) is_mid answered))) front.answers);
     }
   where
     stands_alone : (rest new : List ℕ) → HasNoNewline rest → KeepsPart [] rest new → StandsFor new rest
@@ -235,23 +234,23 @@ pub nothing : (xs : List ℕ) → length xs ≡ 0 → xs ≡ []
 nothing [] e = refl
 nothing (x ∷ xs) e = absurd (omega (arith, e))
 
-pub takes_no_end : (question : Question) (pending text : List ℕ) → text ≡ [] → pending ≡ []
-    → AnswersLast question pending text
-takes_no_end question pending text unsaid e part stands = elim stands.same [
+pub takes_no_end : (right : List ℕ → List ℕ → Type 0) (pending text : List ℕ) → text ≡ [] → pending ≡ []
+    → AnswersLast right pending text
+takes_no_end right pending text unsaid e part stands = elim stands.same [
   | inl same ↦
-      subst (λ l. AnswersTableLines question (last_line l) text) (sym e ∙ same)
-      (subst (AnswersTableLines question []) (sym unsaid) (answers_none question))
+      subst (λ l. AnswersLines right (last_line l) text) (sym e ∙ same)
+      (subst (AnswersLines right []) (sym unsaid) (answers_none right))
   | inr long ↦ absurd (omega (arith, ap length e, long.0))
 ]
 
-pub takes_end : (question : Question) (pending text shown : List ℕ) → pending ≢ [] → shown ≡ pending
-    → AnswersTableLine question shown text
-    → AnswersLast question pending text
-takes_end question pending text shown some is_pending answered [] stands = elim stands.same [
+pub takes_end : (right : List ℕ → List ℕ → Type 0) (pending text shown : List ℕ) → pending ≢ [] → shown ≡ pending
+    → AnswersLine right shown text
+    → AnswersLast right pending text
+takes_end right pending text shown some is_pending answered [] stands = elim stands.same [
   | inl same ↦ absurd (some same)
   | inr long ↦ absurd (omega (arith, long.1))
 ]
-takes_end question pending text shown some is_pending answered (byte ∷ part) stands =
-    answers_one question (byte ∷ part) text
-    (same_answer question pending (byte ∷ part) text stands
-    (subst (λ l. AnswersTableLine question l text) is_pending answered))
+takes_end right pending text shown some is_pending answered (byte ∷ part) stands =
+    answers_one right (byte ∷ part) text
+    (same_answer right pending (byte ∷ part) text stands
+    (subst (λ l. AnswersLine right l text) is_pending answered))

@@ -16,14 +16,15 @@
 --   AnswersTable question o names text == the text answers the question for the opening o with
 --                         these names
 --   refusal words          == `refused`, the words and a newline
---   IsRefused line text    == the line is refused as a table for a fault, and the text says for
---                         which
+--   IsRefused refuses text == there is a fault that refuses, and the text says which
 --   IsOfTable question line text == the line describes a table, and the text answers the question
 --                         for it
---   AnswersTableLine question line text == the text is the answer to the line: a longer one than a
---                         line may be is refused unread
---   AnswersTableLines question ls text == the text is the answers to the lines ls, one after
---                         another
+--   AnswersTableWithin question line text == the line describes a table, and the text answers the
+--                         question for it; or it is refused as a table, and the text says why
+--   AnswersLine right line text == the text answers the line; a longer one than a line may be is
+--                         refused unread
+--   AnswersTableLine question line text == the text answers the line of a table so
+--   AnswersLines right ls text == the text is the answers to the lines ls, one after another
 use Rattle.std.specs.Prelude.{◌≡◌, ◌≢◌, ℕ, ◌<◌, ◌≤◌, ◌⊎◌, ℤ, List, [], ◌∷◌, ◌++◌, length, codes, decimal}
 use Rattle.std.specs.Fmt.{signed_decimal}
 use Rattle.dg_theory.specs.Multigraph.{genus}
@@ -98,10 +99,10 @@ AnswersTable RiemannRoch o names text = AreRanks o text ⊎ AreUntested o text
 abbrev pub refusal : List ℕ → List ℕ
 refusal words = codes "refused " ++ words ++ codes "\n"
 
-pub record IsRefused (line text : List ℕ) : Type 0 where
+pub record IsRefused (refuses : FileFault → Type 0) (text : List ℕ) : Type 0 where
   pub fault : FileFault
   pub found : fault ≢ OutOfMemory
-  pub refuses : RefusesFile line fault
+  pub refused : refuses fault
   pub printed : text ≡ refusal (file_fault_text fault)
 
 pub record IsOfTable (question : Question) (line text : List ℕ) : Type 0 where
@@ -110,13 +111,20 @@ pub record IsOfTable (question : Question) (line text : List ℕ) : Type 0 where
   pub table : IsTableFile line opening names
   pub answer : AnswersTable question opening names text
 
-abbrev pub AnswersTableLine : Question → List ℕ → List ℕ → Type 0
-AnswersTableLine question line text =
-    ((MAX_LINE < length line) × (text ≡ refusal (codes "file too long")))
-    ⊎ ((length line ≤ MAX_LINE) × (IsRefused line text ⊎ IsOfTable question line text))
+abbrev pub AnswersTableWithin : Question → List ℕ → List ℕ → Type 0
+AnswersTableWithin question line text =
+    IsRefused (RefusesFile line) text ⊎ IsOfTable question line text
 
-unfoldable pub AnswersTableLines : Question → List (List ℕ) → List ℕ → Type 0
-AnswersTableLines question [] text = text ≡ []
-AnswersTableLines question (line ∷ ls) text =
-    (front back : List ℕ) × AnswersTableLine question line front
-    × AnswersTableLines question ls back × (text ≡ front ++ back)
+abbrev pub AnswersLine : (List ℕ → List ℕ → Type 0) → List ℕ → List ℕ → Type 0
+AnswersLine right line text =
+    ((MAX_LINE < length line) × (text ≡ refusal (codes "file too long")))
+    ⊎ ((length line ≤ MAX_LINE) × right line text)
+
+abbrev pub AnswersTableLine : Question → List ℕ → List ℕ → Type 0
+AnswersTableLine question line text = AnswersLine (AnswersTableWithin question) line text
+
+unfoldable pub AnswersLines : (List ℕ → List ℕ → Type 0) → List (List ℕ) → List ℕ → Type 0
+AnswersLines right [] text = text ≡ []
+AnswersLines right (line ∷ ls) text =
+    (front back : List ℕ) × AnswersLine right line front × AnswersLines right ls back
+    × (text ≡ front ++ back)

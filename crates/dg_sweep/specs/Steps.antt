@@ -3,13 +3,13 @@
 --                         longer than a line may be
 --   KeepsPart old part new == the part is put after what is pending, or that is longer already than
 --                         a line may be
---   AnswersFront question bytes rest text == the bytes are lines, each with its newline, and then
+--   AnswersFront right bytes rest text == the bytes are lines, each with its newline, and then
 --                             the rest, which has none; and the text is the answers to the lines
 --   EndsLine bytes           == the last of the bytes is a newline
---   TakesBytes question old bytes new text == whatever part of a line was pending, it and the bytes
+--   TakesBytes right old bytes new text == whatever part of a line was pending, it and the bytes
 --                             are lines and then a part of a line, which then is pending; there are
 --                             no more lines than bytes; and the text is their answers
---   AnswersLast question pending text == whatever part of a line was pending, it is the last line,
+--   AnswersLast right pending text == whatever part of a line was pending, it is the last line,
 --                             if it has a byte, and the text its answer
 --   Passes T old new result == such a text, of which T holds, was written; or memory or a thread
 --                             was refused, and nothing was written; or a front of it was written,
@@ -18,8 +18,7 @@ use Rattle.std.specs.Prelude.{◌≡◌, ℕ, ◌<◌, ◌≤◌, ◌⊎◌, Lis
 use Rattle.std.specs.Io.KnownBytes.{Appends}
 use Rattle.dg_lines.specs.Streams.{HasNoNewline, Begins, last_line}
 use Rattle.dg_streams.specs.Streams.{AppendsFront}
-use Rattle.dg_sweep.specs.Answers.{AnswersTableLines}
-use Rattle.dg_asked.specs.declared.question.Question.{Question}
+use Rattle.dg_sweep.specs.Answers.{AnswersLines}
 use Rattle.dg_sweep.specs.declared.ends.TheConstants.{MAX_LINE}
 use Rattle.dg_sweep.specs.declared.ends.SweepEnd.{SweepEnd}
 use Rattle.dg_sweep.specs.declared.ends.SweepEnd.TheVariants.{Read, Write, Shortage}
@@ -31,31 +30,31 @@ pub record StandsFor (pending part : List ℕ) : Type 0 where
 abbrev pub KeepsPart : List ℕ → List ℕ → List ℕ → Type 0
 KeepsPart old part new = (new ≡ old ++ part) ⊎ ((MAX_LINE < length old) × (new ≡ old))
 
-pub record AnswersFront (question : Question) (bytes rest text : List ℕ) : Type 0 where
+pub record AnswersFront (right : List ℕ → List ℕ → Type 0) (bytes rest text : List ℕ) : Type 0 where
   pub ls : List (List ℕ)
   pub cut : Begins HasNoNewline bytes ls rest
   pub no_newline : HasNoNewline rest
   pub few : length ls ≤ length bytes
-  pub answers : AnswersTableLines question ls text
+  pub answers : AnswersLines right ls text
 
 abbrev pub EndsLine : List ℕ → Type 0
 EndsLine bytes = (front : List ℕ) × (bytes ≡ front ++ 10 ∷ [])
 
-pub record Taken (question : Question) (bytes new text : List ℕ) (n : ℕ) : Type 0 where
+pub record Taken (right : List ℕ → List ℕ → Type 0) (bytes new text : List ℕ) (n : ℕ) : Type 0 where
   pub ls : List (List ℕ)
   pub part : List ℕ
   pub cut : Begins HasNoNewline bytes ls part
   pub stands : StandsFor new part
   pub few : length ls ≤ n
-  pub answers : AnswersTableLines question ls text
+  pub answers : AnswersLines right ls text
 
-abbrev pub TakesBytes : Question → List ℕ → List ℕ → List ℕ → List ℕ → Type 0
-TakesBytes question old bytes new text =
-    (part : List ℕ) → StandsFor old part → Taken question (part ++ bytes) new text (length bytes)
+abbrev pub TakesBytes : (List ℕ → List ℕ → Type 0) → List ℕ → List ℕ → List ℕ → List ℕ → Type 0
+TakesBytes right old bytes new text =
+    (part : List ℕ) → StandsFor old part → Taken right (part ++ bytes) new text (length bytes)
 
-abbrev pub AnswersLast : Question → List ℕ → List ℕ → Type 0
-AnswersLast question pending text = (part : List ℕ) → StandsFor pending part
-    → AnswersTableLines question (last_line part) text
+abbrev pub AnswersLast : (List ℕ → List ℕ → Type 0) → List ℕ → List ℕ → Type 0
+AnswersLast right pending text = (part : List ℕ) → StandsFor pending part
+    → AnswersLines right (last_line part) text
 
 abbrev pub Passes : (List ℕ → Type 0) → Option (List ℕ) → Option (List ℕ)
     → Result (Unit {0}) SweepEnd → Type 0

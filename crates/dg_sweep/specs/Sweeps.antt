@@ -5,7 +5,7 @@
 --                       lines
 --   WritesAnswers result old new said text == the writer took what was said and the text, or, where
 --                       it took no more, all that was said and a front of the text
---   IsSweep question input rest old new result == a sweep is over. A stream was read, by which the
+--   IsSweep right input rest old new result == a sweep is over. A stream was read, by which the
 --                       reader's bytes, where known, have become the rest. The lines of `told` are
 --                       answered by what was said, and then those of `last` by the text; these are
 --                       no more than the bytes of one read
@@ -14,8 +14,7 @@ use Rattle.std.specs.Io.KnownBytes.{Appends, Consumes, IsAtEnd}
 use Rattle.dg_lines.specs.Cuts.{lines}
 use Rattle.dg_lines.specs.Streams.{HasNoNewline, Begins, HaveCome}
 use Rattle.dg_streams.specs.Streams.{AppendsFront}
-use Rattle.dg_sweep.specs.Answers.{AnswersTableLines}
-use Rattle.dg_asked.specs.declared.question.Question.{Question}
+use Rattle.dg_sweep.specs.Answers.{AnswersLines}
 use Rattle.dg_sweep.specs.declared.ends.TheConstants.{READ_SIZE}
 use Rattle.dg_sweep.specs.declared.ends.SweepEnd.{SweepEnd}
 use Rattle.dg_sweep.specs.declared.ends.SweepEnd.TheVariants.{Read, Write}
@@ -31,7 +30,7 @@ abbrev pub WritesAnswers : Result (Unit {0}) SweepEnd → Option (List ℕ) → 
 WritesAnswers (Err Write) old new said text = AppendsFront old new said text
 WritesAnswers result old new said text = Appends old new (said ++ text)
 
-pub record IsSweep (question : Question) (input rest : Option (List ℕ)) (old new : Option (List ℕ))
+pub record IsSweep (right : List ℕ → List ℕ → Type 0) (input rest : Option (List ℕ)) (old new : Option (List ℕ))
     (result : Result (Unit {0}) SweepEnd) : Type 0 where
   pub stream : List ℕ
   pub read : Consumes input rest stream
@@ -41,7 +40,7 @@ pub record IsSweep (question : Question) (input rest : Option (List ℕ)) (old n
   pub few : length last ≤ READ_SIZE
   pub said : List ℕ
   pub text : List ℕ
-  pub first : AnswersTableLines question told said
-  pub second : AnswersTableLines question last text
+  pub first : AnswersLines right told said
+  pub second : AnswersLines right last text
   pub written : WritesAnswers result old new said text
   pub ends : EndsAfter (IsAtEnd rest) stream (told ++ last) result

@@ -1,20 +1,37 @@
 //! Answering one line.
-ghost use Rattle.std.specs.Prelude.{◌≡◌, ◌≢◌, ◌++◌, [], codes, OnOk};
-ghost use Rattle.dg_file.specs.FileFaults.{RefusesFile};
+ghost use Rattle.std.specs.Prelude.{◌≡◌, ◌++◌, ℕ, List, [], length, codes, OnOk};
+ghost use Rattle.dg_chips.specs.Vector.{at};
+ghost use Rattle.dg_verdict.specs.Right.{IsVerdictOn};
 ghost use Rattle.dg_lines.specs.Texts.{HasNames, text_of};
 ghost use Rattle.dg_sweep.specs.FaultTexts.{file_fault_text};
-ghost use Rattle.dg_sweep.specs.Answers.{AnswersTableLine, AnswersTable, IsRefused, IsVerdict, refusal};
+ghost use Rattle.dg_sweep.specs.Answers.{AnswersLine, AnswersTableLine, AnswersTable, IsVerdict, refusal};
 
 use crate::ends::MAX_LINE;
 use crate::fault_words::push_fault;
 use crate::ranking::{push_rank, push_ranks};
+use crate::tables::Tables;
 use dg_asked::Question;
-use dg_file::{FileFault, TableFile, read_table};
+use dg_chips::Start;
+use dg_file::FileFault;
 use dg_game::Reply;
 use dg_lines::push_reply;
 use dg_names::Names;
-use dg_verdict::judge;
+use dg_reduce::Aim;
+use dg_verdict::{Verdict, judge, judge_aimed};
 use std::alloc::{AllocError, Global};
+
+/// What the lines of a sweep are, and how each is answered.
+pub(crate) trait LineKind {
+    /// Which texts answer a line that is no longer than a line may be.
+    ghost answers: { Self → List ℕ → List ℕ → Type 0 };
+
+    /// The answer to such a line, with its newline, into an empty buffer.
+    ///
+    /// Refused at the growth that was refused; of what the buffer then holds nothing is said.
+    fn answer(&self, alloc: Global, line: &[u8], answer: &mut Vec<u8>) -> Result<(), AllocError>
+        requires { answer.old.items ≡ [] }
+        ensures { OnOk result (answers self.now line.now answer.new.items) };
+}
 
 /// The answer to the line of a table, with its newline, in the place of what the buffer holds: that of the command for the table
 /// that the line describes; or `refused` and the text of the fault that it would have as a table file, also where it has more than
@@ -29,19 +46,27 @@ pub fn answer_line(
 ) -> Result<(), AllocError>
     ensures { OnOk result (AnswersTableLine question line.now answer.new.items) }
 {
+    answer_of_kind(alloc, &Tables { question }, line, answer)
+}
+
+/// The answer to a line of a kind, with its newline, in the place of what the buffer holds.
+pub(crate) fn answer_of_kind<K: LineKind>(
+    alloc: Global,
+    kind: &K,
+    line: &[u8],
+    answer: &mut Vec<u8>,
+) -> Result<(), AllocError>
+    ensures { OnOk result (AnswersLine (K.answers kind.now) line.now answer.new.items) }
+{
     answer.clear();
     if line.len() > MAX_LINE {
         return Ok(answer.extend_from_slice(b"refused file too long\n")?);
     }
-    match read_table(alloc, line) {
-        Ok(table) => push_answer(question, &table, answer),
-        Err(FileFault::OutOfMemory) => Err(AllocError),
-        Err(fault) => push_refusal(&fault, answer),
-    }
+    kind.answer(alloc, line, answer)
 }
 
 /// `refused`, the text of the fault and a newline, into an empty buffer.
-fn push_refusal(fault: &FileFault, answer: &mut Vec<u8>) -> Result<(), AllocError>
+pub(crate) fn push_refusal(fault: &FileFault, answer: &mut Vec<u8>) -> Result<(), AllocError>
     requires { answer.old.items ≡ [] }
     ensures { OnOk result (answer.new.items ≡ refusal (file_fault_text fault.now)) }
 {
@@ -51,30 +76,51 @@ fn push_refusal(fault: &FileFault, answer: &mut Vec<u8>) -> Result<(), AllocErro
     Ok(())
 }
 
-/// The answer for a table, into an empty buffer.
-fn push_answer(
+/// The answer for a start whose vertices have these names, into an empty buffer. An aim that was made for its graph and q saves
+/// the time to make it anew.
+pub(crate) fn push_answer(
     question: Question,
-    table: &TableFile,
+    start: &Start,
+    names: &Names,
+    aim: Option<&Aim>,
     answer: &mut Vec<u8>,
 ) -> Result<(), AllocError>
-    requires { answer.old.items ≡ [] }
-    ensures { OnOk result (AnswersTable question table.now.start table.now.names answer.new.items) }
+    requires names { length names.now ≡ start.now.graph.size }
+    requires empty { answer.old.items ≡ [] }
+    ensures { OnOk result (AnswersTable question start.now names.now answer.new.items) }
 {
     match question {
-        Question::Judge => push_verdict(table, answer),
-        Question::Rank(k) => push_rank(table, k, answer),
-        Question::RiemannRoch => push_ranks(table.start(), answer),
+        Question::Judge => push_verdict(start, names, aim, answer),
+        Question::Rank(k) => push_rank(start, names, k, answer),
+        Question::RiemannRoch => push_ranks(start, answer),
     }
 }
 
-/// The verdict on a table's amounts, into an empty buffer.
-fn push_verdict(table: &TableFile, answer: &mut Vec<u8>) -> Result<(), AllocError>
-    requires { answer.old.items ≡ [] }
-    ensures { OnOk result (IsVerdict table.now.start table.now.names answer.new.items) }
+/// The verdict on the amounts of a start, into an empty buffer.
+fn push_verdict(
+    start: &Start,
+    names: &Names,
+    aim: Option<&Aim>,
+    answer: &mut Vec<u8>,
+) -> Result<(), AllocError>
+    requires names { length names.now ≡ start.now.graph.size }
+    requires empty { answer.old.items ≡ [] }
+    ensures { OnOk result (IsVerdict start.now names.now answer.new.items) }
 {
-    let start = table.start();
-    let verdict = judge(start.graph(), usize::from(start.q()), start.divisor());
-    push_line(answer, &Reply::Verdict(verdict), table.names())
+    let verdict = verdict_on(start, aim);
+    push_line(answer, &Reply::Verdict(verdict), names)
+}
+
+/// The verdict on the amounts of a start.
+fn verdict_on(start: &Start, aim: Option<&Aim>) -> Verdict
+    ensures { IsVerdictOn start.now.graph start.now.q (at start.now.divisor) result }
+{
+    let graph = start.graph();
+    let q = usize::from(start.q());
+    match aim {
+        Some(aim) => judge_aimed(graph, aim, q, start.divisor()),
+        None => judge(graph, q, start.divisor()),
+    }
 }
 
 /// The text of a reply and a newline, into an empty buffer.

@@ -1,14 +1,16 @@
-//! Sweeps: tables come in on a stream, one on each line, and each line is answered.
+//! Sweeps: tables, or amounts for one table, come in on a stream, one on each line, and each line is answered.
 #![tactic(auto)]
 
 mod answering;
+mod divisors;
 mod ends;
 mod fault_words;
 mod ranking;
 mod sweeping;
+mod tables;
 mod taking;
 mod workers;
 
 pub use answering::answer_line;
 pub use ends::{MAX_LINE, READ_SIZE, SweepEnd};
-pub use sweeping::sweep;
+pub use sweeping::{sweep, sweep_divisors};

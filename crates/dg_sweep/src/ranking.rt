@@ -1,27 +1,32 @@
 //! Rank tests, and the four numbers of Riemann-Roch: laws come before limits.
-ghost use Rattle.std.specs.Prelude.{◌≡◌, ◌++◌, ◌⊎◌, [], codes, decimal, OnOk};
+ghost use Rattle.std.specs.Prelude.{◌≡◌, ◌++◌, ◌⊎◌, [], length, codes, decimal, OnOk};
 ghost use Rattle.dg_sweep.specs.Answers.{AnswersRank, AreRanks, AreUntested, number_after, numbers_text};
 
 use crate::answering::push_line;
 use dg_chips::Start;
-use dg_file::TableFile;
 use dg_game::Reply;
+use dg_names::Names;
 use dg_rank::{both_ranks, has_rank, rank_at_least};
 use dg_ranked::RankVerdict;
 use itoa::Buffer;
 use std::alloc::AllocError;
 
-/// Whether the rank of a table's amounts is at least k, into an empty buffer. Where there are too many trials to name the first
+/// Whether the rank of a start's amounts is at least k, into an empty buffer. Where there are too many trials to name the first
 /// loss, a law or the trials of the dual may still tell.
-pub(crate) fn push_rank(table: &TableFile, k: u32, answer: &mut Vec<u8>) -> Result<(), AllocError>
-    requires { answer.old.items ≡ [] }
-    ensures { OnOk result (AnswersRank table.now.start k table.now.names answer.new.items) }
+pub(crate) fn push_rank(
+    start: &Start,
+    names: &Names,
+    k: u32,
+    answer: &mut Vec<u8>,
+) -> Result<(), AllocError>
+    requires names { length names.now ≡ start.now.graph.size }
+    requires empty { answer.old.items ≡ [] }
+    ensures { OnOk result (AnswersRank start.now k names.now answer.new.items) }
 {
-    let start = table.start();
     let q = usize::from(start.q());
     let (graph, divisor) = (start.graph(), start.divisor());
     if let Ok(verdict) = rank_at_least(graph, q, divisor, k) {
-        push_line(answer, &Reply::Rank(verdict), table.names())?;
+        push_line(answer, &Reply::Rank(verdict), names)?;
         return Ok(());
     }
     let Ok(passes) = has_rank(graph, q, divisor, k) else {
@@ -30,7 +35,7 @@ pub(crate) fn push_rank(table: &TableFile, k: u32, answer: &mut Vec<u8>) -> Resu
     };
     if passes {
         let verdict = RankVerdict::AtLeast(k);
-        push_line(answer, &Reply::Rank(verdict), table.names())?;
+        push_line(answer, &Reply::Rank(verdict), names)?;
         return Ok(());
     }
     push_below(k, answer)?;

@@ -1,12 +1,18 @@
 //! Sweeping a stream of tables.
 ghost use Rattle.std.specs.Prelude.{◌≡◌, Err, true};
+ghost use Rattle.dg_sweep.specs.Answers.{AnswersTableWithin};
+ghost use Rattle.dg_sweep.specs.Divisors.{AnswersAmounts};
 ghost use Rattle.dg_sweep.specs.Sweeps.{IsSweep};
 
+use crate::answering::LineKind;
+use crate::divisors::Divisors;
 use crate::ends::{READ_SIZE, SweepEnd};
+use crate::tables::Tables;
 use crate::taking::Progress;
 use crate::workers::Room;
 use dg_asked::Question;
 use dg_beside::Shortage;
+use dg_file::TableFile;
 use dg_streams::{Input, Output};
 use std::alloc::Global;
 use std::io::{Read, Write};
@@ -29,8 +35,52 @@ pub fn sweep<R: Threads + Wait + Sync, I: Read, O: Write>(
     reader: &mut Input<I>,
     writer: &mut Output<O>,
 ) -> Result<(), SweepEnd>
-    ensures swept { IsSweep question reader.old.remaining reader.new.remaining writer.old.contents
+    ensures swept { IsSweep (AnswersTableWithin question) reader.old.remaining reader.new.remaining writer.old.contents
         writer.new.contents result }
+    ensures read { result ≡ Err SweepEnd.Read → reader.new.has_failed ≡ true }
+    ensures write { result ≡ Err SweepEnd.Write → writer.new.has_failed ≡ true }
+{
+    match sweep_kind(rt, alloc, &Tables { question }, workers, reader, writer) {
+        Ok(()) => Ok(()),
+        Err(end) => Err(end),
+    }
+}
+
+/// Answers the lines that the reader gives, each of which has amounts for the vertices of a table, as numbers with one space
+/// between two, in the order of its vertices. The answer to a line is that for the table with these amounts; a line that has none
+/// is answered by the fault that such amounts have in a table file. Nothing else is otherwise than `sweep` has it.
+pub fn sweep_divisors<R: Threads + Wait + Sync, I: Read, O: Write>(
+    rt: &R,
+    alloc: Global,
+    question: Question,
+    table: &TableFile,
+    workers: u32,
+    reader: &mut Input<I>,
+    writer: &mut Output<O>,
+) -> Result<(), SweepEnd>
+    ensures swept { IsSweep (AnswersAmounts question table.now.start table.now.names)
+        reader.old.remaining reader.new.remaining writer.old.contents writer.new.contents result }
+    ensures read { result ≡ Err SweepEnd.Read → reader.new.has_failed ≡ true }
+    ensures write { result ≡ Err SweepEnd.Write → writer.new.has_failed ≡ true }
+{
+    let kind = Divisors::new(question, table);
+    match sweep_kind(rt, alloc, &kind, workers, reader, writer) {
+        Ok(()) => Ok(()),
+        Err(end) => Err(end),
+    }
+}
+
+/// The same for lines of any kind.
+fn sweep_kind<R: Threads + Wait + Sync, K: LineKind + Sync, I: Read, O: Write>(
+    rt: &R,
+    alloc: Global,
+    kind: &K,
+    workers: u32,
+    reader: &mut Input<I>,
+    writer: &mut Output<O>,
+) -> Result<(), SweepEnd>
+    ensures swept { IsSweep (K.answers kind.now) reader.old.remaining reader.new.remaining
+        writer.old.contents writer.new.contents result }
     ensures read { result ≡ Err SweepEnd.Read → reader.new.has_failed ≡ true }
     ensures write { result ≡ Err SweepEnd.Write → writer.new.has_failed ≡ true }
 {
@@ -40,7 +90,7 @@ pub fn sweep<R: Threads + Wait + Sync, I: Read, O: Write>(
     let room = Room {
         rt,
         alloc,
-        question,
+        kind,
         workers: workers as usize,
     };
     let mut progress = Progress::new(alloc);
@@ -49,7 +99,7 @@ pub fn sweep<R: Threads + Wait + Sync, I: Read, O: Write>(
             return Err(SweepEnd::Read);
         };
         if size == 0 {
-            match progress.pass_end(alloc, question, writer) {
+            match progress.pass_end(alloc, kind, writer) {
                 Ok(()) => return Ok(()),
                 Err(end) => return Err(end),
             }

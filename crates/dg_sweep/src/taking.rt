@@ -3,10 +3,9 @@ ghost use Rattle.std.specs.Prelude.{◌≡◌, ◌++◌, ℕ, List, [], true, If
 ghost use Rattle.dg_sweep.specs.Steps.{AnswersFront, KeepsPart, Passes, TakesBytes, AnswersLast};
 ghost use Rattle.dg_sweep.specs.declared.ends.SweepEnd.TheVariants.{Write as WriteEnd};
 
-use crate::answering::answer_line;
+use crate::answering::{LineKind, answer_of_kind};
 use crate::ends::{MAX_LINE, SweepEnd};
 use crate::workers::{Room, answer_batch};
-use dg_asked::Question;
 use dg_beside::Shortage;
 use dg_lines::cut;
 use dg_streams::Output;
@@ -39,14 +38,14 @@ impl Progress {
     }
 
     /// Takes bytes that were read, and writes the answers to the lines that end in them.
-    pub(crate) fn pass_bytes<R: Threads + Wait + Sync, O: Write>(
+    pub(crate) fn pass_bytes<R: Threads + Wait + Sync, K: LineKind + Sync, O: Write>(
         &mut self,
-        room: &Room<'_, R>,
+        room: &Room<'_, R, K>,
         writer: &mut Output<O>,
         bytes: &[u8],
     ) -> Result<(), SweepEnd>
         ensures passed { Passes
-            (TakesBytes room.now.question self.old.pending.items bytes.now self.new.pending.items)
+            (TakesBytes (K.answers room.now.kind.now) self.old.pending.items bytes.now self.new.pending.items)
             writer.old.contents writer.new.contents result }
         ensures write { result ≡ Err WriteEnd → writer.new.has_failed ≡ true }
     {
@@ -60,17 +59,17 @@ impl Progress {
     }
 
     /// Takes the end, and writes the answer to the last line, if there is one.
-    pub(crate) fn pass_end<O: Write>(
+    pub(crate) fn pass_end<K: LineKind, O: Write>(
         &mut self,
         alloc: Global,
-        question: Question,
+        kind: &K,
         writer: &mut Output<O>,
     ) -> Result<(), SweepEnd>
-        ensures passed { Passes (AnswersLast question self.old.pending.items)
+        ensures passed { Passes (AnswersLast (K.answers kind.now) self.old.pending.items)
             writer.old.contents writer.new.contents result }
         ensures write { result ≡ Err WriteEnd → writer.new.has_failed ≡ true }
     {
-        match self.take_end(alloc, question) {
+        match self.take_end(alloc, kind) {
             Ok(()) => match writer.write_whole(&self.text) {
                 Ok(()) => Ok(()),
                 Err(_) => Err(SweepEnd::Write),
@@ -80,12 +79,12 @@ impl Progress {
     }
 
     /// Takes bytes that were read: answers the lines that end in them, and keeps the part of a line that follows.
-    fn take_bytes<R: Threads + Wait + Sync>(
+    fn take_bytes<R: Threads + Wait + Sync, K: LineKind + Sync>(
         &mut self,
-        room: &Room<'_, R>,
+        room: &Room<'_, R, K>,
         bytes: &[u8],
     ) -> Result<(), Shortage>
-        ensures { OnOk result (TakesBytes room.now.question
+        ensures { OnOk result (TakesBytes (K.answers room.now.kind.now)
             self.old.pending.items bytes.now self.new.pending.items self.new.text.items) }
     {
         self.text.clear();
@@ -94,7 +93,7 @@ impl Progress {
         let Some(after) = after else {
             return Ok(());
         };
-        answer_line(room.alloc, room.question, &self.pending, &mut self.text)?;
+        answer_of_kind(room.alloc, room.kind, &self.pending, &mut self.text)?;
         self.pending.clear();
         let part = answer_batch(room, after, &mut self.text, &mut self.answer)?;
         keep_part(&mut self.pending, part)?;
@@ -102,14 +101,14 @@ impl Progress {
     }
 
     /// Takes the end: answers what is pending as the last line, if it has a byte.
-    fn take_end(&mut self, alloc: Global, question: Question) -> Result<(), AllocError>
-        ensures { OnOk result (AnswersLast question self.old.pending.items self.new.text.items) }
+    fn take_end<K: LineKind>(&mut self, alloc: Global, kind: &K) -> Result<(), AllocError>
+        ensures { OnOk result (AnswersLast (K.answers kind.now) self.old.pending.items self.new.text.items) }
     {
         self.text.clear();
         if self.pending.is_empty() {
             return Ok(());
         }
-        answer_line(alloc, question, &self.pending, &mut self.text)?;
+        answer_of_kind(alloc, kind, &self.pending, &mut self.text)?;
         Ok(())
     }
 }
@@ -125,14 +124,14 @@ fn keep_part(pending: &mut Vec<u8>, part: &[u8]) -> Result<(), AllocError>
 }
 
 /// Puts the answers to the lines of the bytes after the text, and gives what follows the last newline.
-pub(crate) fn answer_lines<'a>(
+pub(crate) fn answer_lines<'a, K: LineKind>(
     alloc: Global,
-    question: Question,
+    kind: &K,
     bytes: &'a [u8],
     text: &mut Vec<u8>,
     answer: &mut Vec<u8>,
 ) -> Result<&'a [u8], AllocError>
-    ensures { IfOk result (λ rest. (said : List ℕ) × AnswersFront question bytes.now rest.now said
+    ensures { IfOk result (λ rest. (said : List ℕ) × AnswersFront (K.answers kind.now) bytes.now rest.now said
         × (text.new.items ≡ text.old.items ++ said)) }
 {
     let mut rest = bytes;
@@ -141,7 +140,7 @@ pub(crate) fn answer_lines<'a>(
         let Some(after) = after else {
             return Ok(line);
         };
-        answer_line(alloc, question, line, answer)?;
+        answer_of_kind(alloc, kind, line, answer)?;
         text.extend_from_slice(answer)?;
         rest = after;
     }

@@ -2,8 +2,8 @@
 ghost use Rattle.std.specs.Prelude.{◌≡◌, ◌≤◌, ◌++◌, ℕ, List, IfOk, IfSome};
 ghost use Rattle.dg_sweep.specs.Steps.{AnswersFront, EndsLine};
 
+use crate::answering::LineKind;
 use crate::taking::answer_lines;
-use dg_asked::Question;
 use dg_beside::{Shortage, beside};
 use dg_lines::cut;
 use std::alloc::{AllocError, Global};
@@ -14,20 +14,20 @@ use std::thread::Threads;
 const PIECE_SIZE: usize = 1_024;
 
 /// What all workers of a sweep share.
-pub(crate) struct Room<'a, R> {
+pub(crate) struct Room<'a, R, K> {
     pub(crate) rt: &'a R,
     pub(crate) alloc: Global,
-    pub(crate) question: Question,
+    pub(crate) kind: &'a K,
     /// How many workers there may be.
     pub(crate) workers: usize,
 }
 
-impl<'a, R> Drop for Room<'a, R> {
+impl<'a, R, K> Drop for Room<'a, R, K> {
     fn drop(self) {
         let Self {
             rt: _,
             alloc: _,
-            question: _,
+            kind: _,
             workers: _,
         } = self;
     }
@@ -44,19 +44,19 @@ struct Piece<'a> {
 
 /// Puts the answers to the lines of the bytes after the text, and gives what follows the last newline. The lines are shared
 /// among the workers, where there are enough of them.
-pub(crate) fn answer_batch<'a, R: Threads + Wait + Sync>(
-    room: &Room<'_, R>,
+pub(crate) fn answer_batch<'a, R: Threads + Wait + Sync, K: LineKind + Sync>(
+    room: &Room<'_, R, K>,
     bytes: &'a [u8],
     text: &mut Vec<u8>,
     answer: &mut Vec<u8>,
 ) -> Result<&'a [u8], Shortage>
     ensures { IfOk result (λ rest. (said : List ℕ)
-        × AnswersFront room.now.question bytes.now rest.now said
+        × AnswersFront (K.answers room.now.kind.now) bytes.now rest.now said
         × (text.new.items ≡ text.old.items ++ said)) }
 {
     let pieces = room.workers.min(bytes.len() / PIECE_SIZE);
     if pieces < 2 {
-        return match answer_lines(room.alloc, room.question, bytes, text, answer) {
+        return match answer_lines(room.alloc, room.kind, bytes, text, answer) {
             Ok(rest) => Ok(rest),
             Err(_) => Err(Shortage::OutOfMemory),
         };
@@ -71,13 +71,13 @@ pub(crate) fn answer_batch<'a, R: Threads + Wait + Sync>(
 }
 
 /// What bytes come to in so many pieces. The first has a thread of its own, and the others are answered beside it.
-fn answer_among<'a, R: Threads + Wait + Sync>(
-    room: &Room<'_, R>,
+fn answer_among<'a, R: Threads + Wait + Sync, K: LineKind + Sync>(
+    room: &Room<'_, R, K>,
     pieces: usize,
     bytes: &'a [u8],
 ) -> Result<Piece<'a>, Shortage>
     ensures { IfOk result (λ piece.
-        AnswersFront room.now.question bytes.now piece.rest.now piece.text.items) }
+        AnswersFront (K.answers room.now.kind.now) bytes.now piece.rest.now piece.text.items) }
 {
     if pieces < 2 {
         return answer_piece(room, bytes);
@@ -86,12 +86,12 @@ fn answer_among<'a, R: Threads + Wait + Sync>(
         return answer_piece(room, bytes);
     };
     let mut first = || -> Result<Piece, Shortage>
-        ensures { IfOk result (λ piece. AnswersFront room.entry.now.question
+        ensures { IfOk result (λ piece. AnswersFront (K.answers room.entry.now.kind.now)
             front.entry.now piece.rest.now piece.text.items) }
     { answer_piece(room, front) };
     let mut others = || -> Result<Piece, Shortage>
         requires { 2 ≤ pieces }
-        ensures { IfOk result (λ piece. AnswersFront room.entry.now.question
+        ensures { IfOk result (λ piece. AnswersFront (K.answers room.entry.now.kind.now)
             back.entry.now piece.rest.now piece.text.items) }
     { answer_among(room, pieces - 1, back) };
     let (here, there) = match beside(room.rt, &mut first, &mut others) {
@@ -113,13 +113,16 @@ fn answer_among<'a, R: Threads + Wait + Sync>(
 }
 
 /// What bytes come to in one piece.
-fn answer_piece<'a, R>(room: &Room<'_, R>, bytes: &'a [u8]) -> Result<Piece<'a>, Shortage>
+fn answer_piece<'a, R, K: LineKind>(
+    room: &Room<'_, R, K>,
+    bytes: &'a [u8],
+) -> Result<Piece<'a>, Shortage>
     ensures { IfOk result (λ piece.
-        AnswersFront room.now.question bytes.now piece.rest.now piece.text.items) }
+        AnswersFront (K.answers room.now.kind.now) bytes.now piece.rest.now piece.text.items) }
 {
     let mut text = Vec::new(room.alloc);
     let mut answer = Vec::new(room.alloc);
-    match answer_lines(room.alloc, room.question, bytes, &mut text, &mut answer) {
+    match answer_lines(room.alloc, room.kind, bytes, &mut text, &mut answer) {
         Ok(rest) => Ok(Piece { text, rest }),
         Err(_) => Err(Shortage::OutOfMemory),
     }

@@ -14,6 +14,7 @@ returns c =
     ∙ ap (λ (f : Command-F Command). f.has_globals) c.about.ensures ∙ c.new.ensures.local in
     let first = adds _ _ _ _ _ c.in_ok-arg.ensures named own c.table_file.ensures in
     let second = adds _ _ _ _ _ c.in_ok-arg-2.ensures first.0 first.1 c.lines.ensures in
-    IfOk-weaker c.arg-3.result _ _ (λ made h.
-    let last = adds _ _ _ _ _ h second.0 second.1 c.line_workers.ensures in
-    record { reads = ap (λ (a : App). a.top) last.0; own = last.1 }) c.arg-3.ensures
+    let third = adds _ _ _ _ _ c.in_ok-arg-3.ensures second.0 second.1 c.divisors.ensures in
+    IfOk-weaker c.arg-4.result _ _ (λ made h.
+    let last = adds _ _ _ _ _ h third.0 third.1 c.line_workers.ensures in
+    record { reads = ap (λ (a : App). a.top) last.0; own = last.1 }) c.arg-4.ensures

@@ -4,7 +4,7 @@ use Rattle.dg_sweep.proofs.Taken.{IsSoFar}
 use Rattle.dg_sweep.proofs.taking.answer_lines.Given as goal
 
 abbrev pub invariant-lines : goal.invariant-lines
-invariant-lines l = IsSoFar l.question l.bytes l.rest l.fn.text.items l.text.items
+invariant-lines g l = IsSoFar (g.K.LineKind.answers l.kind) l.bytes l.rest l.fn.text.items l.text.items
 
 abbrev pub decreases-lines : goal.decreases-lines
-decreases-lines l = length l.rest
+decreases-lines g l = length l.rest

@@ -4,7 +4,7 @@ use Rattle.dg_sweep.proofs.workers.+answer_among+fn-answer_among-others.Goals as
 
 pub returns-in-Ok-both : goal.returns-in-Ok-both
 returns-in-Ok-both g t c =
-    pieces_both c.args.room.now.question c.args.bytes.now c.in-Some.front.now c.in-Some.back.now
+    pieces_both _ c.args.bytes.now c.in-Some.front.now c.in-Some.back.now
     c.in-Ok-here.here.rest.now
     c.in-Ok-there.there.rest.now c.in-Ok-both.piece.rest.now c.in-Ok-here.here.text.items c.in-Ok-there.there.text.items
     c.in-Ok-both.piece.text.items c.in-Some.ensures.0 c.in-Some.ensures.1 (search rules) (search rules)

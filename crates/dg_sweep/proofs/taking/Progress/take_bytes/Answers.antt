@@ -4,7 +4,7 @@ use Rattle.dg_sweep.proofs.taking.Progress.take_bytes.Goals as goal
 
 pub returns-in_default : goal.returns-in_default
 returns-in_default g c =
-    takes_part c.args.room.now.question c.args.self.now.pending.items c.args.bytes.now c.cut.result.0.now
+    takes_part _ c.args.self.now.pending.items c.args.bytes.now c.cut.result.0.now
     c.keep_part.new.pending.items
     c.clear.new.self.items c.clear.ensures.items (part_plain c.args.bytes.now c.cut.result.0.now c.cut.ensures.before)
     (part_whole c.args.bytes.now c.cut.result.0.now c.cut.result.1 c.cut.ensures.before c.cut.ensures.after
@@ -13,11 +13,11 @@ returns-in_default g c =
 
 pub returns : goal.returns
 returns g c =
-    takes_lines c.args.room.now.question c.args.self.now.pending.items c.args.bytes.now c.cut.result.0.now
+    takes_lines _ c.args.self.now.pending.items c.args.bytes.now c.cut.result.0.now
     c.in-Some.after.now
-    c.keep_part.new.pending.items c.answer_line.new.answer.items c.answer_batch.new.text.items c.in_ok-part.part.now
+    c.keep_part.new.pending.items c.answer_of_kind.new.answer.items c.answer_batch.new.text.items c.in_ok-part.part.now
     c.keep_part-2.new.pending.items (part_plain c.args.bytes.now c.cut.result.0.now c.cut.ensures.before)
     (part_line c.args.bytes.now c.cut.result.0.now c.cut.result.1 c.in-Some.after c.cut.ensures.before
     c.cut.ensures.after c.in-Some.is)
-    c.in_ok-keep_part.ensures c.deref.result.now c.deref.ensures.value c.in_ok-answer_line.ensures c.in_ok-part.ensures
+    c.in_ok-keep_part.ensures c.deref.result.now c.deref.ensures.value c.in_ok-answer_of_kind.ensures c.in_ok-part.ensures
     c.clear-2.new.self.items c.clear-2.ensures.items c.in_ok-keep_part-2.ensures

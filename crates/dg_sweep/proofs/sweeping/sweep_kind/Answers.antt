@@ -2,15 +2,15 @@ use Rattle.std.proofs.Common.{◌≡◌, ◌<◌, ◌∙◌, [], length, take, r
 use Rattle.dg_streams.proofs.Reading.{chunk_size, read_chunk, read_nothing}
 use Rattle.dg_sweep.specs.declared.ends.TheConstants.{READ_SIZE}
 use Rattle.dg_sweep.proofs.Swept.{swept_none, swept_more, sweep_reads, sweep_ends, sweep_unsaid, sweep_halts, sweep_halts_last}
-use Rattle.dg_sweep.proofs.sweeping.sweep.Goals as goal
+use Rattle.dg_sweep.proofs.sweeping.sweep_kind.Goals as goal
 
 pub returns-in_default-clause-swept : goal.returns-in_default-clause-swept
 returns-in_default-clause-swept g c =
-    sweep_unsaid (swept_none c.args.question c.args.reader.now.remaining c.args.writer.now.contents [] refl)
+    sweep_unsaid (swept_none _ c.args.reader.now.remaining c.args.writer.now.contents [] refl)
 
 pub reads-init : goal.reads-init
 reads-init g c = (
-  swept_none c.args.question c.args.reader.now.remaining c.args.writer.now.contents
+  swept_none _ c.args.reader.now.remaining c.args.writer.now.contents
       c.new-progress.result.pending.items c.new-progress.ensures.pending,
   omega (arith, c.in-Ok.ensures.len, c.in-Ok.buffer.ok.0),
 )

@@ -2,10 +2,10 @@
 use Rattle.std.proofs.Common.{◌≡◌, length}
 use Rattle.dg_sweep.specs.declared.ends.TheConstants.{READ_SIZE}
 use Rattle.dg_sweep.proofs.Swept.{HasSwept}
-use Rattle.dg_sweep.proofs.sweeping.sweep.Given as goal
+use Rattle.dg_sweep.proofs.sweeping.sweep_kind.Given as goal
 
 abbrev pub invariant-reads : goal.invariant-reads
 invariant-reads g l =
-    HasSwept l.question l.fn.reader.remaining l.reader.remaining l.fn.writer.contents l.writer.contents
+    HasSwept (g.K.LineKind.answers l.kind) l.fn.reader.remaining l.reader.remaining l.fn.writer.contents l.writer.contents
     l.progress.pending.items
     × (length l.buffer.items ≡ READ_SIZE)

@@ -1,0 +1,12 @@
+-- The amounts are the numbers of the words so far; each turn reads a shorter rest.
+use Rattle.std.proofs.Common.{length}
+use Rattle.std.specs.Option.{option_copied}
+use Rattle.dg_lines.specs.Cuts.{pieces_after}
+use Rattle.dg_sweep.proofs.Amounts.{IsReadTo}
+use Rattle.dg_sweep.proofs.divisors.amounts_of.Given as goal
+
+abbrev pub invariant-words : goal.invariant-words
+invariant-words l = IsReadTo l.fn.line (pieces_after 32 (option_copied l.rest)) l.amounts.items
+
+abbrev pub decreases-words : goal.decreases-words
+decreases-words l = length (pieces_after 32 (option_copied l.rest))

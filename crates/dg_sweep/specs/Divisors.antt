@@ -1,0 +1,55 @@
+-- Lines that are amounts for the vertices of one table, the opening o with these names. A line stands
+-- for that table with its amounts, as the file of a table would have them.
+--   SpellsAmounts line xs   == the words of the line are the decimals of the numbers xs, which 64 bits
+--                              hold
+--   SpellsNone line         == it spells no numbers so
+--   HasAmountsOf o line p   == the line stands for the opening p: o with the amounts that it spells
+--   RefusesAmounts n line fault == the first fault of the line's amounts for n vertices, which a table
+--                              file with these amounts would have; of want of memory nothing is said
+--   AnswersAmounts question o names line text == the line stands for a table, and the text answers
+--                              the question for it; or it is refused, and the text says why
+use Rattle.std.specs.Prelude.{◌≡◌, ℕ, ◌⊎◌, ℤ, List, map, All, FitsSigned, ⊤}
+use Rattle.std.specs.Fmt.{signed_decimal}
+use Rattle.std.specs.Int.{w64}
+use Rattle.dg_chips.specs.Opening.{Opening}
+use Rattle.dg_chips.specs.Vector.{Vector, HoldsNumbers, IsDivisor}
+use Rattle.dg_chips.specs.DivisorFaults.{IsFirstChipFault}
+use Rattle.dg_lines.specs.Cuts.{words}
+use Rattle.dg_file.specs.declared.fault.FileFault.{FileFault}
+use Rattle.dg_file.specs.declared.fault.FileFault.TheVariants.{Shape, Chip, OutOfMemory}
+use Rattle.dg_file.specs.declared.fault.Shape.TheVariants.{Amounts}
+use Rattle.dg_asked.specs.declared.question.Question.{Question}
+use Rattle.dg_sweep.specs.Answers.{AnswersTable, IsRefused}
+
+pub record SpellsAmounts (line : List ℕ) (xs : List ℤ) : Type 0 where
+  pub spelled : words line ≡ map signed_decimal xs
+  pub held : All (FitsSigned w64) xs
+
+abbrev pub SpellsNone : List ℕ → Type 0
+SpellsNone line = (xs : List ℤ) → ¬ SpellsAmounts line xs
+
+pub record HasAmountsOf (o : Opening) (line : List ℕ) (p : Opening) : Type 0 where
+  pub xs : List ℤ
+  pub spelled : SpellsAmounts line xs
+  pub divisor : Vector
+  pub amounts : HoldsNumbers xs divisor
+  pub size : divisor.size ≡ o.graph.size
+  pub within : IsDivisor divisor
+  pub rest : p ≡ record o { divisor = divisor }
+
+abbrev pub RefusesAmounts : ℕ → List ℕ → FileFault → Type 0
+RefusesAmounts n line (Shape Amounts) = SpellsNone line
+RefusesAmounts n line (Chip fault) =
+    (xs : List ℤ) × SpellsAmounts line xs × IsFirstChipFault n xs fault
+RefusesAmounts n line OutOfMemory = ⊤
+RefusesAmounts n line fault = ⊥
+
+pub record IsOfAmounts (question : Question) (o : Opening) (names : List (List ℕ))
+    (line text : List ℕ) : Type 0 where
+  pub opening : Opening
+  pub stands : HasAmountsOf o line opening
+  pub answer : AnswersTable question opening names text
+
+abbrev pub AnswersAmounts : Question → Opening → List (List ℕ) → List ℕ → List ℕ → Type 0
+AnswersAmounts question o names line text =
+    IsRefused (RefusesAmounts o.graph.size line) text ⊎ IsOfAmounts question o names line text

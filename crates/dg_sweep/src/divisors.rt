@@ -1,0 +1,92 @@
+//! Lines that are amounts for the vertices of one table.
+ghost use Rattle.std.specs.Prelude.{◌≡◌, OnOk, IfOk, IfErr, MatchOption};
+ghost use Rattle.dg_sweep.specs.Divisors.{HasAmountsOf, RefusesAmounts, SpellsAmounts, SpellsNone};
+
+use crate::answering::{LineKind, push_answer, push_refusal};
+use dg_asked::Question;
+use dg_chips::{Divisor, Start};
+use dg_file::{FileFault, Shape, TableFile};
+use dg_graph::MAX_VERTICES;
+use dg_lines::cut;
+use dg_numbers::integer;
+use dg_reduce::Aim;
+use std::alloc::{AllocError, Global};
+
+/// Lines each of which has amounts for the vertices of one table, and what is asked of that table with these amounts.
+#[derive(Drop)]
+pub(crate) struct Divisors<'a> {
+    question: Question,
+    table: &'a TableFile,
+    /// What verdicts on the table's graph share.
+    aim: Aim,
+}
+
+impl<'a> Divisors<'a> {
+    /// Lines of amounts for a table.
+    pub(crate) fn new(question: Question, table: &'a TableFile) -> Divisors<'a>
+        ensures question { result.question ≡ question }
+        ensures table { result.table.now ≡ table.now }
+    {
+        let start = table.start();
+        let aim = Aim::new(start.graph(), usize::from(start.q()));
+        Divisors {
+            question,
+            table,
+            aim,
+        }
+    }
+}
+
+impl LineKind for Divisors<'_> {
+    ghost use Rattle.dg_sweep.specs.Divisors.{AnswersAmounts};
+
+    ghost answers = { λ kind. AnswersAmounts kind.question kind.table.now.start kind.table.now.names };
+
+    fn answer(&self, alloc: Global, line: &[u8], answer: &mut Vec<u8>) -> Result<(), AllocError> {
+        match start_of(alloc, self.table.start(), line) {
+            Ok(start) => {
+                let names = self.table.names();
+                push_answer(self.question, &start, names, Some(&self.aim), answer)
+            }
+            Err(FileFault::OutOfMemory) => Err(AllocError),
+            Err(fault) => push_refusal(&fault, answer),
+        }
+    }
+}
+
+/// The start with the amounts that a line spells in the place of its own.
+///
+/// Refused with `Shape(Amounts)` where a word is no whole number within 64 bits, and then with `Chip`. `OutOfMemory` comes at the
+/// growth that was refused.
+fn start_of(alloc: Global, start: &Start, line: &[u8]) -> Result<Start, FileFault>
+    ensures start { IfOk result (HasAmountsOf start.now line.now) }
+    ensures refused { IfErr result (RefusesAmounts start.now.graph.size line.now) }
+{
+    let Some(amounts) = amounts_of(alloc, line)? else {
+        return Err(FileFault::Shape(Shape::Amounts));
+    };
+    let graph = start.graph();
+    let divisor = Divisor::new(graph, amounts.as_slice())?;
+    match Start::new(*graph, divisor, start.q()) {
+        Ok(start) => Ok(start),
+        Err(_) => unreachable!(),
+    }
+}
+
+/// The whole numbers that the words of a line are, with one space between two; `None` where a word is none within 64 bits.
+fn amounts_of(alloc: Global, line: &[u8]) -> Result<Option<Vec<i64>>, AllocError>
+    ensures { IfOk result (λ amounts. MatchOption amounts (SpellsNone line.now)
+        (λ amounts. SpellsAmounts line.now amounts.items)) }
+{
+    let mut amounts = Vec::with_capacity(alloc, MAX_VERTICES)?;
+    let mut rest = Some(line);
+    'words: while let Some(text) = rest {
+        let (word, after) = cut(text, b' ');
+        let Some(amount) = integer(word) else {
+            return Ok(None);
+        };
+        amounts.push(amount)?;
+        rest = after;
+    }
+    Ok(Some(amounts))
+}

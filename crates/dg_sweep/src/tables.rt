@@ -1,0 +1,27 @@
+//! Lines that are tables.
+ghost use Rattle.std.specs.Prelude.{◌≡◌, OnOk};
+
+use crate::answering::{LineKind, push_answer, push_refusal};
+use dg_asked::Question;
+use dg_file::{FileFault, read_table};
+use std::alloc::{AllocError, Global};
+
+/// Lines each of which is a table, and what is asked of it.
+#[derive(Clone, Copy)]
+pub(crate) struct Tables {
+    pub(crate) question: Question,
+}
+
+impl LineKind for Tables {
+    ghost use Rattle.dg_sweep.specs.Answers.{AnswersTableWithin};
+
+    ghost answers = { λ kind. AnswersTableWithin kind.question };
+
+    fn answer(&self, alloc: Global, line: &[u8], answer: &mut Vec<u8>) -> Result<(), AllocError> {
+        match read_table(alloc, line) {
+            Ok(table) => push_answer(self.question, table.start(), table.names(), None, answer),
+            Err(FileFault::OutOfMemory) => Err(AllocError),
+            Err(fault) => push_refusal(&fault, answer),
+        }
+    }
+}
