@@ -44,8 +44,8 @@ pub(crate) const CAPACITY_HELP: &str = "How many entries there may be, 1 to 6553
 pub(crate) const MORE: &str =
     r#"The vertices of a graph hold dollars or owe them. A vertex that lends gives a
 dollar along each of its edges, and one that borrows takes a dollar along each.
-A table, which is a graph with the dollars at its vertices, is winnable where
-this can clear all debts. This is the table triangle.json:
+A table, which is a graph with the dollars at its vertices, is winnable if this
+can clear all debts. This is the table triangle.json:
 
     {
       "vertices": ["a", "b", "c"],
@@ -54,46 +54,45 @@ this can clear all debts. This is the table triangle.json:
       "q": "a"
     }
 
-An edge is two names and how often it is there. The amounts stand in the order
-of the vertices, and a negative one is a debt. From the vertex q verdicts are
-reckoned; any one will do.
+An edge is two names and the number of edges between them. The amounts are in
+the order of the vertices, and a negative one is a debt. Verdicts are computed
+from the vertex q; any vertex will do.
 
     $ dollar judge triangle.json
     winnable by a=0 b=-1 c=-1 to a=0 b=0 c=0
 
-The debts are cleared where b and c each borrow once. The help of each command,
-such as `dollar judge --help`, tells how its answers are read, and its limits.
+The debts are cleared if b and c borrow once each. The help of each command,
+such as `dollar judge --help`, explains its answers and its limits.
 
-/dev/stdin may stand for a file; `-` may not. A line that refuses a file counts
-vertices and edges from 0, and lines and steps from 1: `edge 0 is empty` tells
-of the first edge, and `line 1: bad seat` of the first line.
+/dev/stdin may stand for a file; `-` may not. Faults count vertices and edges
+from 0, lines and steps from 1: `edge 0 is empty` is about the first edge, and
+`line 1: bad seat` about the first line.
 
-A run that fails prints nothing but a line that says why, on standard error; but
-`serve`, `--lines` and `--divisors` have answered the lines before, and `party`
-prints the history where a session ended early. The status is
+A run that fails prints one line that says why, on standard error, and nothing
+else. But `serve`, `--lines` and `--divisors` have answered the lines before,
+and `party` prints the history even if a session ended early. The status is
 
-    0  where there is an answer, also `unwinnable` and `rank below ..`
-    2  where the command line is refused
-    3  where a file, a line or a limit is
-    4  where memory or a thread is wanting
-    5  where a file can't be read or the output can't be written
+    0  if there is an answer, also `unwinnable` and `rank below ..`
+    2  if the command line is refused
+    3  if a file, a line or a limit is refused
+    4  if memory or a thread is refused
+    5  if a file can't be read or the output can't be written
 "#;
 
 pub(crate) const JUDGE_MORE: &str = "\
-The verdict comes with what shows it:
+The verdict comes with a proof that you can check:
 
     $ dollar judge triangle.json
     winnable by a=0 b=-1 c=-1 to a=0 b=0 c=0
 
-The first numbers say how often each vertex lends, a negative one how often it
-borrows; q does neither. The second are the dollars after that. Off q nobody is
-in debt then, and no vertices other than q could lend together without one of
-them falling into debt. The table is winnable exactly where q is not in debt
-either; the answer is `unwinnable by .. to ..` where q is, with the status 0 as
-well.
+The first numbers say how often each vertex lends, or borrows if the number is
+negative; q does neither. The second numbers are the dollars after that. Then
+only q may be in debt, and no vertices other than q could lend together without
+one of them falling into debt. So the table is winnable exactly if q is not in
+debt. Otherwise the answer is `unwinnable by .. to ..`, also with the status 0.
 
 With --lines, FILE has a table on each line, and is read as it comes. A line
-that is no table is answered by the fault of such a file:
+that is no table is answered by the fault that such a file would have:
 
     $ cat tables.txt
     {\"vertices\":[\"a\",\"b\"],\"edges\":[[\"a\",\"b\",2]],\"amounts\":[2,-2],\"q\":\"a\"}
@@ -103,9 +102,10 @@ that is no table is answered by the fault of such a file:
     winnable by a=0 b=-1 to a=0 b=0
     unwinnable by a=0 b=-1 to a=-1 b=1
     refused shape of top
+
 With --divisors, LINES has amounts for the table of FILE on each line, in the
-order of its vertices, with one space between two. The answer is that for the
-table with these amounts, or the fault that they would have in a table file:
+order of its vertices, with one space between two. Each is answered as the table
+with these amounts, or with the fault that they would have in a table file:
 
     $ cat amounts.txt
     2 -1 -1
@@ -116,8 +116,8 @@ table with these amounts, or the fault that they would have in a table file:
     winnable by a=0 b=-1 c=-1 to a=2 b=0 c=0
     refused number of amounts
 
-A word that is no whole number gives `shape of amounts`; after that a wrong
-number of them is told, and then the first that is out of range.
+The faults in their order are `shape of amounts` if a word is no whole number,
+`number of amounts`, and `amount of vertex v`, the first out of range, from 0.
 ";
 
 pub(crate) const RANK_MORE: &str = "\
@@ -126,8 +126,8 @@ tried in this order, here for two dollars and three vertices:
 
     0 0 2, 0 1 1, 0 2 0, 1 0 1, 1 1 0, 2 0 0
 
-Where each leaves a table that is winnable, the rank is at least K; otherwise
-the first that does not is shown. The status is 0 for both answers.
+If each leaves a table that is winnable, the rank is at least K; otherwise the
+first trial that does not is shown. The status is 0 for both answers.
 
     $ dollar rank triangle.json 0
     rank at least 0
@@ -139,7 +139,7 @@ K may be at most 1000, and there may be at most 200000 trials; a test past that
 is refused with `too many trials`. The workers change no answer.
 
 With --lines, FILE has a table on each line, and is read as it comes. A line
-that is no table is answered by the fault of such a file:
+that is no table is answered by the fault that such a file would have:
 
     $ cat tables.txt
     {\"vertices\":[\"a\",\"b\"],\"edges\":[[\"a\",\"b\",2]],\"amounts\":[2,-2],\"q\":\"a\"}
@@ -150,11 +150,12 @@ that is no table is answered by the fault of such a file:
     rank below 0 at a=0 b=0
     refused shape of top
 
-There a test past the limits is answered where a law or the trials of the dual
-settle it, without the first loss: `rank below 12 at ?`.
+There a test past the limits is answered if a law or the trials of the dual
+decide it, without the first loss: `rank below 12 at ?`.
+
 With --divisors, LINES has amounts for the table of FILE on each line, in the
-order of its vertices, with one space between two. The answer is that for the
-table with these amounts, or the fault that they would have in a table file:
+order of its vertices, with one space between two. Each is answered as the table
+with these amounts, or with the fault that they would have in a table file:
 
     $ cat amounts.txt
     2 -1 -1
@@ -165,8 +166,8 @@ table with these amounts, or the fault that they would have in a table file:
     rank at least 1
     refused number of amounts
 
-A word that is no whole number gives `shape of amounts`; after that a wrong
-number of them is told, and then the first that is out of range.
+The faults in their order are `shape of amounts` if a word is no whole number,
+`number of amounts`, and `amount of vertex v`, the first out of range, from 0.
 ";
 
 pub(crate) const RIEMANN_ROCH_MORE: &str = "\
@@ -180,19 +181,19 @@ For the triangle they are:
 
     degree  the sum of the dollars
     genus   edges less vertices, plus 1
-    rank    the most dollars that can be taken, wherever one likes, so that the
-            rest can still be won; -1 if the table can't be won as it is
-    dual    the same where each vertex holds two dollars less than it has
-            edges, less its dollars on the table
+    rank    the most dollars that can be taken, no matter where, so that the
+            rest can still be won; -1 if the table can't be won
+    dual    the rank of another table: each vertex holds two dollars less than
+            it has edges, less its dollars here
 
 By Riemann-Roch, rank - dual = degree + 1 - genus.
 
-Each rank must be one that tests tell which have the limits of `dollar rank`;
-`too many trials` does not say which of the two was too great. With 16 vertices
-each may be at most 6.
+Tests within the limits of `dollar rank` have to find both ranks; `too many
+trials` does not say which of the two they can't find. With 16 vertices each may
+be at most 6.
 
 With --lines, FILE has a table on each line, and is read as it comes. A line
-that is no table is answered by the fault of such a file:
+that is no table is answered by the fault that such a file would have:
 
     $ cat tables.txt
     {\"vertices\":[\"a\",\"b\"],\"edges\":[[\"a\",\"b\",2]],\"amounts\":[2,-2],\"q\":\"a\"}
@@ -203,11 +204,12 @@ that is no table is answered by the fault of such a file:
     degree 0 genus 1 rank -1 dual -1
     refused shape of top
 
-There one rank may be told by the other, and each of them is `?` only where both
-would need a test past the limits.
+There one rank follows from the other if possible. A rank is `?` only if both
+need a test past the limits.
+
 With --divisors, LINES has amounts for the table of FILE on each line, in the
-order of its vertices, with one space between two. The answer is that for the
-table with these amounts, or the fault that they would have in a table file:
+order of its vertices, with one space between two. Each is answered as the table
+with these amounts, or with the fault that they would have in a table file:
 
     $ cat amounts.txt
     2 -1 -1
@@ -218,15 +220,15 @@ table with these amounts, or the fault that they would have in a table file:
     degree 2 genus 1 rank 1 dual -1
     refused number of amounts
 
-A word that is no whole number gives `shape of amounts`; after that a wrong
-number of them is told, and then the first that is out of range.
+The faults in their order are `shape of amounts` if a word is no whole number,
+`number of amounts`, and `amount of vertex v`, the first out of range, from 0.
 ";
 
 pub(crate) const GREEDY_MORE: &str = "\
-At each turn the first vertex in debt, in the order of the file, borrows; where
+At each turn the first vertex in debt, in the order of the file, borrows. If
 nobody is in debt, the turn is a claim, which is won and ends the game. A line
-for each turn has its number, from 0 on, and what came of it. A game that has
-used up its turns ends with `turns`.
+for each turn has its number, from 0, and its result. A game that has used up
+its turns ends with `turns`.
 
     $ dollar greedy triangle.json 10
     0 moved a=1 b=1 c=-2
@@ -237,8 +239,8 @@ used up its turns ends with `turns`.
     0 moved a=1 b=1 c=-2
     turns
 
-A table that is winnable is won so, if there are turns enough and no amount
-leaves its range on the way; `dollar judge` tells whether it is.
+This wins every winnable table, if there are turns enough and no amount leaves
+its range on the way. `dollar judge` says whether a table is winnable.
 ";
 
 pub(crate) const REHEARSE_MORE: &str = "\
@@ -276,20 +278,19 @@ from 1, as in `line 1: bad seat`.
     5 stale 1
     6 won
 
-Each step gives a line with its number, from 0 on, and what came of it. A levy
-takes dollars from V. A join changes no amount, but who lends or borrows after
-it does so along the new edge too. Both count as gifts. A commit or a rank test
-uses up the look of its seat. It holds for the amounts at which it is entered,
-though there were moves since the look; only a gift makes it stale. Where a line
-or a step is refused, nothing is printed but the fault of the first such line,
-or else of the first such step.
+Each step has a line with its number, from 0, and its result. A levy takes
+dollars from V. A join changes no amount, but from then on dollars go along the
+new edge too. Both count as gifts. A commit or a rank test uses up the look of
+its seat. It holds for the amounts at which it is entered, even if there were
+moves since the look; only a gift makes it stale. If a line or a step is
+refused, only the fault of the first such line or step is printed.
 ";
 
 pub(crate) const SERVE_MORE: &str = "\
 A line of the input is a command: lend V, borrow V, fire V,V,.., script V=x,..,
 gift V x, join V V, claim, look, commit or rank k, as `dollar rehearse --help`
-explains them, but without a seat: there is one. It is answered before the next
-is waited for.
+explains them, but without a seat. Each line is answered before the program
+waits for the next.
 
     $ cat lines.txt
     look
@@ -304,15 +305,15 @@ is waited for.
     bad look
     bad name
 
-An entry of the history is answered with its number, from 0 on, and what came of
-it. A line that is no entry is answered with what is wrong with it: `bad word`,
-`bad form`, `bad name`, `bad number`; `bad look` where a commit or a rank test
-finds no look that is not used up; `bad trials` where a rank test is past the
-limits of `dollar rank`. The session goes on after it.
+The answer to an entry of the history is its number, from 0, and its result. The
+answer to any other line says what is wrong: `bad word`, `bad form`, `bad name`,
+`bad number`; `bad look` if a commit or a rank test finds no unused look;
+`bad trials` if a rank test is past the limits of `dollar rank`. After that the
+session goes on.
 
-With `--seats N` there are N seats on the table, from 1 on, and each line is a
+With `--seats N` the table has N seats, numbered from 1, and each line is a
 seat, one space and a command. Each seat keeps a look of its own, and all make
-one history. A line for no seat is answered with `bad seat`.
+one history. The answer to a line for any other seat is `bad seat`.
 
     $ cat two.txt
     1 look
@@ -332,11 +333,10 @@ kept after the run.
 ";
 
 pub(crate) const PARTY_MORE: &str = "\
-A script has the lines of a session, as `dollar serve --help` shows them. The
-first is played by seat 1, the next by seat 2, and so on, all at once, in an
-order that nobody fixes. Then the history is printed, each entry with its
-number, its seat and what came of it, and what was counted in it, levies and
-joins among the gifts:
+A script has the lines of a session, as `dollar serve --help` shows them. Seat 1
+plays the first, seat 2 the second, and so on, at the same time and in no fixed
+order. Then the history is printed, each entry with its number, its seat and its
+result, and the totals, in which levies and joins count as gifts:
 
     $ cat lend.txt
     lend a
@@ -347,6 +347,6 @@ joins among the gifts:
     position a=0 b=0 c=0
     seat 1 calls 1
 
-A session that ends before its script does has a line on standard error, such as
-`dollar: seat 2: the history is full`, and what it entered before stays.
+A session that ends before its script has a line on standard error, such as
+`dollar: seat 2: the history is full`. Its entries stay.
 ";
