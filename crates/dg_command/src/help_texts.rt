@@ -282,8 +282,8 @@ Each step has a line with its number, from 0, and its result. A levy takes
 dollars from V. A join changes no amount, but from then on dollars go along the
 new edge too. Both count as gifts. A commit or a rank test uses up the look of
 its seat. It holds for the amounts at which it is entered, even if there were
-moves since the look; only a gift makes it stale. If a line or a step is
-refused, only the fault of the first such line or step is printed.
+moves since the look; only a gift makes it stale. If something is refused, only
+a fault is printed: of the first refused line, or else of the first refused step.
 ";
 
 pub(crate) const SERVE_MORE: &str = "\
