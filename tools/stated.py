@@ -5,7 +5,7 @@ import glob, html, json, os, re, sys
 import words
 from words import read
 
-HELP, FORMATS, PAGE = "crates/dg_command/src/help_texts.rt", "docs/formats.md", "docs/dollar.1"
+HELP, FORMATS = "crates/dg_command/src/help_texts.rt", "docs/formats.md"
 MODEL, BOARD, ANSWERS = "examples/party.py", "board/words.js", "python/dollar/answers.py"
 
 
@@ -51,9 +51,9 @@ def commands():
     forms, column = words.command_forms(), r"^ *([a-z]+(?: \S+)*)(?:  +.*|)$"
     part = Part(FORMATS, "| Command | Meaning |", "\n\n")
     yield from part.compare("command", part.matches(r"^\| `([^`]*)` \|"), forms)
-    for part in (Part(HELP, "one of these commands:\n", "\nThere is"), Part(PAGE, "A command is one of these", ".EE")):
-        found = [(text, place) for text, place in part.matches(column) if not text.startswith(("one of", "exactly"))]
-        yield from part.compare("command", found, forms)
+    part = Part(HELP, "one of these commands:\n", "\nThere is")
+    found = [(text, place) for text, place in part.matches(column) if not text.startswith(("one of", "exactly"))]
+    yield from part.compare("command", found, forms)
     part = Part(HELP, "A line of the input is a command: ", ", as `")
     text = re.sub(r"\s+", " ", part.text.split(": ", 1)[-1])
     found = [(form, part.place()) for form in re.split(r", (?=[a-z])| or ", text)]
@@ -244,8 +244,8 @@ def faults():
         if not any(form.search(text) for text in texts):
             yield "%s: the form /%s/ fits no fault of the program" % (part.place(), form.pattern)
     statuses = sorted({"0"} | {str(status) for _, status in words.faults()})
-    for part, form in ((Part(HELP, "The status is\n", '"#;'), r"^    (\d)  "), (Part(PAGE, ".SH EXIT STATUS", "The script"), r"^\.B (\d)$")):
-        yield from part.compare("exit status", part.matches(form), statuses)
+    part = Part(HELP, "The status is\n", '"#;')
+    yield from part.compare("exit status", part.matches(r"^    (\d)  "), statuses)
 
 
 # Constants that are one limit: of crates that do not know each other, or of other types.

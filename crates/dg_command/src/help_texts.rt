@@ -283,7 +283,7 @@ dollars from V. A join changes no amount, but from then on dollars go along the
 new edge too. Both count as gifts. A commit or a rank test uses up the look of
 its seat. It holds for the amounts at which it is entered, even if there were
 moves since the look; only a gift makes it stale. If something is refused, only
-a fault is printed: of the first refused line, or else of the first refused step.
+a fault is printed: of the first refused line, or else the first refused step.
 ";
 
 pub(crate) const SERVE_MORE: &str = "\
