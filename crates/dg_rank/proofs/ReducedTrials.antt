@@ -7,7 +7,9 @@
 --   moved_wins          where what is left of D without E, fired to x, is more than what F holds more than E, D can lose F
 --   rich_win            where all places from one on are rich, all that parts the dollars of the last place among them wins
 --   shifted_there, shifted_last, shifted_front, shifted_empty, shifted_solvent, shifted_degree   what such amounts hold
---   shifted_small       where the loss of such amounts is known, what is left is as small as before
+--   small_degree        what is left has the degree that it had, whatever trial of the same degree is lost
+--   carried             what a dollar carried from one vertex to another tells of the trial that has it there
+--   told_so             what is told of two cases is told of what follows from them
 --   IsShifted g d E E'  == E' is E with a dollar less at the last place and one more at d
 --   passed_win          from a place on where a trial with one dollar more is not reduced, no reduced one has more
 --   told_more           what is told of less is told of more
@@ -34,7 +36,7 @@ use Rattle.dg_theory.proofs.Winning.{equivalent-winnable}
 use Rattle.dg_chips.specs.Vector.{Vector, at}
 use Rattle.dg_reduce.specs.Effective.{IsEffectiveForm}
 use Rattle.dg_rank.specs.Losses.{ReducedWin}
-use Rattle.dg_rank.proofs.Elsewhere.{more_equivalent, degree-given, degree-taken}
+use Rattle.dg_rank.proofs.Elsewhere.{more_equivalent, degree-given, degree-taken, repaid_told}
 
 pub reduced_below : (g : Multigraph) (q : ℕ) (E F : Amounts) → IsReduced g q F → HasNoDebtOff g q E →
     ((v : ℕ) → v < g.size → v ≢ q → E v ≤ℤ F v) → IsReduced g q E
@@ -232,9 +234,10 @@ shifted_degree g d E E' s =
       degree-taken g.size E taken (g.size - 1) 1 (omega (arith, s.inside)) (λ w. refl),
     )
 
-pub shifted_small : (g : Multigraph) (d : ℕ) (E E' : Amounts) (x y : Vector) → IsMultigraph g → IsShifted g d E E' →
+pub small_degree : (g : Multigraph) (E E' : Amounts) (x y : Vector) → IsMultigraph g →
+    degree g.size E' ≡ degree g.size E →
     IsEffectiveForm g (less (λ v. at x v +ℤ E v) E') y → degree g.size (at y) ≡ degree g.size (at x)
-shifted_small g d E E' x y graph s form =
+small_degree g E E' x y graph amount form =
     let D : Amounts = λ v. at x v +ℤ E v in
     omega (
       arith,
@@ -243,8 +246,22 @@ shifted_small g d E E' x y graph s form =
       degree-less g.size D E',
       degree-less g.size D E,
       sum_below-cong g.size (less D E) (at x) (λ v below. omega (arith, ints)),
-      shifted_degree g d E E' s,
     )
+
+pub carried : (b : Bool) (g : Multigraph) (D E E' : Amounts) (x y : Vector) (from to : ℕ) →
+    IsEffectiveForm g (less D E) x →
+    ((v : ℕ) → E' v ≡ (E v -ℤ only_at from (pos 1) v) +ℤ only_at to (pos 1) v) →
+    MatchBool b (IsEffectiveForm g (λ v. (at x v +ℤ only_at from (pos 1) v) -ℤ only_at to (pos 1) v) y)
+    (¬ IsWinnable g (λ v. (at x v +ℤ only_at from (pos 1) v) -ℤ only_at to (pos 1) v)) →
+    MatchBool b (IsEffectiveForm g (less D E') y) (¬ IsWinnable g (less D E'))
+carried b g D E E' x y from to form moved told =
+    repaid_told b g (less D E) (λ v. (at x v +ℤ only_at from (pos 1) v) -ℤ only_at to (pos 1) v)
+    (λ v. only_at from (pos 1) v -ℤ only_at to (pos 1) v) (less D E') x y
+    (λ v below. omega (arith, ints, moved v)) form (λ v below. omega (arith, ints)) told
+
+pub told_so : (b : Bool) (P Q P' Q' : Type 0) → (P → P') → (Q → Q') → MatchBool b P Q → MatchBool b P' Q'
+told_so true P Q P' Q' won lost told = won told
+told_so false P Q P' Q' won lost told = lost told
 
 as_much_or_more : (a b : ℤ) → a ≤ℤ b → (b ≡ a) ⊎ ((a +ℤ pos 1) ≤ℤ b)
 as_much_or_more a b low =

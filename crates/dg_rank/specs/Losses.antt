@@ -1,4 +1,6 @@
 -- A piece of the trials, from one number up to another, for the divisor D.
+--   AreSmall n D            == each of n amounts is within 1,999,000
+--   AddUpToFew n D          == n amounts add up to at most 32,000,000
 --   WinsWithout g D E       == D less the trial E is winnable
 --   AllWin g D k i j        == D less each trial from number i up to, but not including, number j
 --                              is winnable
@@ -12,12 +14,10 @@
 --   ReducedWin g D k d E    == D less each effective divisor of degree k is winnable that is reduced
 --                              for the last vertex, holds before place d what E holds, and there
 --                              as much or more, unless it is the last
---   IsStep g D E x step     == once a dollar of a trial was moved, so that it is E: x is what is left
---                              of D without E, fired to where there are no debts; or E is not
---                              reduced for the last vertex; or its loss leaves D unwinnable
 --   IsTold g D k c told     == what is told of all c trials is so: the first loss, or that all win,
 --                              or that those before some number win
 use Rattle.std.specs.Prelude.{◌≡◌, ℕ, ◌+◌, ◌-◌, ◌<◌, ◌≤◌, pos, ◌≤ℤ◌, List, Option, Some, None}
+use Rattle.std.specs.Int.RustNames.{unsigned_abs}
 use Rattle.dg_theory.specs.Multigraph.{Multigraph}
 use Rattle.dg_theory.specs.Firing.{Amounts, degree, IsEffective}
 use Rattle.dg_theory.specs.Play.{IsWinnable}
@@ -28,9 +28,13 @@ use Rattle.dg_reduce.specs.Effective.{IsEffectiveForm}
 use Rattle.dg_rank.specs.Divisors.{amounts_of}
 use Rattle.dg_rank.specs.Numbering.{nth_trial}
 use Rattle.dg_rank.specs.declared.duals.Told.{Told}
-use Rattle.dg_rank.specs.declared.reduced_trials.Step.{Step}
-use Rattle.dg_rank.specs.declared.reduced_trials.Step.TheVariants.{Kept, Passed, Loses}
 use Rattle.dg_rank.specs.declared.duals.Told.TheVariants.{Lost, Won, Open}
+
+abbrev pub AreSmall : ℕ → Amounts → Type 0
+AreSmall n D = (v : ℕ) → v < n → unsigned_abs (D v) ≤ 1999000
+
+abbrev pub AddUpToFew : ℕ → Amounts → Type 0
+AddUpToFew n D = degree n D ≤ℤ pos 32000000
 
 abbrev pub WinsWithout : Multigraph → Amounts → List ℕ → Type 0
 WinsWithout g D E = IsWinnable g (less D (amounts_of E))
@@ -61,11 +65,6 @@ abbrev pub ReducedWin : Multigraph → Amounts → ℕ → ℕ → Amounts → T
 ReducedWin g D k d E = (F : Amounts) → IsEffective g.size F → degree g.size F ≡ pos k →
     IsReduced g (g.size - 1) F → ((v : ℕ) → v < d → F v ≡ E v) → (d + 1 < g.size → E d ≤ℤ F d) →
     IsWinnable g (less D F)
-
-abbrev pub IsStep : Multigraph → Amounts → Amounts → Vector → Step → Type 0
-IsStep g D E x Kept = IsEffectiveForm g (less D E) x
-IsStep g D E x Passed = ¬ IsReduced g (g.size - 1) E
-IsStep g D E x Loses = ¬ IsWinnable g (less D E)
 
 abbrev pub IsTold : Multigraph → Amounts → ℕ → ℕ → Told → Type 0
 IsTold g D k c (Lost E) = IsLossIn g D k 0 c E

@@ -7,11 +7,10 @@
 --                             them, or that all win; of an end without an answer nothing is said
 --   IsOutcomeOf s j end    == so do those of piece j
 --   IsOutcomeFrom s j end  == so do those of the pieces from j on together
-use Rattle.std.specs.Prelude.{◌≡◌, ℕ, ◌+◌, ◌*◌, ◌/◌, ◌<◌, ◌≤◌, ⊤}
-use Rattle.std.specs.Int.RustNames.{unsigned_abs}
+use Rattle.std.specs.Prelude.{◌≡◌, ℕ, ◌+◌, ◌*◌, ◌/◌, ◌≤◌, ⊤}
 use Rattle.dg_chips.specs.Vector.{at}
 use Rattle.dg_rank.specs.Limits.{IsWithinLimits}
-use Rattle.dg_rank.specs.Losses.{IsLossIn, AllWin}
+use Rattle.dg_rank.specs.Losses.{AreSmall, IsLossIn, AllWin}
 use Rattle.dg_rank.specs.declared.pieces.Search.{Search}
 use Rattle.dg_rank.specs.declared.pieces.Outcome.{Outcome}
 use Rattle.dg_rank.specs.declared.pieces.Outcome.TheVariants.{Lost, Won, GaveUp}
@@ -21,7 +20,7 @@ piece_start c w j = j * c / w
 
 pub record CanSearch (s : Search) : Type 0 where
   pub size : s.chips.size ≡ s.graph.size
-  pub range : (v : ℕ) → v < s.graph.size → unsigned_abs (at s.chips v) ≤ 1999000
+  pub range : AreSmall s.graph.size (at s.chips)
   pub limits : (c : ℕ) × IsWithinLimits s.graph.size s.k c × (s.count ≤ c)
 
 abbrev pub IsOutcome : Search → ℕ → ℕ → Outcome → Type 0

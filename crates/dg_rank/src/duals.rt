@@ -9,7 +9,7 @@ ghost use Rattle.dg_reduce.specs.declared.limits.TheConstants.{MAX_START};
 ghost use Rattle.dg_graph.specs.Graph.{IsGraph};
 ghost use Rattle.dg_chips.specs.Vector.{at};
 ghost use Rattle.dg_rank.specs.Limits.{IsWithinLimits};
-ghost use Rattle.dg_rank.specs.Losses.{AllWin, IsFound, IsTold};
+ghost use Rattle.dg_rank.specs.Losses.{AreSmall, AllWin, IsFound, IsTold};
 ghost use Rattle.dg_rank.specs.Ranks.{IsUnsettled, BothArePast};
 ghost use Rattle.dg_rank.specs.declared.rank_fault.RankFault.TheVariants.{TooMany};
 
@@ -17,7 +17,7 @@ use crate::counting::trials;
 use crate::enumeration::Trial;
 use crate::first_loss::first_loss;
 use crate::rank_fault::RankFault;
-use crate::reduced_trials::told_by_reduced;
+use crate::reduced_trials::{few_visits, most_visits, told_by_reduced};
 use dg_chips::{Divisor, Wide};
 use dg_graph::Graph;
 use dg_reduce::{Aim, reduce_certified};
@@ -92,9 +92,6 @@ pub(crate) enum Told {
 /// How many trials are made before those that are reduced for the last vertex are asked.
 const FIRST_TRIALS: u32 = 256;
 
-/// How many trials there are for each visit that those may take: where they tell nothing, little is lost.
-const TRIALS_A_VISIT: u32 = 256;
-
 /// From so many trials on they are asked.
 const MANY: u32 = 8192;
 
@@ -113,7 +110,7 @@ pub(crate) fn told_before(
     requires unsettled { IsUnsettled graph.now (at divisor.now) k }
     requires chips { chips.now.size ≡ graph.now.size }
     requires fired { AreEquivalent graph.now (at divisor.now) (at chips.now) }
-    requires range { (v : ℕ) → v < graph.now.size → unsigned_abs (at chips.now v) ≤ 1999000 }
+    requires range { AreSmall graph.now.size (at chips.now) }
     requires limits { IsWithinLimits graph.now.size k count }
     requires most { most ≤ count }
     ensures { IsTold graph.now (at chips.now) k count result }
@@ -128,7 +125,7 @@ pub(crate) fn told_before(
 /// What is told of all trials where those before a number win: by some more, and by those that are reduced for the last vertex.
 fn told_after(graph: &Graph, aim: &Aim, chips: &Wide, k: u32, from: u32, count: u32) -> Told
     requires size { chips.now.size ≡ graph.now.size }
-    requires range { (v : ℕ) → v < graph.now.size → unsigned_abs (at chips.now v) ≤ 1999000 }
+    requires range { AreSmall graph.now.size (at chips.now) }
     requires limits { IsWithinLimits graph.now.size k count }
     requires from { from ≤ count }
     requires before { AllWin graph.now (at chips.now) k 0 from }
@@ -141,7 +138,7 @@ fn told_after(graph: &Graph, aim: &Aim, chips: &Wide, k: u32, from: u32, count: 
     if let Some(trial) = first_loss(graph, aim, chips, k, from, to) {
         return Told::Lost(trial);
     }
-    match told_by_reduced(graph, aim, chips, k, count / TRIALS_A_VISIT) {
+    match told_by_reduced(graph, aim, chips, k, few_visits(count)) {
         Some(true) => Told::Won,
         _ => Told::Open(to),
     }
@@ -163,7 +160,7 @@ fn told_by_dual(
     requires unsettled { IsUnsettled graph.now (at divisor.now) k }
     requires chips { chips.now.size ≡ graph.now.size }
     requires fired { AreEquivalent graph.now (at divisor.now) (at chips.now) }
-    requires range { (v : ℕ) → v < graph.now.size → unsigned_abs (at chips.now v) ≤ 1999000 }
+    requires range { AreSmall graph.now.size (at chips.now) }
     requires limits { (c : ℕ) × IsWithinLimits graph.now.size k c × (most ≤ c) }
     ensures { (c : ℕ) → IsWithinLimits graph.now.size k c →
         IsTold graph.now (at chips.now) k c result }
@@ -198,7 +195,7 @@ pub(crate) fn loss_after(
     told: Told,
 ) -> Option<Trial>
     requires size { chips.now.size ≡ graph.now.size }
-    requires range { (v : ℕ) → v < graph.now.size → unsigned_abs (at chips.now v) ≤ 1999000 }
+    requires range { AreSmall graph.now.size (at chips.now) }
     requires limits { IsWithinLimits graph.now.size k count }
     requires told { IsTold graph.now (at chips.now) k count told }
     ensures { IsFound graph.now (at chips.now) k 0 count result }
@@ -259,9 +256,8 @@ fn all_win(graph: &Graph, aim: &Aim, amounts: &Wide, k: u32, count: u32) -> bool
         (¬ HasRankAtLeast graph.now (at amounts.now) k) }
 {
     let chips = reduce_certified(graph, aim, 0, amounts).reduced.divisor;
-    match told_by_reduced(graph, aim, &chips, k, u32::MAX) {
+    match told_by_reduced(graph, aim, &chips, k, most_visits(graph, count)) {
         Some(wins) => wins,
-        // This never comes: there are fewer trials.
         None => first_loss(graph, aim, &chips, k, 0, count).is_none(),
     }
 }

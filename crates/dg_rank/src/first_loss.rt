@@ -1,6 +1,5 @@
 //! The first trial whose loss can't be borne.
 ghost use Rattle.std.specs.Prelude.{◌≡◌, ℕ, ◌+◌, ◌<◌, ◌≤◌, pos, ◌≤ℤ◌, length, slice_index, MatchBool, MatchOption};
-ghost use Rattle.std.specs.Int.RustNames.{unsigned_abs};
 ghost use Rattle.dg_theory.specs.Multigraph.{Multigraph};
 ghost use Rattle.dg_theory.specs.Firing.{Amounts, degree, IsEffective};
 ghost use Rattle.dg_theory.specs.Play.{IsWinnable};
@@ -13,7 +12,7 @@ ghost use Rattle.dg_rank.specs.Limits.{IsWithinLimits};
 ghost use Rattle.dg_rank.specs.Trials.{IsTrial};
 ghost use Rattle.dg_rank.specs.Numbering.{nth_trial};
 ghost use Rattle.dg_rank.specs.Moves.{after_move};
-ghost use Rattle.dg_rank.specs.Losses.{WinsWithout, IsFound, IsLeap};
+ghost use Rattle.dg_rank.specs.Losses.{AreSmall, AddUpToFew, WinsWithout, IsFound, IsLeap};
 
 use crate::counting::count;
 use crate::enumeration::{Moved, Trial};
@@ -33,7 +32,7 @@ pub fn first_loss(
     to: u32,
 ) -> Option<Trial>
     requires size { chips.now.size ≡ graph.now.size }
-    requires range { (v : ℕ) → v < graph.now.size → unsigned_abs (at chips.now v) ≤ 1999000 }
+    requires range { AreSmall graph.now.size (at chips.now) }
     requires limits { (c : ℕ) × IsWithinLimits graph.now.size k c × (to ≤ c) }
     ensures { IsFound graph.now (at chips.now) k from to result }
 {
@@ -59,7 +58,7 @@ pub fn first_loss(
 pub(crate) fn left_without(graph: &Graph, aim: &Aim, chips: &Wide, trial: &Trial) -> Option<Form>
     requires graph { IsGraph graph.now }
     requires size { chips.now.size ≡ graph.now.size }
-    requires range { (v : ℕ) → v < graph.now.size → unsigned_abs (at chips.now v) ≤ 1999000 }
+    requires range { AreSmall graph.now.size (at chips.now) }
     requires trial { (k : ℕ) × (c : ℕ) × IsWithinLimits graph.now.size k c ×
         IsTrial graph.now.size k trial.now }
     ensures { MatchOption result
@@ -82,7 +81,7 @@ pub(crate) fn left_without(graph: &Graph, aim: &Aim, chips: &Wide, trial: &Trial
 fn lose_elsewhere(graph: &Graph, left: &mut Form, moved: &Moved) -> bool
     requires size { left.old.size ≡ graph.now.size }
     requires effective { IsEffective graph.now.size (at left.old) }
-    requires degree { degree graph.now.size (at left.old) ≤ℤ pos 32000000 }
+    requires degree { AddUpToFew graph.now.size (at left.old) }
     requires past { 0 < moved.now.place }
     requires place { moved.now.place < graph.now.size }
     requires few { moved.now.others < 1000 }
@@ -108,7 +107,7 @@ fn leap(trial: &mut Trial, left: &mut Form) -> u32
     requires trial { (k : ℕ) × (c : ℕ) × (i : ℕ) × IsWithinLimits left.old.size k c × (i < c) ×
         (trial.old ≡ nth_trial left.old.size k i) }
     requires effective { IsEffective left.old.size (at left.old) }
-    requires degree { degree left.old.size (at left.old) ≤ℤ pos 32000000 }
+    requires degree { AddUpToFew left.old.size (at left.old) }
     ensures { (g : Multigraph) (D : Amounts) (k c i : ℕ) → IsWithinLimits g.size k c → i < c →
         trial.old ≡ nth_trial g.size k i → IsEffectiveForm g (less D (amounts_of trial.old)) left.old →
         IsLeap g D k c i result trial.new left.new }

@@ -1,12 +1,11 @@
 //! Rank tests.
 ghost use Rattle.std.specs.Prelude.{◌≡◌, ℕ, ◌<◌, ◌≤◌, ⊤, MatchOption, MatchResult};
-ghost use Rattle.std.specs.Int.RustNames.{unsigned_abs};
 ghost use Rattle.dg_theory.specs.Multigraph.{Multigraph};
 ghost use Rattle.dg_theory.specs.Firing.{Amounts, AreEquivalent};
 ghost use Rattle.dg_chips.specs.Vector.{at};
 ghost use Rattle.dg_rank.specs.Limits.{IsPastLimits, IsWithinLimits};
 ghost use Rattle.dg_rank.specs.Trials.{IsTrial};
-ghost use Rattle.dg_rank.specs.Losses.{IsFound};
+ghost use Rattle.dg_rank.specs.Losses.{AreSmall, IsFound};
 ghost use Rattle.dg_ranked.specs.RankTests.{IsRankTest};
 ghost use Rattle.dg_rank.specs.Ranks.{IsWithin, IsUnsettled};
 ghost use Rattle.dg_rank.specs.declared.rank_fault.RankFault.TheVariants.{TooMany};
@@ -59,7 +58,7 @@ pub(crate) fn small_amounts(graph: &Graph, aim: &Aim, divisor: &Divisor, k: u32)
     requires unsettled { IsUnsettled graph.now (at divisor.now) k }
     ensures size { result.size ≡ graph.now.size }
     ensures fired { AreEquivalent graph.now (at divisor.now) (at result) }
-    ensures small { (v : ℕ) → v < graph.now.size → unsigned_abs (at result v) ≤ 1999000 }
+    ensures small { AreSmall graph.now.size (at result) }
 {
     let _size = graph.size();
     // The clause of `size` says that the amounts are within their limit.

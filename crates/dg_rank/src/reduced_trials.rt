@@ -1,12 +1,12 @@
 //! Whether all trials win, by those that are reduced for the last vertex: each trial is equivalent to one of these, and what is
 //! left without it can be won exactly where what is left without the other can.
 ghost use Rattle.std.specs.Prelude.{◌≡◌, ℕ, ⊤, ◌+◌, ◌-◌, ◌<◌, ◌≤◌, pos, ◌+ℤ◌, ◌-ℤ◌, ◌≤ℤ◌, ◌<ℤ◌, MatchBool, MatchOption};
-ghost use Rattle.std.specs.Int.RustNames.{unsigned_abs};
 ghost use Rattle.dg_theory.specs.Firing.{Amounts, degree, only_at, IsEffective};
+ghost use Rattle.dg_theory.specs.Play.{IsWinnable};
 ghost use Rattle.dg_theory.specs.Rank.{less, HasRankAtLeast};
 ghost use Rattle.dg_chips.specs.Vector.{at};
 ghost use Rattle.dg_reduce.specs.Effective.{IsEffectiveForm};
-ghost use Rattle.dg_rank.specs.Losses.{ReducedWin, IsStep};
+ghost use Rattle.dg_rank.specs.Losses.{AreSmall, AddUpToFew, ReducedWin};
 ghost use Rattle.dg_rank.specs.Ranks.{IsWithin};
 
 use crate::enumeration::Trial;
@@ -14,6 +14,48 @@ use crate::first_loss::left_without;
 use dg_chips::Wide;
 use dg_graph::Graph;
 use dg_reduce::{Aim, Form};
+
+/// How many trials there are for each visit that those which are reduced may take: where these tell nothing, little is lost.
+const TRIALS_A_VISIT: u32 = 256;
+
+/// The same on a thin graph, where no first loss is wanted: those that are reduced are mostly few there.
+const TRIALS_A_THIN_VISIT: u32 = 16;
+
+/// How many visits they may take where there are few trials.
+const LEAST_VISITS: u32 = 64;
+
+/// So many visits of those that are reduced that little is lost where they tell nothing.
+pub(crate) fn few_visits(count: u32) -> u32 {
+    LEAST_VISITS + count / TRIALS_A_VISIT
+}
+
+/// How many visits of those that are reduced are worth it where no first loss is wanted.
+pub(crate) fn most_visits(graph: &Graph, count: u32) -> u32 {
+    if is_thin(graph) {
+        LEAST_VISITS + count / TRIALS_A_THIN_VISIT
+    } else {
+        few_visits(count)
+    }
+}
+
+/// Whether the graph is nearly a tree, however many edges join two vertices: it has at most two pairs of neighbours more.
+fn is_thin(graph: &Graph) -> bool {
+    let size = graph.size();
+    let mut ends: usize = 0;
+    for v in 0..size {
+        ends = ends.wrapping_add(neighbours(graph.row(v)));
+    }
+    ends <= 2 * size + 2
+}
+
+/// How many vertices are joined to one, whose row this is.
+fn neighbours(row: &[u8; 16]) -> usize {
+    let mut count: usize = 0;
+    for w in 0..16 {
+        count = count.wrapping_add(usize::from(row[w] > 0));
+    }
+    count
+}
 
 /// Whether all trials of degree k can be lost. `None` where so many visits do not tell.
 pub(crate) fn told_by_reduced(
@@ -24,44 +66,48 @@ pub(crate) fn told_by_reduced(
     visits: u32,
 ) -> Option<bool>
     requires size { chips.now.size ≡ graph.now.size }
-    requires range { (v : ℕ) → v < graph.now.size → unsigned_abs (at chips.now v) ≤ 1999000 }
+    requires range { AreSmall graph.now.size (at chips.now) }
     requires limits { IsWithin graph.now.size k }
     ensures { MatchOption result ⊤ (λ b. MatchBool b
         (HasRankAtLeast graph.now (at chips.now) k)
         (¬ HasRankAtLeast graph.now (at chips.now) k)) }
 {
     let first = Trial::with_number(graph.size(), k, 0);
-    let Some(left) = left_without(graph, aim, chips, &first) else {
+    let Some(mut left) = left_without(graph, aim, chips, &first) else {
         return Some(false);
     };
     let lost = Form::of(&Wide::of(&first.to_divisor()));
     let mut visits = visits;
-    reduced_win(graph, &left, &lost, 0, &mut visits)
+    reduced_win(graph, &mut left, &lost, 0, &mut visits)
 }
 
 /// Whether all trials can be lost that are reduced for the last vertex, hold the same as this one before a place, and there as
-/// much or more; `left` is what is left without this one, which holds nothing between the place and the last. False also where
-/// another trial is found that can't be lost. `None` where so many visits do not tell.
+/// much or more; `left` is what is left without this one, which holds nothing between the place and the last. Where they can,
+/// that is so afterwards too. False also where another trial is found that can't be lost. `None` where so many visits do not
+/// tell.
 fn reduced_win(
     graph: &Graph,
-    left: &Form,
+    left: &mut Form,
     lost: &Form,
     place: usize,
     visits: &mut u32,
 ) -> Option<bool>
-    requires size { left.now.size ≡ graph.now.size }
+    requires size { left.old.size ≡ graph.now.size }
     requires lost_size { lost.now.size ≡ graph.now.size }
     requires place { place < graph.now.size }
     requires empty { (v : ℕ) → place < v → v + 1 < graph.now.size → at lost.now v ≡ pos 0 }
     requires lost { IsEffective graph.now.size (at lost.now) }
     requires few { degree graph.now.size (at lost.now) ≤ℤ pos 1000 }
-    requires left { IsEffective graph.now.size (at left.now) }
-    requires small { degree graph.now.size (at left.now) ≤ℤ pos 32000000 }
-    ensures { (D : Amounts) (k : ℕ) → degree graph.now.size (at lost.now) ≡ pos k →
-        IsEffectiveForm graph.now (less D (at lost.now)) left.now →
+    requires left { IsEffective graph.now.size (at left.old) }
+    requires small { AddUpToFew graph.now.size (at left.old) }
+    ensures told { (D : Amounts) (k : ℕ) → degree graph.now.size (at lost.now) ≡ pos k →
+        IsEffectiveForm graph.now (less D (at lost.now)) left.old →
         MatchOption result ⊤ (λ b. MatchBool b
         (ReducedWin graph.now D k place (at lost.now))
         (¬ HasRankAtLeast graph.now D k)) }
+    ensures kept { (D : Amounts) → IsEffectiveForm graph.now (less D (at lost.now)) left.old →
+        MatchOption result ⊤ (λ b. MatchBool b
+        (IsEffectiveForm graph.now (less D (at lost.now)) left.new) ⊤) }
 {
     if *visits == 0 {
         return None;
@@ -74,13 +120,51 @@ fn reduced_win(
     if !reduced_win(graph, left, lost, place + 1, visits)? {
         return Some(false);
     }
-    let mut left = *left;
-    let mut lost = *lost;
-    match move_dollar(graph, &mut left, &mut lost, place) {
-        Step::Kept => reduced_win(graph, &left, &lost, place, visits),
-        Step::Passed => Some(true),
-        Step::Loses => Some(false),
+    let more = with_more(lost, place, last);
+    if left.get(place) == 0 && !more.is_reduced(graph, last) {
+        return Some(true);
     }
+    if !carry(graph, left, last, place) {
+        return Some(false);
+    }
+    if !reduced_win(graph, left, &more, place, visits)? {
+        return Some(false);
+    }
+    Some(carry(graph, left, place, last))
+}
+
+/// A trial with one dollar more at a place, from the last.
+fn with_more(lost: &Form, place: usize, last: usize) -> Form
+    requires place { place < lost.now.size }
+    requires last { last < lost.now.size }
+    requires lost { IsEffective lost.now.size (at lost.now) }
+    requires few { degree lost.now.size (at lost.now) ≤ℤ pos 1000 }
+    ensures size { result.size ≡ lost.now.size }
+    ensures moved { (v : ℕ) → at result v
+        ≡ (at lost.now v -ℤ only_at last (pos 1) v) +ℤ only_at place (pos 1) v }
+{
+    let mut more = *lost;
+    more.take(last, 1);
+    more.give(place, 1);
+    more
+}
+
+/// Gives a dollar to one vertex, and takes one from another, as far as there are too few by firing. False where that can't be
+/// won.
+fn carry(graph: &Graph, left: &mut Form, from: usize, to: usize) -> bool
+    requires size { left.old.size ≡ graph.now.size }
+    requires from { from < graph.now.size }
+    requires to { to < graph.now.size }
+    requires left { IsEffective graph.now.size (at left.old) }
+    requires small { AddUpToFew graph.now.size (at left.old) }
+    ensures { MatchBool result
+        (IsEffectiveForm graph.now (λ v. (at left.old v +ℤ only_at from (pos 1) v) -ℤ only_at to (pos 1) v)
+        left.new)
+        (¬ IsWinnable graph.now (λ v. (at left.old v +ℤ only_at from (pos 1) v) -ℤ only_at to (pos 1) v)) }
+{
+    left.give(from, 1);
+    left.take(to, 1);
+    left.repay(graph, to)
 }
 
 /// Whether each vertex from a place on, before the last, has at least as much left as the trial holds at the last place.
@@ -98,47 +182,4 @@ fn is_rich(left: &Form, lost: &Form, place: usize, last: usize) -> bool
         }
     }
     true
-}
-
-/// What comes of a dollar that is moved to another place of a trial.
-#[derive(Drop)]
-pub(crate) enum Step {
-    /// What is left without the trial now is known.
-    Kept,
-    /// The trial now is not reduced for the last vertex.
-    Passed,
-    /// The trial now can't be lost.
-    Loses,
-}
-
-/// Moves a dollar of a trial from the last place to another, and what is left without it accordingly. Where it is owed there,
-/// it may be seen that the trial is not reduced; then it stays owed.
-fn move_dollar(graph: &Graph, left: &mut Form, lost: &mut Form, place: usize) -> Step
-    requires size { left.old.size ≡ graph.now.size }
-    requires lost_size { lost.old.size ≡ graph.now.size }
-    requires place { place + 1 < graph.now.size }
-    requires some { pos 1 ≤ℤ at lost.old (graph.now.size - 1) }
-    requires lost { IsEffective graph.now.size (at lost.old) }
-    requires few { degree graph.now.size (at lost.old) ≤ℤ pos 1000 }
-    requires left { IsEffective graph.now.size (at left.old) }
-    requires small { degree graph.now.size (at left.old) ≤ℤ pos 32000000 }
-    ensures lost_size { lost.new.size ≡ graph.now.size }
-    ensures moved { (v : ℕ) → at lost.new v
-        ≡ (at lost.old v -ℤ only_at (graph.now.size - 1) (pos 1) v) +ℤ only_at place (pos 1) v }
-    ensures step { (D : Amounts) → IsEffectiveForm graph.now (less D (at lost.old)) left.old →
-        IsStep graph.now D (at lost.new) left.new result }
-{
-    let last = graph.size() - 1;
-    lost.take(last, 1);
-    lost.give(place, 1);
-    left.give(last, 1);
-    left.take(place, 1);
-    if left.get(place) < 0 && !lost.is_reduced(graph, last) {
-        return Step::Passed;
-    }
-    if left.repay(graph, place) {
-        Step::Kept
-    } else {
-        Step::Loses
-    }
 }

@@ -33,8 +33,8 @@ pub fn judge(graph: &Graph, q: usize, divisor: &Divisor) -> Verdict
     let _size = graph.size();
     let _amounts = divisor.size();
     let chips = Wide::of(divisor);
-    let guess = guess_once(graph, q, &chips);
-    judge_guessed(graph, q, divisor, &chips, &guess)
+    let found = guess_once(graph, q, &chips);
+    judge_by(graph, q, divisor, &chips, &found)
 }
 
 /// The verdict as `judge` gives it, whatever is aimed by: an aim that was made for the graph and q saves the time to make
@@ -44,35 +44,19 @@ pub fn judge_aimed(graph: &Graph, aim: &Aim, q: usize, divisor: &Divisor) -> Ver
     requires vertex { q < graph.now.size }
     ensures { IsVerdictOn graph.now q (at divisor.now) result }
 {
-    if aim.may_serve(graph, q) {
-        judge_by(graph, aim, q, divisor)
-    } else {
-        judge(graph, q, divisor)
+    if !aim.may_serve(graph, q) {
+        return judge(graph, q, divisor);
     }
-}
-
-/// The verdict, whatever is aimed by.
-fn judge_by(graph: &Graph, aim: &Aim, q: usize, divisor: &Divisor) -> Verdict
-    requires size { divisor.now.size ≡ graph.now.size }
-    requires vertex { q < graph.now.size }
-    ensures { IsVerdictOn graph.now q (at divisor.now) result }
-{
     // The clauses of `size` say that graph and divisor are within their limits.
     let _size = graph.size();
     let _amounts = divisor.size();
     let chips = Wide::of(divisor);
     let guess = guess(graph, aim, q, &chips);
-    judge_guessed(graph, q, divisor, &chips, &guess)
+    judge_by(graph, q, divisor, &chips, &guess)
 }
 
 /// The verdict where a script was guessed.
-fn judge_guessed(
-    graph: &Graph,
-    q: usize,
-    divisor: &Divisor,
-    chips: &Wide,
-    guess: &Guessed,
-) -> Verdict
+fn judge_by(graph: &Graph, q: usize, divisor: &Divisor, chips: &Wide, guess: &Guessed) -> Verdict
     requires size { divisor.now.size ≡ graph.now.size }
     requires vertex { q < graph.now.size }
     requires chips { (chips.now.size ≡ graph.now.size) ×

@@ -11,7 +11,8 @@ pub told_by_reduced-requires-clause-range : goal.told_by_reduced-requires-clause
 told_by_reduced-requires-clause-range c =
     unsettled_small c.args.graph.now 0 (at c.args.amounts.now) (at c.reduce_certified-chips.result.reduced.divisor) c.args.k
     c.requires.graph c.requires.limits.some c.requires.limits.small c.requires.unsettled
-    (at c.reduce_certified-chips.result.reduced.script, c.reduce_certified-chips.ensures.reduction.led) c.reduce_certified-chips.ensures.reduction.reduced
+    (at c.reduce_certified-chips.result.reduced.script, c.reduce_certified-chips.ensures.reduction.led)
+    c.reduce_certified-chips.ensures.reduction.reduced
 
 pub first_loss-requires-clause-range : goal.first_loss-requires-clause-range
 first_loss-requires-clause-range c =

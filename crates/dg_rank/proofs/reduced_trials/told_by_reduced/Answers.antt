@@ -114,4 +114,4 @@ returns c =
     (¬ HasRankAtLeast g (at c.args.chips.now) c.args.k)
     (reduced_rank g (at c.args.chips.now) (at c.of-lost.result) c.args.k c.size.ensures.graph.multigraph
     (omega (arith, c.size.ensures.graph.some)) (empty d))
-    (c.reduced_win.ensures (at c.args.chips.now) c.args.k (amount d) form)
+    (c.reduced_win.ensures.told (at c.args.chips.now) c.args.k (amount d) form)

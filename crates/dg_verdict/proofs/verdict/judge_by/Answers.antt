@@ -5,7 +5,7 @@ use Rattle.std.proofs.Math.IntN.{ℤ, pos, ◌+ℤ◌}
 use Rattle.dg_theory.specs.Firing.{gain}
 use Rattle.dg_chips.specs.Vector.{at}
 use Rattle.dg_verdict.proofs.Verdicts.{is_right}
-use Rattle.dg_verdict.proofs.verdict.judge_guessed.Goals as goal
+use Rattle.dg_verdict.proofs.verdict.judge_by.Goals as goal
 
 -- the script leads from the amounts of the divisor themselves
 pub returns : goal.returns
