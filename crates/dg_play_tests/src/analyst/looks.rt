@@ -151,8 +151,8 @@ fn asks_on_a_stale_look<N: Name, R: Wait + Abort>(
     let early = commit_stale(table, rt, alloc, second, &taken, &Question::Judge)?;
     assert!(rt; early.is_none() && second.calls() == 1);
     table.call(rt, alloc, second, Plain::Join(0, 1))?;
-    let receipt = commit_stale(table, rt, alloc, second, &taken, &Question::Rank(2))?
-        .ok_or("an entry")?;
+    let found = commit_stale(table, rt, alloc, second, &taken, &Question::Rank(2))?;
+    let receipt = found.ok_or("an entry")?;
     let entry = table.log().entry(&receipt);
     assert!(rt; receipt.number() == 5 && second.calls() == 3);
     assert!(rt; entry.request == Request::Rank(3, 2) && entry.reply == Reply::Stale(1));
