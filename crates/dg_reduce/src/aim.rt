@@ -162,12 +162,13 @@ fn take_pivot(size: usize, rows: &mut [[f64; 16]; 16], pivot: usize)
     let whole = 1.0 / row[pivot];
     row[pivot] = 1.0;
     let row = times(&row, whole);
+    // With one more at the pivot, what others held there is taken away too.
+    let mut whole_row = row;
+    whole_row[pivot] = whole + 1.0;
     for v in 0..size {
-        let mut other = rows[v];
-        let factor = -other[pivot];
+        let factor = -rows[v][pivot];
         if v != pivot && factor != 0.0 {
-            other[pivot] = 0.0;
-            rows[v] = plus_times(&other, &row, factor);
+            rows[v] = plus_times(&rows[v], &whole_row, factor);
         }
     }
     rows[pivot] = row;
