@@ -2,8 +2,11 @@
 --   IsReadTo line left xs     the words of the line are the decimals of the numbers xs, and then those that are left
 --   read_none, read_one, read_all   none are read; one more; all are
 --   none_read                 where a word is no decimal, the line spells no numbers
-use Rattle.std.proofs.Common.{◌≡◌, ◌≢◌, ℕ, ℤ, List, [], ◌∷◌, ◌++◌, map, All, FitsSigned, w64, refl, sym, ap, ◌∙◌, append-nil, arith, length}
+--   one_digit, minus_digit    a word of one digit is a decimal; so is one of a minus and a digit that is not 0
+use Rattle.std.proofs.Common.{◌≡◌, ◌≢◌, ℕ, suc, ◌-◌, ◌≤◌, ℤ, pos, negsuc, List, [], ◌∷◌, ◌++◌, map, All, FitsSigned, w64, refl, sym, ap, ◌∙◌, ◌+◌, append-nil, arith, length}
 use Rattle.std.specs.Fmt.{signed_decimal}
+use Rattle.std.specs.List.{slice_index_or}
+use Rattle.std.proofs.lemmas.Fmt.{decimal_digit}
 use Rattle.std.proofs.lemmas.List.Elements.{All-nil, All-push, All-head, All-tail}
 use Rattle.dg_lines.specs.Cuts.{words}
 use Rattle.dg_sweep.specs.Divisors.{SpellsAmounts, SpellsNone}
@@ -57,3 +60,21 @@ pub none_read : {line : List ℕ} {left : List (List ℕ)} {xs : List ℤ} (word
 none_read {xs = xs} word more far next never ys spells =
     no_others word more never xs ys
     (sym (ap (λ l. map signed_decimal xs ++ l) next) ∙ sym far.spelled ∙ spells.spelled) spells.held
+
+pub one_digit : (word : List ℕ) (z : ℤ) → length word ≡ 1 → 48 ≤ slice_index_or word 0 0 → slice_index_or word 0 0 ≤ 57
+    → z ≡ pos (slice_index_or word 0 0 - 48) → word ≡ signed_decimal z
+one_digit [] z long low high is = absurd (omega (arith, long))
+one_digit (x ∷ []) z long low high is =
+    let same : x ≡ 48 + (x - 48) = omega (arith, low) in
+    ap (λ d. d ∷ []) same ∙ sym (decimal_digit (x - 48) (omega (arith, high))) ∙ ap signed_decimal (sym is)
+one_digit (x ∷ y ∷ rest) z long low high is = absurd (omega (arith, long))
+
+pub minus_digit : (word : List ℕ) (z : ℤ) → length word ≡ 2 → slice_index_or word 0 0 ≡ 45 → 49 ≤ slice_index_or word 1 0
+    → slice_index_or word 1 0 ≤ 57 → z ≡ negsuc (slice_index_or word 1 0 - 49) → word ≡ signed_decimal z
+minus_digit [] z long minus low high is = absurd (omega (arith, long))
+minus_digit (x ∷ []) z long minus low high is = absurd (omega (arith, long))
+minus_digit (x ∷ y ∷ []) z long minus low high is =
+    let same : y ≡ 48 + suc (y - 49) = omega (arith, low) in
+    ap (λ d. d ∷ y ∷ []) minus ∙ ap (λ d. 45 ∷ d ∷ []) same
+    ∙ ap (λ ds. 45 ∷ ds) (sym (decimal_digit (suc (y - 49)) (omega (arith, low, high)))) ∙ ap signed_decimal (sym is)
+minus_digit (x ∷ y ∷ w ∷ rest) z long minus low high is = absurd (omega (arith, long))

@@ -3,5 +3,6 @@ pub mod FaultTexts
 pub mod Answers
 pub mod Divisors
 pub mod Sweeps
+pub mod DivisorLaws
 -- What serves the steps of a sweep alone.
 pub mod Steps

@@ -1,5 +1,7 @@
 //! Lines that are amounts for the vertices of one table.
-ghost use Rattle.std.specs.Prelude.{◌≡◌, OnOk, IfOk, IfErr, MatchOption};
+ghost use Rattle.std.specs.Prelude.{◌≡◌, ◌≢◌, ℤ, FitsSigned, OnOk, IfOk, IfErr, IfSome, MatchOption};
+ghost use Rattle.std.specs.Fmt.{signed_decimal};
+ghost use Rattle.std.specs.Int.{w64};
 ghost use Rattle.dg_sweep.specs.Divisors.{HasAmountsOf, RefusesAmounts, SpellsAmounts, SpellsNone};
 
 use crate::answering::{LineKind, push_answer, push_refusal};
@@ -82,11 +84,46 @@ fn amounts_of(alloc: Global, line: &[u8]) -> Result<Option<Vec<i64>>, AllocError
     let mut rest = Some(line);
     'words: while let Some(text) = rest {
         let (word, after) = cut(text, b' ');
-        let Some(amount) = integer(word) else {
+        let Some(amount) = number_of(word) else {
             return Ok(None);
         };
         amounts.push(amount)?;
         rest = after;
     }
     Ok(Some(amounts))
+}
+
+/// The whole number whose decimal the word is, where 64 bits hold it. Words of one digit are read at once.
+#[inline(always)]
+fn number_of(word: &[u8]) -> Option<i64>
+    ensures { MatchOption result
+        ((z : ℤ) → FitsSigned w64 z → word.now ≢ signed_decimal z)
+        (λ z. word.now ≡ signed_decimal z) }
+{
+    match digit_of(word) {
+        Some(digit) => Some(digit),
+        None => integer(word),
+    }
+}
+
+/// The number of one digit, with a minus or without, whose decimal the word is.
+#[inline(always)]
+fn digit_of(word: &[u8]) -> Option<i64>
+    ensures { IfSome result (λ z. word.now ≡ signed_decimal z) }
+{
+    match word.len() {
+        1 => {
+            if word[0] < b'0' || word[0] > b'9' {
+                return None;
+            }
+            Some(i64::from(word[0] - b'0'))
+        }
+        2 => {
+            if word[0] != b'-' || word[1] < b'1' || word[1] > b'9' {
+                return None;
+            }
+            Some(-i64::from(word[1] - b'0'))
+        }
+        _ => None,
+    }
 }

@@ -5,6 +5,7 @@ mod answering;
 mod divisors;
 mod ends;
 mod fault_words;
+mod laws;
 mod ranking;
 mod sweeping;
 mod tables;
@@ -13,4 +14,5 @@ mod workers;
 
 pub use answering::answer_line;
 pub use ends::{MAX_LINE, READ_SIZE, SweepEnd};
+pub use laws::lines_stand_for_tables;
 pub use sweeping::{sweep, sweep_divisors};

@@ -7,10 +7,10 @@ use Rattle.dg_sweep.proofs.divisors.amounts_of.Goals as goal
 pub words-init : goal.words-init
 words-init c = rw c.in_ok-amounts.ensures.items (read_none c.args.line.now)
 
-pub returns-in_default-integer : goal.returns-in_default-integer
-returns-in_default-integer c =
+pub returns-in_default-number_of : goal.returns-in_default-number_of
+returns-in_default-number_of c =
     let next = pieces_left 32 _ _ _ c.cut.result.1 c.in-Some.is c.cut.ensures.before c.cut.ensures.after in
-    none_read _ _ c.words.invariant next c.in_default-integer.ensures
+    none_read _ _ c.words.invariant next c.in_default-number_of.ensures
 
 pub words-smaller : goal.words-smaller
 words-smaller c =
@@ -20,9 +20,9 @@ words-smaller c =
 pub words-preserved : goal.words-preserved
 words-preserved c =
     let next = pieces_left 32 _ _ _ c.cut.result.1 c.in-Some.is c.cut.ensures.before c.cut.ensures.after in
-    let fits : FitsSigned w64 c.in-Some-integer.amount = search rules in
+    let fits : FitsSigned w64 c.in-Some-number_of.amount = search rules in
     rw (c.in_ok-push.ensures.items, to_z-of_z fits)
-    (read_one _ _ c.in-Some-integer.amount c.words.invariant next c.in-Some-integer.ensures fits)
+    (read_one _ _ c.in-Some-number_of.amount c.words.invariant next c.in-Some-number_of.ensures fits)
 
 pub returns : goal.returns
 returns c = read_all c.words.invariant (none_left 32 c.words.rest c.in_default.is)
