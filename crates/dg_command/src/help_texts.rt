@@ -28,8 +28,7 @@ pub(crate) const SCRIPT_HELP: &str = "Text files with the lines of a session eac
 
 pub(crate) const WORKERS_HELP: &str = "How many threads share the trials, 1 to 16; default 1";
 
-pub(crate) const RANK_WORKERS_HELP: &str =
-    "How many threads share trials or lines, 1 to 16; default 1";
+pub(crate) const RANK_WORKERS_HELP: &str = "Threads that share trials or lines, 1 to 16; default 1";
 
 pub(crate) const LINE_WORKERS_HELP: &str = "How many threads share the lines, 1 to 16; default 1";
 
