@@ -28,14 +28,13 @@ pub(crate) const SCRIPT_HELP: &str = "Text files with the lines of a session eac
 
 pub(crate) const WORKERS_HELP: &str = "How many threads share the trials, 1 to 16; default 1";
 
-pub(crate) const RANK_WORKERS_HELP: &str =
-    "How many threads share trials or lines, 1 to 16; default 1";
+pub(crate) const RANK_WORKERS_HELP: &str = "Threads that share trials or lines, 1 to 16; default 1";
 
 pub(crate) const LINE_WORKERS_HELP: &str = "How many threads share the lines, 1 to 16; default 1";
 
 pub(crate) const SEATS_HELP: &str = "How many seats lines name, 1 to 64; default one, unnamed";
 
-pub(crate) const LINES_HELP: &str = "FILE has a table on each line, and each line is answered";
+pub(crate) const LINES_HELP: &str = "FILE has a table on each line, and each is answered";
 
 pub(crate) const DIVISORS_HELP: &str = "LINES has amounts for the table on each line";
 
