@@ -6,3 +6,4 @@ pub mod Sweeps
 pub mod DivisorLaws
 -- What serves the steps of a sweep alone.
 pub mod Steps
+pub mod Pieces

@@ -1,6 +1,7 @@
 //! Lines answered among workers, each with a thread of its own.
-ghost use Rattle.std.specs.Prelude.{◌≡◌, ◌≤◌, ◌++◌, ℕ, List, IfOk, IfSome};
+ghost use Rattle.std.specs.Prelude.{◌≡◌, ◌<◌, ◌≤◌, ◌++◌, ℕ, List, [], length, get_or, map, flat_map, All, Contains, IfOk, IfSome, OnOk};
 ghost use Rattle.dg_sweep.specs.Steps.{AnswersFront, EndsLine};
+ghost use Rattle.dg_sweep.specs.Pieces.{AnswersPiece, IsAnswered, Leads};
 
 use crate::answering::LineKind;
 use crate::taking::answer_lines;
@@ -8,9 +9,10 @@ use dg_beside::{Shortage, beside};
 use dg_lines::cut;
 use std::alloc::{AllocError, Global};
 use std::sync::Wait;
+use std::sync::atomic::{AtomicUsize, Ordering};
 use std::thread::Threads;
 
-/// The fewest bytes for which one more worker is asked.
+/// The fewest bytes for which one more worker is asked. A piece has as many, and then what is left of its last line.
 const PIECE_SIZE: usize = 1_024;
 
 /// What all workers of a sweep share.
@@ -33,13 +35,11 @@ impl<'a, R, K> Drop for Room<'a, R, K> {
     }
 }
 
-/// What bytes came to.
+/// The answers to the piece at a place.
 #[derive(Drop)]
-struct Piece<'a> {
-    /// The answers to their lines.
+struct Answered {
+    place: usize,
     text: Vec<u8>,
-    /// What follows the last newline.
-    rest: &'a [u8],
 }
 
 /// Puts the answers to the lines of the bytes after the text, and gives what follows the last newline. The lines are shared
@@ -54,105 +54,174 @@ pub(crate) fn answer_batch<'a, R: Threads + Wait + Sync, K: LineKind + Sync>(
         × AnswersFront (K.answers room.now.kind.now) bytes.now rest.now said
         × (text.new.items ≡ text.old.items ++ said)) }
 {
-    let pieces = room.workers.min(bytes.len() / PIECE_SIZE);
-    if pieces < 2 {
-        return match answer_lines(room.alloc, room.kind, bytes, text, answer) {
-            Ok(rest) => Ok(rest),
-            Err(_) => Err(Shortage::OutOfMemory),
-        };
+    let workers = room.workers.min(bytes.len() / PIECE_SIZE);
+    if workers < 2 {
+        return Ok(answer_lines(room.alloc, room.kind, bytes, text, answer)?);
     }
-    match answer_among(room, pieces, bytes) {
-        Ok(piece) => match text.extend_from_slice(&piece.text) {
-            Ok(()) => Ok(piece.rest),
-            Err(_) => Err(Shortage::OutOfMemory),
-        },
-        Err(shortage) => Err(shortage),
-    }
+    let (pieces, rest) = cut_pieces(room.alloc, bytes)?;
+    let next = AtomicUsize::new(0);
+    let done = answer_among(room, workers.min(pieces.len()), &pieces, &next)?;
+    put_answers(room, &pieces, &done, text)?;
+    Ok(answer_lines(room.alloc, room.kind, rest, text, answer)?)
 }
 
-/// What bytes come to in so many pieces. The first has a thread of its own, and the others are answered beside it.
-fn answer_among<'a, R: Threads + Wait + Sync, K: LineKind + Sync>(
+/// The answers to pieces that so many workers take, each the next that none has taken. The first has a thread of its own, and
+/// the others work beside it.
+fn answer_among<R: Threads + Wait + Sync, K: LineKind + Sync>(
     room: &Room<'_, R, K>,
-    pieces: usize,
-    bytes: &'a [u8],
-) -> Result<Piece<'a>, Shortage>
-    ensures { IfOk result (λ piece.
-        AnswersFront (K.answers room.now.kind.now) bytes.now piece.rest.now piece.text.items) }
+    workers: usize,
+    pieces: &[&[u8]],
+    next: &AtomicUsize,
+) -> Result<Vec<Answered>, Shortage>
+    ensures { IfOk result (λ done.
+        All (IsAnswered (K.answers room.now.kind.now) (map (λ piece. piece.now) pieces.now)) done.items) }
 {
-    if pieces < 2 {
-        return answer_piece(room, bytes);
+    if workers < 2 {
+        return Ok(answer_next(room, pieces, next)?);
     }
-    let Some((front, back)) = first_piece(bytes, pieces) else {
-        return answer_piece(room, bytes);
-    };
-    let mut first = || -> Result<Piece, Shortage>
-        ensures { IfOk result (λ piece. AnswersFront (K.answers room.entry.now.kind.now)
-            front.entry.now piece.rest.now piece.text.items) }
-    { answer_piece(room, front) };
-    let mut others = || -> Result<Piece, Shortage>
-        requires { 2 ≤ pieces }
-        ensures { IfOk result (λ piece. AnswersFront (K.answers room.entry.now.kind.now)
-            back.entry.now piece.rest.now piece.text.items) }
-    { answer_among(room, pieces - 1, back) };
+    let mut first = || -> Result<Vec<Answered>, AllocError>
+        ensures { IfOk result (λ done. All (IsAnswered (K.answers room.entry.now.kind.now)
+            (map (λ piece. piece.now) pieces.entry.now)) done.items) }
+    { answer_next(room, pieces, next) };
+    let mut others = || -> Result<Vec<Answered>, Shortage>
+        requires { 2 ≤ workers }
+        ensures { IfOk result (λ done. All (IsAnswered (K.answers room.entry.now.kind.now)
+            (map (λ piece. piece.now) pieces.entry.now)) done.items) }
+    { answer_among(room, workers - 1, pieces, next) };
     let (here, there) = match beside(room.rt, &mut first, &mut others) {
         Ok(both) => both,
         Err(shortage) => return Err(shortage),
     };
-    let here = match here {
+    let mut done = match here {
         Ok(here) => here,
-        Err(shortage) => return Err(shortage),
+        Err(_) => return Err(Shortage::OutOfMemory),
     };
-    let there = match there {
+    let mut there = match there {
         Ok(there) => there,
         Err(shortage) => return Err(shortage),
     };
-    match both(here, there) {
-        Ok(piece) => Ok(piece),
+    match done.append(&mut there) {
+        Ok(()) => Ok(done),
         Err(_) => Err(Shortage::OutOfMemory),
     }
 }
 
-/// What bytes come to in one piece.
-fn answer_piece<'a, R, K: LineKind>(
+/// The answers to the pieces that one worker takes.
+fn answer_next<R, K: LineKind>(
     room: &Room<'_, R, K>,
-    bytes: &'a [u8],
-) -> Result<Piece<'a>, Shortage>
-    ensures { IfOk result (λ piece.
-        AnswersFront (K.answers room.now.kind.now) bytes.now piece.rest.now piece.text.items) }
+    pieces: &[&[u8]],
+    next: &AtomicUsize,
+) -> Result<Vec<Answered>, AllocError>
+    ensures { IfOk result (λ done.
+        All (IsAnswered (K.answers room.now.kind.now) (map (λ piece. piece.now) pieces.now)) done.items) }
+{
+    let mut done = Vec::new(room.alloc);
+    for _ in 0..pieces.len() {
+        let place = next.fetch_add(1, Ordering::SeqCst);
+        if place >= pieces.len() {
+            break;
+        }
+        let answered = answer_piece(room, pieces[place], place)?;
+        done.push(answered)?;
+    }
+    Ok(done)
+}
+
+/// The answers to the piece at a place.
+fn answer_piece<R, K: LineKind>(
+    room: &Room<'_, R, K>,
+    piece: &[u8],
+    place: usize,
+) -> Result<Answered, AllocError>
+    ensures text { IfOk result (λ answered.
+        AnswersPiece (K.answers room.now.kind.now) piece.now answered.text.items) }
+    ensures place { IfOk result (λ answered. answered.place ≡ place) }
 {
     let mut text = Vec::new(room.alloc);
     let mut answer = Vec::new(room.alloc);
-    match answer_lines(room.alloc, room.kind, bytes, &mut text, &mut answer) {
-        Ok(rest) => Ok(Piece { text, rest }),
-        Err(_) => Err(Shortage::OutOfMemory),
+    match answer_lines(room.alloc, room.kind, piece, &mut text, &mut answer) {
+        Ok(_) => Ok(Answered { place, text }),
+        Err(error) => Err(error),
     }
 }
 
-/// The first of so many pieces, up to a newline, and what follows it; `None` where no newline is there to end it.
-fn first_piece(bytes: &[u8], pieces: usize) -> Option<(&[u8], &[u8])>
-    requires { 2 ≤ pieces }
+/// Puts the answers to all pieces after the text, in the order of the pieces.
+fn put_answers<R, K: LineKind>(
+    room: &Room<'_, R, K>,
+    pieces: &[&[u8]],
+    done: &[Answered],
+    text: &mut Vec<u8>,
+) -> Result<(), AllocError>
+    requires lines { All (λ piece. EndsLine piece.now) pieces.now }
+    requires done { All (IsAnswered (K.answers room.now.kind.now) (map (λ piece. piece.now) pieces.now)) done.now }
+    ensures { OnOk result ((said : List ℕ) × Leads (K.answers room.now.kind.now) (flat_map (λ piece. piece.now) pieces.now) said
+        × (text.new.items ≡ text.old.items ++ said)) }
+{
+    for place in 0..pieces.len() {
+        put_answer(room, pieces, place, done, text)?;
+    }
+    Ok(())
+}
+
+/// Puts the answers to the piece at the place after the text. A piece that no worker took is answered here.
+fn put_answer<R, K: LineKind>(
+    room: &Room<'_, R, K>,
+    pieces: &[&[u8]],
+    place: usize,
+    done: &[Answered],
+    text: &mut Vec<u8>,
+) -> Result<(), AllocError>
+    requires place { place < length pieces.now }
+    requires done { All (IsAnswered (K.answers room.now.kind.now) (map (λ piece. piece.now) pieces.now)) done.now }
+    ensures { OnOk result ((said : List ℕ)
+        × AnswersPiece (K.answers room.now.kind.now) (get_or (map (λ piece. piece.now) pieces.now) place []) said
+        × (text.new.items ≡ text.old.items ++ said)) }
+{
+    if let Some(found) = text_at(done, place) {
+        text.extend_from_slice(found)?;
+        return Ok(());
+    }
+    let mut answer = Vec::new(room.alloc);
+    answer_lines(room.alloc, room.kind, pieces[place], text, &mut answer)?;
+    Ok(())
+}
+
+/// The text of an answer to the piece at the place.
+fn text_at(done: &[Answered], place: usize) -> Option<&[u8]>
+    ensures { IfSome result (λ text. (answered : Answered) × Contains done.now answered
+        × (answered.place ≡ place) × (text.now ≡ answered.text.items)) }
+{
+    for answered in done {
+        if answered.place == place {
+            return Some(&answered.text);
+        }
+    }
+    None
+}
+
+/// Cuts bytes into pieces, each up to a newline, and what follows them.
+fn cut_pieces(alloc: Global, bytes: &[u8]) -> Result<(Vec<&[u8]>, &[u8]), AllocError>
+    ensures lines { IfOk result (λ r. All (λ piece. EndsLine piece.now) r.0.items) }
+    ensures whole { IfOk result (λ r. bytes.now ≡ flat_map (λ piece. piece.now) r.0.items ++ r.1.now) }
+{
+    let mut pieces = Vec::new(alloc);
+    let mut rest = bytes;
+    while let Some((piece, after)) = first_piece(rest) {
+        pieces.push(piece)?;
+        rest = after;
+    }
+    Ok((pieces, rest))
+}
+
+/// The first piece, up to a newline, and what follows it; `None` where no newline is there to end it. Near the end a piece is
+/// half of what is left, and then the rest of a line.
+fn first_piece(bytes: &[u8]) -> Option<(&[u8], &[u8])>
     ensures { IfSome result (λ r. EndsLine r.0.now × (bytes.now ≡ r.0.now ++ r.1.now)) }
 {
-    let (_, later) = bytes.split_at(bytes.len() / pieces);
+    let (_, later) = bytes.split_at(PIECE_SIZE.min(bytes.len() / 2));
     let (_, after) = cut(later, b'\n');
     let Some(after) = after else {
         return None;
     };
     Some((&bytes[..bytes.len() - after.len()], after))
-}
-
-/// What a piece and those after it come to.
-fn both<'a>(here: Piece<'_>, there: Piece<'a>) -> Result<Piece<'a>, AllocError>
-    ensures text { IfOk result (λ piece.
-        piece.text.items ≡ here.entry.text.items ++ there.entry.text.items) }
-    ensures rest { IfOk result (λ piece. piece.rest.now ≡ there.entry.rest.now) }
-{
-    let mut text = here.text;
-    match text.extend_from_slice(&there.text) {
-        Ok(()) => Ok(Piece {
-            text,
-            rest: there.rest,
-        }),
-        Err(error) => Err(error),
-    }
 }

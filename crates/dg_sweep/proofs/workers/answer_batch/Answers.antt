@@ -1,0 +1,23 @@
+use Rattle.std.proofs.Common.{All, map, flat_map, ◌++◌, sym, ap, subst, ◌∙◌}
+use Rattle.dg_sweep.specs.Steps.{EndsLine}
+use Rattle.dg_sweep.specs.Pieces.{IsAnswered}
+use Rattle.dg_sweep.proofs.Pieces.{leads_rest}
+use Rattle.dg_sweep.proofs.workers.answer_batch.Goals as goal
+
+pub put_answers-requires-clause-lines : goal.put_answers-requires-clause-lines
+put_answers-requires-clause-lines g c =
+    subst (All (λ piece. EndsLine piece.now)) (sym c.deref-2.ensures.value) c.in_ok-pieces.ensures.lines
+
+pub put_answers-requires-clause-done : goal.put_answers-requires-clause-done
+put_answers-requires-clause-done g c =
+    let right = g.K.LineKind.answers c.args.room.now.kind.now in
+    subst (All (IsAnswered right (map (λ piece. piece.now) c.deref-2.result.now))) (sym c.deref-3.ensures.value)
+    (subst (λ l. All (IsAnswered right (map (λ piece. piece.now) l)) c.in_ok-done.done.items)
+    (c.deref.ensures.value ∙ sym c.deref-2.ensures.value) c.in_ok-done.ensures)
+
+pub returns : goal.returns
+returns g c =
+    leads_rest _ c.args.bytes.now (flat_map (λ piece. piece.now) c.deref-2.result.now) c.in_ok-pieces.rest.now
+    c.in_ok-answer_lines-2.field-0.now c.args.text.now.items c.put_answers.new.text.items c.answer_lines-2.new.text.items c.in_ok-put_answers.ensures
+    (c.in_ok-pieces.ensures.whole ∙ ap (λ l. flat_map (λ piece. piece.now) l ++ c.in_ok-pieces.rest.now) (sym c.deref-2.ensures.value))
+    c.in_ok-answer_lines-2.ensures

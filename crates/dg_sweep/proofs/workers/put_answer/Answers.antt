@@ -1,0 +1,15 @@
+use Rattle.std.proofs.Common.{[], ◌++◌, map, get_or, ap, subst, ◌∙◌}
+use Rattle.std.proofs.lemmas.List.Elements.{All-contains}
+use Rattle.dg_sweep.specs.Pieces.{AnswersPiece, IsAnswered}
+use Rattle.dg_sweep.proofs.workers.put_answer.Goals as goal
+
+pub returns-in-Some : goal.returns-in-Some
+returns-in-Some g c =
+    let right = g.K.LineKind.answers c.args.room.now.kind.now in
+    let pieces = map (λ piece. piece.now) c.args.pieces.now in
+    let (answered, done, here, text) = c.in-Some.ensures in (
+      answered.text.items,
+      subst (λ place. AnswersPiece right (get_or pieces place []) answered.text.items) here
+          (All-contains (IsAnswered right pieces) c.args.done.now answered c.requires.done done),
+      c.in_ok-extend_from_slice.ensures.items ∙ ap (λ l. c.args.text.now.items ++ l) text,
+    )

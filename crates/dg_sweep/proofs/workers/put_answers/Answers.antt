@@ -1,0 +1,15 @@
+use Rattle.std.proofs.Common.{rules, [], sym, append-nil}
+use Rattle.dg_sweep.proofs.Pieces.{leads_none, puts_piece, puts_all}
+use Rattle.dg_sweep.proofs.workers.put_answers.Goals as goal
+
+pub loop-place-init : goal.loop-place-init
+loop-place-init g c = ([], leads_none _, sym (append-nil c.args.text.now.items))
+
+pub loop-place-preserved : goal.loop-place-preserved
+loop-place-preserved g c =
+    puts_piece _ c.args.pieces.now c.loop-place.place c.args.text.now.items c.loop-place.text.items c.put_answer.new.text.items
+    (search rules) c.requires.lines c.loop-place.invariant c.in_ok-put_answer.ensures
+
+pub returns : goal.returns
+returns g c =
+    puts_all _ c.args.pieces.now c.loop-place.place c.args.text.now.items c.loop-place.text.items (search rules) c.loop-place.invariant
