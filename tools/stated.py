@@ -102,6 +102,12 @@ def replies():
         told = re.sub(r"\b[gk]\b", "%d", form.replace("P", "%s"))
         if not any(text in part.text for text in (told, re.sub("%s$", '" +', told), re.sub("^(un)?winnable", "%swinnable", told))):
             yield "%s: the model lacks the reply `%s`" % (part.place(), form)
+    with_amounts = [form.split(" ")[0] for form in forms if re.fullmatch("[a-z]+( g)? P", form)]
+    for begin, both in (("def states(", True), ("def compare(", False)):
+        part = Part("tests/browser/replays.py", begin, "\n\n\n")
+        found = [(word, place) for words_of, place in part.matches(r"reply\[0\] in \(([^)]*)\)")
+                 for word in re.findall(r'"([a-z]+)"', words_of)]
+        yield from part.compare("reply with amounts", found, with_amounts, both)
     yield from board_replies()
     yield from answers()
 
