@@ -8,7 +8,7 @@ use crate::playing::settle_out;
 use dg_chips::Start;
 use dg_game::{Entry, MAX_ENTRIES};
 use dg_log::{LogFault, Name, Row};
-use dg_table::{Fault, Table, TableFault};
+use dg_table::{Audit, Fault, Table, TableFault};
 use std::alloc::Global;
 use std::marker::Brand;
 use std::sync::Wait;
@@ -18,6 +18,15 @@ use std::sync::Wait;
 pub struct GreedyGame {
     /// Its history.
     pub history: Vec<Entry>,
+    /// Whether it ended with a claim; otherwise its turns were used up.
+    pub settled: bool,
+}
+
+/// A game of the greedy settler, whose history lies in the cells of its table.
+#[derive(Drop)]
+pub struct GreedyTable<N: Name> {
+    /// What is left of the table.
+    pub audit: Audit<N>,
     /// Whether it ended with a claim; otherwise its turns were used up.
     pub settled: bool,
 }
@@ -38,14 +47,14 @@ pub fn greedy(rt: &impl Wait, alloc: Global, start: &Start, turns: u32) -> Resul
         Err(LogFault::Capacity) => unreachable!(),
         Err(LogFault::OutOfMemory) => return Err(Fault::OutOfMemory),
     };
-    match greedy_on::<Brand>(rt, alloc, row, start, 1, turns) {
+    match copied::<Brand>(rt, alloc, row, start, 1, turns) {
         Ok(game) => Ok(game),
         Err(fault) => Err(fault),
     }
 }
 
-/// The same at a table with a name. The conditions are that N names the row, the start and the number of seats, which is one.
-fn greedy_on<N: Name>(
+// The same at a table with a name.
+fn copied<N: Name>(
     rt: &impl Wait,
     alloc: Global,
     row: Row,
@@ -58,6 +67,33 @@ fn greedy_on<N: Name>(
     requires seats { count ≡ N.seats }
     requires one { count ≡ 1 }
     ensures game { IfOk result (λ game. IsGreedyGame N.start turns game.history.items game.settled) }
+    ensures refused { IfErr result (λ fault. fault ≢ Fault.Full) }
+{
+    let GreedyTable { audit, settled } = greedy_on::<N>(rt, alloc, row, start, count, turns)?;
+    match audit.history(alloc) {
+        Ok(history) => Ok(GreedyGame { history, settled }),
+        Err(_) => Err(Fault::OutOfMemory),
+    }
+}
+
+/// The game at a table with a name; its history is not copied. The conditions are that N names the row, the start and the number
+/// of seats, which is one.
+///
+/// Refused with `OutOfMemory`, and with `Log` as a turn is, and where the table is not closed. It is never `Full`.
+pub fn greedy_on<N: Name>(
+    rt: &impl Wait,
+    alloc: Global,
+    row: Row,
+    start: &Start,
+    count: u8,
+    turns: u32,
+) -> Result<GreedyTable<N>, Fault>
+    requires row { row ≡ N.cells }
+    requires start { start.now ≡ N.start }
+    requires seats { count ≡ N.seats }
+    requires one { count ≡ 1 }
+    ensures game { IfOk result
+        (λ game. IsGreedyGame N.start turns game.audit.pen.entries game.settled) }
     ensures refused { IfErr result (λ fault. fault ≢ Fault.Full) }
 {
     let (table, mut seats) = match Table::<N>::open(alloc, row, start, count) {
@@ -82,8 +118,5 @@ fn greedy_on<N: Name>(
     let Ok(audit) = table.close(seats) else {
         return Err(Fault::Log);
     };
-    match audit.history(alloc) {
-        Ok(history) => Ok(GreedyGame { history, settled }),
-        Err(_) => Err(Fault::OutOfMemory),
-    }
+    Ok(GreedyTable { audit, settled })
 }

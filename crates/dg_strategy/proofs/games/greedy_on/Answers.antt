@@ -2,9 +2,9 @@ use Rattle.std.proofs.Common.{rules, length, ◌∙◌, sym}
 use Rattle.dg_strategy.proofs.Greedily.{game_of}
 use Rattle.dg_strategy.proofs.games.greedy_on.Goals as goal
 
-pub returns-in-Ok-history-clause-game : goal.returns-in-Ok-history-clause-game
-returns-in-Ok-history-clause-game g c =
-    rw (c.in-Ok-history.ensures, c.is_settled-settled.ensures)
+pub returns-clause-game : goal.returns-clause-game
+returns-clause-game g c =
+    rw (c.is_settled-settled.ensures)
     (game_of g.N.Name.start
     (length g.N.Name.cells) c.args.turns c.args.count g.N.Name.seats c.in-Ok.opened.1.items c.pop.new.self.items
     c.push.new.self.items
