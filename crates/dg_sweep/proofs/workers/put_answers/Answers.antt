@@ -12,4 +12,5 @@ loop-place-preserved g c =
 
 pub returns : goal.returns
 returns g c =
-    puts_all _ c.args.pieces.now c.loop-place.place c.args.text.now.items c.loop-place.text.items (search rules) c.loop-place.invariant
+    puts_all _ c.args.pieces.now c.loop-place.place c.args.text.now.items c.loop-place.text.items (search rules)
+    c.loop-place.invariant
