@@ -14,4 +14,5 @@ abbrev pub IsAnswered : (List ℕ → List ℕ → Type 0) → List (List ℕ) �
 IsAnswered right pieces answered = AnswersPiece right (get_or pieces answered.place []) answered.text.items
 
 abbrev pub Leads : (List ℕ → List ℕ → Type 0) → List ℕ → List ℕ → Type 0
-Leads right front said = (back rest text : List ℕ) → AnswersFront right back rest text → AnswersFront right (front ++ back) rest (said ++ text)
+Leads right front said = (back rest text : List ℕ) → AnswersFront right back rest text
+    → AnswersFront right (front ++ back) rest (said ++ text)
