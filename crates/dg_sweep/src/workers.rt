@@ -12,8 +12,11 @@ use std::sync::Wait;
 use std::sync::atomic::{AtomicUsize, Ordering};
 use std::thread::Threads;
 
-/// The fewest bytes for which one more worker is asked. A piece has as many, and then what is left of its last line.
-const PIECE_SIZE: usize = 1_024;
+/// The fewest bytes for which one more worker is asked.
+const SHARE_SIZE: usize = 1_024;
+
+/// The bytes of a piece, after which it goes on to the end of a line.
+const PIECE_SIZE: usize = 512;
 
 /// What all workers of a sweep share.
 pub(crate) struct Room<'a, R, K> {
@@ -54,7 +57,7 @@ pub(crate) fn answer_batch<'a, R: Threads + Wait + Sync, K: LineKind + Sync>(
         × AnswersFront (K.answers room.now.kind.now) bytes.now rest.now said
         × (text.new.items ≡ text.old.items ++ said)) }
 {
-    let workers = room.workers.min(bytes.len() / PIECE_SIZE);
+    let workers = room.workers.min(bytes.len() / SHARE_SIZE);
     if workers < 2 {
         return Ok(answer_lines(room.alloc, room.kind, bytes, text, answer)?);
     }

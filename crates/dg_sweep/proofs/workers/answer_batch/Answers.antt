@@ -17,9 +17,10 @@ put_answers-requires-clause-done g c =
 
 pub returns : goal.returns
 returns g c =
-    leads_rest _ c.args.bytes.now (flat_map (λ piece. piece.now) c.deref-2.result.now) c.in_ok-pieces.rest.now
+    let rest = c.in_ok-pieces.rest.now in
+    leads_rest _ c.args.bytes.now (flat_map (λ piece. piece.now) c.deref-2.result.now) rest
     c.in_ok-answer_lines-2.field-0.now c.args.text.now.items c.put_answers.new.text.items
     c.answer_lines-2.new.text.items c.in_ok-put_answers.ensures
     (c.in_ok-pieces.ensures.whole
-    ∙ ap (λ l. flat_map (λ piece. piece.now) l ++ c.in_ok-pieces.rest.now) (sym c.deref-2.ensures.value))
+    ∙ ap (λ l. flat_map (λ piece. piece.now) l ++ rest) (sym c.deref-2.ensures.value))
     c.in_ok-answer_lines-2.ensures
