@@ -20,7 +20,7 @@ use crate::rank_fault::RankFault;
 use crate::reduced_trials::{few_visits, most_visits, told_by_reduced};
 use dg_chips::{Divisor, Wide};
 use dg_graph::Graph;
-use dg_reduce::{Aim, reduce_certified};
+use dg_reduce::{InverseLaplacian, reduce_certified};
 
 /// Whether the rank of a divisor is at least k: whether every effective divisor of degree k can be lost and the rest still
 /// won. The test is made of the divisor or of its dual, where that has fewer trials.
@@ -35,11 +35,16 @@ pub fn has_rank(graph: &Graph, q: usize, divisor: &Divisor, k: u32) -> Result<bo
         (¬ HasRankAtLeast graph.now (at divisor.now) k))
         (λ e. (e ≡ TooMany) × BothArePast graph.now (at divisor.now) k) }
 {
-    passes(graph, &Aim::new(graph, 0), divisor, k)
+    passes(graph, &InverseLaplacian::new(graph, 0), divisor, k)
 }
 
-/// What `has_rank` answers, whatever is aimed by.
-pub(crate) fn passes(graph: &Graph, aim: &Aim, divisor: &Divisor, k: u32) -> Result<bool, RankFault>
+/// What `has_rank` answers, whatever the inverse.
+pub(crate) fn passes(
+    graph: &Graph,
+    inverse: &InverseLaplacian,
+    divisor: &Divisor,
+    k: u32,
+) -> Result<bool, RankFault>
     requires size { divisor.now.size ≡ graph.now.size }
     requires some { 0 < graph.now.size }
     ensures { MatchResult result
@@ -64,9 +69,9 @@ pub(crate) fn passes(graph: &Graph, aim: &Aim, divisor: &Divisor, k: u32) -> Res
         return Err(RankFault::TooMany);
     };
     if k <= other {
-        Ok(all_win(graph, aim, &Wide::of(divisor), k, count))
+        Ok(all_win(graph, inverse, &Wide::of(divisor), k, count))
     } else {
-        Ok(all_win(graph, aim, &dual_of(graph, divisor), other, count))
+        Ok(all_win(graph, inverse, &dual_of(graph, divisor), other, count))
     }
 }
 
@@ -99,7 +104,7 @@ const MANY: u32 = 8192;
 /// last vertex. The amounts are what the divisor can be fired to.
 pub(crate) fn told_before(
     graph: &Graph,
-    aim: &Aim,
+    inverse: &InverseLaplacian,
     divisor: &Divisor,
     chips: &Wide,
     k: u32,
@@ -115,15 +120,22 @@ pub(crate) fn told_before(
     requires most { most ≤ count }
     ensures { IsTold graph.now (at chips.now) k count result }
 {
-    match told_by_dual(graph, aim, divisor, chips, k, most) {
+    match told_by_dual(graph, inverse, divisor, chips, k, most) {
         Told::Lost(trial) => Told::Lost(trial),
         Told::Won => Told::Won,
-        Told::Open(from) => told_after(graph, aim, chips, k, from, count),
+        Told::Open(from) => told_after(graph, inverse, chips, k, from, count),
     }
 }
 
 /// What is told of all trials where those before a number win: by some more, and by those that are reduced for the last vertex.
-fn told_after(graph: &Graph, aim: &Aim, chips: &Wide, k: u32, from: u32, count: u32) -> Told
+fn told_after(
+    graph: &Graph,
+    inverse: &InverseLaplacian,
+    chips: &Wide,
+    k: u32,
+    from: u32,
+    count: u32,
+) -> Told
     requires size { chips.now.size ≡ graph.now.size }
     requires range { AreSmall graph.now.size (at chips.now) }
     requires limits { IsWithinLimits graph.now.size k count }
@@ -135,10 +147,10 @@ fn told_after(graph: &Graph, aim: &Aim, chips: &Wide, k: u32, from: u32, count: 
         return Told::Open(from);
     }
     let to = count.min(from + FIRST_TRIALS);
-    if let Some(trial) = first_loss(graph, aim, chips, k, from, to) {
+    if let Some(trial) = first_loss(graph, inverse, chips, k, from, to) {
         return Told::Lost(trial);
     }
-    match told_by_reduced(graph, aim, chips, k, few_visits(count)) {
+    match told_by_reduced(graph, inverse, chips, k, few_visits(count)) {
         Some(true) => Told::Won,
         _ => Told::Open(to),
     }
@@ -149,7 +161,7 @@ fn told_after(graph: &Graph, aim: &Aim, chips: &Wide, k: u32, from: u32, count: 
 /// can be fired to.
 fn told_by_dual(
     graph: &Graph,
-    aim: &Aim,
+    inverse: &InverseLaplacian,
     divisor: &Divisor,
     chips: &Wide,
     k: u32,
@@ -176,10 +188,10 @@ fn told_by_dual(
     if fewer > most {
         return Told::Open(0);
     }
-    if let Some(trial) = first_loss(graph, aim, chips, k, 0, fewer) {
+    if let Some(trial) = first_loss(graph, inverse, chips, k, 0, fewer) {
         return Told::Lost(trial);
     }
-    if all_win(graph, aim, &dual_of(graph, divisor), other, fewer) {
+    if all_win(graph, inverse, &dual_of(graph, divisor), other, fewer) {
         return Told::Won;
     }
     Told::Open(fewer)
@@ -188,7 +200,7 @@ fn told_by_dual(
 /// The first loss of all trials, of which so much is told; `None` where there is none.
 pub(crate) fn loss_after(
     graph: &Graph,
-    aim: &Aim,
+    inverse: &InverseLaplacian,
     chips: &Wide,
     k: u32,
     count: u32,
@@ -203,7 +215,7 @@ pub(crate) fn loss_after(
     match told {
         Told::Lost(trial) => Some(trial),
         Told::Won => None,
-        Told::Open(from) => first_loss(graph, aim, chips, k, from, count),
+        Told::Open(from) => first_loss(graph, inverse, chips, k, from, count),
     }
 }
 
@@ -245,7 +257,7 @@ fn dual_of(graph: &Graph, divisor: &Divisor) -> Wide
 }
 
 /// Whether all trials of degree k win, of which there are so many.
-fn all_win(graph: &Graph, aim: &Aim, amounts: &Wide, k: u32, count: u32) -> bool
+fn all_win(graph: &Graph, inverse: &InverseLaplacian, amounts: &Wide, k: u32, count: u32) -> bool
     requires graph { IsGraph graph.now }
     requires size { amounts.now.size ≡ graph.now.size }
     requires range { (v : ℕ) → v < graph.now.size → unsigned_abs (at amounts.now v) ≤ MAX_START }
@@ -255,9 +267,9 @@ fn all_win(graph: &Graph, aim: &Aim, amounts: &Wide, k: u32, count: u32) -> bool
         (HasRankAtLeast graph.now (at amounts.now) k)
         (¬ HasRankAtLeast graph.now (at amounts.now) k) }
 {
-    let chips = reduce_certified(graph, aim, 0, amounts).reduced.divisor;
-    match told_by_reduced(graph, aim, &chips, k, most_visits(graph, count)) {
+    let chips = reduce_certified(graph, inverse, 0, amounts).reduced.divisor;
+    match told_by_reduced(graph, inverse, &chips, k, most_visits(graph, count)) {
         Some(wins) => wins,
-        None => first_loss(graph, aim, &chips, k, 0, count).is_none(),
+        None => first_loss(graph, inverse, &chips, k, 0, count).is_none(),
     }
 }

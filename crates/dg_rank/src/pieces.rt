@@ -13,7 +13,7 @@ use crate::rank_fault::RankFault;
 use crate::workers::Gate;
 use dg_chips::Wide;
 use dg_graph::Graph;
-use dg_reduce::Aim;
+use dg_reduce::InverseLaplacian;
 use std::sync::Wait;
 use std::sync::atomic::{AtomicU32, Ordering};
 use std::thread;
@@ -55,7 +55,7 @@ pub(crate) fn first_loss_among<R: Threads + Wait, G: Gate>(
         // This never comes: a piece gives up only where an earlier one has lost.
         Ok(Outcome::GaveUp) => Ok(first_loss(
             &search.graph,
-            &Aim::new(&search.graph, 0),
+            &InverseLaplacian::new(&search.graph, 0),
             &search.chips,
             search.k,
             0,
@@ -195,14 +195,14 @@ fn outcome_of(search: &Search, lost: &AtomicU32, piece: u32) -> Outcome
     if start >= end {
         return Outcome::Won;
     }
-    let aim = Aim::new(&search.graph, 0);
+    let inverse = InverseLaplacian::new(&search.graph, 0);
     let mut from = start;
     while from < end {
         if lost.load(Ordering::SeqCst) < piece {
             return Outcome::GaveUp;
         }
         let to = end.min(from + FIRST_LOOK.max(from - start));
-        let loss = first_loss(&search.graph, &aim, &search.chips, search.k, from, to);
+        let loss = first_loss(&search.graph, &inverse, &search.chips, search.k, from, to);
         if let Some(trial) = loss {
             lost.fetch_min(piece, Ordering::SeqCst);
             return Outcome::Lost(trial);
