@@ -14,11 +14,11 @@ use std::test::Fail;
 // A fault, what is said of it after `dollar: `, and the status.
 const FAULTS: [(Fault, &str, u8); 10] = [
     (
-        Fault::Args(ArgsFault::NotText),
+        Fault::Words(ArgsFault::NotText),
         "a word of the command line is not UTF-8",
         2,
     ),
-    (Fault::Args(ArgsFault::OutOfMemory), "out of memory", 4),
+    (Fault::Words(ArgsFault::OutOfMemory), "out of memory", 4),
     (
         Fault::Task(TaskFault::Source(SourceFault::OutOfMemory)),
         "out of memory",

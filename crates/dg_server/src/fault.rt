@@ -16,7 +16,7 @@ use thiserror::Error;
 pub enum Fault {
     /// The words of the command line ask for nothing.
     #[error(transparent)]
-    Args(#[from] ArgsFault),
+    Words(#[from] ArgsFault),
     /// A file is not read, a table file is refused, or a task is not done.
     #[error(transparent)]
     Task(#[from] TaskFault),
@@ -65,8 +65,8 @@ pub fn status_of(fault: &Fault) -> u8
     ensures { result ≡ status fault.now }
 {
     match fault {
-        Fault::Args(ArgsFault::OutOfMemory) => 4,
-        Fault::Args(_) => 2,
+        Fault::Words(ArgsFault::OutOfMemory) => 4,
+        Fault::Words(_) => 2,
         Fault::Task(fault) => status_of_task(fault),
         Fault::Session(end) | Fault::Sessions { least: end, .. } => status_of_end(*end),
         Fault::Sweep(end) => status_of_sweep(*end),
@@ -156,7 +156,7 @@ pub fn report<F: Write>(fault: &Fault, faults: &mut F) -> u8
     ensures { result ≡ status fault.now }
 {
     let _ = match fault {
-        Fault::Args(ArgsFault::CommandLine(text)) => faults.write_all(text.as_bytes()),
+        Fault::Words(ArgsFault::CommandLine(text)) => faults.write_all(text.as_bytes()),
         Fault::Sessions { all, .. } => report_seats(all.as_slice(), faults),
         _ => writeln!(faults, "dollar: {fault}"),
     };

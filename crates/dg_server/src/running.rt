@@ -45,6 +45,6 @@ where
             Ok(()) => 0,
             Err(fault) => report(&fault, faults),
         },
-        Err(fault) => report(&Fault::Args(fault), faults),
+        Err(fault) => report(&Fault::Words(fault), faults),
     }
 }

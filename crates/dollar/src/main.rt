@@ -20,7 +20,7 @@ fn main(rt: HostRuntime) -> ExitCode {
             &mut output,
             &mut faults,
         ),
-        Err(fault) => report(&Fault::Args(fault), &mut faults),
+        Err(fault) => report(&Fault::Words(fault), &mut faults),
     };
     ExitCode::from(status)
 }
