@@ -31,10 +31,10 @@ pub fn commit<N: Name>(
     reckoned: Reckoned<N>,
 ) -> Result<Receipt<N>, (Reckoned<N>, Fault)>
     ensures settled { IfOk result
-        (λ r. IsSettled N.start N.seats (length N.cells) reckoned.look.receipt reckoned.look.shown
+        (λ r. IsSettled N.table reckoned.look.receipt reckoned.look.shown
         (Finding.Judged reckoned.verdict) r seat.old seat.new) }
     ensures fault { IfErr result (λ e. (e.0 ≡ reckoned) × Keeps seat.old seat.new ×
-        RefusesCall N.start N.seats (length N.cells) seat.new e.1) }
+        RefusesCall N.table seat.new e.1) }
 {
     let finding = Finding::Judged(reckoned.verdict);
     let look = &reckoned.look;
@@ -60,10 +60,10 @@ pub fn commit_stale<N: Name>(
 ) -> Result<Option<Receipt<N>>, Fault>
     ensures settled { IfOk result (λ found. MatchOption found
         (Keeps seat.old seat.new × (seat.new.met ≡ seat.old.met))
-        (λ r. IsStale N.start N.seats (length N.cells) look.now.receipt look.now.shown asks.now r
+        (λ r. IsStale N.table look.now.receipt look.now.shown asks.now r
         seat.old seat.new)) }
     ensures fault { IfErr result (λ f. Keeps seat.old seat.new ×
-        RefusesCall N.start N.seats (length N.cells) seat.new f) }
+        RefusesCall N.table seat.new f) }
 {
     table.settle_stale(rt, alloc, seat, &look.receipt, &look.shown, asks)
 }
@@ -80,11 +80,11 @@ pub fn commit_look<N: Name>(
     look: &Look<N>,
     inverse: &mut InverseLaplacian,
 ) -> Result<Receipt<N>, Fault>
-    ensures settled { (v : VerdictData) × IsJudged N.start.q look.now v ×
-        IfOk result (λ r. IsSettled N.start N.seats (length N.cells) look.now.receipt
+    ensures settled { (v : VerdictData) × IsJudged N.table.start.q look.now v ×
+        IfOk result (λ r. IsSettled N.table look.now.receipt
         look.now.shown (Finding.Judged v) r seat.old seat.new) }
     ensures fault { IfErr result (λ f. Keeps seat.old seat.new ×
-        RefusesCall N.start N.seats (length N.cells) seat.new f) }
+        RefusesCall N.table seat.new f) }
 {
     let shown = &look.shown;
     let q = usize::from(look.q);
@@ -107,10 +107,10 @@ pub fn commit_rank<N: Name>(
     tried: Tried<N>,
 ) -> Result<Receipt<N>, (Tried<N>, Fault)>
     ensures settled { IfOk result
-        (λ r. IsSettled N.start N.seats (length N.cells) tried.look.receipt tried.look.shown
+        (λ r. IsSettled N.table tried.look.receipt tried.look.shown
         (Finding.Ranked tried.verdict) r seat.old seat.new) }
     ensures fault { IfErr result (λ e. (e.0 ≡ tried) × Keeps seat.old seat.new ×
-        RefusesCall N.start N.seats (length N.cells) seat.new e.1) }
+        RefusesCall N.table seat.new e.1) }
 {
     let finding = Finding::Ranked(tried.verdict);
     let look = &tried.look;

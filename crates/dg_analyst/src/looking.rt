@@ -23,9 +23,9 @@ pub fn look<N: Name>(
     seat: &mut Seat<N>,
 ) -> Result<Look<N>, Fault>
     ensures answered { IfOk result
-        (λ l. IsAnswered N.start N.seats (length N.cells) LookRequest l.receipt seat.old seat.new) }
+        (λ l. IsAnswered N.table LookRequest l.receipt seat.old seat.new) }
     ensures fault { IfErr result (λ f. Keeps seat.old seat.new ×
-        RefusesCall N.start N.seats (length N.cells) seat.new f) }
+        RefusesCall N.table seat.new f) }
 {
     let receipt = table.call(rt, alloc, seat, Plain::Look)?;
     let Some(shown) = seat.last_look() else {

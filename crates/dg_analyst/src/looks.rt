@@ -25,15 +25,15 @@ impl<N: Name> Model for Look<N> {
 
     ghost view = { λ l. record { receipt = l.receipt; shown = l.shown } };
 
-    ghost invariant = { λ l. IsTaken N.start (record { receipt = l.receipt; shown = l.shown }) ×
-        (l.q ≡ N.start.q) × (l.q < l.shown.graph.size) };
+    ghost invariant = { λ l. IsTaken N.table.start (record { receipt = l.receipt; shown = l.shown }) ×
+        (l.q ≡ N.table.start.q) × (l.q < l.shown.graph.size) };
 }
 
 impl<N: Name> Look<N> {
     /// The receipt of the look's entry.
     pub fn receipt(&self) -> &Receipt<N>
         ensures receipt { result.now ≡ self.now.receipt }
-        ensures taken { IsTaken N.start self.now }
+        ensures taken { IsTaken N.table.start self.now }
     {
         &self.receipt
     }

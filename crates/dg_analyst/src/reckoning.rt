@@ -31,7 +31,7 @@ impl<N: Name> Model for Reckoned<N> {
 
     ghost view = { λ r. record { look = r.look; verdict = r.verdict } };
 
-    ghost invariant = { λ r. IsFoundFor N.start.q r.look.shown (Judged r.verdict) };
+    ghost invariant = { λ r. IsFoundFor N.table.start.q r.look.shown (Judged r.verdict) };
 }
 
 impl<N: Name> Reckoned<N> {
@@ -45,7 +45,7 @@ impl<N: Name> Reckoned<N> {
     /// The verdict.
     pub fn verdict(&self) -> &Verdict
         ensures verdict { result.now ≡ self.now.verdict }
-        ensures right { IsFoundFor N.start.q self.now.look.shown (Finding.Judged self.now.verdict) }
+        ensures right { IsFoundFor N.table.start.q self.now.look.shown (Finding.Judged self.now.verdict) }
     {
         &self.verdict
     }
@@ -68,7 +68,7 @@ impl<N: Name> Model for Tried<N> {
 
     ghost view = { λ t. record { look = t.look; verdict = t.verdict } };
 
-    ghost invariant = { λ t. IsFoundFor N.start.q t.look.shown (Ranked t.verdict) };
+    ghost invariant = { λ t. IsFoundFor N.table.start.q t.look.shown (Ranked t.verdict) };
 }
 
 impl<N: Name> Tried<N> {
@@ -82,7 +82,7 @@ impl<N: Name> Tried<N> {
     /// The answer of the rank test, with its degree.
     pub fn verdict(&self) -> &RankVerdict
         ensures verdict { result.now ≡ self.now.verdict }
-        ensures right { IsFoundFor N.start.q self.now.look.shown (Finding.Ranked self.now.verdict) }
+        ensures right { IsFoundFor N.table.start.q self.now.look.shown (Finding.Ranked self.now.verdict) }
     {
         &self.verdict
     }
@@ -92,7 +92,7 @@ impl<N: Name> Tried<N> {
 /// and needs no memory.
 pub fn reckon<N: Name>(look: Look<N>) -> Reckoned<N>
     ensures look { result.look ≡ look }
-    ensures judged { IsJudged N.start.q look result.verdict }
+    ensures judged { IsJudged N.table.start.q look result.verdict }
 {
     let inverse = InverseLaplacian::new(&look.shown.graph, usize::from(look.q));
     reckon_with_inverse(look, &inverse)
@@ -102,7 +102,7 @@ pub fn reckon<N: Name>(look: Look<N>) -> Reckoned<N>
 /// where no edge was added before the look.
 pub fn reckon_with_inverse<N: Name>(look: Look<N>, inverse: &InverseLaplacian) -> Reckoned<N>
     ensures look { result.look ≡ look }
-    ensures judged { IsJudged N.start.q look result.verdict }
+    ensures judged { IsJudged N.table.start.q look result.verdict }
 {
     let q = usize::from(look.q);
     let verdict = judge_with_inverse(&look.shown.graph, inverse, q, &look.shown.position);

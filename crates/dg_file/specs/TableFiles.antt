@@ -3,8 +3,8 @@
 --                                     none of them
 --   item_of names edge             == the edge as an item of a graph
 --   items_of content               == the edges of the content as items of a graph
---   IsTable content o names        == the content describes the opening o with these names
---   IsTableFile bytes o names      == the bytes are a table file, and describe the opening o with
+--   IsTable content o names        == the content describes the start o with these names
+--   IsTableFile bytes o names      == the bytes are a table file, and describe the start o with
 --                                     these names
 use Rattle.std.specs.Prelude.{◌≡◌, ℕ, List, length, map, Some, unwrap_or}
 use Rattle.serde_json.specs.Data.{Data}

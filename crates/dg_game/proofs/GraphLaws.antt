@@ -1,5 +1,5 @@
 -- The graphs of legal histories.
---   graphs_hold      a legal history, from an opening on a graph within the limits, leads to a position on one
+--   graphs_hold      a legal history, from a start on a graph within the limits, leads to a position on one
 use Rattle.std.proofs.Common.{◌≡◌, ℕ, List, [], ◌∷◌, ◌++◌, length, append_assoc, append-nil, refl, sym, subst}
 use Rattle.std.proofs.Math.Seq.{take-append_seam}
 use Rattle.dg_graph.specs.Graph.{IsGraph}

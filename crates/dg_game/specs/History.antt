@@ -17,7 +17,7 @@
 --   after_change o R           == the position right after the last change, and that of the opening
 --                                 o where there is none
 -- So:
---   position_after o H         == the position after the history H from the opening o: that after
+--   position_after o H         == the position after the history H from the start o: that after
 --                                 the last change, fired on the graph there by the sum of the
 --                                 scripts of all moves accepted since
 use Rattle.std.specs.Prelude.{ℕ, ◌+◌, Bool, true, false, if◌then◌else◌, pos, ◌+ℤ◌, List, [], ◌∷◌, ◌++◌, reverse}

@@ -9,7 +9,7 @@
 --   HasSize n reply       == each divisor, script, wide amount and graph in the reply is one of n
 --                            vertices
 --   LegalIsSized          == each reply of a legal history has the size of the start
---   GraphsHold            == a legal history, from an opening on a graph within the limits, leads
+--   GraphsHold            == a legal history, from a start on a graph within the limits, leads
 --                            to a position on one
 --   LooksAreShown         == a look of a legal history showed what `IsLookAt` says, whatever drift
 --                            is kept with it

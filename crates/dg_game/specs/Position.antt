@@ -1,7 +1,7 @@
 -- A position of the game.
 --   Position             == a graph, and an amount for each of its vertices
 --   Shows p d            == the divisor d holds the amounts of the position p
---   opened o             == the position at the start: the graph and the amounts of the opening o
+--   opened o             == the position at the start: the graph and the amounts of the start o
 --   with_gift p v x      == the amounts of the position p, with x more at v
 --   joined_at p u v      == the position p on the graph with one more edge between u and v
 --   fired_by p s         == the position p after every vertex has lent as often as the script s

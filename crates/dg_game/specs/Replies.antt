@@ -9,7 +9,7 @@
 --                                     position; else stale, with the gift count now
 --   RepliesAt p q before g request reply == the reply is right at the position p, for the vertex q,
 --                                     where the gift count is g, and was `before i` at entry i
---   Replies o H request reply      == the reply is right after the history H from the opening o
+--   Replies o H request reply      == the reply is right after the history H from the start o
 use Rattle.std.specs.Prelude.{◌≡◌, ◌≢◌, ℕ, List, take}
 use Rattle.dg_theory.specs.Firing.{IsEffective}
 use Rattle.dg_chips.specs.Starts.{StartData}

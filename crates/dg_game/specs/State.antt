@@ -4,7 +4,7 @@
 --                                entries
 --   position_of s             == the position that the state shows
 --   IsState s                 == the parts of the state s fit together and are within their limits
---   LeadsTo o H s             == the history H leads from the opening o to the state s
+--   LeadsTo o H s             == the history H leads from the start o to the state s
 --   IsRightIn s request reply == the reply is right in the state s, for some gift counts at the looks
 --   amounts_after d reply     == the amounts after the reply, where they were d before
 --   gifts_after n reply       == the gift count after the reply, where it was n before

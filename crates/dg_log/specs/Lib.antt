@@ -2,6 +2,7 @@
 pub mod Numbered
 pub mod Written
 pub mod Rows
+pub mod Tables
 -- Words of private fields.
 pub mod Nobody
 pub mod ReceiptSets

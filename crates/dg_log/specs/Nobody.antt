@@ -1,11 +1,15 @@
--- Data for the name of a table that is none.
---   nowhere == the opening of a graph without vertices
+-- What the name of a table stands for if there is no table.
+--   nothing == no vertices, no seats and no entries
 use Rattle.std.specs.Prelude.{[]}
-use Rattle.dg_chips.specs.Starts.{StartData}
+use Rattle.dg_log.specs.Tables.{TableData}
 
-abbrev pub nowhere : StartData
-nowhere = record {
-  graph = record { size = 0; table = [] };
-  divisor = record { size = 0; numbers = [] };
-  q = 0;
+abbrev pub nothing : TableData
+nothing = record {
+  start = record {
+    graph = record { size = 0; table = [] };
+    divisor = record { size = 0; numbers = [] };
+    q = 0;
+  };
+  seats = 0;
+  capacity = 0;
 }

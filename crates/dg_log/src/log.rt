@@ -20,14 +20,16 @@ pub struct Log<N: Name> {
     pub(crate) cells: Vec<OnceBox<Entry>>,
     of: PhantomData<N>,
     ghost named: { map cell_name cells.items ≡ N.cells },
+    ghost capacity: { length N.cells ≡ N.table.capacity },
     ghost fits: { vec_len cells ≤ MAX_ENTRIES },
 }
 
 impl<N: Name> Log<N> {
-    /// The log of an empty history, the one pen that writes it, and the leave to make its seats. The condition is that N names
-    /// the row.
+    /// The log of an empty history, the one pen that writes it, and the leave to make its seats. The conditions are
+    /// that N names the row, and that as many entries may be in the history as the row has cells.
     pub fn new(row: Row) -> (Log<N>, Pen<N>, Seating<N>)
-        requires { row ≡ N.cells }
+        requires row { row ≡ N.cells }
+        requires capacity { length row ≡ N.table.capacity }
         ensures { result.1 ≡ record { entries = []; stuck = false } }
     {
         let log = Log {
@@ -40,6 +42,7 @@ impl<N: Name> Log<N> {
     /// How many entries the history may have, at most 65,536.
     pub fn len(&self) -> u32
         ensures length { result ≡ length N.cells }
+        ensures capacity { result ≡ N.table.capacity }
         ensures limit { result ≤ MAX_ENTRIES }
     {
         self.cells.len() as u32

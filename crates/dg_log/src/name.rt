@@ -1,27 +1,23 @@
 //! Names of tables, which exist in the proofs alone.
 ghost use Rattle.std.specs.Prelude.{ℕ, List, []};
-ghost use Rattle.dg_chips.specs.Starts.{StartData};
-ghost use Rattle.dg_log.specs.Nobody.{nowhere};
+ghost use Rattle.dg_log.specs.Tables.{TableData};
+ghost use Rattle.dg_log.specs.Nobody.{nothing};
 
 use std::marker::Brand;
 
-/// A name of one table: it stands for the table's row of cells, its start and its number of seats. Whatever belongs to a
-/// table has its name in its type, so what belongs to two tables can't be mixed up: that does not compile.
+/// A name of one table: it stands for the table's row of cells, its start, its number of seats, and how many entries its history
+/// may have. All that belongs to a table has its name in its type. So things of two tables can't be mixed up: that does not
+/// compile.
 pub trait Name {
     /// The names of the cells, in order.
     ghost cells: { List ℕ };
 
-    /// The start of the game.
-    ghost start: { StartData };
-
-    /// How many seats there are.
-    ghost seats: { ℕ };
+    /// The start of the game, how many seats there are, and how many entries there may be: as many as there are cells.
+    ghost table: { TableData };
 }
 
 impl Name for Brand {
     ghost cells = { [] };
 
-    ghost start = { nowhere };
-
-    ghost seats = { 0 };
+    ghost table = { nothing };
 }

@@ -32,14 +32,14 @@ impl<N: Name> Model for Pen<N> {
 
     ghost view = { λ p. record { entries = map (λ x. x.2) p.witnesses.items; stuck = p.stuck } };
 
-    ghost invariant = { λ p. (p.len ≡ length p.witnesses.items) × (p.len ≤ length N.cells) × (length N.cells ≤ MAX_ENTRIES) ×
+    ghost invariant = { λ p. (p.len ≡ length p.witnesses.items) × (p.len ≤ N.table.capacity) × (N.table.capacity ≤ MAX_ENTRIES) ×
         (map (λ x. x.1) p.witnesses.items ≡ take (length p.witnesses.items) N.cells) };
 }
 
 impl<N: Name> Pen<N> {
     /// A pen that wrote nothing.
     pub(crate) fn new() -> Pen<N>
-        requires { length N.cells ≤ MAX_ENTRIES }
+        requires { N.table.capacity ≤ MAX_ENTRIES }
         ensures { result ≡ record { entries = []; stuck = false } }
     {
         Pen {
@@ -53,7 +53,7 @@ impl<N: Name> Pen<N> {
     /// Sets the next cell to the entry in the box, and answers its receipt. Hands the box back, and is stuck, where the cell
     /// refuses it. It takes no memory, but uses the box. The condition is that a cell is left.
     pub fn put(&mut self, log: &Log<N>, entry: Box<Entry>) -> Result<Receipt<N>, Box<Entry>>
-        requires { length self.old.entries < length N.cells }
+        requires { length self.old.entries < N.table.capacity }
         ensures { MatchResult result
             (λ r. (r ≡ (length self.old.entries, entry.value)) ×
             (self.new ≡ record { entries = self.old.entries ++ entry.value ∷ []; stuck = false }))
@@ -88,8 +88,8 @@ impl<N: Name> Pen<N> {
     /// How many entries were written.
     pub fn len(&self) -> u32
         ensures length { result ≡ length self.now.entries }
-        ensures room { result ≤ length N.cells }
-        ensures limit { length N.cells ≤ MAX_ENTRIES }
+        ensures room { result ≤ N.table.capacity }
+        ensures limit { N.table.capacity ≤ MAX_ENTRIES }
     {
         self.len
     }

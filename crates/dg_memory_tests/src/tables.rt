@@ -110,8 +110,8 @@ fn opened<N: Name, R: Threads + Wait + Abort + Print>(
     scene: Scene,
 ) -> Result<Outcome, Fail>
     requires row { row ≡ N.cells }
-    requires start { file.now.start ≡ N.start }
-    requires seats { count ≡ N.seats }
+    requires start { file.now.start ≡ N.table.start }
+    requires seats { count ≡ N.table.seats }
 {
     if let Scene::Pen = scene {
         return writes::<N, R>(rt, alloc, row);
@@ -140,7 +140,7 @@ fn shown<N: Name, R: Threads + Wait + Abort + Print>(
     names: &Names,
     scene: Scene,
 ) -> Result<Outcome, Fail>
-    requires { length names.now ≡ N.start.graph.size }
+    requires { length names.now ≡ N.table.start.graph.size }
 {
     let mut seats = seats;
     if let Scene::Acts = scene {
@@ -299,7 +299,7 @@ fn serves<N: Name, R: Threads + Wait>(
     seat: &mut Seat<N>,
     names: &Names,
 ) -> Outcome
-    requires { length names.now ≡ N.start.graph.size }
+    requires { length names.now ≡ N.table.start.graph.size }
 {
     let Ok(written) = Vec::with_capacity(alloc, 1_000) else {
         return Outcome::Memory;

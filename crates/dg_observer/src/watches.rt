@@ -52,7 +52,7 @@ impl<N: Name> Watch for Positions<N> {
 
     type State = Divisor;
 
-    ghost begins = { λ d. d ≡ N.start.divisor };
+    ghost begins = { λ d. d ≡ N.table.start.divisor };
 
     ghost goes_on = { λ old e next. next ≡ amounts_after old e.reply };
 

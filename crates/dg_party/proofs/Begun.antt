@@ -5,7 +5,6 @@
 --   party_lacks    a party whose sessions are not told is refused for what they lack
 use Rattle.std.proofs.Common.{◌≡◌, ℕ, suc, List, ◌∷◌, length, arith, refl, sym, ap, subst, ◌∙◌, Result}
 use Rattle.std.specs.Global.{Vec}
-use Rattle.dg_chips.specs.Starts.{StartData}
 use Rattle.dg_table.specs.Opened.{AreFresh}
 use Rattle.dg_table.specs.Seats.{SeatView}
 use Rattle.dg_session.specs.declared.ends.SessionEnd.{SessionEnd}
@@ -14,43 +13,44 @@ use Rattle.dg_system.specs.declared.shortage.Shortage.{Shortage}
 use Rattle.dg_system.specs.declared.shortage.Shortage.TheVariants.{OutOfMemory, Spawn}
 use Rattle.dg_party.specs.declared.ending.PartyRefusal.TheVariants as party
 use Rattle.dg_party.specs.Parties.{IsPartyRefused}
+use Rattle.dg_log.specs.Tables.{TableData}
 
-pub none_begun : (o : StartData) (seats cap : ℕ) (names : List (List ℕ)) (scripts left : List (Vec ℕ)) (script : Vec ℕ)
+pub none_begun : (table : TableData) (names : List (List ℕ)) (scripts left : List (Vec ℕ)) (script : Vec ℕ)
     (xs rest ys : List SeatView) (x y : SeatView) (lack : Shortage)
     → scripts ≡ script ∷ left → xs ≡ x ∷ rest → y ≡ x → ys ≡ rest → lack ≡ Spawn
-    → RefusesSessions o seats cap names (contents scripts) xs (y ∷ ys) lack
+    → RefusesSessions table names (contents scripts) xs (y ∷ ys) lack
 unfolding HaveBegun
-none_begun o seats cap names scripts left script xs rest ys x y lack d e f h told =
+none_begun table names scripts left script xs rest ys x y lack d e f h told =
     rw told (0, rw d (omega arith), ap (λ z. z ∷ ys) f ∙ ap (λ zs. x ∷ zs) h ∙ sym e)
 
-pub more_begun : (o : StartData) (seats cap : ℕ) (names : List (List ℕ)) (scripts left : List (Vec ℕ)) (script : Vec ℕ)
+pub more_begun : (table : TableData) (names : List (List ℕ)) (scripts left : List (Vec ℕ)) (script : Vec ℕ)
     (xs rest ys : List SeatView) (x y : SeatView) (end : Result ℕ SessionEnd) (lack : Shortage)
-    → scripts ≡ script ∷ left → xs ≡ x ∷ rest → IsSessionOver o seats cap names script.items x y end
-    → RefusesSessions o seats cap names (contents left) rest ys lack
-    → RefusesSessions o seats cap names (contents scripts) xs (y ∷ ys) lack
+    → scripts ≡ script ∷ left → xs ≡ x ∷ rest → IsSessionOver table names script.items x y end
+    → RefusesSessions table names (contents left) rest ys lack
+    → RefusesSessions table names (contents scripts) xs (y ∷ ys) lack
 unfolding AreSessions HaveBegun
-more_begun o seats cap names scripts left script xs rest ys x y end OutOfMemory e f session (ends, are) =
+more_begun table names scripts left script xs rest ys x y end OutOfMemory e f session (ends, are) =
     (end ∷ ends, rw (e, f) (session, are))
-more_begun o seats cap names scripts left script xs rest ys x y end Spawn e f session (k, some, begun) =
+more_begun table names scripts left script xs rest ys x y end Spawn e f session (k, some, begun) =
     (suc k, rw e (omega (arith, some)), rw (e, f) ((end, session), begun))
 
-pub all_begun : (o : StartData) (seats cap : ℕ) (names : List (List ℕ)) (scripts left : List (Vec ℕ)) (script : Vec ℕ)
+pub all_begun : (table : TableData) (names : List (List ℕ)) (scripts left : List (Vec ℕ)) (script : Vec ℕ)
     (xs rest ys : List SeatView) (x y : SeatView) (end : Result ℕ SessionEnd) (ends : List (Result ℕ SessionEnd))
     (lack : Shortage)
-    → scripts ≡ script ∷ left → xs ≡ x ∷ rest → IsSessionOver o seats cap names script.items x y end
-    → AreSessions o seats cap names (contents left) rest ys ends → lack ≡ OutOfMemory
-    → RefusesSessions o seats cap names (contents scripts) xs (y ∷ ys) lack
-all_begun o seats cap names scripts left script xs rest ys x y end ends lack e f session are told =
-    rw told (more_begun o seats cap names scripts left script xs rest ys x y end OutOfMemory e f session (ends, are))
+    → scripts ≡ script ∷ left → xs ≡ x ∷ rest → IsSessionOver table names script.items x y end
+    → AreSessions table names (contents left) rest ys ends → lack ≡ OutOfMemory
+    → RefusesSessions table names (contents scripts) xs (y ∷ ys) lack
+all_begun table names scripts left script xs rest ys x y end ends lack e f session are told =
+    rw told (more_begun table names scripts left script xs rest ys x y end OutOfMemory e f session (ends, are))
 
-pub party_lacks : (o : StartData) (n m cap : ℕ) (names scripts : List (List ℕ)) (opened xs ys : List SeatView)
+pub party_lacks : (table : TableData) (n : ℕ) (names scripts : List (List ℕ)) (opened xs ys : List SeatView)
     (lack : Shortage)
-    → length scripts ≡ n → n ≡ m → AreFresh n opened → xs ≡ opened
-    → RefusesSessions o m cap names scripts xs ys lack → IsPartyRefused o cap names scripts (party.Shortage lack)
-party_lacks o n m cap names scripts opened xs ys OutOfMemory many same fresh lent refused = tt
-party_lacks o n m cap names scripts opened xs ys Spawn many same fresh lent refused = record {
+    → n ≡ table.seats → AreFresh n opened → xs ≡ opened
+    → RefusesSessions table names scripts xs ys lack → IsPartyRefused table names scripts (party.Shortage lack)
+party_lacks table n names scripts opened xs ys OutOfMemory same fresh lent refused = tt
+party_lacks table n names scripts opened xs ys Spawn same fresh lent refused = record {
   before = xs;
   after = ys;
-  fresh = rw (many, lent) fresh;
-  holds = subst (λ (seats : ℕ). RefusesSessions o seats cap names scripts xs ys Spawn) (sym (many ∙ same)) refused;
+  fresh = subst (λ k. AreFresh k xs) same (rw lent fresh);
+  holds = refused;
 }

@@ -1,7 +1,7 @@
 -- Sessions side by side. A script is the bytes of a session's lines; x and y are seats before and
 -- after.
 --   contents scripts       == the bytes of each of the scripts
---   IsSessionOver o seats cap names script x y end == a session of the seat over the bytes of the
+--   IsSessionOver table names script x y end == a session of the seat over the bytes of the
 --                             script came to this end, on a table of so many seats and cap cells,
 --                             of which it found one history; nobody heard what it had to say, so
 --                             that no writer failed
@@ -21,38 +21,39 @@ use Rattle.dg_session.specs.declared.ends.SessionEnd.{SessionEnd}
 use Rattle.dg_session.specs.declared.ends.SessionEnd.TheVariants.{Write}
 use Rattle.dg_system.specs.declared.shortage.Shortage.{Shortage}
 use Rattle.dg_system.specs.declared.shortage.Shortage.TheVariants.{OutOfMemory, Spawn}
+use Rattle.dg_log.specs.Tables.{TableData}
 
 abbrev pub contents : List (Vec ℕ) → List (List ℕ)
 contents scripts = map (λ (script : Vec ℕ). script.items) scripts
 
-pub record IsSessionOver (o : StartData) (seats cap : ℕ) (names : List (List ℕ)) (script : List ℕ)
+pub record IsSessionOver (table : TableData) (names : List (List ℕ)) (script : List ℕ)
     (x y : SeatView)
     (end : Result ℕ SessionEnd) : Type 0 where
   pub rest : Option (List ℕ)
   pub old : Option (List ℕ)
   pub new : Option (List ℕ)
-  pub session : IsSession o seats cap names (Some script) rest old new x y end
+  pub session : IsSession table names (Some script) rest old new x y end
   pub heard : end ≢ Err Write
 
-unfoldable pub AreSessions : StartData → ℕ → ℕ → List (List ℕ) → List (List ℕ) → List SeatView
+unfoldable pub AreSessions : TableData → List (List ℕ) → List (List ℕ) → List SeatView
     → List SeatView → List (Result ℕ SessionEnd) → Type 0
-AreSessions o seats cap names (script ∷ scripts) (x ∷ xs) (y ∷ ys) (end ∷ ends) =
-    IsSessionOver o seats cap names script x y end
-    × AreSessions o seats cap names scripts xs ys ends
-AreSessions o seats cap names [] [] [] [] = ⊤
-AreSessions o seats cap names scripts xs ys ends = ⊥
+AreSessions table names (script ∷ scripts) (x ∷ xs) (y ∷ ys) (end ∷ ends) =
+    IsSessionOver table names script x y end
+    × AreSessions table names scripts xs ys ends
+AreSessions table names [] [] [] [] = ⊤
+AreSessions table names scripts xs ys ends = ⊥
 
-unfoldable pub HaveBegun : StartData → ℕ → ℕ → List (List ℕ) → ℕ → List (List ℕ) → List SeatView
+unfoldable pub HaveBegun : TableData → List (List ℕ) → ℕ → List (List ℕ) → List SeatView
     → List SeatView → Type 0
-HaveBegun o seats cap names zero scripts xs ys = ys ≡ xs
-HaveBegun o seats cap names (suc k) (script ∷ scripts) (x ∷ xs) (y ∷ ys) =
-    ((end : Result ℕ SessionEnd) × IsSessionOver o seats cap names script x y end)
-    × HaveBegun o seats cap names k scripts xs ys
-HaveBegun o seats cap names k scripts xs ys = ⊥
+HaveBegun table names zero scripts xs ys = ys ≡ xs
+HaveBegun table names (suc k) (script ∷ scripts) (x ∷ xs) (y ∷ ys) =
+    ((end : Result ℕ SessionEnd) × IsSessionOver table names script x y end)
+    × HaveBegun table names k scripts xs ys
+HaveBegun table names k scripts xs ys = ⊥
 
-abbrev pub RefusesSessions : StartData → ℕ → ℕ → List (List ℕ) → List (List ℕ) → List SeatView
+abbrev pub RefusesSessions : TableData → List (List ℕ) → List (List ℕ) → List SeatView
     → List SeatView → Shortage → Type 0
-RefusesSessions o seats cap names scripts xs ys OutOfMemory =
-    (ends : List (Result ℕ SessionEnd)) × AreSessions o seats cap names scripts xs ys ends
-RefusesSessions o seats cap names scripts xs ys Spawn =
-    (k : ℕ) × (k < length scripts) × HaveBegun o seats cap names k scripts xs ys
+RefusesSessions table names scripts xs ys OutOfMemory =
+    (ends : List (Result ℕ SessionEnd)) × AreSessions table names scripts xs ys ends
+RefusesSessions table names scripts xs ys Spawn =
+    (k : ℕ) × (k < length scripts) × HaveBegun table names k scripts xs ys

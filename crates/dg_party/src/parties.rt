@@ -1,6 +1,7 @@
 //! Parties: a table is opened, played by many seats at once, and closed.
 ghost use Rattle.std.specs.Prelude.{◌≡◌, length, IfOk, IfErr};
 ghost use Rattle.dg_log.specs.Rows.{IsCapacity};
+ghost use Rattle.dg_log.specs.Tables.{table_of};
 ghost use Rattle.dg_table.specs.Opened.{MayHaveSeats};
 ghost use Rattle.dg_party.specs.Sessions.{contents};
 ghost use Rattle.dg_party.specs.Parties.{IsParty, IsPartyRefused};
@@ -38,9 +39,10 @@ pub fn party<R: Threads + Wait + Sync, G: Gate>(
     requires scripts { MayHaveSeats (length scripts.now) }
     requires names { length names.now ≡ start.now.graph.size }
     ensures played { IfOk result
-        (λ p. IsParty start.now cap names.now (contents scripts.now) p.ends.items p.text.items) }
+        (λ p. IsParty (table_of start.now (length scripts.now) cap) names.now (contents scripts.now)
+        p.ends.items p.text.items) }
     ensures refused { IfErr result
-        (IsPartyRefused start.now cap names.now (contents scripts.now)) }
+        (IsPartyRefused (table_of start.now (length scripts.now) cap) names.now (contents scripts.now)) }
 {
     let row = match Row::new(alloc, cap) {
         Ok(row) => row,
@@ -64,15 +66,14 @@ fn party_of<N: Name + Send + Sync, R: Threads + Wait + Sync, G: Gate>(
     gate: &G,
 ) -> Result<Played, PartyRefusal>
     requires row { row ≡ N.cells }
-    requires start { start.now ≡ N.start }
-    requires seats { length scripts.now ≡ N.seats }
+    requires table { N.table ≡ table_of start.now (length scripts.now) (length row) }
     requires scripts { MayHaveSeats (length scripts.now) }
     requires names { length names.now ≡ start.now.graph.size }
     ensures played { IfOk result
-        (λ p. IsParty N.start (length N.cells) names.now (contents scripts.now) p.ends.items
+        (λ p. IsParty N.table names.now (contents scripts.now) p.ends.items
         p.text.items) }
     ensures refused { IfErr result
-        (IsPartyRefused N.start (length N.cells) names.now (contents scripts.now)) }
+        (IsPartyRefused N.table names.now (contents scripts.now)) }
 {
     let count = scripts.len();
     let (table, mut seats) = match Table::<N>::open(alloc, row, start, count as u8) {

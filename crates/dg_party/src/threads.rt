@@ -49,12 +49,12 @@ pub fn sessions<N: Name + Send + Sync, R: Threads + Wait + Sync, G: Gate>(
     gate: &G,
 ) -> Result<Vec<Result<u32, SessionEnd>>, Shortage>
     requires scripts { length scripts.now ≡ length seats.old }
-    requires names { length names.now ≡ N.start.graph.size }
+    requires names { length names.now ≡ N.table.start.graph.size }
     ensures ok { IfOk result
-        (λ v. AreSessions N.start N.seats (length N.cells) names.now (contents scripts.now)
+        (λ v. AreSessions N.table names.now (contents scripts.now)
         seats.old seats.new v.items) }
     ensures fault { IfErr result
-        (RefusesSessions N.start N.seats (length N.cells) names.now (contents scripts.now) seats.old
+        (RefusesSessions N.table names.now (contents scripts.now) seats.old
         seats.new) }
 {
     let room = Room {
@@ -78,12 +78,12 @@ fn play<'a, N: Name + Send + Sync, R: Threads + Wait + Sync, G: Gate>(
     seats: &mut [Seat<N>],
 ) -> Result<Vec<Result<u32, SessionEnd>>, Shortage>
     requires scripts { length scripts.now ≡ length seats.old }
-    requires names { length room.now.names.now ≡ N.start.graph.size }
+    requires names { length room.now.names.now ≡ N.table.start.graph.size }
     ensures ok { IfOk result
-        (λ v. AreSessions N.start N.seats (length N.cells) room.now.names.now (contents scripts.now)
+        (λ v. AreSessions N.table room.now.names.now (contents scripts.now)
         seats.old seats.new v.items) }
     ensures fault { IfErr result
-        (RefusesSessions N.start N.seats (length N.cells) room.now.names.now (contents scripts.now)
+        (RefusesSessions N.table room.now.names.now (contents scripts.now)
         seats.old seats.new) }
 {
     let Some((seat, rest)) = seats.split_first_mut() else {
@@ -94,18 +94,18 @@ fn play<'a, N: Name + Send + Sync, R: Threads + Wait + Sync, G: Gate>(
     };
     let bytes = script.as_slice();
     let mut first = || -> Result<u32, SessionEnd>
-        requires { length room.now.names.now ≡ N.start.graph.size }
-        ensures { IsSessionOver N.start N.seats (length N.cells) room.entry.now.names.now
+        requires { length room.now.names.now ≡ N.table.start.graph.size }
+        ensures { IsSessionOver N.table room.entry.now.names.now
             bytes.entry.now seat.entry.now seat.exit.now result }
     { hold(room, bytes, seat) };
     let mut others = || -> Result<Vec<Result<u32, SessionEnd>>, Shortage>
         requires { (length left.now ≡ length rest.now)
-            × (length room.now.names.now ≡ N.start.graph.size) }
+            × (length room.now.names.now ≡ N.table.start.graph.size) }
         ensures { IfOk result
-            (λ v. AreSessions N.start N.seats (length N.cells) room.entry.now.names.now
+            (λ v. AreSessions N.table room.entry.now.names.now
             (contents left.entry.now) rest.entry.now rest.exit.now v.items)
             × IfErr result
-            (RefusesSessions N.start N.seats (length N.cells) room.entry.now.names.now
+            (RefusesSessions N.table room.entry.now.names.now
             (contents left.entry.now) rest.entry.now rest.exit.now) }
     { play(room, left, rest) };
     match beside(room.rt, &mut first, &mut others) {
@@ -124,8 +124,8 @@ fn hold<'a, N: Name, R: Threads + Wait, G: Gate>(
     script: &[u8],
     seat: &mut Seat<N>,
 ) -> Result<u32, SessionEnd>
-    requires { length room.now.names.now ≡ N.start.graph.size }
-    ensures { IsSessionOver N.start N.seats (length N.cells) room.now.names.now script.now seat.old
+    requires { length room.now.names.now ≡ N.table.start.graph.size }
+    ensures { IsSessionOver N.table room.now.names.now script.now seat.old
         seat.new result }
 {
     room.gate.enter(u32::from(seat.number()));

@@ -15,7 +15,7 @@
 --   IsGood n steps j step         == step j has a seat, a look if it needs one, and no trials past
 --                                    the limits
 --   AreGoodBefore n steps j       == all steps before step j are good
---   IsRehearsal o steps H         == H is a legal history from the opening o, whose entries are
+--   IsRehearsal o steps H         == H is a legal history from the start o, whose entries are
 --                                    those of the steps, in order; these are all good, and no more
 --                                    than a history has room for
 use Rattle.std.specs.Prelude.{◌≡◌, ℕ, ◌<◌, ◌≤◌, List, length, slice_get, Some, ⊤}

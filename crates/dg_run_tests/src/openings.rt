@@ -45,8 +45,8 @@ fn opened<N: Name + Send + Sync, R: Threads + Wait + Abort + Sync>(
     scene: Scene<'_>,
 ) -> Result<(), Fail>
     requires row { row ≡ N.cells }
-    requires start { start.now ≡ N.start }
-    requires seats { count ≡ N.seats }
+    requires start { start.now ≡ N.table.start }
+    requires seats { count ≡ N.table.seats }
 {
     let (table, mut seats) = Table::<N>::open(alloc, row, start, count)
         .ok()

@@ -30,6 +30,7 @@ use Rattle.dg_tasks.specs.Tasks.{DescribesTable}
 use Rattle.dg_system.specs.AllHeld.{MayHoldAll}
 use Rattle.std.specs.Io.KnownBytes.{Keeps}
 use Rattle.dg_server.specs.Parties.{names_in, IsPartyOn, IsRefusedOn}
+use Rattle.dg_log.specs.Tables.{TableData}
 
 pub seats_back : (len : ℕ) (xs ys rest : List SeatView) → length xs ≡ len
     → map (λ (x : SeatView). x.number) ys ≡ map (λ (x : SeatView). x.number) xs → take len (ys ++ rest) ≡ ys
@@ -60,10 +61,10 @@ may_play held n names all known count least most =
     let total : length all ≡ n = sym scripts ∙ same ∙ given ∙ sym count in
     rw total (least, most)
 
-pub served : {how : LineFormat} {o : StartData} {n cap : ℕ} {names : List (List ℕ)} {input old new : Option (List ℕ)}
-    {end : Result ℕ SessionEnd} (heard : IsHeard how o n cap names input old new end) (H : List Entry)
+pub served : {how : LineFormat} {table : TableData} {names : List (List ℕ)} {input old new : Option (List ℕ)}
+    {end : Result ℕ SessionEnd} (heard : IsHeard how table names input old new end) (H : List Entry)
     → map (λ (x : SeatView). x.number) heard.after ≡ map (λ (x : SeatView). x.number) heard.seats
-    → IsClosed o n cap heard.after H → IsServed how o n cap names input old new end
+    → IsClosed table heard.after H → IsServed how table names input old new end
 served heard H same closed = record {
   heard = heard;
   history = H;

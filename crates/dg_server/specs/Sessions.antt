@@ -1,17 +1,17 @@
 -- Sessions over the input.
 --   how_of seats          == how the lines name the seats: by number where so many are asked for,
 --                         and not where none are
---   IsHeard how o n cap names input old new end == a session over the input, of the seats 1 to n,
+--   IsHeard how table names input old new end == a session over the input, of the seats 1 to n,
 --                            which know of no entry, on a table with so many seats and cap cells,
 --                            came to this end; and the output has grown by what it said
---   IsServed how o n cap names input old new end == so it did; and there is one history of the
+--   IsServed how table names input old new end == so it did; and there is one history of the
 --                            table, in which the entries of each seat are just those of its own
 --                            calls, each once and in order; and what the lines entered, one line
 --                            after another, is all of it, numbered from 0; and it is full, if the
 --                            end is that of a full table
 --   Serves held input task old new == such a session came to the end of the input, on the table of
 --                         the file that is named
---   EndsEarly how o n cap names input fault old new == such a session ended early, for that fault;
+--   EndsEarly how table names input fault old new == such a session ended early, for that fault;
 --                            or the table was not closed after it; or memory was refused before it
 --                            began, and the output is as it was
 --   RefusesServing held input task fault old new == the table file is refused so, and the output is
@@ -40,27 +40,28 @@ use Rattle.dg_invocation.specs.declared.invocation.ServeTask.{ServeTask}
 use Rattle.dg_server.specs.declared.fault.Fault.{Fault}
 use Rattle.dg_server.specs.declared.fault.Fault.TheVariants.{Session, Shortage, History}
 use Rattle.dg_system.specs.declared.shortage.Shortage.TheVariants.{OutOfMemory}
+use Rattle.dg_log.specs.Tables.{TableData}
 
 abbrev pub how_of : Option ℕ → LineFormat
 how_of None = OneSeat
 how_of (Some n) = BySeat
 
-pub record IsHeard (how : LineFormat) (o : StartData) (n cap : ℕ) (names : List (List ℕ))
+pub record IsHeard (how : LineFormat) (table : TableData) (names : List (List ℕ))
     (input old new : Option (List ℕ))
     (end : Result ℕ SessionEnd) : Type 0 where
   pub rest : Option (List ℕ)
   pub seats : List SeatView
-  pub fresh : AreFresh n seats
+  pub fresh : AreFresh table.seats seats
   pub after : List SeatView
-  pub session : IsSessionOf how o n cap names input rest old new seats after end
+  pub session : IsSessionOf how table names input rest old new seats after end
 
-pub record IsServed (how : LineFormat) (o : StartData) (n cap : ℕ) (names : List (List ℕ))
+pub record IsServed (how : LineFormat) (table : TableData) (names : List (List ℕ))
     (input old new : Option (List ℕ))
     (end : Result ℕ SessionEnd) : Type 0 where
-  pub heard : IsHeard how o n cap names input old new end
+  pub heard : IsHeard how table names input old new end
   pub history : List Entry
-  pub closed : IsClosed o n cap heard.after history
-  pub full : end ≡ Err (Table Full) → length history ≡ cap
+  pub closed : IsClosed table heard.after history
+  pub full : end ≡ Err (Table Full) → length history ≡ table.capacity
   pub whole : heard.session.over.end.entered ≡ enumerate_from 0 history
 
 abbrev pub Serves : (List ℕ → Held) → Option (List ℕ) → ServeTask → Option (List ℕ)
@@ -70,14 +71,14 @@ Serves held input task old new =
     × IsServed (how_of task.seats) o (count_of task.seats) task.capacity names input old new
     (Ok count))
 
-abbrev pub EndsEarly : LineFormat → StartData → ℕ → ℕ → List (List ℕ) → Option (List ℕ) → Fault
+abbrev pub EndsEarly : LineFormat → TableData → List (List ℕ) → Option (List ℕ) → Fault
     → Option (List ℕ) → Option (List ℕ)
     → Type 0
-EndsEarly how o n cap names input (Session end) old new =
-    IsServed how o n cap names input old new (Err end)
-EndsEarly how o n cap names input History old new = (end : Result ℕ SessionEnd)
-    × IsHeard how o n cap names input old new end
-EndsEarly how o n cap names input fault old new = (fault ≡ Shortage OutOfMemory) × Keeps old new
+EndsEarly how table names input (Session end) old new =
+    IsServed how table names input old new (Err end)
+EndsEarly how table names input History old new = (end : Result ℕ SessionEnd)
+    × IsHeard how table names input old new end
+EndsEarly how table names input fault old new = (fault ≡ Shortage OutOfMemory) × Keeps old new
 
 abbrev pub RefusesServing : (List ℕ → Held) → Option (List ℕ) → ServeTask → Fault → Option (List ℕ)
     → Option (List ℕ) → Type 0

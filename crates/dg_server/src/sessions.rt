@@ -87,8 +87,8 @@ where
     I: Read,
     O: Write,
     requires row { row ≡ N.cells }
-    requires start { table.now.start ≡ N.start }
-    requires seats { seats ≡ N.seats }
+    requires start { table.now.start ≡ N.table.start }
+    requires seats { seats ≡ N.table.seats }
     requires some { MayHaveSeats seats }
     requires workers { MayHaveWorkers workers }
     ensures done { OnOk result ((count : ℕ)

@@ -28,9 +28,10 @@ use Rattle.dg_session.specs.Saying.{Gains, AnswersCommand, AnswersLine}
 use Rattle.dg_session.specs.Refusing.{RefusesLine}
 use Rattle.dg_session.specs.declared.ends.SessionEnd.{SessionEnd}
 use Rattle.dg_session.specs.declared.ends.SessionEnd.TheVariants.{Table, Memory, Spawn}
+use Rattle.dg_log.specs.Tables.{TableData}
 
-pub history_none : (o : StartData) (n cap : ℕ) → IsHistoryOf o n cap []
-history_none o n cap = record { legal = legal_none o; few = omega arith; seated = λ k e at. absurd (cc) }
+pub history_none : (table : TableData) → IsHistoryOf table []
+history_none table = record { legal = legal_none table.start; few = omega arith; seated = λ k e at. absurd (cc) }
 
 pub ascend_from : (a b : ℕ) (ps : List (ℕ × Entry)) → a ≤ b → AscendFrom b ps → AscendFrom a ps
 ascend_from a b [] few up = tt

@@ -27,6 +27,7 @@ use Rattle.dg_session.specs.declared.ends.SessionEnd.{SessionEnd}
 use Rattle.dg_session.specs.declared.ends.SessionEnd.TheVariants.{Table}
 use Rattle.dg_session.proofs.Coming.{below_stand, stand_on}
 use Rattle.dg_session.proofs.InOrder.{calls_of, get_set, fits_all}
+use Rattle.dg_log.specs.Tables.{TableData}
 use Rattle.std.specs.Io.KnownBytes.{IsAtEnd}
 
 few_between : (a b : ℕ) (ps : List (ℕ × Entry)) → AscendFrom a ps → AreBelow b ps → a ≤ b → a + length ps ≤ b
@@ -94,22 +95,22 @@ number_at xs ys i y same fresh at = there xs i (i + 1) fresh
     there (x ∷ xs) zero m fresh at = sym (same_Some _ _ at) ∙ fresh x refl
     there (x ∷ xs) (suc i) m fresh at = there xs i m fresh at
 
-pub calls_all : {o : StartData} {n cap : ℕ} {H : List Entry} (xs ys : List SeatView) → AreFresh n xs
-    → map (λ (x : SeatView). x.number) ys ≡ map (λ (x : SeatView). x.number) xs → IsClosed o n cap ys H
+pub calls_all : {table : TableData} {H : List Entry} (xs ys : List SeatView) → AreFresh table.seats xs
+    → map (λ (x : SeatView). x.number) ys ≡ map (λ (x : SeatView). x.number) xs → IsClosed table ys H
     → calls_of ys ≡ length H
-calls_all {o} {n} {cap} {H} xs ys fresh same closed =
+calls_all {table} {H} xs ys fresh same closed =
     let number : SeatView → ℕ = λ x. x.number in
     let mine : SeatView → ℕ = λ x. length x.mine in
-    let size : length ys ≡ n = sym (length-map ys number) ∙ ap length same ∙ length-map xs number ∙ fresh.count in
-    sym (calls_sum ys) ∙ seats_counted n (map mine ys) H (length-map ys mine ∙ size)
+    let size : length ys ≡ table.seats = sym (length-map ys number) ∙ ap length same ∙ length-map xs number ∙ fresh.count in
+    sym (calls_sum ys) ∙ seats_counted table.seats (map mine ys) H (length-map ys mine ∙ size)
     (λ i below. get_count ys i (length (entries_of (i + 1) H)) (omega (arith, below, size)) (λ y at.
     ap length (sym (closed.held i y at).mine)
     ∙ ap (λ s. length (entries_of s H)) (number_at xs ys i y same (λ x there. fresh.number i x there) at)))
     closed.history.seated
 
-pub entered_all : {t : Setup} {o : StartData} {n cap : ℕ} {input rest old new : Option (List ℕ)} {xs ys : List SeatView}
-    {result : Result ℕ SessionEnd} {H : List Entry} (over : IsOver t input rest old new xs ys result) → AreFresh n xs
-    → map (λ (x : SeatView). x.number) ys ≡ map (λ (x : SeatView). x.number) xs → IsClosed o n cap ys H
+pub entered_all : {t : Setup} {table : TableData} {input rest old new : Option (List ℕ)} {xs ys : List SeatView}
+    {result : Result ℕ SessionEnd} {H : List Entry} (over : IsOver t input rest old new xs ys result) → AreFresh table.seats xs
+    → map (λ (x : SeatView). x.number) ys ≡ map (λ (x : SeatView). x.number) xs → IsClosed table ys H
     → over.end.entered ≡ enumerate_from 0 H
 entered_all {t} {rest = rest} {xs = xs} {ys} {result} {H} over fresh same closed =
     let fits = fits_all t (IsAtEnd rest) over.stream over.told over.last (over.told ++ over.last) xs over.middle over.after

@@ -49,6 +49,7 @@ use Rattle.dg_session.specs.Speakers.{kept_number}
 use Rattle.dg_session.specs.Refusing.{CallsTable, RefusesCommand}
 use Rattle.dg_session.specs.Setup.{Setup}
 use Rattle.dg_session.specs.SoFar.{Speaker, Tells, Obeys}
+use Rattle.dg_log.specs.Tables.{TableData}
 
 pub gains_none : (x y : SeatView) → Keeps x y → Gains x y []
 gains_none x y keeps = record {
@@ -75,12 +76,12 @@ pub record Stands (o : StartData) (request : Request) (r : ℕ × Entry) (x y : 
   pub sized : HasSize o.graph.size r.1.reply
   pub gained : Gains x y (r ∷ [])
 
-pub entry_made : (o : StartData) (seats cap : ℕ) (H : List Entry) (request : Request) (known heard : List (ℕ × Entry))
+pub entry_made : (table : TableData) (H : List Entry) (request : Request) (known heard : List (ℕ × Entry))
     (r : ℕ × Entry) (x y : SeatView)
-    → known ≡ x.told ++ heard → IsEnteredAfter o seats cap H request known r x y → Stands o request r x y
-entry_made o seats cap H request known heard r x y told e = record {
+    → known ≡ x.told ++ heard → IsEnteredAfter table H request known r x y → Stands table.start request r x y
+entry_made table H request known heard r x y told e = record {
   asked' = e.request';
-  sized = legal_sized o (H ++ r.1 ∷ []) (length H) r.1 e.history.legal (slice_get-seam H r.1 []);
+  sized = legal_sized table.start (H ++ r.1 ∷ []) (length H) r.1 e.history.legal (slice_get-seam H r.1 []);
   gained = record {
     number = e.number;
     mine = e.mine;
@@ -99,36 +100,36 @@ entry_made o seats cap H request known heard r x y told e = record {
   };
 }
 
-pub call_made : {o : StartData} {seats cap : ℕ} {request : Request} {r : ℕ × Entry} {x y : SeatView}
-    → IsAnswered o seats cap request r x y → Stands o request r x y
-call_made {o} {seats} {cap} {request} {r} {x} {y} answered = entry_made o seats cap answered.0 request x.told [] r x y
+pub call_made : {table : TableData} {request : Request} {r : ℕ × Entry} {x y : SeatView}
+    → IsAnswered table request r x y → Stands table.start request r x y
+call_made {table} {request} {r} {x} {y} answered = entry_made table answered.0 request x.told [] r x y
     (sym (append-nil x.told)) answered.1
 
-pub settled_made : {o : StartData} {seats cap : ℕ} {look found : LookView} {f : Finding} {r : ℕ × Entry}
-    {x y : SeatView} → found ≡ look → IsTaken o look
-    → IsSettled o seats cap found.receipt found.shown f r x y → Stands o (asked_for look.receipt.0 f) r x y
-settled_made {o} {seats} {cap} {look} {found} {f} {r} {x} {y} same taken settled =
+pub settled_made : {table : TableData} {look found : LookView} {f : Finding} {r : ℕ × Entry}
+    {x y : SeatView} → found ≡ look → IsTaken table.start look
+    → IsSettled table found.receipt found.shown f r x y → Stands table.start (asked_for look.receipt.0 f) r x y
+settled_made {table} {look} {found} {f} {r} {x} {y} same taken settled =
     let of = rw same at settled.1 in
-    subst (λ i. Stands o (asked_for i f) r x y) taken.look.number
-    (entry_made o seats cap settled.0 (asked_for look.shown.number f) _ (look.receipt ∷ []) r x y refl of.entered)
+    subst (λ i. Stands table.start (asked_for i f) r x y) taken.look.number
+    (entry_made table settled.0 (asked_for look.shown.number f) _ (look.receipt ∷ []) r x y refl of.entered)
 
-pub stale_made : {o : StartData} {seats cap : ℕ} {look : LookView} {r : ℕ × Entry} {x y : SeatView} (asks : Question)
-    → IsTaken o look → IsStale o seats cap look.receipt look.shown asks r x y
-    → Stands o (asked_on look.receipt.0 asks) r x y
-stale_made {o} {seats} {cap} {look} {r} {x} {y} asks taken stale =
-    subst (λ i. Stands o (asked_on i asks) r x y) taken.look.number
-    (entry_made o seats cap stale.0 (asked_on look.shown.number asks) _ (look.receipt ∷ []) r x y refl stale.1.entered)
+pub stale_made : {table : TableData} {look : LookView} {r : ℕ × Entry} {x y : SeatView} (asks : Question)
+    → IsTaken table.start look → IsStale table look.receipt look.shown asks r x y
+    → Stands table.start (asked_on look.receipt.0 asks) r x y
+stale_made {table} {look} {r} {x} {y} asks taken stale =
+    subst (λ i. Stands table.start (asked_on i asks) r x y) taken.look.number
+    (entry_made table stale.0 (asked_on look.shown.number asks) _ (look.receipt ∷ []) r x y refl stale.1.entered)
 
 degree_kept : (look : LookView) (k w : ℕ) (v : RankVerdict) → IsTried look k w v → degree_of v ≡ k
 degree_kept look k w (AtLeast j) tried = tried.right.0
 degree_kept look k w (Below j d) tried = tried.right.0
 
-pub rank_made : {o : StartData} {seats cap : ℕ} {look found : LookView} {k w : ℕ} {v : RankVerdict} {r : ℕ × Entry}
-    {x y : SeatView} → found ≡ look → IsTaken o look
-    → IsTried look k w v → IsSettled o seats cap found.receipt found.shown (Ranked v) r x y
-    → Stands o (RankRequest look.receipt.0 k) r x y
-rank_made {o} {seats} {cap} {look} {found} {k} {w} {v} {r} {x} {y} same taken tried settled =
-    subst (λ d. Stands o (RankRequest look.receipt.0 d) r x y) (degree_kept look k w v tried)
+pub rank_made : {table : TableData} {look found : LookView} {k w : ℕ} {v : RankVerdict} {r : ℕ × Entry}
+    {x y : SeatView} → found ≡ look → IsTaken table.start look
+    → IsTried look k w v → IsSettled table found.receipt found.shown (Ranked v) r x y
+    → Stands table.start (RankRequest look.receipt.0 k) r x y
+rank_made {table} {look} {found} {k} {w} {v} {r} {x} {y} same taken tried settled =
+    subst (λ d. Stands table.start (RankRequest look.receipt.0 d) r x y) (degree_kept look k w v tried)
     (settled_made {f = Ranked v} same taken settled)
 
 pub rank_within : {o : StartData} {look : LookView} {k : ℕ} → IsTaken o look → IsWithin look.shown.graph.size k

@@ -21,7 +21,7 @@
 --                            become the rest. The lines of `told` are answered with what was said,
 --                            and then those of `last` with the text; these have no more bytes than
 --                            one read and one line. What they enter comes in their order
---   IsSessionOf how o seats cap names .. == so is one at a table, after which each seat has found a
+--   IsSessionOf how table names .. == so is one at a table, after which each seat has found a
 --                            history of the table, and has its number
 --   IsSession ..          == that of one seat, whose lines name none
 use Rattle.std.specs.Prelude.{◌≡◌, ℕ, ◌+◌, ◌<◌, ◌≤◌, ◌⊎◌, List, [], ◌∷◌, ◌++◌, length, slice_get, Option, Some, All, map, flat_map, Result, Ok, Err}
@@ -42,6 +42,7 @@ use Rattle.dg_session.specs.declared.line_format.LineFormat.TheVariants.{OneSeat
 use Rattle.dg_session.specs.declared.ends.TheConstants.{MAX_LINE, MAX_LINES, READ_SIZE}
 use Rattle.dg_session.specs.declared.ends.SessionEnd.{SessionEnd}
 use Rattle.dg_session.specs.declared.ends.SessionEnd.TheVariants.{Read, Write, LongLine, Turns, Memory}
+use Rattle.dg_log.specs.Tables.{TableData}
 
 unfoldable pub Answers : Setup → Speakers → List (List ℕ) → Speakers → List ℕ → Type 0
 Answers t s [] z text = (z ≡ s) × (text ≡ [])
@@ -108,14 +109,14 @@ pub record IsOver (t : Setup) (input rest old new : Option (List ℕ)) (xs ys : 
   pub seats : end.seats ≡ ys
   pub order : AreInOrder end
 
-pub record IsSessionOf (how : LineFormat) (o : StartData) (seats cap : ℕ) (names : List (List ℕ))
+pub record IsSessionOf (how : LineFormat) (table : TableData) (names : List (List ℕ))
     (input rest old new : Option (List ℕ)) (xs ys : List SeatView)
     (result : Result ℕ SessionEnd) : Type 0 where
-  pub over : IsOver (setup how o seats cap names) input rest old new xs ys result
-  pub found : All (HasPast o seats cap) ys
+  pub over : IsOver (setup how table names) input rest old new xs ys result
+  pub found : All (HasPast table) ys
   pub numbers : map (λ (y : SeatView). y.number) ys ≡ map (λ (x : SeatView). x.number) xs
 
-abbrev pub IsSession : StartData → ℕ → ℕ → List (List ℕ) → Option (List ℕ) → Option (List ℕ)
+abbrev pub IsSession : TableData → List (List ℕ) → Option (List ℕ) → Option (List ℕ)
     → Option (List ℕ) → Option (List ℕ) → SeatView → SeatView → Result ℕ SessionEnd → Type 0
-IsSession o seats cap names input rest old new x y result =
-    IsSessionOf OneSeat o seats cap names input rest old new (x ∷ []) (y ∷ []) result
+IsSession table names input rest old new x y result =
+    IsSessionOf OneSeat table names input rest old new (x ∷ []) (y ∷ []) result

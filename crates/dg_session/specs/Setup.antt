@@ -4,6 +4,7 @@
 use Rattle.std.specs.Prelude.{ℕ, List}
 use Rattle.dg_chips.specs.Starts.{StartData}
 use Rattle.dg_session.specs.declared.line_format.LineFormat.{LineFormat}
+use Rattle.dg_log.specs.Tables.{TableData}
 
 pub record Setup : Type 0 where
   pub how : LineFormat
@@ -12,6 +13,6 @@ pub record Setup : Type 0 where
   pub cap : ℕ
   pub names : List (List ℕ)
 
-abbrev pub setup : LineFormat → StartData → ℕ → ℕ → List (List ℕ) → Setup
-setup how o seats cap names =
-    record { how = how; opening = o; seats = seats; cap = cap; names = names }
+abbrev pub setup : LineFormat → TableData → List (List ℕ) → Setup
+setup how table names =
+    record { how = how; opening = table.start; table.seats = table.seats; table.capacity = table.capacity; names = names }

@@ -29,7 +29,7 @@ pub(crate) struct Shared<'a, N: Name, R: Threads + Wait> {
     pub(crate) names: &'a Names,
     pub(crate) workers: u32,
     pub(crate) how: LineFormat,
-    ghost named: { length names.now ≡ N.start.graph.size },
+    ghost named: { length names.now ≡ N.table.start.graph.size },
     ghost helped: { MayHaveWorkers workers },
 }
 
@@ -98,7 +98,7 @@ pub(crate) fn answer_seat<N: Name, R: Threads + Wait>(
     seat: &mut Seat<N>,
     line: &[u8],
 ) -> Result<(), SessionEnd>
-    ensures { Hears (setup shared.now.how N.start N.seats (length N.cells) shared.now.names.now)
+    ensures { Hears (setup shared.now.how N.table shared.now.names.now)
         line.now (speaker seat.old kept.old said.old) (speaker seat.new kept.new said.new) result }
 {
     match parse_line(line, shared.names) {
@@ -116,7 +116,7 @@ fn obey<N: Name, R: Threads + Wait>(
     seat: &mut Seat<N>,
     command: &Command,
 ) -> Result<(), SessionEnd>
-    ensures { Obeys (setup shared.now.how N.start N.seats (length N.cells) shared.now.names.now)
+    ensures { Obeys (setup shared.now.how N.table shared.now.names.now)
         command.now (speaker seat.old kept.old said.old) (speaker seat.new kept.new said.new) result }
 {
     match command {
@@ -138,7 +138,7 @@ fn take_look<N: Name, R: Threads + Wait>(
     said: &mut Said,
     seat: &mut Seat<N>,
 ) -> Result<(), SessionEnd>
-    ensures { Obeys (setup shared.now.how N.start N.seats (length N.cells) shared.now.names.now)
+    ensures { Obeys (setup shared.now.how N.table shared.now.names.now)
         (Call Plain.Look) (speaker seat.old kept.old said.old)
         (speaker seat.new kept.new said.new) result }
 {
@@ -163,7 +163,7 @@ fn call<N: Name, R: Threads + Wait>(
     plain: &Plain,
 ) -> Result<(), SessionEnd>
     requires { plain.now ≢ Plain.Look }
-    ensures { Obeys (setup shared.now.how N.start N.seats (length N.cells) shared.now.names.now)
+    ensures { Obeys (setup shared.now.how N.table shared.now.names.now)
         (Call plain.now) (speaker seat.old kept.old said.old) (speaker seat.new kept.new said.new)
         result }
 {
@@ -180,7 +180,7 @@ fn enter_verdict<N: Name, R: Threads + Wait>(
     said: &mut Said,
     seat: &mut Seat<N>,
 ) -> Result<(), SessionEnd>
-    ensures { Obeys (setup shared.now.how N.start N.seats (length N.cells) shared.now.names.now)
+    ensures { Obeys (setup shared.now.how N.table shared.now.names.now)
         Commit (speaker seat.old kept.old said.old) (speaker seat.new kept.new said.new) result }
 {
     if let Some(look) = kept {
@@ -211,7 +211,7 @@ fn reckon_verdict<N: Name, R: Threads + Wait>(
     said: &mut Said,
     seat: &mut Seat<N>,
 ) -> Result<(), SessionEnd>
-    ensures { Obeys (setup shared.now.how N.start N.seats (length N.cells) shared.now.names.now)
+    ensures { Obeys (setup shared.now.how N.table shared.now.names.now)
         Commit (speaker seat.old kept.old said.old) (speaker seat.new kept.new said.new) result }
 {
     let Some(look) = kept else {
@@ -243,7 +243,7 @@ fn enter_rank<N: Name, R: Threads + Wait>(
     seat: &mut Seat<N>,
     k: u32,
 ) -> Result<(), SessionEnd>
-    ensures { Obeys (setup shared.now.how N.start N.seats (length N.cells) shared.now.names.now)
+    ensures { Obeys (setup shared.now.how N.table shared.now.names.now)
         (Rank k) (speaker seat.old kept.old said.old) (speaker seat.new kept.new said.new) result }
 {
     if let Some(look) = kept
@@ -277,7 +277,7 @@ fn try_kept<N: Name, R: Threads + Wait>(
     seat: &mut Seat<N>,
     k: u32,
 ) -> Result<(), SessionEnd>
-    ensures { Obeys (setup shared.now.how N.start N.seats (length N.cells) shared.now.names.now)
+    ensures { Obeys (setup shared.now.how N.table shared.now.names.now)
         (Rank k) (speaker seat.old kept.old said.old) (speaker seat.new kept.new said.new) result }
 {
     let Some(look) = kept.take() else {

@@ -23,7 +23,7 @@ impl<N: Name> Model for Course<N> {
 
     ghost view = { λ c. record { latest = c.latest; entered = c.entered } };
 
-    ghost invariant = { λ c. IsHistoryOf N.start N.seats (length N.cells) c.latest };
+    ghost invariant = { λ c. IsHistoryOf N.table c.latest };
 }
 
 impl<N: Name> Course<N> {

@@ -38,9 +38,9 @@ pub fn serve<N: Name, R: Threads + Wait, I: Read, O: Write>(
     writer: &mut Output<O>,
     workers: u32,
 ) -> Result<u32, SessionEnd>
-    requires names { length names.now ≡ N.start.graph.size }
+    requires names { length names.now ≡ N.table.start.graph.size }
     requires workers { MayHaveWorkers workers }
-    ensures session { IsSession N.start N.seats (length N.cells) names.now reader.old.remaining
+    ensures session { IsSession N.table names.now reader.old.remaining
         reader.new.remaining writer.old.contents writer.new.contents seat.old seat.new result }
     ensures read { result ≡ Err SessionEnd.Read → reader.new.has_failed ≡ true }
     ensures write { result ≡ Err SessionEnd.Write → writer.new.has_failed ≡ true }
@@ -71,10 +71,10 @@ pub fn serve_seats<N: Name, R: Threads + Wait, I: Read, O: Write>(
     workers: u32,
     how: LineFormat,
 ) -> Result<u32, SessionEnd>
-    requires names { length names.now ≡ N.start.graph.size }
+    requires names { length names.now ≡ N.table.start.graph.size }
     requires workers { MayHaveWorkers workers }
     requires some { 1 ≤ length seats.old }
-    ensures session { IsSessionOf how N.start N.seats (length N.cells) names.now
+    ensures session { IsSessionOf how N.table names.now
         reader.old.remaining reader.new.remaining writer.old.contents writer.new.contents seats.old
         seats.new result }
     ensures read { result ≡ Err SessionEnd.Read → reader.new.has_failed ≡ true }
@@ -103,9 +103,9 @@ pub fn serve_unheard<N: Name, R: Threads + Wait, I: Read>(
     reader: &mut Input<I>,
     workers: u32,
 ) -> Result<u32, SessionEnd>
-    requires names { length names.now ≡ N.start.graph.size }
+    requires names { length names.now ≡ N.table.start.graph.size }
     requires workers { MayHaveWorkers workers }
-    ensures session { IsSession N.start N.seats (length N.cells) names.now reader.old.remaining
+    ensures session { IsSession N.table names.now reader.old.remaining
         reader.new.remaining None None seat.old seat.new result }
     ensures read { result ≡ Err SessionEnd.Read → reader.new.has_failed ≡ true }
     ensures write { result ≢ Err SessionEnd.Write }
@@ -127,7 +127,7 @@ pub fn serve_unheard<N: Name, R: Threads + Wait, I: Read>(
 
 /// Each seat has found a history of its table. Nothing is done.
 fn have_prefixes<N: Name>(seats: &[Seat<N>])
-    ensures { All (HasPast N.start N.seats (length N.cells)) seats.now }
+    ensures { All (HasPast N.table) seats.now }
 {
     for seat in seats {
         let _past = seat.prefix();
@@ -146,7 +146,7 @@ fn serve_lines<N: Name, R: Threads + Wait, I: Read, O: Write>(
     requires said { IsSaid (heard text) [] }
     requires unknown { heard text ≡ None → writer.old.contents ≡ None }
     ensures session { IsOver
-        (setup shared.now.how N.start N.seats (length N.cells) shared.now.names.now)
+        (setup shared.now.how N.table shared.now.names.now)
         reader.old.remaining reader.new.remaining writer.old.contents writer.new.contents
         seats.old seats.new result }
     ensures read { result ≡ Err SessionEnd.Read → reader.new.has_failed ≡ true }

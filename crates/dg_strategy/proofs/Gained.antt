@@ -22,6 +22,7 @@ use Rattle.dg_strategy.specs.Choices.{Choosing}
 use Rattle.dg_strategy.specs.Plays.{IsTurnBy, IsMove, AreMoves, Gains, IsPlayedOut, IsClaimed, IsPlayed, IsStopped}
 use Rattle.dg_strategy.specs.declared.playing.Ended.{Ended}
 use Rattle.dg_strategy.specs.declared.playing.Ended.TheVariants.{Settled, Turns}
+use Rattle.dg_log.specs.Tables.{TableData}
 
 -- the seat y is the seat x with the entries es
 pub record Left (x : SeatView) (es : List (ℕ × Entry)) (y : SeatView) : Type 0 where
@@ -29,22 +30,22 @@ pub record Left (x : SeatView) (es : List (ℕ × Entry)) (y : SeatView) : Type 
   pub mine : y.mine ≡ x.mine ++ es
   pub told : y.told ≡ x.told
 
-pub left_by : (A : Choosing) (o : StartData) (seats cap : ℕ) (x : SeatView) (es : List (ℕ × Entry)) (y : SeatView) →
-    FoldsTo (IsTurnBy A o seats cap) x es y → Left x es y
-left_by A o seats cap x [] y same =
+pub left_by : (A : Choosing) (table : TableData) (x : SeatView) (es : List (ℕ × Entry)) (y : SeatView) →
+    FoldsTo (IsTurnBy A table) x es y → Left x es y
+left_by A table x [] y same =
     subst (Left x []) same (record { number = refl; mine = sym (append-nil x.mine); told = refl })
-left_by A o seats cap x (r ∷ es) y (z, turn, rest) =
-    let left = left_by A o seats cap z es y rest in
+left_by A table x (r ∷ es) y (z, turn, rest) =
+    let left = left_by A table z es y rest in
     record {
       number = left.number ∙ turn.answered.number;
       mine = left.mine ∙ ap (λ ps. ps ++ es) turn.answered.mine ∙ append_assoc x.mine (r ∷ []) es;
       told = left.told ∙ turn.answered.told;
     }
 
-pub gained_by : (A : Choosing) (o : StartData) (seats cap : ℕ) (x : SeatView) (es : List (ℕ × Entry)) (y z : SeatView) →
-    FoldsTo (IsTurnBy A o seats cap) x es y → Keeps y z → Gains (IsTurnBy A o seats cap) x es z
-gained_by A o seats cap x es y z steps kept =
-    let left = left_by A o seats cap x es y steps in
+pub gained_by : (A : Choosing) (table : TableData) (x : SeatView) (es : List (ℕ × Entry)) (y z : SeatView) →
+    FoldsTo (IsTurnBy A table) x es y → Keeps y z → Gains (IsTurnBy A table) x es z
+gained_by A table x es y z steps kept =
+    let left = left_by A table x es y steps in
     record {
       last = y;
       steps = steps;
@@ -61,8 +62,8 @@ moves_more (p ∷ es) r moves move = (moves.0, moves_more es r moves.1 move)
 keeps_itself : (x : SeatView) → Keeps x x
 keeps_itself x = record { number = refl; mine = refl; told = refl; past = refl; met = ([], sym (append-nil x.met)) }
 
-module _ (A : Choosing) (o : StartData) (seats cap : ℕ) where
-  pub a_move : (x : SeatView) (r : ℕ × Entry) (y : SeatView) → IsTurnBy A o seats cap x r y → ¬ (r.1.request ≡ Claim) →
+module _ (A : Choosing) (table : TableData) where
+  pub a_move : (x : SeatView) (r : ℕ × Entry) (y : SeatView) → IsTurnBy A table x r y → ¬ (r.1.request ≡ Claim) →
       IsMove r.1.request
   a_move x r y turn other = asks turn.answer turn.answered.request'
     where
@@ -72,22 +73,22 @@ module _ (A : Choosing) (o : StartData) (seats cap : ℕ) where
 
   -- what turns that are moves leave of a seat, and how many they are
   abbrev pub Moved : SeatView → SeatView → ℕ → Type 0
-  Moved x y n = (es : List (ℕ × Entry)) × FoldsTo (IsTurnBy A o seats cap) x es y × AreMoves es × (length es ≡ n)
+  Moved x y n = (es : List (ℕ × Entry)) × FoldsTo (IsTurnBy A table) x es y × AreMoves es × (length es ≡ n)
 
-  pub one_more : (x y z : SeatView) (r : ℕ × Entry) (n : ℕ) → Moved x y n → IsTurnBy A o seats cap y r z →
+  pub one_more : (x y z : SeatView) (r : ℕ × Entry) (n : ℕ) → Moved x y n → IsTurnBy A table y r z →
       ¬ (r.1.request ≡ Claim) → Moved x z (n + 1)
   one_more x y z r n (es, steps, moves, count) turn other = (
     es ++ r ∷ [],
-    FoldsTo-push (IsTurnBy A o seats cap) x es y r z steps turn,
+    FoldsTo-push (IsTurnBy A table) x es y r z steps turn,
     moves_more es r moves (a_move y r z turn other),
     omega (arith, count, length-append es (r ∷ [])),
   )
 
-  pub claimed_by : (x y z : SeatView) (r : ℕ × Entry) (i n : ℕ) → Moved x y i → i < n → IsTurnBy A o seats cap y r z →
-      r.1.request ≡ Claim → IsClaimed (IsTurnBy A o seats cap) n x z r
+  pub claimed_by : (x y z : SeatView) (r : ℕ × Entry) (i n : ℕ) → Moved x y i → i < n → IsTurnBy A table y r z →
+      r.1.request ≡ Claim → IsClaimed (IsTurnBy A table) n x z r
   claimed_by x y z r i n (es, steps, moves, count) few turn claim = record {
     entries = es;
-    gained = gained_by A o seats cap x (es ++ r ∷ []) z z (FoldsTo-push (IsTurnBy A o seats cap) x es y r z steps turn)
+    gained = gained_by A table x (es ++ r ∷ []) z z (FoldsTo-push (IsTurnBy A table) x es y r z steps turn)
         (keeps_itself z);
     moves = moves;
     few = omega (arith, count, few);
@@ -95,19 +96,19 @@ module _ (A : Choosing) (o : StartData) (seats cap : ℕ) where
   }
 
   pub stopped_by : (i n : ℕ) (x y z : SeatView) (fault : Fault) → Moved x y i → i < n → Keeps y z →
-      RefusesCall o seats cap z fault → IsStopped (IsTurnBy A o seats cap) o seats cap n x z fault
+      RefusesCall table z fault → IsStopped (IsTurnBy A table) table n x z fault
   stopped_by i n x y z fault (es, steps, moves, count) few kept refused = record {
     entries = es;
-    gained = gained_by A o seats cap x es y z steps kept;
+    gained = gained_by A table x es y z steps kept;
     moves = moves;
     few = omega (arith, count, few);
     refused = refused;
   }
 
-  pub played_out : (n : ℕ) (x y : SeatView) → Moved x y n → IsPlayedOut (IsTurnBy A o seats cap) n x y
+  pub played_out : (n : ℕ) (x y : SeatView) → Moved x y n → IsPlayedOut (IsTurnBy A table) n x y
   played_out n x y (es, steps, moves, count) = record {
     entries = es;
-    gained = gained_by A o seats cap x es y y steps (keeps_itself y);
+    gained = gained_by A table x es y y steps (keeps_itself y);
     moves = moves;
     count = count;
   }
@@ -144,9 +145,9 @@ module _ (T S : SeatView → ℕ × Entry → SeatView → Type 0)
     count = played.count;
   }
 
-  pub stopped_as : (o : StartData) (seats cap n : ℕ) (x y : SeatView) (fault : Fault) →
-      IsStopped T o seats cap n x y fault → IsStopped S o seats cap n x y fault
-  stopped_as o seats cap n x y fault stopped = record {
+  pub stopped_as : (table : TableData) (n : ℕ) (x y : SeatView) (fault : Fault) →
+      IsStopped T table n x y fault → IsStopped S table n x y fault
+  stopped_as table n x y fault stopped = record {
     entries = stopped.entries;
     gained = gained_as x stopped.entries y stopped.gained;
     moves = stopped.moves;

@@ -24,6 +24,7 @@ use Rattle.dg_strategy.specs.Greedy.{IsGreedyCall, AreGreedy, AllMoves, IsGreedy
 use Rattle.dg_strategy.specs.Plays.{IsSettlerTurn, IsMove, AreMoves, Gains, IsPlayed, is_settled}
 use Rattle.dg_strategy.specs.declared.playing.Ended.{Ended}
 use Rattle.dg_strategy.specs.declared.playing.Ended.TheVariants.{Settled, Turns}
+use Rattle.dg_log.specs.Tables.{TableData}
 
 -- what the greedy settler may answer
 abbrev pub greedily : Choosing
@@ -60,11 +61,11 @@ alone s K ps own count =
     ap length own ∙ count ∙ sym (length-enumerate_from 0 K) in
     sym (entries_enumerated 0 K) ∙ ap entries (sym (filter_whole P (enumerate_from 0 K) all) ∙ own)
 
-greedy_along : (o : StartData) (seats cap n : ℕ) (x : SeatView) (H : List Entry) (last : SeatView) → x.number ≡ 1 →
+greedy_along : (table : TableData) (n : ℕ) (x : SeatView) (H : List Entry) (last : SeatView) → x.number ≡ 1 →
     length x.mine ≡ n →
-    FoldsTo (IsSettlerTurn greedily o seats cap) x (enumerate_from n H) last → AreGreedy o (entries x.mine) H
-greedy_along o seats cap n x [] last one count steps = tt
-greedy_along o seats cap n x (e ∷ H) last one count (z, step, rest) =
+    FoldsTo (IsSettlerTurn greedily table) x (enumerate_from n H) last → AreGreedy table.start (entries x.mine) H
+greedy_along table n x [] last one count steps = tt
+greedy_along table n x (e ∷ H) last one count (z, step, rest) =
     let turn = step.strategy.turn in
     let answered = turn.answered in
     let place : n ≡ length turn.history = answered.place in
@@ -77,7 +78,7 @@ greedy_along o seats cap n x (e ∷ H) last one count (z, step, rest) =
     let same : turn.history ≡ entries x.mine =
     append_cancel_right turn.history (entries x.mine) (e ∷ [])
     (alone z.number K z.mine answered.holds.mine whole ∙ known) in
-    let call : IsGreedyCall (position_after o turn.history) e.request = record {
+    let call : IsGreedyCall (position_after table.start turn.history) e.request = record {
       amounts = turn.amounts;
       shown = turn.shown;
       answer = turn.answer;
@@ -85,9 +86,9 @@ greedy_along o seats cap n x (e ∷ H) last one count (z, step, rest) =
       asked = answered.request';
     } in (
       answered.seat ∙ one,
-      subst (λ (L : List Entry). IsGreedyCall (position_after o L) e.request) same call,
-      subst (λ (L : List Entry). AreGreedy o L H) known
-          (greedy_along o seats cap (n + 1) z H last (answered.number ∙ one) more rest),
+      subst (λ (L : List Entry). IsGreedyCall (position_after table.start L) e.request) same call,
+      subst (λ (L : List Entry). AreGreedy table.start L H) known
+          (greedy_along table (n + 1) z H last (answered.number ∙ one) more rest),
     )
 
 moves_in : (es : List (ℕ × Entry)) → AreMoves es → AllMoves (entries es)
@@ -95,36 +96,36 @@ moves_in [] moves = tt
 moves_in (p ∷ es) moves = (moves.0, moves_in es moves.1)
 
 -- a claim by the settler is won
-claim_won : (o : StartData) (seats cap : ℕ) (x : SeatView) (es : List (ℕ × Entry)) (r : ℕ × Entry) (last : SeatView) →
-    FoldsTo (IsSettlerTurn greedily o seats cap) x (es ++ r ∷ []) last → r.1.request ≡ Claim → r.1.reply ≡ Won
-claim_won o seats cap x [] r last (z, step, same) claim = none step.strategy.turn.answer refl
+claim_won : (table : TableData) (x : SeatView) (es : List (ℕ × Entry)) (r : ℕ × Entry) (last : SeatView) →
+    FoldsTo (IsSettlerTurn greedily table) x (es ++ r ∷ []) last → r.1.request ≡ Claim → r.1.reply ≡ Won
+claim_won table x [] r last (z, step, same) claim = none step.strategy.turn.answer refl
   where
     none : (m : Option Move) → step.strategy.turn.answer ≡ m → r.1.reply ≡ Won
     none (Some m) is = absurd
         (subst IsMove (sym step.strategy.turn.answered.request' ∙ claim)
         (subst (λ a. IsMove (request_for a)) (sym is) tt))
     none None is = step.won is
-claim_won o seats cap x (p ∷ es) r last (z, step, rest) claim = claim_won o seats cap z es r last rest claim
+claim_won table x (p ∷ es) r last (z, step, rest) claim = claim_won table z es r last rest claim
 
-module _ (o : StartData) (seats cap n : ℕ) (x y : SeatView) (H : List Entry) (one : x.number ≡ 1) (fresh : x.mine ≡ [])
-    (legal : IsLegal o H) (seated : AreSeated 1 H) (held : Holds H y) where
-  numbered : (es : List (ℕ × Entry)) → Gains (IsSettlerTurn greedily o seats cap) x es y → es ≡ enumerate_from 0 H
+module _ (table : TableData) (n : ℕ) (x y : SeatView) (H : List Entry) (one : x.number ≡ 1) (fresh : x.mine ≡ [])
+    (legal : IsLegal table.start H) (seated : AreSeated 1 H) (held : Holds H y) where
+  numbered : (es : List (ℕ × Entry)) → Gains (IsSettlerTurn greedily table) x es y → es ≡ enumerate_from 0 H
   numbered es gained =
       let mine : y.mine ≡ es = gained.mine ∙ ap (λ ps. ps ++ es) fresh in
       let own : entries_of 1 H ≡ y.mine = subst (λ s. entries_of s H ≡ y.mine) (gained.number ∙ one) held.mine in
       sym mine ∙ sym own ∙ own_alone H seated
 
-  history_is : (es : List (ℕ × Entry)) → Gains (IsSettlerTurn greedily o seats cap) x es y → H ≡ entries es
+  history_is : (es : List (ℕ × Entry)) → Gains (IsSettlerTurn greedily table) x es y → H ≡ entries es
   history_is es gained = sym (entries_enumerated 0 H) ∙ ap entries (sym (numbered es gained))
 
-  greedy_whole : (es : List (ℕ × Entry)) → Gains (IsSettlerTurn greedily o seats cap) x es y → AreGreedy o [] H
+  greedy_whole : (es : List (ℕ × Entry)) → Gains (IsSettlerTurn greedily table) x es y → AreGreedy table.start [] H
   greedy_whole es gained =
-      subst (λ L. AreGreedy o L H) (ap entries fresh)
-      (greedy_along o seats cap 0 x H gained.last one (ap length fresh)
-      (subst (λ ps. FoldsTo (IsSettlerTurn greedily o seats cap) x ps gained.last) (numbered es gained) gained.steps))
+      subst (λ L. AreGreedy table.start L H) (ap entries fresh)
+      (greedy_along table 0 x H gained.last one (ap length fresh)
+      (subst (λ ps. FoldsTo (IsSettlerTurn greedily table) x ps gained.last) (numbered es gained) gained.steps))
 
-  pub greedy_game : {N : Type 0} (ended : Ended N) → IsPlayed (IsSettlerTurn greedily o seats cap) n x y ended →
-      IsGreedyGame o n H (is_settled ended)
+  pub greedy_game : {N : Type 0} (ended : Ended N) → IsPlayed (IsSettlerTurn greedily table) n x y ended →
+      IsGreedyGame table.start n H (is_settled ended)
   greedy_game Turns played =
       let is = history_is played.entries played.gained in
       record {
@@ -149,7 +150,7 @@ module _ (o : StartData) (seats cap n : ℕ) (x y : SeatView) (H : List Entry) (
           moves_in es played.moves,
           subst (λ k. k < n) (sym (length-map es (λ (p : ℕ × Entry). p.1))) played.few,
           played.claim,
-          claim_won o seats cap x es r played.gained.last played.gained.steps played.claim,
+          claim_won table x es r played.gained.last played.gained.steps played.claim,
         );
       }
 

@@ -26,6 +26,7 @@ use Rattle.dg_table.specs.Seats.{SeatView}
 use Rattle.dg_table.specs.Turns.{request_for}
 use Rattle.dg_strategy.specs.Choices.{Choosing, GivesMoves, SettlesDebts, BorrowsInDebt}
 use Rattle.dg_strategy.specs.Plays.{IsTurnBy, IsMove, IsMadeOrPastRange, IsStrategyTurn, IsSettlerTurn}
+use Rattle.dg_log.specs.Tables.{TableData}
 
 -- a move that can be made is refused for the range alone
 move_answered : (p : Position) (m : Move) (reply : Reply) → IsPlayable p.graph.size m → RepliesToMove p m reply →
@@ -68,32 +69,32 @@ settler_moves A settles g d m graph size may = borrows m (settles.moves g d m gr
     borrows m debt = absurd debt
 
 -- the graph that a turn finds is within the limits
-graph_found : (A : Choosing) (o : StartData) (seats cap : ℕ) (x : SeatView) (r : ℕ × Entry) (y : SeatView) →
-    IsGraph o.graph → (turn : IsTurnBy A o seats cap x r y) → IsGraph (position_after o turn.history).graph
-graph_found A o seats cap x r y graph turn =
-    graphs_hold o turn.history graph (legal_part o turn.history (r.1 ∷ []) turn.answered.history.legal)
+graph_found : (A : Choosing) (table : TableData) (x : SeatView) (r : ℕ × Entry) (y : SeatView) →
+    IsGraph table.start.graph → (turn : IsTurnBy A table x r y) → IsGraph (position_after table.start turn.history).graph
+graph_found A table x r y graph turn =
+    graphs_hold table.start turn.history graph (legal_part table.start turn.history (r.1 ∷ []) turn.answered.history.legal)
 
-module _ (A : Choosing) (o : StartData) (seats cap : ℕ) (opening : IsGraph o.graph) (x : SeatView) (r : ℕ × Entry)
+module _ (A : Choosing) (table : TableData) (opening : IsGraph table.start.graph) (x : SeatView) (r : ℕ × Entry)
     (y : SeatView) where
   -- the reply to what was answered, and what is known of it where the answer is a move that can be made
-  answered : (gives : GivesMoves A) (turn : IsTurnBy A o seats cap x r y) (m : Option Move) → turn.answer ≡ m →
+  answered : (gives : GivesMoves A) (turn : IsTurnBy A table x r y) (m : Option Move) → turn.answer ≡ m →
       (IsMove r.1.request → IsMadeOrPastRange r.1.reply) × (gift_counted r.1.reply ≡ 0)
   answered gives turn (Some m) is =
-      let graph = graph_found A o seats cap x r y opening turn in
+      let graph = graph_found A table x r y opening turn in
       let chosen = rw is at turn.chosen in
       let asked : r.1.request ≡ request.Move m = turn.answered.request' ∙ ap request_for is in
-      let replies : Replies o turn.history (request.Move m) r.1.reply =
-      subst (λ q. Replies o turn.history q r.1.reply) (ap request_for is) turn.answered.reply in
-      let playable = gives (position_after o turn.history).graph turn.amounts m graph turn.shown.size chosen in
-      let found = move_answered (position_after o turn.history) m r.1.reply playable replies in
+      let replies : Replies table.start turn.history (request.Move m) r.1.reply =
+      subst (λ q. Replies table.start turn.history q r.1.reply) (ap request_for is) turn.answered.reply in
+      let playable = gives (position_after table.start turn.history).graph turn.amounts m graph turn.shown.size chosen in
+      let found = move_answered (position_after table.start turn.history) m r.1.reply playable replies in
       ((λ move. found.0), found.1)
   answered gives turn None is =
       let asked : r.1.request ≡ request.Claim = turn.answered.request' ∙ ap request_for is in
-      let replies : Replies o turn.history request.Claim r.1.reply =
-      subst (λ q. Replies o turn.history q r.1.reply) (ap request_for is) turn.answered.reply in
-      ((λ move. absurd (subst IsMove asked move)), claim_answered (position_after o turn.history) r.1.reply replies)
+      let replies : Replies table.start turn.history request.Claim r.1.reply =
+      subst (λ q. Replies table.start turn.history q r.1.reply) (ap request_for is) turn.answered.reply in
+      ((λ move. absurd (subst IsMove asked move)), claim_answered (position_after table.start turn.history) r.1.reply replies)
 
-  pub strategy_turn : GivesMoves A → IsTurnBy A o seats cap x r y → IsStrategyTurn A o seats cap x r y
+  pub strategy_turn : GivesMoves A → IsTurnBy A table x r y → IsStrategyTurn A table x r y
   strategy_turn gives turn =
       let found = answered gives turn turn.answer refl in
       record {
@@ -102,18 +103,18 @@ module _ (A : Choosing) (o : StartData) (seats cap : ℕ) (opening : IsGraph o.g
         moved = found.0;
       }
 
-  pub settler_turn : SettlesDebts A → IsTurnBy A o seats cap x r y → IsSettlerTurn A o seats cap x r y
+  pub settler_turn : SettlesDebts A → IsTurnBy A table x r y → IsSettlerTurn A table x r y
   unfolding strategy_turn
   settler_turn settles turn =
-      let graph = graph_found A o seats cap x r y opening turn in
+      let graph = graph_found A table x r y opening turn in
       let kept = strategy_turn (settler_moves A settles) turn in
-      let p = position_after o turn.history in
+      let p = position_after table.start turn.history in
       let won : turn.answer ≡ None → r.1.reply ≡ Won = λ is.
       let chosen = rw is at turn.chosen in
       let effective : IsEffective p.graph.size (at turn.amounts) =
       settles.claims p.graph turn.amounts graph turn.shown.size chosen in
       let replies : RepliesToClaim p r.1.reply =
-      subst (λ q. Replies o turn.history q r.1.reply) (ap request_for is) turn.answered.reply in
+      subst (λ q. Replies table.start turn.history q r.1.reply) (ap request_for is) turn.answered.reply in
       claim_won p r.1.reply (λ v below. rw (← turn.shown.amounts v below) (effective v below)) replies in
       record {
         strategy = kept;

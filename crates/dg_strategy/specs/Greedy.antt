@@ -7,7 +7,7 @@
 --   AllMoves H                 == each of the entries H is a move
 --   EndsSo n H settled         == there are n entries, all moves; or, where it is settled, fewer
 --                                 moves than n, and then a claim that is won
---   IsGreedyGame o n H settled == the history H from the opening o is legal and greedy, and ends so
+--   IsGreedyGame o n H settled == the history H from the start o is legal and greedy, and ends so
 use Rattle.std.specs.Prelude.{◌≡◌, ℕ, ◌<◌, Bool, true, false, List, [], ◌∷◌, ◌++◌, length, Option, ⊤}
 use Rattle.dg_chips.specs.Starts.{StartData}
 use Rattle.dg_chips.specs.Vector.{Vector}

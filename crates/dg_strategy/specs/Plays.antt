@@ -1,23 +1,23 @@
 -- Playing as a choice says. A has what the choice may answer; x and y are a seat before and after;
--- o is the opening of the table, seats how many it has, and cap the number of entries that its
+-- o is the start of the table, seats how many it has, and cap the number of entries that its
 -- history may have. Each history of a turn begins with the one that the seat found at the turn
 -- before, and that turn's entry: so all turns are in one.
 --   IsMove request          == the request is a move
 --   AreMoves es             == each of the entries es is a move
---   IsTurnBy A o seats cap x r y      == after some history the seat x is answered with the receipt
+--   IsTurnBy A table x r y      == after some history the seat x is answered with the receipt
 --                                        r, and is then y: what it asked for is
 --                              what A has there
 --   IsMadeOrPastRange reply == the move was made, or refused only since an amount would have left
 --                              the range
---   IsStrategyTurn A o seats cap x r y == so it is; the gift count stays, and a move is answered so
---   IsSettlerTurn A o seats cap x r y == so it is; a move is a borrowing by a vertex in debt, and a
+--   IsStrategyTurn A table x r y == so it is; the gift count stays, and a move is answered so
+--   IsSettlerTurn A table x r y == so it is; a move is a borrowing by a vertex in debt, and a
 --                                        claim is won
 --   is_settled ended        == whether it ended with a claim
 --   Gains T x es y          == the seat gained the entries es, in order, each by a step of T, and
 --                              was told of nothing
 --   IsPlayed T n x y ended  == in n turns, all moves, the seat gained n entries; or in fewer, by
 --                              moves and then by the claim of the receipt, those entries
---   IsStopped T o seats cap n x y fault == after fewer than n turns, all moves, the next one was
+--   IsStopped T table n x y fault == after fewer than n turns, all moves, the next one was
 --                                          refused with the fault
 use Rattle.std.specs.Prelude.{◌≡◌, ℕ, ◌<◌, Bool, true, false, List, [], ◌∷◌, ◌++◌, length, Option, Some, None, ⊤}
 use Rattle.std.specs.List.{FoldsTo}
@@ -40,6 +40,7 @@ use Rattle.dg_table.specs.declared.fault.Fault.{Fault}
 use Rattle.dg_strategy.specs.Choices.{Choosing, BorrowsInDebt}
 use Rattle.dg_strategy.specs.declared.playing.Ended.{Ended}
 use Rattle.dg_strategy.specs.declared.playing.Ended.TheVariants.{Settled, Turns}
+use Rattle.dg_log.specs.Tables.{TableData}
 
 abbrev pub IsMove : Request → Type 0
 IsMove (request.Move m) = ⊤
@@ -49,29 +50,29 @@ abbrev pub AreMoves : List (ℕ × Entry) → Type 0
 AreMoves [] = ⊤
 AreMoves (p ∷ es) = IsMove p.1.request × AreMoves es
 
-pub record IsTurnBy (A : Choosing) (o : StartData) (seats cap : ℕ) (x : SeatView) (r : ℕ × Entry)
+pub record IsTurnBy (A : Choosing) (table : TableData) (x : SeatView) (r : ℕ × Entry)
     (y : SeatView) : Type 0 where
   pub history : List Entry
   pub amounts : Vector
   pub answer : Option Move
-  pub shown : Shows (position_after o history) amounts
-  pub chosen : A (position_after o history).graph amounts answer
-  pub answered : IsAnsweredAfter o seats cap history (request_for answer) r x y
+  pub shown : Shows (position_after table.start history) amounts
+  pub chosen : A (position_after table.start history).graph amounts answer
+  pub answered : IsAnsweredAfter table history (request_for answer) r x y
 
 abbrev pub IsMadeOrPastRange : Reply → Type 0
 IsMadeOrPastRange (Moved d) = ⊤
 IsMadeOrPastRange (Refused Range) = ⊤
 IsMadeOrPastRange reply = ⊥
 
-pub record IsStrategyTurn (A : Choosing) (o : StartData) (seats cap : ℕ) (x : SeatView)
+pub record IsStrategyTurn (A : Choosing) (table : TableData) (x : SeatView)
     (r : ℕ × Entry) (y : SeatView) : Type 0 where
-  pub turn : IsTurnBy A o seats cap x r y
+  pub turn : IsTurnBy A table x r y
   pub gifts : gifts_in (turn.history ++ r.1 ∷ []) ≡ gifts_in turn.history
   pub moved : IsMove r.1.request → IsMadeOrPastRange r.1.reply
 
-pub record IsSettlerTurn (A : Choosing) (o : StartData) (seats cap : ℕ) (x : SeatView) (r : ℕ × Entry)
+pub record IsSettlerTurn (A : Choosing) (table : TableData) (x : SeatView) (r : ℕ × Entry)
     (y : SeatView) : Type 0 where
-  pub strategy : IsStrategyTurn A o seats cap x r y
+  pub strategy : IsStrategyTurn A table x r y
   pub borrows : (m : Move) → strategy.turn.answer ≡ Some m → BorrowsInDebt strategy.turn.amounts m
   pub won : strategy.turn.answer ≡ None → r.1.reply ≡ Won
 
@@ -105,10 +106,10 @@ module _ (T : SeatView → ℕ × Entry → SeatView → Type 0) where
   IsPlayed n x y (Settled r) = IsClaimed n x y r
   IsPlayed n x y Turns = IsPlayedOut n x y
 
-  pub record IsStopped (o : StartData) (seats cap n : ℕ) (x y : SeatView)
+  pub record IsStopped (table : TableData) (n : ℕ) (x y : SeatView)
       (fault : Fault) : Type 0 where
     pub entries : List (ℕ × Entry)
     pub gained : Gains x entries y
     pub moves : AreMoves entries
     pub few : length entries < n
-    pub refused : RefusesCall o seats cap y fault
+    pub refused : RefusesCall table y fault

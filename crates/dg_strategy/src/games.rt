@@ -63,10 +63,10 @@ fn copied<N: Name>(
     turns: u32,
 ) -> Result<GreedyGame, Fault>
     requires row { row ≡ N.cells }
-    requires start { start.now ≡ N.start }
-    requires seats { count ≡ N.seats }
+    requires start { start.now ≡ N.table.start }
+    requires seats { count ≡ N.table.seats }
     requires one { count ≡ 1 }
-    ensures game { IfOk result (λ game. IsGreedyGame N.start turns game.history.items game.settled) }
+    ensures game { IfOk result (λ game. IsGreedyGame N.table.start turns game.history.items game.settled) }
     ensures refused { IfErr result (λ fault. fault ≢ Fault.Full) }
 {
     let GreedyTable { audit, settled } = greedy_on::<N>(rt, alloc, row, start, count, turns)?;
@@ -89,11 +89,11 @@ pub fn greedy_on<N: Name>(
     turns: u32,
 ) -> Result<GreedyTable<N>, Fault>
     requires row { row ≡ N.cells }
-    requires start { start.now ≡ N.start }
-    requires seats { count ≡ N.seats }
+    requires start { start.now ≡ N.table.start }
+    requires seats { count ≡ N.table.seats }
     requires one { count ≡ 1 }
     ensures game { IfOk result
-        (λ game. IsGreedyGame N.start turns game.audit.pen.entries game.settled) }
+        (λ game. IsGreedyGame N.table.start turns game.audit.pen.entries game.settled) }
     ensures refused { IfErr result (λ fault. fault ≢ Fault.Full) }
 {
     let (table, mut seats) = match Table::<N>::open(alloc, row, start, count) {

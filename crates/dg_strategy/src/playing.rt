@@ -51,10 +51,10 @@ pub fn play<N: Name, C: Choose + Drop>(
     turns: u32,
 ) -> Result<Ended<N>, Fault>
     ensures { MatchResult result
-        (IsPlayed (IsStrategyTurn (C.may_answer strategy.now) N.start N.seats (length N.cells))
+        (IsPlayed (IsStrategyTurn (C.may_answer strategy.now) N.table)
         turns seat.old seat.new)
-        (IsStopped (IsStrategyTurn (C.may_answer strategy.now) N.start N.seats (length N.cells))
-        N.start N.seats (length N.cells) turns seat.old seat.new) }
+        (IsStopped (IsStrategyTurn (C.may_answer strategy.now) N.table)
+        N.table turns seat.old seat.new) }
 {
     let _graph = table.start().graph();
     match turns_by(rt, alloc, table, seat, &strategy.choice, turns) {
@@ -76,10 +76,10 @@ pub fn settle_out<N: Name, C: Choose + Drop>(
     turns: u32,
 ) -> Result<Ended<N>, Fault>
     ensures { MatchResult result
-        (IsPlayed (IsSettlerTurn (C.may_answer settler.now) N.start N.seats (length N.cells)) turns
+        (IsPlayed (IsSettlerTurn (C.may_answer settler.now) N.table) turns
         seat.old seat.new)
-        (IsStopped (IsSettlerTurn (C.may_answer settler.now) N.start N.seats (length N.cells))
-        N.start N.seats (length N.cells) turns seat.old seat.new) }
+        (IsStopped (IsSettlerTurn (C.may_answer settler.now) N.table)
+        N.table turns seat.old seat.new) }
 {
     let _graph = table.start().graph();
     match turns_by(rt, alloc, table, seat, &settler.choice, turns) {
@@ -98,10 +98,9 @@ fn turns_by<N: Name, C: Choose>(
     turns: u32,
 ) -> Result<Ended<N>, Fault>
     ensures { MatchResult result
-        (IsPlayed (IsTurnBy (C.may_answer choice.now) N.start N.seats (length N.cells)) turns
+        (IsPlayed (IsTurnBy (C.may_answer choice.now) N.table) turns
         seat.old seat.new)
-        (IsStopped (IsTurnBy (C.may_answer choice.now) N.start N.seats (length N.cells)) N.start
-        N.seats (length N.cells) turns seat.old seat.new) }
+        (IsStopped (IsTurnBy (C.may_answer choice.now) N.table) N.table turns seat.old seat.new) }
 {
     for _ in 0..turns {
         let receipt = turn_by(rt, alloc, table, seat, choice)?;
@@ -121,10 +120,10 @@ fn turn_by<N: Name, C: Choose>(
     choice: &C,
 ) -> Result<Receipt<N>, Fault>
     ensures turn { IfOk result
-        (λ r. IsTurnBy (C.may_answer choice.now) N.start N.seats (length N.cells)
+        (λ r. IsTurnBy (C.may_answer choice.now) N.table
         seat.old r seat.new) }
     ensures fault { IfErr result
-        (λ f. Keeps seat.old seat.new × RefusesCall N.start N.seats (length N.cells) seat.new f) }
+        (λ f. Keeps seat.old seat.new × RefusesCall N.table seat.new f) }
 {
     let mut choose = |graph: &Graph, position: &Divisor| choice.choose(graph, position);
     table.turn(rt, alloc, seat, &mut choose)

@@ -13,7 +13,7 @@
 --   AreRanks o text        == the text is that of the rank of the amounts and that of their dual
 --   AreUntested o text     == all rank tests are passed up to one that is past the limits, as is
 --                             that of the dual; the text has marks in the place of the ranks
---   AnswersTable question o names text == the text answers the question for the opening o with
+--   AnswersTable question o names text == the text answers the question for the start o with
 --                         these names
 --   refusal words          == `refused`, the words and a newline
 --   IsRefused refuses text == there is a fault that refuses, and the text says which

@@ -1,4 +1,4 @@
--- Lines that are amounts for the vertices of one table, the opening o with these names. A line stands
+-- Lines that are amounts for the vertices of one table, the start o with these names. A line stands
 -- for that table with its amounts, as the file of a table would have them.
 --   SpellsAmounts line xs   == the words of the line are the decimals of the numbers xs, which 64 bits
 --                              hold

@@ -44,6 +44,7 @@ use Rattle.dg_table.proofs.Entries.{own_more}
 use Rattle.dg_table.proofs.Findings.{stale_both, carried_over}
 use Rattle.dg_table.proofs.Numbered.{stand_more, stand_longer}
 use Rattle.dg_table.proofs.Counts.{seated_more, counted_more, counted_none}
+use Rattle.dg_log.specs.Tables.{TableData}
 
 pub holds_more : (H : List Entry) (e : Entry) (x y : SeatView) → Holds H x → e.seat ≡ x.number → y.number ≡ x.number →
     y.mine ≡ x.mine ++ (length H, e) ∷ [] → y.told ≡ x.told → y.prefix ≡ H ++ e ∷ [] → y.met ≡ H ++ e ∷ [] →
@@ -56,21 +57,21 @@ holds_more H e x y holds own number mine told prefix met = record {
   told = rw told (stand_longer H (e ∷ []) x.told holds.told);
 }
 
-pub history_more : (o : StartData) (n cap : ℕ) (H : List Entry) (e : Entry) → AreSeated n H → 1 ≤ e.seat → e.seat ≤ n →
-    length H < cap → IsLegal o (H ++ e ∷ []) → IsHistoryOf o n cap (H ++ e ∷ [])
-history_more o n cap H e seated least most room legal = record {
+pub history_more : (table : TableData) (H : List Entry) (e : Entry) → AreSeated table.seats H → 1 ≤ e.seat → e.seat ≤ table.seats →
+    length H < table.capacity → IsLegal table.start (H ++ e ∷ []) → IsHistoryOf table (H ++ e ∷ [])
+history_more table H e seated least most room legal = record {
   legal = legal;
   few = omega (arith, length_push H e);
-  seated = seated_more n H e seated least most;
+  seated = seated_more table.seats H e seated least most;
 }
 
-pub kept_more : {o : StartData} {n cap s : ℕ} {mine told second : List
+pub kept_more : {table : TableData} {s : ℕ} {mine told second : List
     (ℕ × Entry)} {prefix met : List Entry} {look : Option LookData}
-    (H : List Entry) (e : Entry) (next : Option LookData) → IsSeatState o n cap s mine told prefix met second look →
-    IsHistoryOf o n cap (H ++ e ∷ []) → entries_of s H ≡ mine → e.seat ≡ s →
-    IsKeptLook o (mine ++ (length H, e) ∷ []) next →
-    IsSeatState o n cap s (mine ++ (length H, e) ∷ []) told (H ++ e ∷ []) (H ++ e ∷ []) second next
-kept_more {o} {n} {cap} {s} {mine} {told} {second} {prefix} {met} {look} H e next seated found held own last = record {
+    (H : List Entry) (e : Entry) (next : Option LookData) → IsSeatState table s mine told prefix met second look →
+    IsHistoryOf table (H ++ e ∷ []) → entries_of s H ≡ mine → e.seat ≡ s →
+    IsKeptLook table.start (mine ++ (length H, e) ∷ []) next →
+    IsSeatState table s (mine ++ (length H, e) ∷ []) told (H ++ e ∷ []) (H ++ e ∷ []) second next
+kept_more {table} {s} {mine} {told} {second} {prefix} {met} {look} H e next seated found held own last = record {
   least = seated.least;
   most = seated.most;
   found = found;
@@ -81,12 +82,12 @@ kept_more {o} {n} {cap} {s} {mine} {told} {second} {prefix} {met} {look} H e nex
   look_kept = last;
 }
 
-pub answered : {o : StartData} {n cap : ℕ} {H : List Entry} {x : SeatView} (e : Entry) (y : SeatView) →
-    Replies o H e.request e.reply → IsHistoryOf o n cap (H ++ e ∷ []) → Holds H x → e.seat ≡ x.number →
+pub answered : {table : TableData} {H : List Entry} {x : SeatView} (e : Entry) (y : SeatView) →
+    Replies table.start H e.request e.reply → IsHistoryOf table (H ++ e ∷ []) → Holds H x → e.seat ≡ x.number →
     y.number ≡ x.number →
     y.mine ≡ x.mine ++ (length H, e) ∷ [] → y.told ≡ x.told → y.prefix ≡ H ++ e ∷ [] → y.met ≡ H ++ e ∷ [] →
-    IsAnsweredAfter o n cap H e.request (length H, e) x y
-answered {o} {n} {cap} {H} {x} e y replies history holds own number mine told prefix met = record {
+    IsAnsweredAfter table H e.request (length H, e) x y
+answered {table} {H} {x} e y replies history holds own number mine told prefix met = record {
   place = refl;
   seat = own;
   request' = refl;
@@ -101,13 +102,13 @@ answered {o} {n} {cap} {H} {x} e y replies history holds own number mine told pr
   met = met;
 }
 
-pub told_of : {o : StartData} {n cap : ℕ} {H : List Entry} {request : Request} {r : ℕ × Entry} {s m : SeatView}
+pub told_of : {table : TableData} {H : List Entry} {request : Request} {r : ℕ × Entry} {s m : SeatView}
     (look : ℕ × Entry) (t : SeatView) →
-    IsAnsweredAfter o n cap H request r s m → slice_get H look.0 ≡ Some look.1 →
+    IsAnsweredAfter table H request r s m → slice_get H look.0 ≡ Some look.1 →
     t.number ≡ m.number → t.mine ≡ m.mine → t.told ≡ m.told ++ look ∷ [] → t.prefix ≡ m.prefix →
     t.met ≡ m.met →
-    IsEnteredAfter o n cap H request (s.told ++ look ∷ []) r s t
-told_of {o} {n} {cap} {H} {request} {r} {s} {m} look t answered stands number mine told prefix met =
+    IsEnteredAfter table H request (s.told ++ look ∷ []) r s t
+told_of {table} {H} {request} {r} {s} {m} look t answered stands number mine told prefix met =
     let hears : t.told ≡ s.told ++ look ∷ [] = told ∙ ap (λ ps. ps ++ look ∷ []) answered.told in
     let there : slice_get (H ++ r.1 ∷ []) look.0 ≡ Some look.1 =
     slice_get-append H (r.1 ∷ []) look.0 (slice_get_within H look.0 look.1 stands) ∙ stands in
@@ -121,7 +122,7 @@ told_of {o} {n} {cap} {H} {request} {r} {s} {m} look t answered stands number mi
       holds = record {
         prefix = subst (λ K. IsBeginning K (H ++ r.1 ∷ [])) (sym prefix) answered.holds.prefix;
         met = subst (λ K. IsBeginning K (H ++ r.1 ∷ [])) (sym met) answered.holds.met;
-        mine = ap (λ n. entries_of n (H ++ r.1 ∷ [])) number ∙ answered.holds.mine ∙ sym mine;
+        mine = ap (λ s. entries_of s (H ++ r.1 ∷ [])) number ∙ answered.holds.mine ∙ sym mine;
         told = rw told (stand_more (H ++ r.1 ∷ []) m.told look answered.holds.told there);
       };
       number = number ∙ answered.number;
@@ -131,33 +132,33 @@ told_of {o} {n} {cap} {H} {request} {r} {s} {m} look t answered stands number mi
       met = met ∙ answered.met;
     }
 
-pub settled : (o : StartData) (n cap : ℕ) (H : List Entry) (look : ℕ × Entry) (x : LookData) (f : Finding) (r : ℕ × Entry)
+pub settled : (table : TableData) (H : List Entry) (look : ℕ × Entry) (x : LookData) (f : Finding) (r : ℕ × Entry)
     (s m t : SeatView) →
-    IsAnsweredAfter o n cap H (asked_for x.number f) r s m → IsLookOf look x → slice_get H look.0 ≡ Some look.1 →
+    IsAnsweredAfter table H (asked_for x.number f) r s m → IsLookOf look x → slice_get H look.0 ≡ Some look.1 →
     KeepsFinding f r.1.reply →
     t.number ≡ m.number → t.mine ≡ m.mine → t.told ≡ m.told ++ look ∷ [] → t.prefix ≡ m.prefix →
     t.met ≡ m.met →
-    IsSettledAfter o n cap H look x f r s t
-settled o n cap H look x f r s m t answered of stands kept number mine told prefix met =
-    let replies : Replies o H (asked_for look.0 f) r.1.reply =
-    subst (λ i. Replies o H (asked_for i f) r.1.reply) of.number answered.reply in
+    IsSettledAfter table H look x f r s t
+settled table H look x f r s m t answered of stands kept number mine told prefix met =
+    let replies : Replies table.start H (asked_for look.0 f) r.1.reply =
+    subst (λ i. Replies table.start H (asked_for i f) r.1.reply) of.number answered.reply in
     record {
       entered = told_of look t answered stands number mine told prefix met;
       stands = stands;
       kept = kept;
-      stale = stale_both o H look.0 f r.1.reply replies;
-      carried = carried_over o H look.0 f r.1.reply kept replies;
+      stale = stale_both table.start H look.0 f r.1.reply replies;
+      carried = carried_over table.start H look.0 f r.1.reply kept replies;
     }
 
-pub staled : (o : StartData) (n cap : ℕ) (H : List Entry) (look : ℕ × Entry) (x : LookData) (asks : Question)
+pub staled : (table : TableData) (H : List Entry) (look : ℕ × Entry) (x : LookData) (asks : Question)
     (game : State) (r : ℕ × Entry)
     (s m t : SeatView) →
-    IsAnsweredAfter o n cap H (asked_on x.number asks) r s m → IsLookOf look x → slice_get H look.0 ≡ Some look.1 →
-    LeadsTo o H game → IsLookAt o H x → x.gifts ≢ game.gifts → r.1.reply ≡ Stale game.gifts →
+    IsAnsweredAfter table H (asked_on x.number asks) r s m → IsLookOf look x → slice_get H look.0 ≡ Some look.1 →
+    LeadsTo table.start H game → IsLookAt table.start H x → x.gifts ≢ game.gifts → r.1.reply ≡ Stale game.gifts →
     t.number ≡ m.number → t.mine ≡ m.mine → t.told ≡ m.told ++ look ∷ [] → t.prefix ≡ m.prefix →
     t.met ≡ m.met →
-    IsStaleAfter o n cap H look x asks r s t
-staled o n cap H look x asks game r s m t answered of stands leads at other reply number mine told prefix met =
+    IsStaleAfter table H look x asks r s t
+staled table H look x asks game r s m t answered of stands leads at other reply number mine told prefix met =
     record {
       entered = told_of look t answered stands number mine told prefix met;
       stands = stands;
@@ -165,12 +166,12 @@ staled o n cap H look x asks game r s m t answered of stands leads at other repl
       stale = reply ∙ ap Stale leads.gifts;
     }
 
-pub settling_refused : (o : StartData) (n cap : ℕ) (H : List Entry) (i : ℕ) (x : SeatView) (b c : Bool) (f : Fault) →
+pub settling_refused : (table : TableData) (H : List Entry) (i : ℕ) (x : SeatView) (b c : Bool) (f : Fault) →
     IsAdmissible H x →
-    i < length H → RefusesStep o n cap H x b c f → RefusesSettling o n cap H i x b c f
-settling_refused o n cap H i x b c OutOfMemory admissible read refused = refused
-settling_refused o n cap H i x b c Full admissible read refused = refused
-settling_refused o n cap H i x b c Log admissible read (room, refused) = (
+    i < length H → RefusesStep table H x b c f → RefusesSettling table H i x b c f
+settling_refused table H i x b c OutOfMemory admissible read refused = refused
+settling_refused table H i x b c Full admissible read refused = refused
+settling_refused table H i x b c Log admissible read (room, refused) = (
   room,
   elim refused [
     | inl other ↦ absurd (other.0 admissible)

@@ -15,6 +15,7 @@ use Rattle.dg_table.specs.Histories.{IsHistoryOf}
 use Rattle.dg_table.specs.Lock.{IsUnderLock}
 use Rattle.dg_table.specs.Seats.{SeatView, entries_of}
 use Rattle.dg_table.proofs.Counts.{none_past, all_counted}
+use Rattle.dg_log.specs.Tables.{TableData}
 
 counted_at : {o : StartData} {seats : ℕ} {H : List Entry} {game : State} {counts : List ℕ} (s : ℕ) →
     IsUnderLock o seats H game counts → get_or counts s 0 ≡ length (entries_of (s + 1) H)
@@ -42,13 +43,13 @@ totals {o} {seats} {H} {game} {counts} xs held all =
           (least, omega (arith, held.few))) ∙ sym held.game'.entries;
     }
 
-pub history_of : {o : StartData} {seats : ℕ} {H : List Entry} {game : State} {counts : List ℕ} (cap : ℕ) →
-    IsUnderLock o seats H game counts → length H ≤ cap → IsHistoryOf o seats cap H
-history_of cap held few = record { legal = held.legal; few = few; seated = held.seated }
+pub history_of : {table : TableData} {H : List Entry} {game : State} {counts : List ℕ} →
+    IsUnderLock table.start table.seats H game counts → length H ≤ table.capacity → IsHistoryOf table H
+history_of held few = record { legal = held.legal; few = few; seated = held.seated }
 
-pub longer_history : {o : StartData} {n cap : ℕ} {K H M : List Entry} → IsHistoryOf o n cap K → IsHistoryOf o n cap H →
-    IsLonger K H M → IsHistoryOf o n cap M
-longer_history {o} {n} {cap} {K} {H} {M} first second longer = elim (cases_lt (length H) (length K)) [
-  | inl shorter ↦ subst (IsHistoryOf o n cap) (sym (longer.first_longer shorter)) first
-  | inr more ↦ subst (IsHistoryOf o n cap) (sym (longer.second_longer (omega (arith, more)))) second
+pub longer_history : {table : TableData} {K H M : List Entry} → IsHistoryOf table K → IsHistoryOf table H →
+    IsLonger K H M → IsHistoryOf table M
+longer_history {table} {K} {H} {M} first second longer = elim (cases_lt (length H) (length K)) [
+  | inl shorter ↦ subst (IsHistoryOf table) (sym (longer.first_longer shorter)) first
+  | inr more ↦ subst (IsHistoryOf table) (sym (longer.second_longer (omega (arith, more)))) second
 ]

@@ -2,8 +2,8 @@
 --   HasSeat xs s                 == the seat s is among the seats xs
 --   IsComplete n xs              == each of the seats 1 to n is among the seats xs
 --   AllHeld H xs                 == the history H holds what each of the seats xs knows
---   IsClosed o n cap xs H        == H is a history of the table, with at most cap entries, and
---                                   holds what each of the seats xs knows, among which are all n
+--   IsClosed table xs H          == H is a history of the table, and holds what each of the seats xs
+--                                   knows, among which are all of the table's
 --   AreTotals o n xs H e g h d c == e, g, h and d are the number of entries of H, its gift count,
 --                                   and the graph and the amounts after it; c has at each seat's
 --                                   place, from 0, the number of its calls, and 0 past the n seats;
@@ -12,7 +12,7 @@
 --   SomeKeepsMore H xs           == one of the seats xs is not admissible after H
 --   RefusesClose H n xs s        == s is the least seat that is missing; or s is 0, none is
 --                                   missing, and one of the seats is not admissible after H
---   IsCloseRefused o n cap xs s  == after some history of the table the close with the seats xs is
+--   IsCloseRefused table xs s    == after some history of the table the close with the seats xs is
 --                                   refused with s
 use Rattle.std.specs.Prelude.{◌≡◌, ℕ, ◌+◌, ◌<◌, ◌≤◌, List, length, slice_get, Some, ◌⊎◌, sum}
 use Rattle.std.specs.List.{slice_index}
@@ -25,6 +25,7 @@ use Rattle.dg_game.specs.declared.entry.Entry.{Entry}
 use Rattle.dg_game.specs.declared.entry.TheConstants.{MAX_SEATS}
 use Rattle.dg_table.specs.Histories.{IsHistoryOf}
 use Rattle.dg_table.specs.Seats.{SeatView, Holds, IsAdmissible}
+use Rattle.dg_log.specs.Tables.{TableData}
 
 abbrev pub HasSeat : List SeatView → ℕ → Type 0
 HasSeat xs s = (i : ℕ) × (x : SeatView) × (slice_get xs i ≡ Some x) × (x.number ≡ s)
@@ -35,9 +36,9 @@ IsComplete n xs = (s : ℕ) → 1 ≤ s → s ≤ n → HasSeat xs s
 abbrev pub AllHeld : List Entry → List SeatView → Type 0
 AllHeld H xs = (i : ℕ) (x : SeatView) → slice_get xs i ≡ Some x → Holds H x
 
-pub record IsClosed (o : StartData) (n cap : ℕ) (xs : List SeatView) (H : List Entry) : Type 0 where
-  pub history : IsHistoryOf o n cap H
-  pub complete : IsComplete n xs
+pub record IsClosed (table : TableData) (xs : List SeatView) (H : List Entry) : Type 0 where
+  pub history : IsHistoryOf table H
+  pub complete : IsComplete table.seats xs
   pub held : AllHeld H xs
 
 pub record AreTotals (o : StartData) (n : ℕ) (xs : List SeatView) (H : List Entry) (entries gifts : ℕ)
@@ -63,5 +64,5 @@ SomeKeepsMore H xs = (i : ℕ) × (x : SeatView) × (slice_get xs i ≡ Some x) 
 abbrev pub RefusesClose : List Entry → ℕ → List SeatView → ℕ → Type 0
 RefusesClose H n xs s = IsMissing n xs s ⊎ ((s ≡ 0) × IsComplete n xs × SomeKeepsMore H xs)
 
-abbrev pub IsCloseRefused : StartData → ℕ → ℕ → List SeatView → ℕ → Type 0
-IsCloseRefused o n cap xs s = (H : List Entry) × IsHistoryOf o n cap H × RefusesClose H n xs s
+abbrev pub IsCloseRefused : TableData → List SeatView → ℕ → Type 0
+IsCloseRefused table xs s = (H : List Entry) × IsHistoryOf table H × RefusesClose H table.seats xs s

@@ -1,18 +1,17 @@
 -- What the lock holds.
---   AreCountsOf counts H       == the place of each seat, from 0, has the number of its entries in
---                                 H
---   IsUnderLock o n H game counts   == the game and the counts are those of the legal history H,
---                                      whose entries are of the
---                                 seats 1 to n
---   IsReady cap H x            == the history H has room for an entry of the seat x, which is
---                                 admissible, and holds what it knows
---   IsKeptLook o ps look       == the look that is kept is the last of the entries ps, and has the
---                                 vertices of the opening o
---   IsSeatState o n cap s ps qs H M d look == what the seat s of n keeps fits together: the history
---                                      H that it found is one of the table, with the entries ps as
---                                      its own; so is the history M that it has met, which begins
---                                      with H; the receipt_set d is of the entries qs that it was told
---                                      of, and look is its last look
+--   AreCountsOf counts H          == at the place of each seat, from 0, is the number of its entries
+--                                    in H
+--   IsUnderLock o n H game counts == the game and the counts are those of the legal history H, whose
+--                                    entries are of the seats 1 to n
+--   IsReady cap H x               == the history H has room for an entry of the seat x, which is
+--                                    admissible, and holds what it knows
+--   IsKeptLook o ps look          == the look that is kept is the last of the entries ps, and has the
+--                                    vertices of the start o
+--   IsSeatState table s ps qs H M d look == what the seat s keeps fits together: the history H that
+--                                    it found is one of the table, with the entries ps as its own;
+--                                    so is the history M that it has met, which begins with H; the
+--                                    receipt set d is of the entries qs that it was told of, and
+--                                    look is its last look
 use Rattle.std.specs.Prelude.{◌≡◌, ℕ, ◌+◌, ◌<◌, ◌≤◌, List, length, Option, IfSome}
 use Rattle.std.specs.List.{slice_index}
 use Rattle.dg_chips.specs.Starts.{StartData}
@@ -26,6 +25,7 @@ use Rattle.dg_log.specs.Numbered.{IsBeginning}
 use Rattle.dg_table.specs.Histories.{IsHistoryOf}
 use Rattle.dg_table.specs.Looks.{HasVertices, IsLastLook}
 use Rattle.dg_table.specs.Seats.{SeatView, Holds, IsAdmissible, AreSeated, entries_of}
+use Rattle.dg_log.specs.Tables.{TableData}
 
 abbrev pub AreCountsOf : List ℕ → List Entry → Type 0
 AreCountsOf counts H =
@@ -51,14 +51,14 @@ pub record IsKeptLook (o : StartData) (ps : List (ℕ × Entry)) (look : Option 
   pub last : IsLastLook ps look
   pub vertices : IfSome look (HasVertices o.graph.size)
 
-pub record IsSeatState (o : StartData) (n cap s : ℕ) (ps qs : List (ℕ × Entry)) (H M : List Entry)
+pub record IsSeatState (table : TableData) (s : ℕ) (ps qs : List (ℕ × Entry)) (H M : List Entry)
     (d : List (ℕ × Entry))
     (look : Option LookData) : Type 0 where
   pub least : 1 ≤ s
-  pub most : s ≤ n
-  pub found : IsHistoryOf o n cap H
+  pub most : s ≤ table.seats
+  pub found : IsHistoryOf table H
   pub own : entries_of s H ≡ ps
-  pub met : IsHistoryOf o n cap M
+  pub met : IsHistoryOf table M
   pub since : IsBeginning H M
   pub told_said : d ≡ qs
-  pub look_kept : IsKeptLook o ps look
+  pub look_kept : IsKeptLook table.start ps look

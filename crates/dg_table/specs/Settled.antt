@@ -1,22 +1,19 @@
 -- How a finding on an older look is entered.
---   IsCarriedTo p q f reply      == the finding f is entered for the position p: a verdict that is
---                                   right there, reckoned from the vertex q, whose script leads
---                                   from the amounts of p to the divisor that was found; or a rank
---                                   test that is right there
---   IsSettledAfter o n cap H look x f r s t   == the finding f on the look, of which x is kept, is
---                                                entered by the seat s with
---                                   the receipt r after the history H, and leaves the seat t, which
---                                   was told of the look
---   IsSettled o n cap look x f r s t   == it is so entered after some history
---   IsStaleAfter o n cap H look x asks r s t   == the question on the look, of which x is kept, is
---                                                 entered as stale by the seat s with the receipt r
---                                                 after the history H, in which gifts were accepted
---                                                 since the look, and leaves the seat t, which was
---                                                 told of the look
---   IsStale o n cap look x asks r s t   == it is so entered after some history
+--   IsCarriedTo p q f reply     == the finding f is entered for the position p: a verdict that is
+--                                  right there from the vertex q, whose script leads from the
+--                                  amounts of p to the divisor that was found; or a rank test that
+--                                  is right there
+--   IsSettledAfter table H look x f r s t == the finding f on the look, of which x is kept, is
+--                                  entered by the seat s with the receipt r after the history H.
+--                                  The seat is then t, and was told of the look
+--   IsSettled table look x f r s t == it is so entered after some history
+--   IsStaleAfter table H look x asks r s t == the question on the look, of which x is kept, is
+--                                  entered as stale by the seat s with the receipt r after the
+--                                  history H, in which gifts were accepted since the look. The seat
+--                                  is then t, and was told of the look
+--   IsStale table look x asks r s t == it is so entered after some history
 use Rattle.std.specs.Prelude.{◌≡◌, ◌≢◌, ◌↔◌, ℕ, List, [], ◌∷◌, ◌++◌, take, slice_get, Some}
 use Rattle.dg_theory.specs.Firing.{FiresTo}
-use Rattle.dg_chips.specs.Starts.{StartData}
 use Rattle.dg_chips.specs.Vector.{at}
 use Rattle.dg_verdict.specs.Right.{IsRight}
 use Rattle.dg_verdict.specs.RankTests.{IsRankTest}
@@ -32,6 +29,7 @@ use Rattle.dg_game.specs.declared.finding.Question.{Question}
 use Rattle.dg_game.specs.declared.look.LookData.{LookData}
 use Rattle.dg_table.specs.Answered.{IsEnteredAfter}
 use Rattle.dg_table.specs.Seats.{SeatView}
+use Rattle.dg_log.specs.Tables.{TableData}
 
 abbrev pub IsCarriedTo : Position → ℕ → Finding → Reply → Type 0
 IsCarriedTo p q (Judged v) (Verdict w) =
@@ -39,31 +37,31 @@ IsCarriedTo p q (Judged v) (Verdict w) =
 IsCarriedTo p q (Ranked v) (Rank w) = IsRankTest p.graph p.amounts (degree_of v) w
 IsCarriedTo p q f reply = ⊥
 
-pub record IsSettledAfter (o : StartData) (n cap : ℕ) (H : List Entry) (look : ℕ × Entry)
+pub record IsSettledAfter (table : TableData) (H : List Entry) (look : ℕ × Entry)
     (x : LookData) (f : Finding) (r : ℕ × Entry)
     (s t : SeatView) : Type 0 where
-  pub entered : IsEnteredAfter o n cap H (asked_for x.number f) (s.told ++ look ∷ []) r s t
+  pub entered : IsEnteredAfter table H (asked_for x.number f) (s.told ++ look ∷ []) r s t
   pub stands : slice_get H look.0 ≡ Some look.1
   pub kept : KeepsFinding f r.1.reply
   -- gifts were accepted since the look
   pub stale : (gifts_in (take look.0 H) ≢ gifts_in H) ↔ (r.1.reply ≡ Stale (gifts_in H))
   -- no gift was
   pub carried : gifts_in (take look.0 H) ≡ gifts_in H →
-      IsCarriedTo (position_after o H) o.q f r.1.reply
+      IsCarriedTo (position_after table.start H) table.start.q f r.1.reply
 
-abbrev pub IsSettled : StartData → ℕ → ℕ → ℕ × Entry → LookData → Finding → ℕ × Entry → SeatView →
+abbrev pub IsSettled : TableData → ℕ × Entry → LookData → Finding → ℕ × Entry → SeatView →
     SeatView → Type 0
-IsSettled o n cap look x f r s t = (H : List Entry) × IsSettledAfter o n cap H look x f r s t
+IsSettled table look x f r s t = (H : List Entry) × IsSettledAfter table H look x f r s t
 
-pub record IsStaleAfter (o : StartData) (n cap : ℕ) (H : List Entry) (look : ℕ × Entry)
+pub record IsStaleAfter (table : TableData) (H : List Entry) (look : ℕ × Entry)
     (x : LookData) (asks : Question) (r : ℕ × Entry)
     (s t : SeatView) : Type 0 where
-  pub entered : IsEnteredAfter o n cap H (asked_on x.number asks) (s.told ++ look ∷ []) r s t
+  pub entered : IsEnteredAfter table H (asked_on x.number asks) (s.told ++ look ∷ []) r s t
   pub stands : slice_get H look.0 ≡ Some look.1
   pub since : gifts_in (take look.0 H) ≢ gifts_in H
   pub stale : r.1.reply ≡ Stale (gifts_in H)
 
-abbrev pub IsStale : StartData → ℕ → ℕ → ℕ × Entry → LookData → Question → ℕ × Entry → SeatView
+abbrev pub IsStale : TableData → ℕ × Entry → LookData → Question → ℕ × Entry → SeatView
     → SeatView → Type 0
-IsStale o n cap look x asks r s t =
-    (H : List Entry) × IsStaleAfter o n cap H look x asks r s t
+IsStale table look x asks r s t =
+    (H : List Entry) × IsStaleAfter table H look x asks r s t

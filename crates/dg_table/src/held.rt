@@ -49,15 +49,15 @@ impl<N: Name> Model for Held<N> {
 
     ghost view = { λ h. h.pen };
 
-    ghost invariant = { λ h. IsUnderLock N.start N.seats h.pen.entries h.game h.counts × (h.seats ≡ N.seats) };
+    ghost invariant = { λ h. IsUnderLock N.table.start N.table.seats h.pen.entries h.game h.counts × (h.seats ≡ N.table.seats) };
 }
 
 impl<N: Name> Held<N> {
     /// What the lock of a table holds before its first entry.
     pub(crate) fn new(pen: Pen<N>, start: &Start, seats: u8) -> Held<N>
         requires pen { pen ≡ record { entries = []; stuck = false } }
-        requires start { start.now ≡ N.start }
-        requires seats { seats ≡ N.seats }
+        requires start { start.now ≡ N.table.start }
+        requires seats { seats ≡ N.table.seats }
         requires count { MayHaveSeats seats }
         ensures { result ≡ record { entries = []; stuck = false } }
     {
@@ -100,9 +100,8 @@ impl<N: Name> Held<N> {
     /// Whether the history has room for an entry of the seat, and holds what the seat knows; or why not.
     fn ready(&self, log: &Log<N>, seat: &Seat<N>) -> Result<(), Fault>
         ensures stands { MatchResult result
-            (λ _. IsReady (length N.cells) self.now.entries seat.now)
-            (RefusesStep N.start N.seats
-            (length N.cells) self.now.entries seat.now self.now.stuck self.now.stuck) }
+            (λ _. IsReady N.table.capacity self.now.entries seat.now)
+            (RefusesStep N.table self.now.entries seat.now self.now.stuck self.now.stuck) }
         ensures barred { IfErr result
             (λ f. f ≡ LogFault → ¬ IsAdmissible self.now.entries seat.now) }
     {
@@ -135,12 +134,12 @@ impl<N: Name> Held<N> {
     ) -> Result<Receipt<N>, Fault>
         requires { seat.old.space ≡ true }
         ensures entered { IfOk result
-            (λ r. IsAnsweredAfter N.start N.seats (length N.cells) self.old.entries
+            (λ r. IsAnsweredAfter N.table self.old.entries
             (asked plain.now) r seat.old seat.new ×
             (self.new ≡ record { entries = self.old.entries ++ r.1 ∷ []; stuck = false })) }
         ensures refused { IfErr result
             (λ f. (self.new.entries ≡ self.old.entries) × Meets self.old.entries seat.old seat.new ×
-            RefusesStep N.start N.seats (length N.cells) self.old.entries seat.old self.old.stuck self.new.stuck f) }
+            RefusesStep N.table self.old.entries seat.old self.old.stuck self.new.stuck f) }
     {
         match self.ready(log, seat) {
             Ok(()) => {}
@@ -172,11 +171,11 @@ impl<N: Name> Held<N> {
         requires space { seat.old.space ≡ true }
         requires asked { MayBeAsked F.FnMut choose.old }
         ensures entered { IfOk result (λ r.
-            IsTurnAfter F.FnMut N.start N.seats (length N.cells) self.old.entries choose.old choose.new r seat.old seat.new ×
+            IsTurnAfter F.FnMut N.table self.old.entries choose.old choose.new r seat.old seat.new ×
             (self.new ≡ record { entries = self.old.entries ++ r.1 ∷ []; stuck = false })) }
         ensures refused { IfErr result
             (λ f. (self.new.entries ≡ self.old.entries) × Meets self.old.entries seat.old seat.new ×
-            RefusesTurnAfter F.FnMut N.start N.seats (length N.cells) self.old.entries seat.old
+            RefusesTurnAfter F.FnMut N.table self.old.entries seat.old
             self.old.stuck self.new.stuck choose.old choose.new f) }
     {
         match self.ready(log, seat) {
@@ -211,13 +210,13 @@ impl<N: Name> Held<N> {
     ) -> Result<Receipt<N>, Fault>
         requires space { seat.old.space ≡ true }
         requires look { IsLookOf look.now shown.now }
-        requires found { IsFoundFor N.start.q shown.now finding.now }
+        requires found { IsFoundFor N.table.start.q shown.now finding.now }
         ensures settled { IfOk result (λ r.
-            IsSettledAfter N.start N.seats (length N.cells) self.old.entries look.now shown.now finding.now r seat.old seat.new ×
+            IsSettledAfter N.table self.old.entries look.now shown.now finding.now r seat.old seat.new ×
             (self.new ≡ record { entries = self.old.entries ++ r.1 ∷ []; stuck = false })) }
         ensures refused { IfErr result
             (λ f. (self.new.entries ≡ self.old.entries) × Meets self.old.entries seat.old seat.new ×
-            RefusesSettling N.start N.seats (length N.cells) self.old.entries look.now.0 seat.old
+            RefusesSettling N.table self.old.entries look.now.0 seat.old
             self.old.stuck self.new.stuck f) }
     {
         match self.ready_on(log, seat, look) {
@@ -260,12 +259,12 @@ impl<N: Name> Held<N> {
         requires look { IsLookOf taken.now shown.now }
         ensures settled { IfOk result (λ found. MatchOption found
             ((self.new ≡ self.old) × (seat.new ≡ seat.old) × (shown.now.gifts ≡ gifts_in self.old.entries))
-            (λ r. IsStaleAfter N.start N.seats (length N.cells) self.old.entries taken.now shown.now
+            (λ r. IsStaleAfter N.table self.old.entries taken.now shown.now
             asks.now r seat.old seat.new ×
             (self.new ≡ record { entries = self.old.entries ++ r.1 ∷ []; stuck = false }))) }
         ensures refused { IfErr result
             (λ f. (self.new.entries ≡ self.old.entries) × Meets self.old.entries seat.old seat.new ×
-            RefusesSettling N.start N.seats (length N.cells) self.old.entries taken.now.0 seat.old
+            RefusesSettling N.table self.old.entries taken.now.0 seat.old
             self.old.stuck self.new.stuck f) }
     {
         if self.game.gifts() == shown.gifts {
@@ -292,9 +291,9 @@ impl<N: Name> Held<N> {
     /// has the entry of the receipt; or why not.
     fn ready_on(&self, log: &Log<N>, seat: &Seat<N>, look: &Receipt<N>) -> Result<(), Fault>
         ensures { MatchResult result
-            (λ _. IsReady (length N.cells) self.now.entries seat.now ×
+            (λ _. IsReady N.table.capacity self.now.entries seat.now ×
             (slice_get self.now.entries look.now.0 ≡ Some look.now.1))
-            (RefusesSettling N.start N.seats (length N.cells) self.now.entries look.now.0 seat.now
+            (RefusesSettling N.table self.now.entries look.now.0 seat.now
             self.now.stuck self.now.stuck) }
     {
         self.ready(log, seat)?;
@@ -315,19 +314,19 @@ impl<N: Name> Held<N> {
         slot: Box<Entry>,
     ) -> Result<Receipt<N>, Fault>
         requires space { seat.old.space ≡ true }
-        requires ready { IsReady (length N.cells) self.old.entries seat.old }
+        requires ready { IsReady N.table.capacity self.old.entries seat.old }
         requires seat { slot.value.seat ≡ seat.old.number }
-        requires replies { Replies N.start self.old.entries slot.value.request slot.value.reply }
-        requires legal { IsLegal N.start (self.old.entries ++ slot.value ∷ []) }
+        requires replies { Replies N.table.start self.old.entries slot.value.request slot.value.reply }
+        requires legal { IsLegal N.table.start (self.old.entries ++ slot.value ∷ []) }
         ensures entered { IfOk result (λ r.
-            IsAnsweredAfter N.start N.seats (length N.cells) self.old.entries slot.value.request r seat.old seat.new ×
+            IsAnsweredAfter N.table self.old.entries slot.value.request r seat.old seat.new ×
             (self.new ≡ record { entries = self.old.entries ++ r.1 ∷ []; stuck = false })) }
         ensures reply { IfOk result (λ r. r.1.reply ≡ slot.value.reply) }
         ensures hears { IfOk result (λ _. seat.new.hears ≡ true) }
         ensures refused { IfErr result
             (λ f. (self.new ≡ record { entries = self.old.entries; stuck = true }) ×
             Meets self.old.entries seat.old seat.new ×
-            RefusesStep N.start N.seats (length N.cells) self.old.entries seat.old self.old.stuck self.new.stuck f) }
+            RefusesStep N.table self.old.entries seat.old self.old.stuck self.new.stuck f) }
     {
         let Ok(receipt) = self.pen.put(log, slot) else {
             seat.meet(&self.pen.prefix());
@@ -348,9 +347,9 @@ impl<N: Name> Held<N> {
     /// 0 where none is missing.
     pub fn missing(&self, seats: &[Seat<N>]) -> Option<u8>
         ensures missing { MatchOption result
-            (IsComplete N.seats seats.now × AllHeld self.now.entries seats.now)
-            (RefusesClose self.now.entries N.seats seats.now) }
-        ensures history { IsHistoryOf N.start N.seats (length N.cells) self.now.entries }
+            (IsComplete N.table.seats seats.now × AllHeld self.now.entries seats.now)
+            (RefusesClose self.now.entries N.table.seats seats.now) }
+        ensures history { IsHistoryOf N.table self.now.entries }
     {
         let _entries = self.pen.len();
         if let Some(number) = first_missing(seats, self.seats) {
@@ -381,7 +380,7 @@ impl<N: Name> Held<N> {
     pub(crate) fn audit(self, log: Log<N>) -> Audit<N>
         ensures history { result.pen.entries ≡ self.entries }
         ensures totals { (xs : List SeatView) → AllHeld self.entries xs →
-            AreTotals N.start N.seats xs self.entries
+            AreTotals N.table.start N.table.seats xs self.entries
             result.entries result.gifts result.graph result.position result.calls }
     {
         let Held {

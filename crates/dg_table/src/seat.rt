@@ -46,7 +46,7 @@ impl<N: Name> Model for Seat<N> {
       hears = nat_lt (vec_len x.told) (vec_capacity x.told);
     } };
 
-    ghost invariant = { λ x. IsSeatState N.start N.seats (length N.cells) x.number x.mine.items x.told.items x.prefix x.met x.told_receipt_set x.look };
+    ghost invariant = { λ x. IsSeatState N.table x.number x.mine.items x.told.items x.prefix x.met x.told_receipt_set x.look };
 }
 
 impl<N: Name> Seat<N> {
@@ -58,7 +58,7 @@ impl<N: Name> Seat<N> {
         count: u8,
         _seating: Seating<N>,
     ) -> Vec<Seat<N>>
-        requires count { count ≡ N.seats }
+        requires count { count ≡ N.table.seats }
         requires seats { MayHaveSeats count }
         requires empty { space.items ≡ [] }
         requires room { count ≤ vec_capacity space }
@@ -73,7 +73,7 @@ impl<N: Name> Seat<N> {
 
     /// The seat with this number, which knows of no entry.
     fn new(alloc: Global, number: u8) -> Seat<N>
-        requires { (1 ≤ number) × (number ≤ N.seats) }
+        requires { (1 ≤ number) × (number ≤ N.table.seats) }
         ensures number { result.number ≡ number }
         ensures mine { result.mine ≡ [] }
         ensures told { result.told ≡ [] }
@@ -110,7 +110,7 @@ impl<N: Name> Seat<N> {
     /// history of the table, and the seat's entries in it are just those of its own calls.
     pub fn prefix(&self) -> &Prefix<N>
         ensures prefix { result.now ≡ self.now.prefix }
-        ensures found { HasPast N.start N.seats (length N.cells) self.now }
+        ensures found { HasPast N.table self.now }
     {
         &self.prefix
     }
@@ -119,7 +119,7 @@ impl<N: Name> Seat<N> {
     /// was told of. It is a history of the table.
     pub fn met(&self) -> &Prefix<N>
         ensures met { result.now ≡ self.now.met }
-        ensures found { HasPast N.start N.seats (length N.cells) self.now }
+        ensures found { HasPast N.table self.now }
     {
         &self.met
     }
@@ -127,7 +127,7 @@ impl<N: Name> Seat<N> {
     /// Tells the seat of a history; each later call then comes after all its entries. It takes no memory. The condition is
     /// that it is a history of the table, as what a seat has met is.
     pub fn meet(&mut self, met: &Prefix<N>)
-        requires { IsHistoryOf N.start N.seats (length N.cells) met.now }
+        requires { IsHistoryOf N.table met.now }
         ensures { Meets met.now self.old self.new }
     {
         self.met = self.met.longer(met);
@@ -136,8 +136,8 @@ impl<N: Name> Seat<N> {
     /// Whether the history that the seat has met has as many entries as there may be.
     pub(crate) fn has_met_full(&self, log: &Log<N>) -> bool
         ensures { MatchBool result
-            (StandsFull N.start N.seats (length N.cells) self.now.met self.now)
-            (length self.now.met < length N.cells) }
+            (StandsFull N.table self.now.met self.now)
+            (length self.now.met < N.table.capacity) }
     {
         let len = self.met.len();
         if len < log.len() {
@@ -162,7 +162,7 @@ impl<N: Name> Seat<N> {
     /// vertices of the start, and there is an amount for each.
     pub fn look_data(&self) -> Option<LookData>
         ensures look { IsLastLook self.now.mine result }
-        ensures vertices { IfSome result (HasVertices N.start.graph.size) }
+        ensures vertices { IfSome result (HasVertices N.table.start.graph.size) }
     {
         self.look
     }
@@ -170,7 +170,7 @@ impl<N: Name> Seat<N> {
     /// The same where it lies.
     pub fn last_look(&self) -> Option<&LookData>
         ensures { MatchOption result (IsLastLook self.now.mine None)
-            (λ x. IsLastLook self.now.mine (Some x.now) × HasVertices N.start.graph.size x.now) }
+            (λ x. IsLastLook self.now.mine (Some x.now) × HasVertices N.table.start.graph.size x.now) }
     {
         self.look.as_ref()
     }

@@ -2,6 +2,7 @@
 ghost use Rattle.std.specs.Prelude.{◌≡◌, ◌≢◌, ◌<◌, length, true, IfOk, IfErr, MatchOption, MatchResult};
 ghost use Rattle.dg_game.specs.Look.{IsFoundFor};
 ghost use Rattle.dg_game.specs.Requests.{asked};
+ghost use Rattle.dg_log.specs.Tables.{table_of};
 ghost use Rattle.dg_table.specs.Answered.{IsAnswered};
 ghost use Rattle.dg_table.specs.Closing.{IsClosed, AreTotals, IsCloseRefused};
 ghost use Rattle.dg_table.specs.Faults.{RefusesCall};
@@ -31,7 +32,7 @@ pub struct Table<N: Name> {
     log: Log<N>,
     start: Start,
     inverse: InverseLaplacian,
-    ghost started: { start ≡ N.start },
+    ghost started: { start ≡ N.table.start },
 }
 
 /// Why a table is not closed. It goes on, and all comes back.
@@ -48,7 +49,7 @@ pub struct CloseFault<N: Name> {
 
 impl<N: Name> Table<N> {
     /// A table with this many seats, 1 to 64, whose history may have as many entries as the row has cells. The seats come
-    /// in order, and know of no entry. The conditions are that N names the row, the start and the number of seats.
+    /// in order, and know of no entry. The condition is that N names the row and this table.
     ///
     /// Refused with `Seats` where there may not be so many, and with `OutOfMemory`; the row comes back.
     pub fn open(
@@ -58,8 +59,7 @@ impl<N: Name> Table<N> {
         seats: u8,
     ) -> Result<(Table<N>, Vec<Seat<N>>), (Row, TableFault)>
         requires row { row ≡ N.cells }
-        requires start { start.now ≡ N.start }
-        requires seats { seats ≡ N.seats }
+        requires table { N.table ≡ table_of start.now seats (length row) }
         ensures { MatchResult result
             (λ r. AreFresh seats r.1.items)
             (λ e. (e.0 ≡ row) × RefusesOpening seats e.1) }
@@ -88,9 +88,9 @@ impl<N: Name> Table<N> {
         ensures kept { Keeps seat.old seat.new }
         ensures met { seat.new.met ≡ seat.old.met }
         ensures space { IfOk result (λ _. seat.new.space ≡ true) }
-        ensures room { IfOk result (λ _. length seat.new.met < length N.cells) }
+        ensures room { IfOk result (λ _. length seat.new.met < N.table.capacity) }
         ensures refused { IfErr result (λ f. (f ≢ LogFault) ×
-            RefusesCall N.start N.seats (length N.cells) seat.new f) }
+            RefusesCall N.table seat.new f) }
     {
         let Ok(slot) = seat.room(alloc) else {
             return Err(Fault::OutOfMemory);
@@ -116,9 +116,9 @@ impl<N: Name> Table<N> {
         plain: Plain,
     ) -> Result<Receipt<N>, Fault>
         ensures answered { IfOk result
-            (λ r. IsAnswered N.start N.seats (length N.cells) (asked plain) r seat.old seat.new) }
+            (λ r. IsAnswered N.table (asked plain) r seat.old seat.new) }
         ensures fault { IfErr result (λ f. Keeps seat.old seat.new ×
-            RefusesCall N.start N.seats (length N.cells) seat.new f) }
+            RefusesCall N.table seat.new f) }
     {
         let slot = self.room(alloc, seat)?;
         self.held.lock(rt).call(&self.log, seat, slot, &plain)
@@ -138,10 +138,9 @@ impl<N: Name> Table<N> {
     ) -> Result<Receipt<N>, Fault>
         requires { MayBeAsked F.FnMut choose.old }
         ensures turned { IfOk result
-            (λ r. IsTurn F.FnMut N.start N.seats
-            (length N.cells) choose.old choose.new r seat.old seat.new) }
+            (λ r. IsTurn F.FnMut N.table choose.old choose.new r seat.old seat.new) }
         ensures fault { IfErr result (λ f. Keeps seat.old seat.new ×
-            RefusesTurn F.FnMut N.start N.seats (length N.cells) seat.new choose.old choose.new f) }
+            RefusesTurn F.FnMut N.table seat.new choose.old choose.new f) }
     {
         let slot = self.room(alloc, seat)?;
         self.held.lock(rt).turn(&self.log, seat, slot, choose)
@@ -164,12 +163,11 @@ impl<N: Name> Table<N> {
         finding: &Finding,
     ) -> Result<Receipt<N>, Fault>
         requires look { IsLookOf look.now shown.now }
-        requires found { IsFoundFor N.start.q shown.now finding.now }
+        requires found { IsFoundFor N.table.start.q shown.now finding.now }
         ensures settled { IfOk result
-            (λ r. IsSettled N.start N.seats
-            (length N.cells) look.now shown.now finding.now r seat.old seat.new) }
+            (λ r. IsSettled N.table look.now shown.now finding.now r seat.old seat.new) }
         ensures fault { IfErr result (λ f. Keeps seat.old seat.new ×
-            RefusesCall N.start N.seats (length N.cells) seat.new f) }
+            RefusesCall N.table seat.new f) }
     {
         let slot = self.room(alloc, seat)?;
         self.held
@@ -194,10 +192,9 @@ impl<N: Name> Table<N> {
         requires { IsLookOf look.now shown.now }
         ensures settled { IfOk result (λ found. MatchOption found
             (Keeps seat.old seat.new × (seat.new.met ≡ seat.old.met))
-            (λ r. IsStale N.start N.seats
-            (length N.cells) look.now shown.now asks.now r seat.old seat.new)) }
+            (λ r. IsStale N.table look.now shown.now asks.now r seat.old seat.new)) }
         ensures fault { IfErr result (λ f. Keeps seat.old seat.new ×
-            RefusesCall N.start N.seats (length N.cells) seat.new f) }
+            RefusesCall N.table seat.new f) }
     {
         if !self.held.lock(rt).is_past(shown) {
             return Ok(None);
@@ -210,7 +207,7 @@ impl<N: Name> Table<N> {
 
     /// The start of the game.
     pub fn start(&self) -> &Start
-        ensures { result.now ≡ N.start }
+        ensures { result.now ≡ N.table.start }
     {
         &self.start
     }
@@ -232,10 +229,10 @@ impl<N: Name> Table<N> {
     /// calls of it that it did not make.
     pub fn close(self, seats: Vec<Seat<N>>) -> Result<Audit<N>, CloseFault<N>>
         ensures { MatchResult result
-            (λ a. IsClosed N.start N.seats (length N.cells) seats.items a.pen.entries ×
-            AreTotals N.start N.seats seats.items a.pen.entries a.entries a.gifts a.graph a.position a.calls)
+            (λ a. IsClosed N.table seats.items a.pen.entries ×
+            AreTotals N.table.start N.table.seats seats.items a.pen.entries a.entries a.gifts a.graph a.position a.calls)
             (λ f. (f.seats.items ≡ seats.items) ×
-            IsCloseRefused N.start N.seats (length N.cells) seats.items f.missing) }
+            IsCloseRefused N.table seats.items f.missing) }
     {
         let Table {
             held,

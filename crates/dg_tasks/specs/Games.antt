@@ -2,7 +2,7 @@
 --   turns_text settled         == the line `turns` where the turns were used up, and nothing where
 --                                 the game is settled
 --   IsGreedyAnswer o n names text == the text is that of the history of a greedy game of at most n
---                                    turns from the opening o, and of
+--                                    turns from the start o, and of
 --                                 how it ended
 --   RefusesTurns fault         == memory was refused, or the table refused an entry, or it is not
 --                                 closed; the history is never full

@@ -1,6 +1,6 @@
 -- A table that is judged and printed.
 --   IsJudgement o names text == the text is that of a reply with a verdict which is right for the
---                               amounts of the opening o, reckoned from its vertex q, and a newline
+--                               amounts of the start o, reckoned from its vertex q, and a newline
 use Rattle.std.specs.Prelude.{◌≡◌, ℕ, List, ◌++◌, codes}
 use Rattle.dg_chips.specs.Starts.{StartData}
 use Rattle.dg_chips.specs.Vector.{at}

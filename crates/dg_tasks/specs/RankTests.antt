@@ -2,7 +2,7 @@
 -- 1.12; Corry and Perkinson, chapter 5).
 --   IsRankAnswer o k names text == a rank test of degree k is within the limits, and the text is
 --                                  that of a reply with a rank verdict of this degree which is right
---                                  for the amounts of the opening o, and a newline
+--                                  for the amounts of the start o, and a newline
 --   RefusesRank n k fault       == a rank test of degree k on n vertices is past the limits, or
 --                                  memory was refused, or a thread
 --   number_line label z         == the label, the number and a newline

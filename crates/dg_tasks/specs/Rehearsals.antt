@@ -1,7 +1,7 @@
 -- A schedule that is played and printed.
 --   IsPrinted o names lines text    == the lines spell steps, and the text is that of the legal
---                                      history which these steps make from the opening o
---   IsPlayed o names steps r text   == r is what the steps have come to from the opening o,
+--                                      history which these steps make from the start o
+--   IsPlayed o names steps r text   == r is what the steps have come to from the start o,
 --                                      whatever steps follow, and the text is that of their history,
 --                                      which has room for them
 --   IsStopped o steps fault         == the fault is the first of these steps, whatever steps follow

@@ -5,7 +5,7 @@
 --   IsOnTable h P                 == the file h describes a table, and P holds of its opening and
 --                                    names
 --   IsOfSteps h P                 == P holds of the lines of bytes that the file h may hold
---   AnswersTask held o names task text == the text is the answer to the task on the opening o with
+--   AnswersTask held o names task text == the text is the answer to the task on the start o with
 --                                         these names
 --   IsAnswer held task text       == the text is the answer to the task, for what the files hold
 --                                    that it names

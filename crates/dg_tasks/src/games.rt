@@ -55,11 +55,11 @@ fn history_of<N: Name>(
     turns: u32,
 ) -> Result<Vec<u8>, TaskFault>
     requires row { row ≡ N.cells }
-    requires start { start.now ≡ N.start }
-    requires seats { count ≡ N.seats }
+    requires start { start.now ≡ N.table.start }
+    requires seats { count ≡ N.table.seats }
     requires one { count ≡ 1 }
     requires names { length names.now ≡ start.now.graph.size }
-    ensures printed { IfOk result (λ text. IsGreedyAnswer N.start turns names.now text.items) }
+    ensures printed { IfOk result (λ text. IsGreedyAnswer N.table.start turns names.now text.items) }
     ensures refused { IfErr result RefusesTurns }
 {
     let game = match greedy_on::<N>(rt, alloc, row, start, count, turns) {

@@ -171,7 +171,7 @@ fn follows_the_position<N: Name>(
     log: &Log<N>,
     opening: &Divisor,
 ) -> Result<(), Fail>
-    requires { opening.now ≡ N.start.divisor }
+    requires { opening.now ≡ N.table.start.divisor }
 {
     let mut position = Observer::<N, Positions<N>>::new(alloc, Positions::new(), *opening);
     let read = position.catch_up(log)?;

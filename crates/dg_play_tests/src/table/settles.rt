@@ -47,7 +47,7 @@ pub(crate) fn look_at<N: Name>(
 ) -> Result<(Receipt<N>, LookData), Fail>
     ensures look { IfOk result (λ r. IsLookOf r.0 r.1) }
     ensures size { IfOk result (λ r. r.1.position.size ≡ r.1.graph.size) }
-    ensures vertex { IfOk result (λ r. N.start.q < r.1.graph.size) }
+    ensures vertex { IfOk result (λ r. N.table.start.q < r.1.graph.size) }
 {
     let look = table.call(rt, alloc, seat, Plain::Look)?;
     let shown = seat.look_data().ok_or("a look")?;
@@ -80,7 +80,7 @@ pub(crate) fn settle<N: Name>(
 ) -> Result<Receipt<N>, Fault>
     requires look { IsLookOf look.now shown.now }
     requires size { shown.now.position.size ≡ shown.now.graph.size }
-    requires vertex { N.start.q < shown.now.graph.size }
+    requires vertex { N.table.start.q < shown.now.graph.size }
 {
     let finding = judge_look(usize::from(table.start().q()), shown);
     table.settle(rt, alloc, seat, look, shown, &finding)

@@ -1,6 +1,7 @@
 use Rattle.std.proofs.Common.{length}
+use Rattle.dg_log.specs.Tables.{table_of}
 use Rattle.dg_party.proofs.parties.party.Given as goal
 
 -- A table is named by its row, its start and its number of seats.
 abbrev pub ghosts-party_of : goal.ghosts-party_of
-ghosts-party_of g a = record { cells = a.row; start = a.start.now; seats = length a.scripts.now }
+ghosts-party_of g a = record { cells = a.row; table = table_of a.start.now (length a.scripts.now) (length a.row) }

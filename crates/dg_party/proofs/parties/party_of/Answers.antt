@@ -7,38 +7,36 @@ use Rattle.dg_party.proofs.parties.party_of.Goals as goal
 
 pub closing_text-requires-clause-history : goal.closing_text-requires-clause-history
 closing_text-requires-clause-history g c =
-    legal_named c.args.names.now g.N.Name.start c.in-Ok-close.audit.pen.entries
-    (c.requires.names ∙ ap (λ o. o.graph.size) c.requires.start) c.in-Ok-close.ensures.0.history.legal
+    legal_named c.args.names.now g.N.Name.table.start c.in-Ok-close.audit.pen.entries
+    (c.requires.names ∙ ap (λ t. t.start.graph.size) (sym c.requires.table)) c.in-Ok-close.ensures.0.history.legal
 
 pub closing_text-requires-clause-position : goal.closing_text-requires-clause-position
 closing_text-requires-clause-position g c =
-    c.requires.names ∙ ap (λ o. o.graph.size) c.requires.start
-    ∙ shown_size g.N.Name.start c.in-Ok-close.audit.pen.entries c.in-Ok-close.audit.position
+    c.requires.names ∙ ap (λ t. t.start.graph.size) (sym c.requires.table)
+    ∙ shown_size g.N.Name.table.start c.in-Ok-close.audit.pen.entries c.in-Ok-close.audit.position
     c.in-Ok-close.ensures.1.position'
 
 pub returns-in-Ok-closing_text-clause-played : goal.returns-in-Ok-closing_text-clause-played
 returns-in-Ok-closing_text-clause-played g c =
-    whole_lent g.N.Name.start (length g.N.Name.cells) c.args.names.now (contents c.args.scripts.now)
-    (length c.args.scripts.now)
-    g.N.Name.seats c.in-Ok.opened.1.len c.in-Ok.opened.1.items c.deref_mut.result.now c.sessions.new.seats _
+    whole_lent g.N.Name.table c.args.names.now (contents c.args.scripts.now)
+    (length c.args.scripts.now) c.in-Ok.opened.1.len c.in-Ok.opened.1.items c.deref_mut.result.now c.sessions.new.seats _
     c.in-Ok-sessions.ends.items
     c.in-Ok-close.audit.pen.entries c.in-Ok-close.audit.entries c.in-Ok-close.audit.gifts
     c.in-Ok-close.audit.graph c.in-Ok-close.audit.position c.in-Ok-close.audit.calls c.in-Ok-closing_text.text.items
-    (contents_count c.args.scripts.now) c.requires.seats
+    (contents_count c.args.scripts.now) (ap (λ t. t.seats) (sym c.requires.table))
     c.in-Ok.ensures (search rules) (search rules) c.in-Ok-sessions.ensures.ok c.in-Ok-close.ensures (search rules)
     c.in-Ok-closing_text.ensures
 
 pub returns-in-Err-clause-refused : goal.returns-in-Err-clause-refused
 returns-in-Err-clause-refused g c =
-    party_lacks g.N.Name.start (length c.args.scripts.now) g.N.Name.seats (length g.N.Name.cells) c.args.names.now
+    party_lacks g.N.Name.table (length c.args.scripts.now) c.args.names.now
     (contents c.args.scripts.now) c.in-Ok.opened.1.items c.deref_mut.result.now c.sessions.new.seats c.in-Err.shortage
-    (contents_count c.args.scripts.now) c.requires.seats c.in-Ok.ensures (search rules) c.in-Err.ensures.fault
+    (ap (λ t. t.seats) (sym c.requires.table)) c.in-Ok.ensures (search rules) c.in-Err.ensures.fault
 
 pub returns-in_default-clause-refused : goal.returns-in_default-clause-refused
 returns-in_default-clause-refused g c =
-    party_unclosed g.N.Name.start (length g.N.Name.cells) c.args.names.now (contents c.args.scripts.now)
-    (length c.args.scripts.now)
-    g.N.Name.seats c.in-Ok.opened.1.len c.in-Ok.opened.1.items c.deref_mut.result.now c.sessions.new.seats _
+    party_unclosed g.N.Name.table c.args.names.now (contents c.args.scripts.now)
+    (length c.args.scripts.now) c.in-Ok.opened.1.len c.in-Ok.opened.1.items c.deref_mut.result.now c.sessions.new.seats _
     c.in-Ok-sessions.ends.items c.in_default.field-0.missing
-    (contents_count c.args.scripts.now) c.requires.seats
+    (ap (λ t. t.seats) (sym c.requires.table))
     c.in-Ok.ensures (search rules) (search rules) c.in-Ok-sessions.ensures.ok c.in_default.ensures.1

@@ -16,7 +16,7 @@ returns-in-Ok-ended-clause-done g c = (
         c.in-Ok-ended.ensures.session;
   }) c.in-Ok-close.history.pen.entries c.serve_seats-ended.ensures.session.numbers
       (rw (c.requires.start, c.requires.row, c.requires.seats)
-      (subst (λ ys. IsClosed g.N.Name.start g.N.Name.seats (length g.N.Name.cells) ys
+      (subst (λ ys. IsClosed g.N.Name.table ys
       c.in-Ok-close.history.pen.entries)
       (seats_back c.in-Ok.opened.1.len c.deref_mut.result.now c.serve_seats-ended.new.seats _ (search rules)
       c.serve_seats-ended.ensures.session.numbers) c.in-Ok-close.ensures.0)),
@@ -33,7 +33,7 @@ returns-in-Ok-close-clause-early g c =
           c.in-Err-ended.ensures.session;
     }) c.in-Ok-close.history.pen.entries c.serve_seats-ended.ensures.session.numbers
     (rw (c.requires.start, c.requires.row, c.requires.seats)
-    (subst (λ ys. IsClosed g.N.Name.start g.N.Name.seats (length g.N.Name.cells) ys
+    (subst (λ ys. IsClosed g.N.Name.table ys
     c.in-Ok-close.history.pen.entries)
     (seats_back c.in-Ok.opened.1.len c.deref_mut.result.now c.serve_seats-ended.new.seats _ (search rules)
     c.serve_seats-ended.ensures.session.numbers) c.in-Ok-close.ensures.0))

@@ -8,24 +8,24 @@ use Rattle.dg_strategy.proofs.playing.settle_out.Goals as goal
 
 pub returns-in-Ok : goal.returns-in-Ok
 returns-in-Ok g c =
-    let o = g.N.Name.start in
-    let seats = g.N.Name.seats in
-    let cap = length g.N.Name.cells in
+    let table.start = g.N.Name.table.start in
+    let table.seats = g.N.Name.table.seats in
+    let table.capacity = length g.N.Name.cells in
     let A = g.C.Choose.may_answer c.settler.inside.choice in
-    let graph : IsGraph o.graph = (subst IsStart c.start.ensures c.graph-graph.ensures.opening).graph in
+    let graph : IsGraph table.start.graph = (subst IsStart c.start.ensures c.graph-graph.ensures.opening).graph in
     rw (← c.settler.view_is)
-    (played_as (IsTurnBy A o seats cap) (IsSettlerTurn A o seats cap)
-    (λ x r y turn. settler_turn A o seats cap graph x r y c.settler.invariant turn)
+    (played_as (IsTurnBy A table) (IsSettlerTurn A table)
+    (λ x r y turn. settler_turn A table graph x r y c.settler.invariant turn)
     c.args.turns c.args.seat.now c.turns_by.new.seat c.in-Ok.ended c.in-Ok.ensures)
 
 pub returns-in-Err : goal.returns-in-Err
 returns-in-Err g c =
-    let o = g.N.Name.start in
-    let seats = g.N.Name.seats in
-    let cap = length g.N.Name.cells in
+    let table.start = g.N.Name.table.start in
+    let table.seats = g.N.Name.table.seats in
+    let table.capacity = length g.N.Name.cells in
     let A = g.C.Choose.may_answer c.settler.inside.choice in
-    let graph : IsGraph o.graph = (subst IsStart c.start.ensures c.graph-graph.ensures.opening).graph in
+    let graph : IsGraph table.start.graph = (subst IsStart c.start.ensures c.graph-graph.ensures.opening).graph in
     rw (← c.settler.view_is)
-    (stopped_as (IsTurnBy A o seats cap) (IsSettlerTurn A o seats cap)
-    (λ x r y turn. settler_turn A o seats cap graph x r y c.settler.invariant turn)
-    o seats cap c.args.turns c.args.seat.now c.turns_by.new.seat c.in-Err.fault c.in-Err.ensures)
+    (stopped_as (IsTurnBy A table) (IsSettlerTurn A table)
+    (λ x r y turn. settler_turn A table graph x r y c.settler.invariant turn)
+    table c.args.turns c.args.seat.now c.turns_by.new.seat c.in-Err.fault c.in-Err.ensures)

@@ -7,6 +7,6 @@ use Rattle.dg_strategy.proofs.playing.turns_by.Given as goal
 abbrev pub invariant-loop : goal.invariant-loop
 invariant-loop g l =
     (es : List (ℕ × Entry)) ×
-    FoldsTo (IsTurnBy (g.C.Choose.may_answer l.choice) g.N.Name.start g.N.Name.seats (length g.N.Name.cells)) l.fn.seat
+    FoldsTo (IsTurnBy (g.C.Choose.may_answer l.choice) g.N.Name.table) l.fn.seat
     es l.seat
     × AreMoves es × (length es ≡ l.counter)

@@ -4,4 +4,4 @@ use Rattle.dg_session.proofs.course.Course.new.Goals as goal
 
 pub invariant_of-result : goal.invariant_of-result
 invariant_of-result g c =
-    rw c.new.ensures (history_none g.N.Name.start g.N.Name.seats (length g.N.Name.cells))
+    rw c.new.ensures (history_none g.N.Name.table)

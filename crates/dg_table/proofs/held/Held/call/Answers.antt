@@ -4,5 +4,5 @@ pub enter-requires-clause-legal : goal.enter-requires-clause-legal
 enter-requires-clause-legal g c =
     let held = rw c.self.view_is at c.self.invariant.0 in
     rw (c.ask.ensures, c.number-entry.ensures)
-    (c.answer.ensures.legal g.N.Name.start c.args.self.now.entries c.args.seat.now.number
+    (c.answer.ensures.legal g.N.Name.table.start c.args.self.now.entries c.args.seat.now.number
     held.game' held.legal c.in-Ok.ensures.stands.seat)

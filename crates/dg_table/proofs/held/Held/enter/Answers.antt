@@ -15,7 +15,7 @@ follow-requires-clause-right g c =
     let e : Entry = c.args.slot.value in
     let replies = rw (← c.self.view_is) at c.requires.replies in
     let entry : c.entry-entry.result.now ≡ e = c.entry-entry.ensures ∙ ap (λ (r : ℕ × Entry). r.1) c.in-Ok.ensures.0 in
-    right_in g.N.Name.start c.self.inside.pen.entries c.self.inside.game _ _ c.self.invariant.0.game' (rw entry replies)
+    right_in g.N.Name.table.start c.self.inside.pen.entries c.self.inside.game _ _ c.self.invariant.0.game' (rw entry replies)
 
 pub invariant_of-self-2 : goal.invariant_of-self-2
 invariant_of-self-2 g c =
@@ -26,9 +26,9 @@ invariant_of-self-2 g c =
     let replies = rw (← c.self.view_is) at c.requires.replies in
     let entry : c.entry-entry.result.now ≡ e = c.entry-entry.ensures ∙ ap (λ (r : ℕ × Entry). r.1) c.in-Ok.ensures.0 in
     let H = c.self.inside.pen.entries in
-    let shown = subst (λ (x : Entry). Replies g.N.Name.start H x.request x.reply) (sym entry) replies in
-    let leads = subst (λ (x : Entry). LeadsTo g.N.Name.start (H ++ x ∷ []) c.follow.new.self) entry
-    (c.follow.ensures.leads g.N.Name.start H c.self.invariant.0.game' shown) in
+    let shown = subst (λ (x : Entry). Replies g.N.Name.table.start H x.request x.reply) (sym entry) replies in
+    let leads = subst (λ (x : Entry). LeadsTo g.N.Name.table.start (H ++ x ∷ []) c.follow.new.self) entry
+    (c.follow.ensures.leads g.N.Name.table.start H c.self.invariant.0.game' shown) in
     let own : e.seat ≡ c.seat.inside.number = rw (← c.seat.view_is) at c.requires.seat in
     let seated = c.seat.invariant in (
       rw history (held_more e c.from-place.result _ c.self.invariant.0 legal leads
@@ -49,15 +49,15 @@ invariant_of-seat g c =
     let replies = rw (← c.self.view_is) at c.requires.replies in
     let own : e.seat ≡ c.seat.inside.number = rw (← c.seat.view_is) at c.requires.seat in
     let entry : c.entry-entry.result.now ≡ e = c.entry-entry.ensures ∙ ap (λ (r : ℕ × Entry). r.1) receipt in
-    let shown = subst (λ (x : Entry). Replies g.N.Name.start H x.request x.reply) (sym entry) replies in
+    let shown = subst (λ (x : Entry). Replies g.N.Name.table.start H x.request x.reply) (sym entry) replies in
     let seen =
-    subst (λ (x : Entry). IsKeptLook g.N.Name.start
+    subst (λ (x : Entry). IsKeptLook g.N.Name.table.start
     (c.seat.inside.mine.items ++ (length H, x) ∷ []) c.keep_look.new.look) entry
-    (c.keep_look.ensures g.N.Name.start H c.seat.inside.mine.items c.self.invariant.0.game' shown
+    (c.keep_look.ensures g.N.Name.table.start H c.seat.inside.mine.items c.self.invariant.0.game' shown
     c.seat.invariant.look_kept) in
     let seated = c.seat.invariant in
     let history : c.put.new.self.entries ≡ H ++ e ∷ [] = ap (λ (w : Written). w.entries) c.in-Ok.ensures.1 in
-    let found = history_more g.N.Name.start g.N.Name.seats (length g.N.Name.cells) H e c.self.invariant.0.seated
+    let found = history_more g.N.Name.table H e c.self.invariant.0.seated
     (omega (arith, seated.least, own)) (omega (arith, seated.most, own)) room legal in
     rw (items, c.prefix-seat-inside.ensures, c.prefix-seat-inside-2.ensures, history, receipt)
     (kept_more H e c.keep_look.new.look seated found holds.mine own seen)
@@ -76,7 +76,7 @@ returns-clause-entered g c =
     let own : e.seat ≡ c.seat.inside.number = rw (← c.seat.view_is) at c.requires.seat in
     let seated = c.seat.invariant in
     let history : c.put.new.self.entries ≡ H ++ e ∷ [] = ap (λ (w : Written). w.entries) c.in-Ok.ensures.1 in
-    let found = history_more g.N.Name.start g.N.Name.seats (length g.N.Name.cells) H e c.self.invariant.0.seated
+    let found = history_more g.N.Name.table H e c.self.invariant.0.seated
     (omega (arith, seated.least, own)) (omega (arith, seated.most, own)) room legal in
     rw (← c.self.view_is, ← c.seat.view_is, receipt) (
       answered e _ replies found holds own refl (rw receipt at items) refl (c.prefix-seat-inside.ensures ∙ history)
@@ -86,9 +86,9 @@ returns-clause-entered g c =
 
 pub meet-requires : goal.meet-requires
 meet-requires g c =
-    let cap = length g.N.Name.cells in
+    let cap = g.N.Name.table.capacity in
     let entries : c.put.new.self.entries ≡ c.self.inside.pen.entries =
     ap (λ (w : Written). w.entries) c.in_default.ensures.1 in
     let room = rw (← c.self.view_is) at c.requires.ready.room in
-    subst (IsHistoryOf g.N.Name.start g.N.Name.seats cap) (sym (c.prefix.ensures ∙ entries))
-    (history_of cap c.self.invariant.0 (omega (arith, room)))
+    subst (IsHistoryOf g.N.Name.table) (sym (c.prefix.ensures ∙ entries))
+    (history_of c.self.invariant.0 (omega (arith, room)))

@@ -6,7 +6,7 @@ use Rattle.dg_table.proofs.held.Held.new.Goals as goal
 pub invariant_of-result : goal.invariant_of-result
 invariant_of-result g c =
     let zero : ℕ = 0 in (
-      rw c.requires.pen (held_none g.N.Name.seats _ (rw c.requires.start at c.new.ensures) (length-replicate 64 zero)
+      rw c.requires.pen (held_none g.N.Name.table.seats _ (rw c.requires.start at c.new.ensures) (length-replicate 64 zero)
           (λ s below. get_or-replicate 64 s zero zero below) (omega (arith, c.requires.seats, c.requires.count))),
       c.requires.seats,
     )

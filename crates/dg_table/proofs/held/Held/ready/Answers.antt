@@ -10,12 +10,12 @@ began-requires g c = omega (arith, c.seat.invariant.met.few, c.len-len.ensures.l
 pub returns-then-below-clause-stands : goal.returns-then-below-clause-stands
 returns-then-below-clause-stands g c =
     let seated = c.seat.invariant in
-    let size : length c.self.inside.pen.entries ≡ length g.N.Name.cells =
+    let size : length c.self.inside.pen.entries ≡ g.N.Name.table.capacity =
     omega (arith, c.len-len.ensures.length, c.len.ensures.length) in
     rw (← c.seat.view_is, ← c.self.view_is) (
       record {
         full = size;
-        history = history_of (length g.N.Name.cells) c.self.invariant.0 (omega arith);
+        history = history_of c.self.invariant.0 (omega arith);
         prefix = begins_on _ _ _ seated.since c.began.ensures;
         mine = own_stand c.seat.inside.number c.seat.inside.prefix c.self.inside.pen.entries c.seat.inside.mine.items
             (begins_on _ _ _ seated.since c.began.ensures) seated.own;

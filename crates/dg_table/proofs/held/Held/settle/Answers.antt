@@ -9,9 +9,9 @@ pub answer_finding-requires-clause-look : goal.answer_finding-requires-clause-lo
 answer_finding-requires-clause-look g c =
     let H = c.args.self.now.entries in
     let held = rw c.self.view_is at c.self.invariant.0 in
-    let look = look_stands g.N.Name.start H c.args.look.now c.args.shown.now held.legal c.requires.look
+    let look = look_stands g.N.Name.table.start H c.args.look.now c.args.shown.now held.legal c.requires.look
     c.in-Ok.ensures.1 in
-    (g.N.Name.start, H, held.game', look)
+    (g.N.Name.table.start, H, held.game', look)
 
 pub answer_finding-requires-clause-found : goal.answer_finding-requires-clause-found
 answer_finding-requires-clause-found g c =
@@ -22,18 +22,18 @@ pub enter-requires-clause-replies : goal.enter-requires-clause-replies
 enter-requires-clause-replies g c =
     let H = c.args.self.now.entries in
     let held = rw c.self.view_is at c.self.invariant.0 in
-    let look = look_stands g.N.Name.start H c.args.look.now c.args.shown.now held.legal c.requires.look
+    let look = look_stands g.N.Name.table.start H c.args.look.now c.args.shown.now held.legal c.requires.look
     c.in-Ok.ensures.1 in
-    rw c.request-entry.ensures (c.answer_finding.ensures.replies g.N.Name.start H held.game' look)
+    rw c.request-entry.ensures (c.answer_finding.ensures.replies g.N.Name.table.start H held.game' look)
 
 pub enter-requires-clause-legal : goal.enter-requires-clause-legal
 enter-requires-clause-legal g c =
     let H = c.args.self.now.entries in
     let held = rw c.self.view_is at c.self.invariant.0 in
-    let look = look_stands g.N.Name.start H c.args.look.now c.args.shown.now held.legal c.requires.look
+    let look = look_stands g.N.Name.table.start H c.args.look.now c.args.shown.now held.legal c.requires.look
     c.in-Ok.ensures.1 in
     rw (c.request-entry.ensures, c.number-entry.ensures)
-    (c.answer_finding.ensures.legal g.N.Name.start H c.args.seat.now.number held.game' look held.legal
+    (c.answer_finding.ensures.legal g.N.Name.table.start H c.args.seat.now.number held.game' look held.legal
     c.in-Ok.ensures.0.seat)
 
 pub returns-in_err-receipt-clause-refused : goal.returns-in_err-receipt-clause-refused
@@ -43,8 +43,7 @@ returns-in_err-receipt-clause-refused g c =
     let stands = c.in-Ok.ensures.1 in
     let read : c.args.look.now.0 < length H = slice_get_within H c.args.look.now.0 c.args.look.now.1 stands in
     let step = c.in_err-receipt.ensures.refused in
-    let refused = settling_refused g.N.Name.start g.N.Name.seats
-    (length g.N.Name.cells) H c.args.look.now.0 c.args.seat.now c.args.self.now.stuck
+    let refused = settling_refused g.N.Name.table H c.args.look.now.0 c.args.seat.now c.args.self.now.stuck
     c.enter.new.self.stuck c.in_err-receipt.field-0.0 ready.admissible read step.2 in
     search rules
 
@@ -54,8 +53,7 @@ returns-clause-settled g c =
     let entered = c.in_ok-receipt.ensures.entered in
     let kept : KeepsFinding c.args.finding.now c.in_ok-receipt.receipt.1.reply =
     rw c.in_ok-receipt.ensures.reply c.answer_finding.ensures.kept in (
-      settled g.N.Name.start g.N.Name.seats
-          (length g.N.Name.cells) H c.args.look.now c.args.shown.now c.args.finding.now c.in_ok-receipt.receipt
+      settled g.N.Name.table H c.args.look.now c.args.shown.now c.args.finding.now c.in_ok-receipt.receipt
           c.args.seat.now c.enter.new.seat
           c.hear.new.self (rw c.request-entry.ensures at entered.0) c.requires.look c.in-Ok.ensures.1
           kept c.hear.ensures.number c.hear.ensures.mine c.hear.ensures.told c.hear.ensures.prefix c.hear.ensures.met,

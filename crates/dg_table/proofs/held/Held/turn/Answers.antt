@@ -4,7 +4,7 @@ use Rattle.dg_table.proofs.held.Held.turn.Goals as goal
 
 pub returns-in-Err-clause-refused : goal.returns-in-Err-clause-refused
 returns-in-Err-clause-refused g c =
-    let barred = barred_turn g.F.FnMut c.args.choose.now _ _ _ _ _ _ _ c.in-Err.ensures.stands
+    let barred = barred_turn g.F.FnMut c.args.choose.now _ _ _ _ _ c.in-Err.ensures.stands
     c.in-Err.ensures.barred in
     search rules
 
@@ -12,5 +12,5 @@ pub enter-requires-clause-legal : goal.enter-requires-clause-legal
 enter-requires-clause-legal g c =
     let held = rw c.self.view_is at c.self.invariant.0 in
     rw (c.ask.ensures, c.number-entry.ensures)
-    (c.answer.ensures.legal g.N.Name.start c.args.self.now.entries c.args.seat.now.number
+    (c.answer.ensures.legal g.N.Name.table.start c.args.self.now.entries c.args.seat.now.number
     held.game' held.legal c.in-Ok.ensures.stands.seat)
