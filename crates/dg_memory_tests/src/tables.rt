@@ -1,5 +1,6 @@
 //! Tables that are opened, played on and closed, where memory may be refused.
 ghost use Rattle.std.specs.Prelude.{◌≡◌, length};
+ghost use Rattle.dg_log.specs.Tables.{table_of};
 
 use crate::acts::act_in_turn;
 use crate::lends::LendFirst;
@@ -110,8 +111,7 @@ fn opened<N: Name, R: Threads + Wait + Abort + Print>(
     scene: Scene,
 ) -> Result<Outcome, Fail>
     requires row { row ≡ N.cells }
-    requires start { file.now.start ≡ N.table.start }
-    requires seats { count ≡ N.table.seats }
+    requires table { N.table ≡ table_of file.now.start count (length row) }
 {
     if let Scene::Pen = scene {
         return writes::<N, R>(rt, alloc, row);
@@ -160,7 +160,8 @@ fn shown<N: Name, R: Threads + Wait + Abort + Print>(
 
 // A pen writes a claim that is won into the first cell of the row.
 fn writes<N: Name, R: Abort + Print>(rt: &R, alloc: Global, row: Row) -> Result<Outcome, Fail>
-    requires { row ≡ N.cells }
+    requires row { row ≡ N.cells }
+    requires capacity { length row ≡ N.table.capacity }
 {
     let (log, mut pen, _) = Log::<N>::new(row);
     let claim = Entry {

@@ -1,3 +1,3 @@
 -- The lemmas that the proofs cite, over plain variables.
 mod Begun
-mod Whole
+pub mod Whole

@@ -1,5 +1,6 @@
 //! Tables are opened, and a scene is played on each.
-ghost use Rattle.std.specs.Prelude.{◌≡◌};
+ghost use Rattle.std.specs.Prelude.{◌≡◌, length};
+ghost use Rattle.dg_log.specs.Tables.{table_of};
 
 use crate::analyst::looks::{asks_too_much, judged, ranked};
 use crate::observer::watching::watched;
@@ -72,8 +73,7 @@ fn opened<N: Name + Send + Sync, R: Threads + Wait + Abort + Sync>(
     scene: Scene<'_>,
 ) -> Result<(), Fail>
     requires row { row ≡ N.cells }
-    requires start { start.now ≡ N.table.start }
-    requires seats { count ≡ N.table.seats }
+    requires table { N.table ≡ table_of start.now count (length row) }
 {
     if let Scene::Pen = scene {
         return writes::<N>(rt, alloc, row);

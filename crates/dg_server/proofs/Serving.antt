@@ -24,13 +24,14 @@ use Rattle.dg_server.specs.Sessions.{IsHeard, IsServed}
 use Rattle.dg_session.specs.declared.ends.SessionEnd.{SessionEnd}
 use Rattle.dg_party.specs.Sessions.{contents}
 use Rattle.dg_party.specs.Parties.{IsParty, IsPartyRefused}
+use Rattle.dg_party.proofs.Whole.{contents_count}
 use Rattle.dg_party.specs.declared.ending.PartyRefusal.{PartyRefusal}
 use Rattle.dg_invocation.specs.declared.invocation.PartyTask.{PartyTask}
 use Rattle.dg_tasks.specs.Tasks.{DescribesTable}
 use Rattle.dg_system.specs.AllHeld.{MayHoldAll}
 use Rattle.std.specs.Io.KnownBytes.{Keeps}
 use Rattle.dg_server.specs.Parties.{names_in, IsPartyOn, IsRefusedOn}
-use Rattle.dg_log.specs.Tables.{TableData}
+use Rattle.dg_log.specs.Tables.{TableData, table_of}
 
 pub seats_back : (len : ℕ) (xs ys rest : List SeatView) → length xs ≡ len
     → map (λ (x : SeatView). x.number) ys ≡ map (λ (x : SeatView). x.number) xs → take len (ys ++ rest) ≡ ys
@@ -77,28 +78,48 @@ pub party_on : (held : List ℕ → Held) (task : PartyTask) (o : StartData) (na
     (all : List (Vec ℕ Global))
     (ends : List (Result ℕ SessionEnd)) (text : List ℕ) → DescribesTable (held task.file.now) o names →
     MayHoldAll held (names_in task) (map (λ script. script.items) all)
-    → IsParty o task.capacity names (contents all) ends text →
+    → IsParty (table_of o (length all) task.capacity) names (contents all) ends text →
     IsPartyOn held task ends text
 party_on held task o names all ends text table known party =
-    record { opening = o; names = names; table = table; holds = (contents all, known, party) }
+    record {
+      opening = o;
+      names = names;
+      table = table;
+      holds = (
+        contents all,
+        known,
+        subst (λ n. IsParty (table_of o n task.capacity) names (contents all) ends text) (sym (contents_count all)) party,
+      );
+    }
 
 pub refused_on : (held : List ℕ → Held) (task : PartyTask) (o : StartData) (names : List (List ℕ))
     (all : List (Vec ℕ Global)) (refusal : PartyRefusal) → DescribesTable (held task.file.now) o names →
     MayHoldAll held (names_in task) (map (λ script. script.items) all)
-    → IsPartyRefused o task.capacity names (contents all) refusal → IsRefusedOn held task refusal
+    → IsPartyRefused (table_of o (length all) task.capacity) names (contents all) refusal → IsRefusedOn held task refusal
 refused_on held task o names all refusal table known refused =
-    record { opening = o; names = names; table = table; holds = (contents all, known, refused) }
+    record {
+      opening = o;
+      names = names;
+      table = table;
+      holds = (
+        contents all,
+        known,
+        subst (λ n. IsPartyRefused (table_of o n task.capacity) names (contents all) refusal) (sym (contents_count all))
+            refused,
+      );
+    }
 
 pub refused_lent : (held : List ℕ → Held) (task : PartyTask) {o o' : StartData} {names names' : List (List ℕ)}
     {all all' : List (Vec ℕ Global)} (refusal : PartyRefusal) → o' ≡ o → names' ≡ names → all' ≡ all
     → DescribesTable (held task.file.now) o names
     → MayHoldAll held (names_in task) (map (λ script. script.items) all)
-    → IsPartyRefused o' task.capacity names' (contents all') refusal → IsRefusedOn held task refusal
+    → IsPartyRefused (table_of o' (length all') task.capacity) names' (contents all') refusal → IsRefusedOn held task refusal
 refused_lent held task {o} {o'} {names} {names'} {all} {all'} refusal opened named lent table known refused =
     refused_on held task o names all refusal table known
-    (subst (λ (x : StartData). IsPartyRefused x task.capacity names (contents all) refusal) opened
-    (subst (λ (x : List (List ℕ)). IsPartyRefused o' task.capacity x (contents all) refusal) named
-    (subst (λ (x : List (Vec ℕ Global)). IsPartyRefused o' task.capacity names' (contents x) refusal) lent refused)))
+    (subst (λ (x : StartData). IsPartyRefused (table_of x (length all) task.capacity) names (contents all) refusal) opened
+    (subst (λ (x : List (List ℕ)). IsPartyRefused (table_of o' (length all) task.capacity) x (contents all) refusal) named
+    (subst (λ (x : List (Vec ℕ Global)). IsPartyRefused (table_of o' (length x) task.capacity) names' (contents x) refusal)
+    lent refused)))
 
 pub as_it_was : (held : Option (List ℕ)) → Keeps held held
 as_it_was None = tt

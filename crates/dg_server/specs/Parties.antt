@@ -30,6 +30,7 @@ use Rattle.std.specs.Io.KnownBytes.{Appends, Keeps}
 use Rattle.dg_game.specs.declared.entry.TheConstants.{MAX_SEATS}
 use Rattle.dg_session.specs.declared.ends.SessionEnd.{SessionEnd}
 use Rattle.dg_system.specs.Growth.{AppendsFront}
+use Rattle.dg_log.specs.Tables.{table_of}
 use Rattle.dg_party.specs.Parties.{IsParty, IsPartyRefused}
 use Rattle.dg_party.specs.declared.ending.PartyRefusal.{PartyRefusal}
 use Rattle.dg_party.specs.declared.ending.PartyRefusal.TheVariants as party
@@ -56,7 +57,7 @@ early s (Err end ∷ ends) = (s, end) ∷ early (s + 1) ends
 abbrev pub IsPartyOn : (List ℕ → Held) → PartyTask → List (Result ℕ SessionEnd) → List ℕ → Type 0
 IsPartyOn held task ends text = IsOnTable (held task.file.now) (λ o names.
     (scripts : List (List ℕ)) × MayHoldAll held (names_in task) scripts
-    × IsParty o task.capacity names scripts ends text)
+    × IsParty (table_of o (length scripts) task.capacity) names scripts ends text)
 
 pub record PlaysParty (held : List ℕ → Held) (task : PartyTask) (old new : Option (List ℕ))
     : Type 0 where
@@ -95,7 +96,7 @@ pub record EndsSome (held : List ℕ → Held) (task : PartyTask) (fault : Fault
 abbrev pub IsRefusedOn : (List ℕ → Held) → PartyTask → PartyRefusal → Type 0
 IsRefusedOn held task refusal = IsOnTable (held task.file.now) (λ o names.
     (scripts : List (List ℕ)) × MayHoldAll held (names_in task) scripts
-    × IsPartyRefused o task.capacity names scripts refusal)
+    × IsPartyRefused (table_of o (length scripts) task.capacity) names scripts refusal)
 
 abbrev pub IsWanting : (List ℕ → Held) → PartyTask → Fault → Type 0
 IsWanting held task (Shortage lack) = IsRefusedOn held task (party.Shortage lack)

@@ -1,10 +1,10 @@
 -- Sessions over the input.
 --   how_of seats          == how the lines name the seats: by number where so many are asked for,
 --                         and not where none are
---   IsHeard how table names input old new end == a session over the input, of the seats 1 to n,
---                            which know of no entry, on a table with so many seats and cap cells,
---                            came to this end; and the output has grown by what it said
---   IsServed how table names input old new end == so it did; and there is one history of the
+--   IsHeard how table names input old new end == a session over the input, of the table's seats,
+--                            which know of no entry, came to this end; and the output has grown by
+--                            what it said
+--   IsServed how table names input old new end == it did; and there is one history of the
 --                            table, in which the entries of each seat are just those of its own
 --                            calls, each once and in order; and what the lines entered, one line
 --                            after another, is all of it, numbered from 0; and it is full, if the
@@ -21,7 +21,6 @@ use Rattle.std.specs.declared.result.Result.{Result}
 use Rattle.std.specs.declared.result.Result.TheVariants.{Ok, Err}
 use Rattle.std.specs.Io.KnownBytes.{Keeps}
 use Rattle.std.specs.List.{enumerate_from}
-use Rattle.dg_chips.specs.Starts.{StartData}
 use Rattle.dg_game.specs.declared.entry.Entry.{Entry}
 use Rattle.dg_table.specs.Opened.{AreFresh}
 use Rattle.dg_table.specs.Closing.{IsClosed}
@@ -40,7 +39,7 @@ use Rattle.dg_invocation.specs.declared.invocation.ServeTask.{ServeTask}
 use Rattle.dg_server.specs.declared.fault.Fault.{Fault}
 use Rattle.dg_server.specs.declared.fault.Fault.TheVariants.{Session, Shortage, History}
 use Rattle.dg_system.specs.declared.shortage.Shortage.TheVariants.{OutOfMemory}
-use Rattle.dg_log.specs.Tables.{TableData}
+use Rattle.dg_log.specs.Tables.{TableData, table_of}
 
 abbrev pub how_of : Option ℕ → LineFormat
 how_of None = OneSeat
@@ -68,7 +67,7 @@ abbrev pub Serves : (List ℕ → Held) → Option (List ℕ) → ServeTask → 
     → Option (List ℕ) → Type 0
 Serves held input task old new =
     IsOnTable (held task.file.now) (λ o names. (count : ℕ)
-    × IsServed (how_of task.seats) o (count_of task.seats) task.capacity names input old new
+    × IsServed (how_of task.seats) (table_of o (count_of task.seats) task.capacity) names input old new
     (Ok count))
 
 abbrev pub EndsEarly : LineFormat → TableData → List (List ℕ) → Option (List ℕ) → Fault
@@ -85,4 +84,5 @@ abbrev pub RefusesServing : (List ℕ → Held) → Option (List ℕ) → ServeT
 RefusesServing held input task fault old new =
     (IsOfTask (RefusesItsTable (held task.file.now)) fault × Keeps old new)
     ⊎ IsOnTable (held task.file.now) (λ o names.
-    EndsEarly (how_of task.seats) o (count_of task.seats) task.capacity names input fault old new)
+    EndsEarly (how_of task.seats) (table_of o (count_of task.seats) task.capacity) names input fault
+        old new)

@@ -1,6 +1,7 @@
 //! Sessions over the input of the program.
 ghost use Rattle.std.specs.Prelude.{◌≡◌, ℕ, length, Ok, true, IfErr, OnOk};
 ghost use Rattle.dg_invocation.specs.Seats.{count_of};
+ghost use Rattle.dg_log.specs.Tables.{table_of};
 ghost use Rattle.dg_rank.specs.Ranks.{MayHaveWorkers};
 ghost use Rattle.dg_table.specs.Opened.{MayHaveSeats};
 ghost use Rattle.dg_server.specs.Sessions.{how_of, Serves, EndsEarly, IsServed, RefusesServing};
@@ -87,16 +88,15 @@ where
     I: Read,
     O: Write,
     requires row { row ≡ N.cells }
-    requires start { table.now.start ≡ N.table.start }
-    requires seats { seats ≡ N.table.seats }
+    requires table { N.table ≡ table_of table.now.start seats (length row) }
     requires some { MayHaveSeats seats }
     requires workers { MayHaveWorkers workers }
     ensures done { OnOk result ((count : ℕ)
-        × IsServed how table.now.start seats (length row) table.now.names input.old.remaining
+        × IsServed how (table_of table.now.start seats (length row)) table.now.names input.old.remaining
         output.old.contents output.new.contents (Ok count)) }
     ensures read { IfErr result (λ fault. IsOfInput fault → input.new.has_failed ≡ true) }
     ensures write { IfErr result (λ fault. IsOfOutput fault → output.new.has_failed ≡ true) }
-    ensures early { IfErr result (λ fault. EndsEarly how table.now.start seats (length row)
+    ensures early { IfErr result (λ fault. EndsEarly how (table_of table.now.start seats (length row))
         table.now.names input.old.remaining fault output.old.contents output.new.contents) }
 {
     let alloc = rt.alloc();

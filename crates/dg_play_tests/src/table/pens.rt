@@ -9,7 +9,8 @@ use std::test::Fail;
 
 // A pen writes a claim that is won into the first cell of the row.
 pub(crate) fn writes<N: Name>(rt: &impl Abort, alloc: Global, row: Row) -> Result<(), Fail>
-    requires { row ≡ N.cells }
+    requires row { row ≡ N.cells }
+    requires capacity { length row ≡ N.table.capacity }
 {
     let (log, mut pen, _) = Log::<N>::new(row);
     assert!(rt; pen.len() == 0 && !pen.stuck());

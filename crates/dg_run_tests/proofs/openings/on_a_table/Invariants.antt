@@ -1,5 +1,7 @@
+use Rattle.std.proofs.Common.{length}
+use Rattle.dg_log.specs.Tables.{table_of}
 use Rattle.dg_run_tests.proofs.openings.on_a_table.Given as goal
 
 -- A table is named by its row, its start and its number of seats.
 abbrev pub ghosts-opened : goal.ghosts-opened
-ghosts-opened g a = record { cells = a.row; start = a.start.now; seats = a.count }
+ghosts-opened g a = record { cells = a.row; table = table_of a.start.now a.count (length a.row) }

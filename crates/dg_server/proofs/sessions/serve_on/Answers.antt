@@ -12,10 +12,10 @@ returns-in-Ok-ended-clause-done g c = (
     seats = c.deref_mut.result.now;
     fresh = subst (AreFresh c.args.seats) (sym c.deref_mut.ensures.value) c.in-Ok.ensures;
     after = c.serve_seats-ended.new.seats;
-    session = rw (c.requires.start, c.requires.row, c.requires.seats, ← c.names.ensures.value)
+    session = rw (← c.requires.table, ← c.names.ensures.value)
         c.in-Ok-ended.ensures.session;
   }) c.in-Ok-close.history.pen.entries c.serve_seats-ended.ensures.session.numbers
-      (rw (c.requires.start, c.requires.row, c.requires.seats)
+      (rw (← c.requires.table)
       (subst (λ ys. IsClosed g.N.Name.table ys
       c.in-Ok-close.history.pen.entries)
       (seats_back c.in-Ok.opened.1.len c.deref_mut.result.now c.serve_seats-ended.new.seats _ (search rules)
@@ -29,10 +29,10 @@ returns-in-Ok-close-clause-early g c =
       seats = c.deref_mut.result.now;
       fresh = subst (AreFresh c.args.seats) (sym c.deref_mut.ensures.value) c.in-Ok.ensures;
       after = c.serve_seats-ended.new.seats;
-      session = rw (c.requires.start, c.requires.row, c.requires.seats, ← c.names.ensures.value)
+      session = rw (← c.requires.table, ← c.names.ensures.value)
           c.in-Err-ended.ensures.session;
     }) c.in-Ok-close.history.pen.entries c.serve_seats-ended.ensures.session.numbers
-    (rw (c.requires.start, c.requires.row, c.requires.seats)
+    (rw (← c.requires.table)
     (subst (λ ys. IsClosed g.N.Name.table ys
     c.in-Ok-close.history.pen.entries)
     (seats_back c.in-Ok.opened.1.len c.deref_mut.result.now c.serve_seats-ended.new.seats _ (search rules)
