@@ -1,5 +1,5 @@
 //! A log that its pen alone writes.
-ghost use Rattle.std.specs.Prelude.{◌≡◌};
+ghost use Rattle.std.specs.Prelude.{◌≡◌, length};
 
 use dg_game::{Entry, Reply, Request};
 use dg_log::{Log, Name, ReceiptSet, Row};
