@@ -6,7 +6,7 @@ ghost use Rattle.dg_cli.specs.Commands.{dollar};
 ghost use Rattle.dg_cli.specs.Refusals.{AskNothing, Refuses};
 ghost use Rattle.dg_cli.specs.Faults.{IsNoCall, IsSaid, IsWhy};
 
-use crate::commands::{dollar, greedy, judge, party, rank, riemann_roch, serve};
+use crate::commands::{SUBCOMMANDS, dollar};
 use crate::reading::{NumberArgument, Refusal, asked_by};
 use clap::Command;
 use clap::error::ErrorKind;
@@ -131,23 +131,12 @@ fn number_refused(
     command.error(ErrorKind::ValueValidation, text.as_str())
 }
 
-/// The command that takes a number, as its usage shows it; any other name stands for the whole program.
+/// The command of that name, as its usage shows it; any other name stands for the whole program.
 fn shown_command<'a>(alloc: Global, name: &str) -> Result<Command<'a>, AllocError> {
-    match name {
-        "judge" => shown_as("dollar judge", judge(alloc)),
-        "rank" => shown_as("dollar rank", rank(alloc)),
-        "rr" => shown_as("dollar rr", riemann_roch(alloc)),
-        "greedy" => shown_as("dollar greedy", greedy(alloc)),
-        "serve" => shown_as("dollar serve", serve(alloc)),
-        "party" => shown_as("dollar party", party(alloc)),
-        _ => dollar(alloc),
+    for subcommand in SUBCOMMANDS {
+        if subcommand.name() == name {
+            return subcommand.told(alloc)?.bin_name(subcommand.usage());
+        }
     }
-}
-
-/// The command as its usage shows it, where it could be made.
-fn shown_as<'a>(
-    name: &'static str,
-    command: Result<Command<'a>, AllocError>,
-) -> Result<Command<'a>, AllocError> {
-    command?.bin_name(name)
+    dollar(alloc)
 }

@@ -91,7 +91,6 @@ fn status_of_task(fault: &TaskFault) -> u8
         | TaskFault::NoLook(_)
         | TaskFault::StepTrials(_) => 3,
         TaskFault::TooMany | TaskFault::Chip(_) => 3,
-        TaskFault::Turn(fault) => status_of_table(*fault),
         TaskFault::Shortage(_) => 4,
     }
 }

@@ -41,9 +41,6 @@ pub enum TaskFault {
     /// The canonical divisor less that of the table is none.
     #[error(transparent)]
     Chip(#[from] ChipFault),
-    /// A turn is refused by the table, or the table is not closed.
-    #[error("{}", call_text(*.0))]
-    Turn(Fault),
     /// There is not enough memory, or a thread could not be started.
     #[error(transparent)]
     Shortage(#[from] Shortage),
