@@ -1,4 +1,4 @@
-//! The command line of the program: what its words ask for, and what is said of them.
+//! The command line of the program: what its words ask for, and what the program says of them.
 #![tactic(auto)]
 
 mod arguments;

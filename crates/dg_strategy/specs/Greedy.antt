@@ -1,14 +1,14 @@
 -- The greedy strategy (Corry and Perkinson, chapter 3: a vertex in debt borrows, until nobody is in
--- debt), where it is always the least vertex in debt that borrows.
+-- debt): here the least vertex in debt always borrows.
 --   IsGreedyCall p request     == the request is for the borrowing by the least vertex in debt at
---                                 the position p; it is a claim where nobody is in debt there
+--                                 the position p; it is a claim if nobody is in debt there
 --   AreGreedy o K H            == each of the entries H is of seat 1, and is so asked for, after
 --                                 the history K and those before it
 --   AllMoves H                 == each of the entries H is a move
---   EndsSo n H settled         == there are n entries, all moves; or, where it is settled, fewer
+--   EndsSo n H settled         == there are n entries, all moves; or, if it is settled, fewer
 --                                 moves than n, and then a claim that is won
 --   IsGreedyGame o n H settled == the history H from the opening o is legal and greedy, and ends so
---   EndsTurn settled e         == the entry is a move; or, where it is settled, a claim that is won
+--   EndsTurn settled e         == the entry is a move; or, if it is settled, a claim that is won
 --   IsGreedyTurn o H e settled == after the history H the entry e of seat 1 is so asked for and
 --                                 answered rightly, and ends so
 use Rattle.std.specs.Prelude.{◌≡◌, ℕ, ◌<◌, Bool, true, false, List, [], ◌∷◌, ◌++◌, length, Option, ⊤}
