@@ -6,8 +6,7 @@
 --   went_on        with one more turn that is a move
 --   settled_game   with one more turn that is the claim the game is settled
 --   used_up        or its turns are used up
-use Rattle.std.proofs.Common.{◌≡◌, ℕ, ◌<◌, Bool, true, false, List, [], ◌∷◌, ◌++◌, length, Option, Some, None, arith, refl, sym, ap, subst, ◌∙◌, append_assoc, append-nil}
-use Rattle.std.specs.Option.{is_none}
+use Rattle.std.proofs.Common.{◌≡◌, ℕ, ◌<◌, Bool, true, false, not, is_some, List, [], ◌∷◌, ◌++◌, length, Option, Some, None, arith, refl, sym, ap, subst, ◌∙◌, append_assoc, append-nil}
 use Rattle.dg_theory.specs.Firing.{IsEffective}
 use Rattle.dg_chips.specs.Starts.{StartData}
 use Rattle.dg_chips.specs.declared.moves.Move.{Move}
@@ -33,20 +32,23 @@ pub record IsUnderWay (o : StartData) (H : List Entry) (s : State) : Type 0 wher
 
 pub turn_made : (o : StartData) (H : List Entry) (s : State) (answer : Option Move) (e : Entry) (settled : Bool) →
     LeadsTo o H s → BorrowsAtLeast s.amounts answer → e.seat ≡ 1 → e.request ≡ request_for answer →
-    Replies o H e.request e.reply → settled ≡ is_none answer → IsGreedyTurn o H e settled
-turn_made o H s answer e settled leads least seat asked right none = record {
+    Replies o H e.request e.reply → is_some answer ≡ not settled → IsGreedyTurn o H e settled
+turn_made o H s answer e settled leads least seat asked right there = record {
   seat = seat;
   call = record { amounts = s.amounts; shown = leads.amounts; answer = answer; least = least; asked = asked };
   right = right;
-  ends = subst (λ (b : Bool). EndsTurn b e) (sym none) (ends answer asked least);
+  ends = ends settled answer there asked least;
 }
   where
     p : Position
     p = position_after o H
 
-    ends : (m : Option Move) → e.request ≡ request_for m → BorrowsAtLeast s.amounts m → EndsTurn (is_none m) e
-    ends (Some m) is at_least = subst IsMove (sym is) tt
-    ends None is effective =
+    ends : (b : Bool) (m : Option Move) → is_some m ≡ not b → e.request ≡ request_for m → BorrowsAtLeast s.amounts m →
+        EndsTurn b e
+    ends false (Some m) there is at_least = subst IsMove (sym is) tt
+    ends false None there is effective = absurd (cc)
+    ends true (Some m) there is at_least = absurd (cc)
+    ends true None there is effective =
         let everywhere : IsEffective p.graph.size p.amounts = λ v below.
         rw (← leads.amounts.amounts v below)
         (effective v (subst (λ (n : ℕ). v < n) (sym leads.amounts.size) below)) in (

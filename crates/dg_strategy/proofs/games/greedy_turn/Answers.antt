@@ -1,5 +1,4 @@
-use Rattle.std.proofs.Common.{ℕ, subst, sym, ◌∙◌}
-use Rattle.dg_game.proofs.StateLaws.{leads_more}
+use Rattle.std.proofs.Common.{ℕ, refl}
 use Rattle.dg_strategy.proofs.Greedily.{turn_made}
 use Rattle.dg_strategy.proofs.games.greedy_turn.Goals as goal
 
@@ -10,5 +9,11 @@ follow-requires-clause-right c =
 
 pub returns-clause-turn : goal.returns-clause-turn
 returns-clause-turn c = λ o H leads.
-    turn_made o H c.args.game.now c.choose.result c.answer.new.reply c.is_none.result leads
-    c.choose.ensures c.is_none.ensures
+    rw c.ask.ensures
+    (turn_made o H c.args.game.now c.choose-choice.result _ c.is_none-settled.result leads
+    (rw c.position.ensures.amounts at c.choose-choice.ensures) refl c.call_for-call.ensures
+    (c.answer.ensures.replies o H leads) c.is_none-settled.ensures)
+
+pub returns-clause-leads : goal.returns-clause-leads
+returns-clause-leads c = λ o H leads.
+    c.follow.ensures.leads o H leads (rw c.ask.ensures (c.answer.ensures.replies o H leads))
