@@ -1,4 +1,4 @@
-use Rattle.std.proofs.Common.{length, subst}
+use Rattle.std.proofs.Common.{subst}
 use Rattle.dg_graph.specs.Graph.{IsGraph}
 use Rattle.dg_chips.specs.Starts.{IsStart}
 use Rattle.dg_strategy.specs.Plays.{IsTurnBy, IsStrategyTurn}
@@ -8,9 +8,7 @@ use Rattle.dg_strategy.proofs.playing.play.Goals as goal
 
 pub returns-in-Ok : goal.returns-in-Ok
 returns-in-Ok g c =
-    let table.start = g.N.Name.table.start in
-    let table.seats = g.N.Name.table.seats in
-    let table.capacity = length g.N.Name.cells in
+    let table = g.N.Name.table in
     let A = g.C.Choose.may_answer c.strategy.inside.choice in
     let graph : IsGraph table.start.graph = (subst IsStart c.start.ensures c.graph-graph.ensures.opening).graph in
     rw (← c.strategy.view_is)
@@ -20,9 +18,7 @@ returns-in-Ok g c =
 
 pub returns-in-Err : goal.returns-in-Err
 returns-in-Err g c =
-    let table.start = g.N.Name.table.start in
-    let table.seats = g.N.Name.table.seats in
-    let table.capacity = length g.N.Name.cells in
+    let table = g.N.Name.table in
     let A = g.C.Choose.may_answer c.strategy.inside.choice in
     let graph : IsGraph table.start.graph = (subst IsStart c.start.ensures c.graph-graph.ensures.opening).graph in
     rw (← c.strategy.view_is)
