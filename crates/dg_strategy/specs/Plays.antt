@@ -1,24 +1,23 @@
--- Playing as a choice says. A has what the choice may answer; x and y are a seat before and after;
--- o is the start of the table, seats how many it has, and cap the number of entries that its
--- history may have. Each history of a turn begins with the one that the seat found at the turn
--- before, and that turn's entry: so all turns are in one.
+-- Playing as a choice says. A has what the choice may answer; x and y are a seat before and after.
+-- Each history of a turn begins with the one that the seat found at the turn before, and that
+-- turn's entry: so all turns are in one.
 --   IsMove request          == the request is a move
 --   AreMoves es             == each of the entries es is a move
---   IsTurnBy A table x r y      == after some history the seat x is answered with the receipt
---                                        r, and is then y: what it asked for is
---                              what A has there
---   IsMadeOrPastRange reply == the move was made, or refused only since an amount would have left
+--   IsTurnBy A table x r y  == after some history the seat x is answered with the receipt r, and is
+--                              then y; it asked for what A has there
+--   IsMadeOrPastRange reply == the move was made, or refused only because an amount would have left
 --                              the range
---   IsStrategyTurn A table x r y == so it is; the gift count stays, and a move is answered so
---   IsSettlerTurn A table x r y == so it is; a move is a borrowing by a vertex in debt, and a
---                                        claim is won
+--   IsStrategyTurn A table x r y == it is such a turn; the gift count stays, and a move is answered
+--                              so
+--   IsSettlerTurn A table x r y == it is such a turn too; a move is a borrowing by a vertex in debt,
+--                              and a claim is won
 --   is_settled ended        == whether it ended with a claim
 --   Gains T x es y          == the seat gained the entries es, in order, each by a step of T, and
 --                              was told of nothing
 --   IsPlayed T n x y ended  == in n turns, all moves, the seat gained n entries; or in fewer, by
 --                              moves and then by the claim of the receipt, those entries
---   IsStopped T table n x y fault == after fewer than n turns, all moves, the next one was
---                                          refused with the fault
+--   IsStopped T table n x y fault == after fewer than n turns, all moves, the next one was refused
+--                              with the fault
 use Rattle.std.specs.Prelude.{◌≡◌, ℕ, ◌<◌, Bool, true, false, List, [], ◌∷◌, ◌++◌, length, Option, Some, None, ⊤}
 use Rattle.std.specs.List.{FoldsTo}
 use Rattle.dg_chips.specs.Starts.{StartData}
