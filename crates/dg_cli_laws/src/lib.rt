@@ -1,9 +1,6 @@
-//! What some command lines ask for, the contract of a function that does nothing.
+//! The law of command lines: what some sixty of them ask for.
 #![tactic(auto)]
 
-ghost use Rattle.dg_cli_laws.specs.CommandLines.{CommandLinesAsk};
+mod laws;
 
-/// Some command lines ask for what their words say, and others are refused.
-pub fn command_lines_ask()
-    ensures { CommandLinesAsk }
-{}
+pub use laws::command_lines_ask;

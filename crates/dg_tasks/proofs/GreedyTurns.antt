@@ -54,8 +54,9 @@ module _ (o : StartData) (names : List (List ℕ)) (s : State) (n : ℕ) (text :
   line_more : (longer : List ℕ) → longer ≡ text ++ entry_text names n e.reply →
       longer ≡ history_text names 0 (known.history ++ e ∷ [])
   line_more longer written =
+      let place : n ≡ 0 + length known.history = omega (arith, known.count) in
       written ∙ ap (λ (start : List ℕ). start ++ entry_text names n e.reply) known.printed
-      ∙ ap (λ (k : ℕ). history_text names 0 known.history ++ entry_text names k e.reply) known.count
+      ∙ ap (λ (k : ℕ). history_text names 0 known.history ++ entry_text names k e.reply) place
       ∙ sym (history_more names 0 known.history e)
 
   pub one_played : (t : State) (longer : List ℕ) → settled ≡ false → LeadsOn s e t →

@@ -9,7 +9,7 @@ use dg_game::{BLANK, Game};
 use dg_lines::push_entry;
 use dg_strategy::greedy_turn;
 use dg_system::Shortage;
-use std::alloc::Global;
+use std::alloc::{AllocError, Global};
 
 /// The history of the greedy strategy on a table as text: a line for each entry, with its number, from 0 on, and the text of its
 /// reply; and then `turns` if so many turns were used up before nobody was in debt. The condition is at most 65,536 turns.
@@ -21,21 +21,29 @@ pub fn greedy_history(alloc: Global, table: &TableFile, turns: u32) -> Result<Ve
         (λ text. IsGreedyAnswer table.now.start turns table.now.names text.items) }
     ensures refused { IfErr result RefusesTurns }
 {
+    match greedy_lines(alloc, table, turns) {
+        Ok(text) => Ok(text),
+        Err(_) => Err(TaskFault::Shortage(Shortage::OutOfMemory)),
+    }
+}
+
+/// The lines of the game, and of how it ended.
+fn greedy_lines(alloc: Global, table: &TableFile, turns: u32) -> Result<Vec<u8>, AllocError>
+    requires { turns ≤ MAX_ENTRIES }
+    ensures { IfOk result
+        (λ text. IsGreedyAnswer table.now.start turns table.now.names text.items) }
+{
     let names = table.names();
     let mut game = Game::new(table.start());
     let mut entry = BLANK;
     let mut text = Vec::new(alloc);
     'turns: for number in 0..turns {
         let settled = greedy_turn(&mut game, &mut entry);
-        if push_entry(&mut text, number as usize, &entry.reply, names).is_err() {
-            return Err(TaskFault::Shortage(Shortage::OutOfMemory));
-        }
+        push_entry(&mut text, number as usize, &entry.reply, names)?;
         if settled {
             return Ok(text);
         }
     }
-    match text.extend_from_slice(b"turns\n") {
-        Ok(()) => Ok(text),
-        Err(_) => Err(TaskFault::Shortage(Shortage::OutOfMemory)),
-    }
+    text.extend_from_slice(b"turns\n")?;
+    Ok(text)
 }
