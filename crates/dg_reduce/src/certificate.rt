@@ -5,7 +5,7 @@ ghost use Rattle.std.specs.Bool.{OnTrue};
 ghost use Rattle.dg_theory.specs.Firing.{HasNoDebtOff};
 ghost use Rattle.dg_theory.specs.Reduced.{IsReduced};
 ghost use Rattle.dg_chips.specs.Vector.{at};
-ghost use Rattle.dg_reduce.specs.Reductions.{IsBurningOrder};
+ghost use Rattle.dg_reduce.specs.Certificates.{IsBurningOrder};
 ghost use Rattle.dg_reduce.specs.Burnings.{IsWhole, IsHeldOff};
 
 use dg_burn::burn;

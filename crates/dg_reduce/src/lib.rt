@@ -4,16 +4,13 @@
 
 mod aim;
 mod certificate;
-mod fallback;
 mod form;
 mod guessing;
-mod limits;
 mod reducing;
 
 pub use aim::Aim;
 pub use certificate::{Burning, is_solvent_off, order_by, order_if_reduced};
-pub use fallback::{is_within_start, reduce_after, reduce_by_levels};
 pub use form::Form;
 pub use guessing::{Guessed, guess, guess_once};
-pub use limits::MAX_START;
-pub use reducing::{Certified, Reduced, certified_by, reduce, reduce_certified, reduce_wide};
+pub use dg_fallback::{MAX_START, Reduced};
+pub use reducing::{Certified, certified_by, reduce, reduce_certified, reduce_wide};

@@ -3,26 +3,17 @@
 ghost use Rattle.std.specs.Prelude.{◌≡◌, ℕ, ◌<◌, ◌≤◌, pos, IfSome};
 ghost use Rattle.std.specs.Int.RustNames.{unsigned_abs};
 ghost use Rattle.dg_chips.specs.Vector.{at};
-ghost use Rattle.dg_reduce.specs.Reductions.{IsReduction, IsCertified};
+ghost use Rattle.dg_fallback.specs.Reductions.{IsReduction};
+ghost use Rattle.dg_reduce.specs.Certificates.{IsCertified};
 ghost use Rattle.dg_reduce.specs.Burnings.{IsWhole};
 
 use crate::aim::Aim;
 use crate::certificate::{Burning, order_by};
-use crate::fallback::reduce_after;
 use crate::guessing::guess;
-use crate::limits::MAX_START;
 use dg_burn::burn;
 use dg_chips::{Divisor, Script, Wide};
+use dg_fallback::{MAX_START, Reduced, reduce_after};
 use dg_graph::Graph;
-
-/// A reduced divisor, and the script that leads to it.
-#[derive(Clone, Copy, PartialEq, Eq)]
-pub struct Reduced {
-    /// The amounts after the firing.
-    pub divisor: Wide,
-    /// How often each vertex lends: 0 at q.
-    pub script: Script,
-}
 
 /// A reduced divisor, the script that leads to it, and what shows that it is reduced.
 #[derive(Clone, Copy)]
@@ -101,8 +92,6 @@ pub fn certified_by(
 }
 
 /// The reduction that begins with a script, and then goes by the fallback.
-#[cold]
-#[inline(never)]
 fn certified_after(graph: &Graph, q: usize, chips: &Wide, script: &Script) -> Certified
     requires size { chips.now.size ≡ graph.now.size }
     requires vertex { q < graph.now.size }
