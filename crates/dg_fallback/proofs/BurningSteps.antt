@@ -4,27 +4,19 @@
 --   burning_down-more         it holds after one more such set
 --   burning_down-falls        and the weight falls
 --   burning_down-chips, burning_down-script   amounts and script are within the limits of a firing
-use Rattle.std.proofs.Common.{◌≡◌, ◌≢◌, ℕ, ◌+◌, ◌*◌, ◌^◌, ◌<◌, ◌≤◌, Bool, true, false, List, arith, sym, ◌∙◌, refl, ⊎_elim}
+use Rattle.std.proofs.Common.{◌≡◌, ℕ, ◌+◌, ◌*◌, ◌^◌, ◌<◌, ◌≤◌, Bool, true, false, arith, sym, ◌∙◌, refl}
 use Rattle.std.proofs.lemmas.Int.{ints}
-use Rattle.std.proofs.lemmas.Bool.{not-false}
 use Rattle.std.proofs.Math.IntN.{ℤ, pos, ◌+ℤ◌, ◌-ℤ◌}
-use Rattle.std.specs.Prelude.{◌↔◌}
 use Rattle.std.specs.Int.RustNames.{unsigned_abs}
 use Rattle.dg_theory.specs.Multigraph.{Multigraph}
-use Rattle.dg_theory.specs.Firing.{Amounts, fired, indicator, multiple, HasNoDebtOff}
+use Rattle.dg_theory.specs.Firing.{fired, indicator, multiple}
 use Rattle.dg_theory.specs.Distances.{IsDistance}
-use Rattle.dg_theory.specs.Reduced.{IsReduced}
-use Rattle.dg_theory.specs.Burning.{BurnsInOrder, IsGreatestFree}
-use Rattle.dg_theory.specs.BurningLaws.{unburnt_by}
 use Rattle.dg_theory.proofs.Absolute.{within_abs, abs_within}
-use Rattle.dg_theory.proofs.Counting.{member_or_none}
-use Rattle.dg_theory.proofs.BurningLaws.{unburnt_by-below, rest_fires, burnt_reduced}
 use Rattle.dg_theory.proofs.Multiples.{multiple-off}
 use Rattle.dg_theory.proofs.Potential.{weights, levels_are_potential}
 use Rattle.dg_theory.proofs.Weights.{weight_of, weight_of-cong, weight_falls_by_firings}
 use Rattle.dg_theory.proofs.Range.{IsLed, clear_all, led_start, led_step, led-cong, led_limit, script_between}
 use Rattle.dg_graph.specs.Graph.{IsGraph}
-use Rattle.dg_graph.specs.Sets.{in_set}
 use Rattle.dg_chips.specs.Vector.{at}
 use Rattle.dg_fallback.specs.declared.walk.Walk.{Walk}
 use Rattle.dg_fallback.specs.States.{IsTied, IsFired, limit_at, IsCleared}

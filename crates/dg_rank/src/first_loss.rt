@@ -12,7 +12,7 @@ ghost use Rattle.dg_rank.specs.Limits.{IsWithinLimits};
 ghost use Rattle.dg_rank.specs.Trials.{IsTrial};
 ghost use Rattle.dg_rank.specs.Numbering.{nth_trial};
 ghost use Rattle.dg_rank.specs.Moves.{after_move};
-ghost use Rattle.dg_rank.specs.Losses.{AreSmall, AddUpToFew, WinsWithout, IsFound, IsLeap};
+ghost use Rattle.dg_rank.specs.Losses.{AreSmall, AddUpToFew, WinsWithout, AllWin, IsFirstLossIn, IsLeft};
 
 use crate::counting::count;
 use crate::enumeration::{Moved, Trial};
@@ -34,7 +34,9 @@ pub fn first_loss(
     requires size { chips.now.size ≡ graph.now.size }
     requires range { AreSmall graph.now.size (at chips.now) }
     requires limits { (c : ℕ) × IsWithinLimits graph.now.size k c × (to ≤ c) }
-    ensures { IsFound graph.now (at chips.now) k from to result }
+    ensures { MatchOption result
+        (AllWin graph.now (at chips.now) k from to)
+        (IsFirstLossIn graph.now (at chips.now) k from to) }
 {
     if from >= to {
         return None;
@@ -109,8 +111,9 @@ fn leap(trial: &mut Trial, left: &mut Form) -> u32
     requires effective { IsEffective left.old.size (at left.old) }
     requires degree { AddUpToFew left.old.size (at left.old) }
     ensures { (g : Multigraph) (D : Amounts) (k c i : ℕ) → IsWithinLimits g.size k c → i < c →
-        trial.old ≡ nth_trial g.size k i → IsEffectiveForm g (less D (amounts_of trial.old)) left.old →
-        IsLeap g D k c i result trial.new left.new }
+        IsLeft g D k i trial.old left.old →
+        (i + result < c) × AllWin g D k i (i + result + 1)
+        × IsLeft g D k (i + result) trial.new left.new }
 {
     let last = trial.size() - 1;
     let dollars = trial.get(last);

@@ -5,7 +5,7 @@ ghost use Rattle.dg_theory.specs.Firing.{Amounts, AreEquivalent};
 ghost use Rattle.dg_chips.specs.Vector.{at};
 ghost use Rattle.dg_rank.specs.Limits.{IsPastLimits, IsWithinLimits};
 ghost use Rattle.dg_rank.specs.Trials.{IsTrial};
-ghost use Rattle.dg_rank.specs.Losses.{AreSmall, IsFound};
+ghost use Rattle.dg_rank.specs.Losses.{AreSmall, AllWin, IsFirstLossIn};
 ghost use Rattle.dg_ranked.specs.RankTests.{IsRankTest};
 ghost use Rattle.dg_rank.specs.Ranks.{IsWithin, IsUnsettled};
 ghost use Rattle.dg_rank.specs.declared.rank_fault.RankFault.TheVariants.{TooMany};
@@ -93,7 +93,8 @@ pub(crate) fn verdict_on(k: u32, loss: Option<Trial>) -> RankVerdict
     requires { MatchOption loss ⊤ (λ E. (n : ℕ) × (c : ℕ) × IsWithinLimits n k c × IsTrial n k E) }
     ensures { (g : Multigraph) (D x : Amounts) (c : ℕ) → IsWithinLimits g.size k c →
         AreEquivalent g D x →
-        IsFound g x k 0 c loss → IsRankTest g D k result }
+        MatchOption loss (AllWin g x k 0 c) (IsFirstLossIn g x k 0 c) →
+        IsRankTest g D k result }
 {
     match loss {
         Some(trial) => RankVerdict::Below(k, trial.to_divisor()),

@@ -6,7 +6,8 @@ ghost use Rattle.dg_rank.specs.Ranks.{IsWithin, IsRankFault, MayHaveWorkers};
 ghost use Rattle.dg_rank.specs.declared.rank_fault.RankFault.TheVariants.{Spawn};
 
 use crate::counting::trials;
-use crate::duals::{Told, told_before};
+use crate::duals::told_before;
+use crate::partial::Partial;
 use crate::pieces::{Search, first_loss_among};
 use crate::rank_fault::RankFault;
 use crate::ranks::{settled, small_amounts, verdict_on};
@@ -74,12 +75,12 @@ pub fn rank_with<R: Threads + Wait, G: Gate>(
     // The first trials and the dual's are made before there are threads to share the rest.
     let most = count / (2 * workers);
     match told_before(graph, &aim, divisor, &chips, k, count, most) {
-        Told::Lost(trial) => {
+        Partial::Lost(trial) => {
             let verdict = verdict_on(k, Some(trial));
             after_the_gate(rt, graph, k, workers, gate, verdict)
         }
-        Told::Won => after_the_gate(rt, graph, k, workers, gate, RankVerdict::AtLeast(k)),
-        Told::Open(_) => {
+        Partial::Won => after_the_gate(rt, graph, k, workers, gate, RankVerdict::AtLeast(k)),
+        Partial::Open(_) => {
             let search = Search {
                 graph: *graph,
                 chips,

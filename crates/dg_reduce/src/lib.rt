@@ -10,7 +10,7 @@ mod reducing;
 
 pub use aim::Aim;
 pub use certificate::{Burning, is_solvent_off, order_by, order_if_reduced};
+pub use dg_fallback::{MAX_START, Reduced};
 pub use form::Form;
 pub use guessing::{Guessed, guess, guess_once};
-pub use dg_fallback::{MAX_START, Reduced};
 pub use reducing::{Certified, certified_by, reduce, reduce_certified, reduce_wide};
