@@ -5,7 +5,7 @@ import glob, html, json, os, re, sys
 import words
 from words import read
 
-HELP, FORMATS = "crates/dg_command/src/help_texts.rt", "docs/formats.md"
+HELP, FORMATS = "crates/dg_cli/src/help_texts.rt", "docs/formats.md"
 MODEL, BOARD, ANSWERS = "examples/party.py", "board/words.js", "python/dollar/answers.py"
 
 
@@ -255,7 +255,7 @@ def faults():
 
 
 # Constants that are one limit: of crates that do not know each other, or of other types.
-SAME = [("dg_sweep::MAX_LINE", "dg_sources::MAX_FILE"), ("dg_game::MAX_GIFT", "dg_chips::MAX_AMOUNT")]
+SAME = [("dg_sweep::MAX_LINE", "dg_system::MAX_FILE"), ("dg_game::MAX_GIFT", "dg_chips::MAX_AMOUNT")]
 
 
 def constants():

@@ -108,9 +108,9 @@ def file_faults():
 
 # Where each type of faults stands, and the functions that say what one means.
 TYPES = {"Shape": "dg_file/src/fault.rt", "FileFault": "dg_file/src/fault.rt", "GraphFault": "dg_graph/src/fault.rt",
-         "ChipFault": "dg_chips/src/divisor.rt", "SourceFault": "dg_sources/src/sources.rt", "WordsFault": "dg_asked/src/words.rt",
+         "ChipFault": "dg_chips/src/divisor.rt", "SourceFault": "dg_system/src/sources.rt", "ArgsFault": "dg_invocation/src/parse_args.rt",
          "TaskFault": "dg_tasks/src/fault.rt", "Fault": "dg_server/src/fault.rt", "LineFault": "dg_lines/src/line.rt"}
-SHORTAGE = "dg_beside/src/shortage.rt"
+SHORTAGE = "dg_system/src/shortage.rt"
 TELLERS = {"call_text": "dg_tasks/src/fault.rt", "end_text": "dg_server/src/fault.rt", "sweep_end_text": "dg_server/src/fault.rt"}
 
 

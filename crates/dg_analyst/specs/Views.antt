@@ -9,11 +9,11 @@
 --                        amounts on its graph; the degree is within the limits, and there may be w
 --                        workers
 use Rattle.std.specs.Prelude.{ℕ}
-use Rattle.dg_chips.specs.Opening.{Opening}
+use Rattle.dg_chips.specs.Starts.{StartData}
 use Rattle.dg_chips.specs.Vector.{at}
-use Rattle.dg_ranked.specs.RankTests.{IsRankTest}
+use Rattle.dg_verdict.specs.RankTests.{IsRankTest}
 use Rattle.dg_rank.specs.Ranks.{IsWithin, MayHaveWorkers}
-use Rattle.dg_ranked.specs.declared.rank_verdict.RankVerdict.{RankVerdict}
+use Rattle.dg_verdict.specs.declared.rank_verdict.RankVerdict.{RankVerdict}
 use Rattle.dg_verdict.specs.Right.{IsVerdictOn}
 use Rattle.dg_verdict.specs.declared.verdict.Verdict.{Verdict}
 use Rattle.dg_game.specs.declared.entry.Entry.{Entry}
@@ -28,7 +28,7 @@ pub record Found (A : Type 0) : Type 0 where
   pub look : LookView
   pub verdict : A
 
-pub record IsTaken (o : Opening) (x : LookView) : Type 0 where
+pub record IsTaken (o : StartData) (x : LookView) : Type 0 where
   pub look : IsLookOf x.receipt x.shown
   pub vertices : HasVertices o.graph.size x.shown
 

@@ -8,11 +8,11 @@ ghost use Rattle.dg_table.specs.Settled.{IsSettled, IsStale};
 
 use crate::looks::Look;
 use crate::reckoning::{Reckoned, Tried};
-use dg_game::{Finding, Question, renew};
+use dg_game::{Finding, Question, renew_inverse};
 use dg_log::{Name, Receipt};
-use dg_reduce::Aim;
+use dg_reduce::InverseLaplacian;
 use dg_table::{Fault, Seat, Table};
-use dg_verdict::judge_aimed;
+use dg_verdict::judge_with_inverse;
 use std::alloc::Global;
 use std::sync::Wait;
 
@@ -68,7 +68,7 @@ pub fn commit_stale<N: Name>(
     table.settle_stale(rt, alloc, seat, &look.receipt, &look.shown, asks)
 }
 
-/// Reckons the verdict on a look, by an aim that is first made anew unless it may serve, and enters it, as `reckon_aimed` and
+/// Reckons the verdict on a look, by an inverse that is first made anew unless it may serve, and enters it, as `reckon_with_inverse` and
 /// `commit` do one after the other. The look stays the caller's.
 ///
 /// It waits and is refused as `commit`; then the seat knows what it knew, and there is no entry.
@@ -78,7 +78,7 @@ pub fn commit_look<N: Name>(
     alloc: Global,
     seat: &mut Seat<N>,
     look: &Look<N>,
-    aim: &mut Aim,
+    inverse: &mut InverseLaplacian,
 ) -> Result<Receipt<N>, Fault>
     ensures settled { (v : VerdictData) × IsJudged N.start.q look.now v ×
         IfOk result (λ r. IsSettled N.start N.seats (length N.cells) look.now.receipt
@@ -88,8 +88,8 @@ pub fn commit_look<N: Name>(
 {
     let shown = &look.shown;
     let q = usize::from(look.q);
-    renew(aim, q, shown);
-    let verdict = judge_aimed(&shown.graph, aim, q, &shown.position);
+    renew_inverse(inverse, q, shown);
+    let verdict = judge_with_inverse(&shown.graph, inverse, q, &shown.position);
     let finding = Finding::Judged(verdict);
     table.settle(rt, alloc, seat, &look.receipt, shown, &finding)
 }

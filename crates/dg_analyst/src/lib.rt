@@ -9,4 +9,4 @@ mod reckoning;
 pub use commits::{commit, commit_look, commit_rank, commit_stale};
 pub use looking::look;
 pub use looks::Look;
-pub use reckoning::{Reckoned, Tried, reckon, reckon_aimed, try_rank};
+pub use reckoning::{Reckoned, Tried, reckon, reckon_with_inverse, try_rank};

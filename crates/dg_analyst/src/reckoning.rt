@@ -8,9 +8,8 @@ use crate::looks::Look;
 use dg_game::Finding;
 use dg_log::Name;
 use dg_rank::{Gate, RankFault, rank_with};
-use dg_ranked::RankVerdict;
-use dg_reduce::Aim;
-use dg_verdict::{Verdict, judge_aimed};
+use dg_verdict::{RankVerdict, Verdict, judge_with_inverse};
+use dg_reduce::InverseLaplacian;
 use std::marker::Model;
 use std::sync::Wait;
 use std::thread::Threads;
@@ -62,7 +61,7 @@ pub struct Tried<N: Name> {
 impl<N: Name> Model for Tried<N> {
     ghost use Rattle.dg_analyst.specs.Views.{Found};
     ghost use Rattle.dg_game.specs.declared.finding.Finding.TheVariants.{Ranked};
-    ghost use Rattle.dg_ranked.specs.declared.rank_verdict.RankVerdict.{RankVerdict as RankData};
+    ghost use Rattle.dg_verdict.specs.declared.rank_verdict.RankVerdict.{RankVerdict as RankData};
     ghost use Rattle.dg_game.specs.Look.{IsFoundFor};
 
     ghost Value = { Found RankData };
@@ -95,18 +94,18 @@ pub fn reckon<N: Name>(look: Look<N>) -> Reckoned<N>
     ensures look { result.look ≡ look }
     ensures judged { IsJudged N.start.q look result.verdict }
 {
-    let aim = Aim::new(&look.shown.graph, usize::from(look.q));
-    reckon_aimed(look, &aim)
+    let inverse = InverseLaplacian::new(&look.shown.graph, usize::from(look.q));
+    reckon_with_inverse(look, &inverse)
 }
 
-/// The verdict as `reckon` gives it, whatever is aimed by: the aim of the look's table saves the time to make one anew,
+/// The verdict as `reckon` gives it, whatever inverse it is given: that of the look's table saves the time to make one anew,
 /// where no edge was added before the look.
-pub fn reckon_aimed<N: Name>(look: Look<N>, aim: &Aim) -> Reckoned<N>
+pub fn reckon_with_inverse<N: Name>(look: Look<N>, inverse: &InverseLaplacian) -> Reckoned<N>
     ensures look { result.look ≡ look }
     ensures judged { IsJudged N.start.q look result.verdict }
 {
     let q = usize::from(look.q);
-    let verdict = judge_aimed(&look.shown.graph, aim, q, &look.shown.position);
+    let verdict = judge_with_inverse(&look.shown.graph, inverse, q, &look.shown.position);
     Reckoned { look, verdict }
 }
 

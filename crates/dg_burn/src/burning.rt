@@ -51,7 +51,7 @@ pub fn burn(graph: &Graph, q: usize, chips: &Wide) -> Burnt
     ensures whole { (result.unburnt ≡ 0) ↔ (result.burnt ≡ graph.now.size) }
 {
     let _size = graph.size();
-    burn_counted(graph, q, &held_at(chips)).burnt
+    burn_counted(graph, q, &capped_at(chips)).burnt
 }
 
 /// Burns the graph from q, where each vertex holds so many dollars: as `burn` does, and with the counts kept. Amounts above
@@ -95,7 +95,7 @@ pub fn burn_counted(graph: &Graph, q: usize, held: &[u8; 16]) -> Counted
 }
 
 /// The amounts as far as burning looks at them: 0 for a debt, and 64 for more than 64.
-pub fn held_at(chips: &Wide) -> [u8; 16]
+pub fn capped_at(chips: &Wide) -> [u8; 16]
     ensures { IsHeld chips.now.size (at chips.now) result }
 {
     let mut held = [0; 16];

@@ -4,4 +4,4 @@
 mod burning;
 mod fire;
 
-pub use burning::{Burnt, Counted, burn, burn_counted, held_at};
+pub use burning::{Burnt, Counted, burn, burn_counted, capped_at};

@@ -9,6 +9,6 @@ pub mod Drifts
 pub mod Applied
 pub mod Lent
 pub mod Refused
-pub mod Opening
+pub mod Starts
 pub mod StartFaults
 pub mod Light

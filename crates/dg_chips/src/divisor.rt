@@ -167,7 +167,7 @@ impl Divisor {
 
     /// The divisor with so many dollars more at one vertex, at most 1,000,000 more or less; `None` where the vertex
     /// would not hold an amount within 1,000,000.
-    pub fn with_more(&self, v: usize, dollars: i64) -> Option<Divisor>
+    pub fn checked_add_at(&self, v: usize, dollars: i64) -> Option<Divisor>
         requires vertex { v < self.now.size }
         requires dollars { unsigned_abs dollars ≤ MAX_AMOUNT }
         ensures { MatchOption result

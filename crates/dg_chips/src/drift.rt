@@ -68,17 +68,17 @@ impl Drift {
     ///
     /// The move can be played on the graph: it names vertices of the graph alone, the set that it fires is not empty,
     /// and its script has the graph's size. With it no vertex has lent or borrowed more than 100,000,000,000,000 times.
-    pub fn plus(&self, graph: &Graph, play: &Move) -> Drift
+    pub fn plus(&self, graph: &Graph, chip_move: &Move) -> Drift
         requires size { self.now.size ≡ graph.now.size }
-        requires playable { IsPlayable graph.now.size play.now }
+        requires playable { IsPlayable graph.now.size chip_move.now }
         requires limit { (v : ℕ) → v < graph.now.size →
-            unsigned_abs (at self.now v +ℤ script_of play.now v) ≤ MAX_DRIFT }
+            unsigned_abs (at self.now v +ℤ script_of chip_move.now v) ≤ MAX_DRIFT }
         ensures size { result.size ≡ graph.now.size }
         ensures entries { (v : ℕ) → v < graph.now.size →
-            at result v ≡ at self.now v +ℤ script_of play.now v }
+            at result v ≡ at self.now v +ℤ script_of chip_move.now v }
     {
         let size = graph.size();
-        match play {
+        match chip_move {
             Move::Lend(v) => self.plus_at(usize::from(*v), 1),
             Move::Borrow(v) => self.plus_at(usize::from(*v), -1),
             Move::Fire(set) => self.plus_script(&Script::indicator(size, *set)),

@@ -24,16 +24,16 @@ use dg_graph::Graph;
 /// Refused in this order: `NoVertex` where the move names a vertex that is not there, `Empty` where it fires the empty
 /// set, `Script` where its script has another size, `Range` where an amount of the result is not within 1,000,000.
 /// What lies between the single lendings of a move is not tested.
-pub fn apply(graph: &Graph, divisor: &Divisor, play: &Move) -> Result<Divisor, MoveFault>
+pub fn apply(graph: &Graph, divisor: &Divisor, chip_move: &Move) -> Result<Divisor, MoveFault>
     requires { divisor.now.size ≡ graph.now.size }
     ensures { MatchResult result
-        (IsAfterMove graph.now (at divisor.now) play.now)
-        (IsRefusal graph.now (at divisor.now) play.now) }
+        (IsAfterMove graph.now (at divisor.now) chip_move.now)
+        (IsRefusal graph.now (at divisor.now) chip_move.now) }
 {
-    match play {
+    match chip_move {
         Move::Lend(v) => lent(graph, divisor, usize::from(*v), 1),
         Move::Borrow(v) => lent(graph, divisor, usize::from(*v), -1),
-        Move::Fire(_) | Move::Script(_) => apply_script(graph, divisor, play),
+        Move::Fire(_) | Move::Script(_) => apply_script(graph, divisor, chip_move),
     }
 }
 
@@ -55,13 +55,13 @@ fn lent(graph: &Graph, divisor: &Divisor, v: usize, times: i32) -> Result<Diviso
 }
 
 /// The divisor after a move of any kind, from the script of the move.
-fn apply_script(graph: &Graph, divisor: &Divisor, play: &Move) -> Result<Divisor, MoveFault>
+fn apply_script(graph: &Graph, divisor: &Divisor, chip_move: &Move) -> Result<Divisor, MoveFault>
     requires { divisor.now.size ≡ graph.now.size }
     ensures { MatchResult result
-        (IsAfterMove graph.now (at divisor.now) play.now)
-        (IsRefusal graph.now (at divisor.now) play.now) }
+        (IsAfterMove graph.now (at divisor.now) chip_move.now)
+        (IsRefusal graph.now (at divisor.now) chip_move.now) }
 {
-    let script = script_of(graph.size(), play)?;
+    let script = script_of(graph.size(), chip_move)?;
     let amounts = fired_amounts(graph, divisor, &script);
     match Divisor::new(graph, &amounts[..graph.size()]) {
         Ok(divisor) => Ok(divisor),

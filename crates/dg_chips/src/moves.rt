@@ -35,14 +35,14 @@ pub enum MoveFault {
 }
 
 /// The script of a move on `size` vertices, or why the move can't be played there.
-pub fn script_of(size: usize, play: &Move) -> Result<Script, MoveFault>
+pub fn script_of(size: usize, chip_move: &Move) -> Result<Script, MoveFault>
     requires { size ≤ MAX_VERTICES }
     ensures { MatchResult result
-        (λ s. (s.size ≡ size) × IsPlayable size play.now ×
-        ((v : ℕ) → v < size → at s v ≡ script_of play.now v))
-        (IsMisfit size play.now) }
+        (λ s. (s.size ≡ size) × IsPlayable size chip_move.now ×
+        ((v : ℕ) → v < size → at s v ≡ script_of chip_move.now v))
+        (IsMisfit size chip_move.now) }
 {
-    match play {
+    match chip_move {
         Move::Lend(v) => {
             let v = usize::from(*v);
             if v >= size {

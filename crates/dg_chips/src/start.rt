@@ -1,7 +1,7 @@
 //! The start of a game: a graph, a divisor and the vertex q.
 
 ghost use Rattle.std.specs.Prelude.{◌≡◌, ◌≢◌, ℕ, ◌<◌, ◌≤◌, MatchResult};
-ghost use Rattle.dg_chips.specs.Opening.{IsOpening};
+ghost use Rattle.dg_chips.specs.Starts.{IsStart};
 ghost use Rattle.dg_chips.specs.StartFaults.{IsStartFault};
 
 use crate::divisor::Divisor;
@@ -26,13 +26,13 @@ pub struct Start {
 }
 
 impl Model for Start {
-    ghost use Rattle.dg_chips.specs.Opening.{Opening, IsOpening};
+    ghost use Rattle.dg_chips.specs.Starts.{StartData, IsStart};
 
-    ghost Value = { Opening };
+    ghost Value = { StartData };
 
     ghost view = { λ a. record { graph = a.graph; divisor = a.divisor; q = a.q } };
 
-    ghost invariant = { λ a. IsOpening (record { graph = a.graph; divisor = a.divisor; q = a.q }) };
+    ghost invariant = { λ a. IsStart (record { graph = a.graph; divisor = a.divisor; q = a.q }) };
 
     ghost inverse = { λ o. record { graph = o.graph; divisor = o.divisor; q = o.q } };
 }
@@ -44,7 +44,7 @@ impl Start {
     /// q is none of the graph's.
     pub fn new(graph: Graph, divisor: Divisor, q: u8) -> Result<Start, StartFault>
         ensures { MatchResult result
-            (λ s. (s ≡ record { graph = graph; divisor = divisor; q = q }) × IsOpening s)
+            (λ s. (s ≡ record { graph = graph; divisor = divisor; q = q }) × IsStart s)
             (IsStartFault graph divisor q) }
     {
         let size = graph.size();
@@ -60,7 +60,7 @@ impl Start {
     /// The graph.
     pub fn graph(&self) -> &Graph
         ensures graph { result.now ≡ self.now.graph }
-        ensures opening { IsOpening self.now }
+        ensures opening { IsStart self.now }
     {
         &self.graph
     }

@@ -15,7 +15,7 @@ use Rattle.std.specs.List.{list_any}
 use Rattle.std.proofs.lemmas.List.{length-map, length-take, take-map, take_all, map_more}
 use Rattle.std.proofs.lemmas.Option.{slice_get-map, slice_get-get_or}
 use Rattle.dg_graph.specs.Faults.{IsSize}
-use Rattle.dg_names.specs.Names.{IsName, AreNames, has}
+use Rattle.dg_tokens.specs.Names.{IsName, AreNames, has}
 use Rattle.dg_file.specs.FileFaults.{IsNameFault, IsTwiceFault}
 
 abbrev pub the_text : Bor (List ℕ) → List ℕ

@@ -3,7 +3,7 @@
 --   file-none     no fault where there is a table
 use Rattle.std.proofs.Common.{◌≡◌, ◌≢◌, ℕ, List, refl, ap}
 use Rattle.serde_json.specs.Data.{Data}
-use Rattle.dg_chips.specs.Opening.{Opening}
+use Rattle.dg_chips.specs.Starts.{StartData}
 use Rattle.dg_file.specs.Content.{Reads, IsNotJson}
 use Rattle.dg_file.specs.TableFiles.{IsTableFile}
 use Rattle.dg_file.specs.FileFaults.{IsShapeFault, IsRefusedTable, RefusesFile}
@@ -56,7 +56,7 @@ module _ (bytes : List ℕ) where
       let content : a.content ≡ b.content = same-content b.value a.content b.content (rw value at a.says) b.says in
       table-one b.content g k (rw content at a.refused) b.refused
 
-  cause-none : (f : FileFault) (o : Opening) (names : List (List ℕ)) → Cause bytes f → IsTableFile bytes o names → ⊥
+  cause-none : (f : FileFault) (o : StartData) (names : List (List ℕ)) → Cause bytes f → IsTableFile bytes o names → ⊥
   cause-none f o names (no_json a) file = json-none file.value file.reads a
   cause-none f o names (shape s u reads a) file =
       let same : u ≡ file.value = same-value bytes u file.value reads file.reads in
@@ -72,6 +72,6 @@ pub file-one : (bytes : List ℕ) (one other : FileFault) → one ≢ OutOfMemor
 file-one bytes one other known_one known_other a b =
     cause-one bytes one other (cause bytes one known_one a) (cause bytes other known_other b)
 
-pub file-none : (bytes : List ℕ) (fault : FileFault) (o : Opening) (names : List (List ℕ)) → fault ≢ OutOfMemory
+pub file-none : (bytes : List ℕ) (fault : FileFault) (o : StartData) (names : List (List ℕ)) → fault ≢ OutOfMemory
     → RefusesFile bytes fault → ¬ IsTableFile bytes o names
 file-none bytes fault o names known refused file = cause-none bytes fault o names (cause bytes fault known refused) file

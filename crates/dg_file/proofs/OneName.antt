@@ -11,9 +11,9 @@ use Rattle.std.proofs.lemmas.Bool.{false≢true, or_cases}
 use Rattle.std.proofs.lemmas.List.{take-take, take_all}
 use Rattle.std.proofs.lemmas.List.Elements.{All-get_or}
 use Rattle.std.proofs.lemmas.Option.{slice_get_within, get_or_from_slice_get}
-use Rattle.dg_names.specs.Names.{IsName, AreNames, has}
+use Rattle.dg_tokens.specs.Names.{IsName, AreNames, has}
 use Rattle.dg_file.specs.FileFaults.{IsNameFault, IsTwiceFault}
-use Rattle.dg_names.proofs.NamesLaws.{bytes_eq-swap}
+use Rattle.dg_tokens.proofs.NamesLaws.{bytes_eq-swap}
 use Rattle.dg_file.proofs.OneContent.{found-once, first-once}
 
 pub record Stops (names : List (List ℕ)) (i : ℕ) : Type 0 where

@@ -7,14 +7,14 @@ use Rattle.std.proofs.lemmas.Bool.{cases_lt}
 use Rattle.dg_graph.specs.Faults.{IsSize}
 use Rattle.dg_graph.specs.declared.fault.GraphFault.{GraphFault}
 use Rattle.dg_graph.specs.declared.fault.GraphFault.TheVariants.{Size, NoVertex, Loop, Multiplicity, Valence, NotConnected}
-use Rattle.dg_chips.specs.Opening.{Opening}
+use Rattle.dg_chips.specs.Starts.{StartData}
 use Rattle.dg_chips.specs.Vector.{Vector, at, HoldsNumbers, IsDivisor}
 use Rattle.dg_chips.specs.VectorFaults.{IsFirstPast}
 use Rattle.dg_chips.specs.DivisorFaults.{IsFirstChipFault}
 use Rattle.dg_chips.specs.declared.divisor.ChipFault.{ChipFault}
 use Rattle.dg_chips.specs.declared.divisor.ChipFault.TheVariants.{Length, Range}
 use Rattle.dg_file.specs.Content.{Content}
-use Rattle.dg_names.specs.Names.{AreNames}
+use Rattle.dg_tokens.specs.Names.{AreNames}
 use Rattle.dg_file.specs.TableFiles.{items_of, IsTable}
 use Rattle.dg_file.specs.FileFaults.{IsGraphFault, IsNameFault, IsTwiceFault, GivesGraph, GivesDivisor, RefusesTable}
 use Rattle.dg_file.specs.declared.fault.FileFault.{FileFault}
@@ -133,14 +133,14 @@ module _ (content : Content) where
   table-one NoQ NoQ a b = refl
   table-one NoQ OutOfMemory a b = absurd b
 
-  gives-graph : (o : Opening) (names : List (List ℕ)) → IsTable content o names → GivesGraph content
+  gives-graph : (o : StartData) (names : List (List ℕ)) → IsTable content o names → GivesGraph content
   gives-graph o names table = record {
     names = rw table.given at table.are_names;
     graph = o.graph;
     given = rw table.given at table.graph;
   }
 
-  gives-divisor : (o : Opening) (names : List (List ℕ)) → IsTable content o names → GivesDivisor content
+  gives-divisor : (o : StartData) (names : List (List ℕ)) → IsTable content o names → GivesDivisor content
   gives-divisor o names table = record {
     divisor = o.divisor;
     size = table.size ∙ ap length table.given;
@@ -148,7 +148,7 @@ module _ (content : Content) where
     within = table.within;
   }
 
-  pub table-none : (o : Opening) (names : List (List ℕ)) → IsTable content o names → (f : FileFault)
+  pub table-none : (o : StartData) (names : List (List ℕ)) → IsTable content o names → (f : FileFault)
       → RefusesTable content f → ⊥
   table-none o names table Json fault = fault
   table-none o names table (OfShape s) fault = fault

@@ -8,7 +8,7 @@ use Rattle.std.proofs.lemmas.Str.{IsUtf8-from_is_utf8, is_utf8-from_IsUtf8}
 use Rattle.std.specs.Str.{is_utf8}
 use Rattle.serde_json.specs.Data.{Data}
 use Rattle.serde_json.specs.Read.{read}
-use Rattle.dg_chips.specs.Opening.{Opening}
+use Rattle.dg_chips.specs.Starts.{StartData}
 use Rattle.dg_file.specs.Content.{Content, Reads, IsNotJson, IsContent}
 use Rattle.dg_file.specs.TableFiles.{IsTableFile}
 use Rattle.dg_file.specs.FileFaults.{RefusesTable, RefusesFile}
@@ -42,7 +42,7 @@ refused-table bytes value reads content says NoQ fault =
     record { value = value; reads = reads; content = content; says = says; refused = fault }
 refused-table bytes value reads content says OutOfMemory fault = absurd fault
 
-pub some-file : (bytes : List ℕ) → ((o : Opening) × (names : List (List ℕ)) × IsTableFile bytes o names)
+pub some-file : (bytes : List ℕ) → ((o : StartData) × (names : List (List ℕ)) × IsTableFile bytes o names)
     ⊎ ((fault : FileFault) × (fault ≢ OutOfMemory) × RefusesFile bytes fault)
 some-file bytes = elim (value-or-none bytes) [
   | inl found ↦ elim (says-or-refuses found.0) [

@@ -15,12 +15,12 @@ use Rattle.dg_theory.proofs.Searching.{AllBelow, FirstOf, first_or_all}
 use Rattle.dg_graph.specs.Faults.{IsSize}
 use Rattle.dg_graph.specs.declared.fault.GraphFault.TheVariants.{Size}
 use Rattle.dg_graph.proofs.GivenOrNot.{graph_or_fault, size_or_not}
-use Rattle.dg_chips.specs.Opening.{Opening}
+use Rattle.dg_chips.specs.Starts.{StartData}
 use Rattle.dg_chips.specs.DivisorFaults.{IsFirstChipFault}
 use Rattle.dg_chips.specs.declared.divisor.ChipFault.{ChipFault}
 use Rattle.dg_chips.specs.declared.divisor.ChipFault.TheVariants.{Length, Range}
-use Rattle.dg_names.specs.Names.{IsName, AreNames, is_name, has, place_of}
-use Rattle.dg_names.proofs.NamesLaws.{IsName-tested, is_name-IsName, AreNames-nil, AreNames-push}
+use Rattle.dg_tokens.specs.Names.{IsName, AreNames, is_name, has, place_of}
+use Rattle.dg_tokens.proofs.NamesLaws.{IsName-tested, is_name-IsName, AreNames-nil, AreNames-push}
 use Rattle.dg_file.specs.Content.{Content}
 use Rattle.dg_file.specs.TableFiles.{items_of, IsTable}
 use Rattle.dg_file.specs.FileFaults.{HasText, GivesGraph, GivesDivisor, RefusesTable}
@@ -112,7 +112,7 @@ module _ (content : Content) (size : IsSize (length content.vertices)) where
   ]
 
   abbrev TableOrFault : Type 0
-  TableOrFault = ((o : Opening) × IsTable content o names) ⊎ TableFault content
+  TableOrFault = ((o : StartData) × IsTable content o names) ⊎ TableFault content
 
   at-q : (graph : GivesGraph content) → GivesDivisor content → TableOrFault
   at-q graph divisor = elim (found-or-none (place_of names content.q)) [
@@ -149,7 +149,7 @@ module _ (content : Content) (size : IsSize (length content.vertices)) where
     | inr fault ↦ inr fault
   ]
 
-pub table-or-fault : (content : Content) → ((o : Opening) × IsTable content o content.vertices) ⊎
+pub table-or-fault : (content : Content) → ((o : StartData) × IsTable content o content.vertices) ⊎
     ((f : FileFault) × (f ≢ OutOfMemory) × RefusesTable content f)
 table-or-fault content = elim (size_or_not (length content.vertices)) [
   | inl size ↦ with-size content size

@@ -29,7 +29,7 @@ use Rattle.dg_graph.specs.declared.fault.GraphFault.TheVariants.{Size}
 use Rattle.dg_chips.specs.Vector.{Vector, HoldsNumbers, IsDivisor}
 use Rattle.dg_chips.specs.DivisorFaults.{IsFirstChipFault}
 use Rattle.dg_file.specs.Content.{Content, Parts, Reads, IsNotJson, HasParts, texts_in, edge_in, edges_in, numbers_in, IsContent}
-use Rattle.dg_names.specs.Names.{IsName, AreNames, has, place_of}
+use Rattle.dg_tokens.specs.Names.{IsName, AreNames, has, place_of}
 use Rattle.dg_file.specs.TableFiles.{items_of}
 use Rattle.dg_file.specs.declared.fault.Shape.{Shape}
 use Rattle.dg_file.specs.declared.fault.Shape.TheVariants.{Top, Vertices, Edges, Edge, Amounts, Q}

@@ -4,26 +4,26 @@
 --                          want of memory aside; not both, and no other table and no other fault
 use Rattle.std.specs.Prelude.{◌≡◌, ◌≢◌, ◌⊎◌, ℕ, List}
 use Rattle.dg_theory.specs.Multigraph.{edges_between}
-use Rattle.dg_chips.specs.Opening.{Opening}
+use Rattle.dg_chips.specs.Starts.{StartData}
 use Rattle.dg_chips.specs.Vector.{at}
 use Rattle.dg_file.specs.TableFiles.{IsTableFile}
 use Rattle.dg_file.specs.FileFaults.{RefusesFile}
 use Rattle.dg_file.specs.declared.fault.FileFault.{FileFault}
 use Rattle.dg_file.specs.declared.fault.FileFault.TheVariants.{OutOfMemory}
 
-pub record AreSameOpenings (o p : Opening) : Type 0 where
+pub record AreSameOpenings (o p : StartData) : Type 0 where
   pub size : o.graph.size ≡ p.graph.size
   pub edges : (u v : ℕ) → edges_between o.graph u v ≡ edges_between p.graph u v
   pub amounts : (v : ℕ) → at o.divisor v ≡ at p.divisor v
   pub vertex : o.q ≡ p.q
 
 pub record FilesHaveOneMeaning : Type 0 where
-  pub some : (bytes : List ℕ) → ((o : Opening) × (names : List (List ℕ)) × IsTableFile bytes o names)
+  pub some : (bytes : List ℕ) → ((o : StartData) × (names : List (List ℕ)) × IsTableFile bytes o names)
       ⊎ ((fault : FileFault) × (fault ≢ OutOfMemory) × RefusesFile bytes fault)
-  pub table : (bytes : List ℕ) (o p : Opening) (names others : List (List ℕ))
+  pub table : (bytes : List ℕ) (o p : StartData) (names others : List (List ℕ))
       → IsTableFile bytes o names → IsTableFile bytes p others → AreSameOpenings o p ×
       (names ≡ others)
-  pub refused : (bytes : List ℕ) (fault : FileFault) (o : Opening) (names : List (List ℕ))
+  pub refused : (bytes : List ℕ) (fault : FileFault) (o : StartData) (names : List (List ℕ))
       → fault ≢ OutOfMemory → RefusesFile bytes fault → ¬ IsTableFile bytes o names
   pub fault : (bytes : List ℕ) (one other : FileFault)
       → one ≢ OutOfMemory → other ≢ OutOfMemory → RefusesFile bytes one → RefusesFile bytes other

@@ -9,10 +9,10 @@
 use Rattle.std.specs.Prelude.{◌≡◌, ℕ, List, length, map, Some, unwrap_or}
 use Rattle.serde_json.specs.Data.{Data}
 use Rattle.dg_graph.specs.Items.{Item, IsGiven}
-use Rattle.dg_chips.specs.Opening.{Opening}
+use Rattle.dg_chips.specs.Starts.{StartData}
 use Rattle.dg_chips.specs.Vector.{HoldsNumbers, IsDivisor}
 use Rattle.dg_file.specs.Content.{Edge, Content, Reads, IsContent}
-use Rattle.dg_names.specs.Names.{AreNames, place_of}
+use Rattle.dg_tokens.specs.Names.{AreNames, place_of}
 
 abbrev pub vertex_of : List (List ℕ) → List ℕ → ℕ
 vertex_of names name = unwrap_or (place_of names name) (length names)
@@ -23,7 +23,7 @@ item_of names edge = (vertex_of names edge.one, vertex_of names edge.other, edge
 abbrev pub items_of : Content → List Item
 items_of content = map (item_of content.vertices) content.edges
 
-pub record IsTable (content : Content) (o : Opening) (names : List (List ℕ)) : Type 0 where
+pub record IsTable (content : Content) (o : StartData) (names : List (List ℕ)) : Type 0 where
   pub given : names ≡ content.vertices
   pub are_names : AreNames names
   pub graph : IsGiven (length names) (items_of content) o.graph
@@ -32,7 +32,7 @@ pub record IsTable (content : Content) (o : Opening) (names : List (List ℕ)) :
   pub within : IsDivisor o.divisor
   pub vertex : place_of names content.q ≡ Some o.q
 
-pub record IsTableFile (bytes : List ℕ) (o : Opening) (names : List (List ℕ)) : Type 0 where
+pub record IsTableFile (bytes : List ℕ) (o : StartData) (names : List (List ℕ)) : Type 0 where
   pub value : Data
   pub reads : Reads bytes value
   pub content : Content

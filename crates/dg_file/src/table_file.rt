@@ -1,6 +1,6 @@
 //! Table files: the start of a game, and the names of its vertices.
 ghost use Rattle.std.specs.Prelude.{◌≡◌, ◌++◌, ◌∷◌, [], length, map, not, true, IfOk, IfErr};
-ghost use Rattle.dg_names.specs.Names.{AreNames, has};
+ghost use Rattle.dg_tokens.specs.Names.{AreNames, has};
 ghost use Rattle.dg_file.specs.TableFiles.{IsTable, IsTableFile, vertex_of, items_of};
 ghost use Rattle.dg_file.specs.FileFaults.{RefusesTable, RefusesFile};
 ghost use Rattle.dg_file.specs.Reading.{RefusesNames, RefusesValue};
@@ -11,7 +11,7 @@ use crate::fault::FileFault;
 use crate::shape::{Content, content_of, value_of};
 use dg_chips::{Divisor, Start};
 use dg_graph::{Graph, GraphFault, MAX_VERTICES};
-use dg_names::{Names, is_name};
+use dg_tokens::{Names, is_name};
 use indexmap::IndexSet;
 use serde_json::Value;
 use std::alloc::{AllocError, Global};

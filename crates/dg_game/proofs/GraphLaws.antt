@@ -7,7 +7,7 @@ use Rattle.dg_theory.specs.Multigraph.{Multigraph}
 use Rattle.dg_theory.specs.Joins.{entry_more, with_edge}
 use Rattle.dg_graph.specs.Joins.{IsJoinable}
 use Rattle.dg_graph.proofs.Joined.{joined_graph}
-use Rattle.dg_chips.specs.Opening.{Opening}
+use Rattle.dg_chips.specs.Starts.{StartData}
 use Rattle.dg_game.specs.History.{position_after}
 use Rattle.dg_game.specs.Legal.{IsLegal}
 use Rattle.dg_game.specs.LegalLaws.{GraphsHold}
@@ -27,14 +27,14 @@ unfolding with_edge
 joined_on g u v graph joinable =
     joined_graph g u v (entry_more g.table u v) (entry_more (entry_more g.table u v) v u) graph joinable refl refl
 
-graph_next : (o : Opening) (K : List Entry) (request : Request) (reply : Reply) → Replies o K request reply →
+graph_next : (o : StartData) (K : List Entry) (request : Request) (reply : Reply) → Replies o K request reply →
     IsGraph (position_after o K).graph → IsGraph (after_reply (position_after o K) request reply).graph
 graph_next o K (Move m) (Moved d) right graph = graph
 graph_next o K (Gift v x) (Given g d) right graph = graph
 graph_next o K (Join u v) (Joined g d) right graph = joined_on (position_after o K).graph u v graph right.joinable
 graph_next o K request reply right graph = graph
 
-graphs_since : (o : Opening) (K L : List Entry) → IsLegal o (K ++ L) → IsGraph (position_after o K).graph →
+graphs_since : (o : StartData) (K L : List Entry) → IsLegal o (K ++ L) → IsGraph (position_after o K).graph →
     IsGraph (position_after o (K ++ L)).graph
 graphs_since o K [] legal graph =
     subst (λ (H : List Entry). IsGraph (position_after o H).graph) (sym (append-nil K)) graph

@@ -15,8 +15,8 @@ use Rattle.std.proofs.Math.Seq.{take-append_seam}
 use Rattle.std.proofs.lemmas.List.{take-append-le, take-take, length-take}
 use Rattle.std.proofs.lemmas.Option.{slice_get_within}
 use Rattle.dg_theory.specs.Multigraph.{Multigraph}
-use Rattle.dg_chips.specs.Opening.{Opening}
-use Rattle.dg_ranked.specs.declared.rank_verdict.RankVerdict.TheVariants.{AtLeast, Below}
+use Rattle.dg_chips.specs.Starts.{StartData}
+use Rattle.dg_verdict.specs.declared.rank_verdict.RankVerdict.TheVariants.{AtLeast, Below}
 use Rattle.dg_game.specs.History.{position_after}
 use Rattle.dg_game.specs.Replies.{Replies}
 use Rattle.dg_game.specs.Legal.{IsSeat, LooksBack, IsLegal}
@@ -38,10 +38,10 @@ use Rattle.dg_game.specs.declared.look.LookData.{LookData}
 use Rattle.dg_game.proofs.ListLaws.{more_holds, slice_get_taken}
 use Rattle.dg_game.proofs.StepLaw.{vertices_stay}
 
-pub legal_none : (o : Opening) → IsLegal o []
+pub legal_none : (o : StartData) → IsLegal o []
 legal_none o k e at = absurd (cc)
 
-pub legal_more : (o : Opening) (H : List Entry) (e : Entry) → IsLegal o H → IsSeat e.seat → LooksBack H e.request →
+pub legal_more : (o : StartData) (H : List Entry) (e : Entry) → IsLegal o H → IsSeat e.seat → LooksBack H e.request →
     Replies o H e.request e.reply → IsLegal o (H ++ e ∷ [])
 legal_more o H e legal seat back right k x at = elim (more_holds H e k x at) [
   | inl old ↦
@@ -52,31 +52,31 @@ legal_more o H e legal seat back right k x at = elim (more_holds H e k x at) [
       rw (new.1, start) (seat, back, right)
 ]
 
-pub legal_take : (o : Opening) (H : List Entry) (k : ℕ) → IsLegal o H → IsLegal o (take k H)
+pub legal_take : (o : StartData) (H : List Entry) (k : ℕ) → IsLegal o H → IsLegal o (take k H)
 legal_take o H k legal i e at =
     let inside : i < length (take k H) = slice_get_within (take k H) i e at in
     let few : i ≤ k = omega (arith, length-take k H) in
     let there : slice_get H i ≡ Some e = slice_get_taken k H i e at in
     rw (take-take i k H few) (legal i e there)
 
-pub legal_part : (o : Opening) (K L : List Entry) → IsLegal o (K ++ L) → IsLegal o K
+pub legal_part : (o : StartData) (K L : List Entry) → IsLegal o (K ++ L) → IsLegal o K
 legal_part o K L legal = subst (IsLegal o) (take-append_seam K L) (legal_take o (K ++ L) (length K) legal)
 
 pub back_asked : (H : List Entry) (p : Plain) → LooksBack H (asked p)
 back_asked H plain.Look = tt
 back_asked H p = tt
 
-pub back_for : (o : Opening) (H : List Entry) (x : LookData) (f : Finding) → IsLookAt o H x →
+pub back_for : (o : StartData) (H : List Entry) (x : LookData) (f : Finding) → IsLookAt o H x →
     LooksBack H (asked_for x.number f)
 back_for o H x (Judged v) look = look.look
 back_for o H x (Ranked v) look = look.look
 
-pub back_on : (o : Opening) (H : List Entry) (x : LookData) (asks : Question) → IsLookAt o H x →
+pub back_on : (o : StartData) (H : List Entry) (x : LookData) (asks : Question) → IsLookAt o H x →
     LooksBack H (asked_on x.number asks)
 back_on o H x question.Judge look = look.look
 back_on o H x (question.Rank k) look = look.look
 
-sized_reply : (o : Opening) (H : List Entry) (n : ℕ) (request : Request) (reply : Reply) →
+sized_reply : (o : StartData) (H : List Entry) (n : ℕ) (request : Request) (reply : Reply) →
     (position_after o H).graph.size ≡ n →
     Replies o H request reply → HasSize n reply
 sized_reply o H n (Move m) (Moved d) size right = right.size ∙ size

@@ -19,12 +19,12 @@ use Rattle.std.proofs.lemmas.Option.{slice_get_within}
 use Rattle.dg_theory.specs.Multigraph.{Multigraph}
 use Rattle.dg_theory.specs.Firing.{Amounts, fired, FiresTo}
 use Rattle.dg_chips.specs.Vector.{Vector, at, IsDivisor}
-use Rattle.dg_chips.specs.Opening.{Opening}
+use Rattle.dg_chips.specs.Starts.{StartData}
 use Rattle.dg_verdict.specs.Right.{IsRight}
 use Rattle.dg_verdict.specs.Rebasing.{IsRebasable}
 use Rattle.dg_verdict.specs.declared.verdict.Verdict.{Verdict as AVerdict}
-use Rattle.dg_ranked.specs.RankTests.{IsRankTest}
-use Rattle.dg_ranked.specs.declared.rank_verdict.RankVerdict.{RankVerdict}
+use Rattle.dg_verdict.specs.RankTests.{IsRankTest}
+use Rattle.dg_verdict.specs.declared.rank_verdict.RankVerdict.{RankVerdict}
 use Rattle.dg_game.specs.Position.{Position, fired_by}
 use Rattle.dg_game.specs.History.{position_after, scripts_played, gifts_in}
 use Rattle.dg_game.specs.Look.{IsLookAt, asked_on}
@@ -43,7 +43,7 @@ use Rattle.dg_game.proofs.StateLaws.{replies_after}
 use Rattle.dg_game.proofs.StepLaw.{since_change, vertices_stay}
 
 -- a history after a look, as the part before the look and the rest
-pub moved_since : (o : Opening) (H : List Entry) (s : State) (x : LookData) → LeadsTo o H s → IsLookAt o H x →
+pub moved_since : (o : StartData) (H : List Entry) (s : State) (x : LookData) → LeadsTo o H s → IsLookAt o H x →
     s.gifts ≡ x.gifts →
     (s.graph ≡ x.graph) × (t : Amounts) × FiresTo s.graph t (at x.position) (at s.amounts)
 moved_since o H s x leads look same =
@@ -68,13 +68,13 @@ moved_since o H s x leads look same =
           rw graph (omega (arith, ints, now, then', moved)),
     )
 
-pub judged_after : (o : Opening) (H : List Entry) (s : State) (x : LookData) (verdict : AVerdict) → LeadsTo o H s →
+pub judged_after : (o : StartData) (H : List Entry) (s : State) (x : LookData) (verdict : AVerdict) → LeadsTo o H s →
     IsLookAt o H x →
     s.gifts ≡ x.gifts → IsRight s.graph s.q (at s.amounts) verdict → Replies o H (Judge x.number) (Verdict verdict)
 judged_after o H s x verdict leads look same right =
     replies_after o H s (Judge x.number) (Verdict verdict) leads (sym look.gifts ∙ sym same, right)
 
-pub ranked_after : (o : Opening) (H : List Entry) (s : State) (x : LookData) (k : ℕ) (verdict : RankVerdict) →
+pub ranked_after : (o : StartData) (H : List Entry) (s : State) (x : LookData) (k : ℕ) (verdict : RankVerdict) →
     LeadsTo o H s → IsLookAt o H x →
     s.gifts ≡ x.gifts → IsRankTest x.graph (at x.position) k verdict →
     Replies o H (RankRequest x.number k) (RankReply verdict)
@@ -84,7 +84,7 @@ ranked_after o H s x k verdict leads look same right =
     replies_after o H s (RankRequest x.number k) (RankReply verdict) leads
     (sym look.gifts ∙ sym same, rank_test_led s.graph (at x.position) (at s.amounts) t k verdict led then')
 
-pub stale_after : (o : Opening) (H : List Entry) (s : State) (x : LookData) (asks : Question) → LeadsTo o H s →
+pub stale_after : (o : StartData) (H : List Entry) (s : State) (x : LookData) (asks : Question) → LeadsTo o H s →
     IsLookAt o H x →
     x.gifts ≢ s.gifts → Replies o H (asked_on x.number asks) (Stale s.gifts)
 stale_after o H s x question.Judge leads look other =
@@ -93,7 +93,7 @@ stale_after o H s x (question.Rank k) leads look other =
     replies_after o H s (RankRequest x.number k) (Stale s.gifts) leads ((λ same. other (look.gifts ∙ same)), refl)
 
 -- a look stays what it was when an entry is added
-pub look_kept : (o : Opening) (H : List Entry) (e : Entry) (x : LookData) → IsLookAt o H x → IsLookAt o (H ++ e ∷ []) x
+pub look_kept : (o : StartData) (H : List Entry) (e : Entry) (x : LookData) → IsLookAt o H x → IsLookAt o (H ++ e ∷ []) x
 look_kept o H e x look =
     let (entry, there, is) = look.look in
     let inside : x.number < length H = slice_get_within H x.number entry there in
@@ -106,7 +106,7 @@ look_kept o H e x look =
     }
 
 -- the look that is entered next
-pub look_new : (o : Opening) (H : List Entry) (s : State) (e : Entry) (x : LookData) → LeadsTo o H s →
+pub look_new : (o : StartData) (H : List Entry) (s : State) (e : Entry) (x : LookData) → LeadsTo o H s →
     e.request ≡ Look →
     x.number ≡ s.entries → x.gifts ≡ s.gifts → x.graph ≡ s.graph → x.position ≡ s.amounts → IsLookAt o (H ++ e ∷ []) x
 look_new o H s e x leads is number gifts graph position =
@@ -119,16 +119,16 @@ look_new o H s e x leads is number gifts graph position =
       amounts = rw (start, position) leads.amounts;
     }
 
-pub look_fits : (o : Opening) (H : List Entry) (x : LookData) → IsLookAt o H x → x.position.size ≡ x.graph.size
+pub look_fits : (o : StartData) (H : List Entry) (x : LookData) → IsLookAt o H x → x.position.size ≡ x.graph.size
 look_fits o H x look = look.amounts.size ∙ ap (λ (g : Multigraph). g.size) (sym look.graph)
 
-pub look_vertices : (o : Opening) (H : List Entry) (s : State) (x : LookData) → LeadsTo o H s → IsLookAt o H x →
+pub look_vertices : (o : StartData) (H : List Entry) (s : State) (x : LookData) → LeadsTo o H s → IsLookAt o H x →
     x.graph.size ≡ s.graph.size
 look_vertices o H s x leads look =
     ap (λ (g : Multigraph). g.size) look.graph ∙ vertices_stay o (take x.number H) ∙ sym (vertices_stay o H)
     ∙ ap (λ (g : Multigraph). g.size) (sym leads.graph)
 
-pub look_size : (o : Opening) (H : List Entry) (s : State) (x : LookData) → LeadsTo o H s → IsLookAt o H x →
+pub look_size : (o : StartData) (H : List Entry) (s : State) (x : LookData) → LeadsTo o H s → IsLookAt o H x →
     x.position.size ≡ s.graph.size
 look_size o H s x leads look =
     look_fits o H x look ∙ look_vertices o H s x leads look

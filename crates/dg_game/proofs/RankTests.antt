@@ -9,9 +9,9 @@ use Rattle.dg_theory.proofs.Equivalence.{equivalent-refl}
 use Rattle.dg_theory.proofs.RankLaws.{equivalent-rank}
 use Rattle.dg_theory.proofs.LossLaws.{equivalent-loss}
 use Rattle.dg_chips.specs.Vector.{at}
-use Rattle.dg_ranked.specs.RankTests.{IsRankTest}
-use Rattle.dg_ranked.specs.declared.rank_verdict.RankVerdict.{RankVerdict}
-use Rattle.dg_ranked.specs.declared.rank_verdict.RankVerdict.TheVariants.{AtLeast, Below}
+use Rattle.dg_verdict.specs.RankTests.{IsRankTest}
+use Rattle.dg_verdict.specs.declared.rank_verdict.RankVerdict.{RankVerdict}
+use Rattle.dg_verdict.specs.declared.rank_verdict.RankVerdict.TheVariants.{AtLeast, Below}
 
 rank_test_carried : (g : Multigraph) (D E : Amounts) (k : ℕ) (x : RankVerdict) → AreEquivalent g D E →
     IsRankTest g D k x → IsRankTest g E k x

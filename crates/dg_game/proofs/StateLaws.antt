@@ -11,7 +11,7 @@ use Rattle.std.proofs.Math.IntN.{pos}
 use Rattle.dg_theory.specs.Multigraph.{Multigraph}
 use Rattle.dg_theory.proofs.JoinLaws.{size_stays}
 use Rattle.dg_chips.specs.Vector.{Vector, at}
-use Rattle.dg_chips.specs.Opening.{Opening}
+use Rattle.dg_chips.specs.Starts.{StartData}
 use Rattle.dg_game.specs.Position.{Position, Shows, joined_at}
 use Rattle.dg_game.specs.History.{position_after, gifts_in, gift_counted, scripts_played}
 use Rattle.dg_game.specs.Step.{after_reply}
@@ -26,7 +26,7 @@ use Rattle.dg_game.proofs.HistoryLaws.{gifts_in-more, scripts_played-more}
 use Rattle.dg_game.proofs.StepLaw.{no_entry, one_more_entry}
 use Rattle.dg_game.proofs.ReplyLaws.{replies-cong}
 
-pub replies_after : (o : Opening) (H : List Entry) (s : State) (request : Request) (reply : Reply) → LeadsTo o H s →
+pub replies_after : (o : StartData) (H : List Entry) (s : State) (request : Request) (reply : Reply) → LeadsTo o H s →
     RepliesAt (position_of s) s.q (λ i. gifts_in (take i H)) s.gifts request reply → Replies o H request reply
 replies_after o H s request reply leads right =
     let p : Position = position_after o H in
@@ -39,7 +39,7 @@ replies_after o H s request reply leads right =
     subst (λ (n : ℕ). RepliesAt p o.q before n request reply) leads.gifts
     (subst (λ (q : ℕ). RepliesAt p q before s.gifts request reply) leads.q on_amounts)
 
-pub right_in : (o : Opening) (H : List Entry) (s : State) (request : Request) (reply : Reply) → LeadsTo o H s →
+pub right_in : (o : StartData) (H : List Entry) (s : State) (request : Request) (reply : Reply) → LeadsTo o H s →
     Replies o H request reply → IsRightIn s request reply
 right_in o H s request reply leads right =
     let p : Position = position_after o H in
@@ -62,7 +62,7 @@ shows_joined p u v d shows = record {
   amounts = λ w below. shows.amounts w (subst (λ (n : ℕ). w < n) (size_stays p.graph u v) below);
 }
 
-pub shows_after : (o : Opening) (H : List Entry) (d : Vector) (request : Request) (reply : Reply) →
+pub shows_after : (o : StartData) (H : List Entry) (d : Vector) (request : Request) (reply : Reply) →
     Shows (position_after o H) d →
     Replies o H request reply → Shows (after_reply (position_after o H) request reply) (amounts_after d reply)
 shows_after o H d (Move m) (Moved e) shows right = record { size = right.size; amounts = right.amounts }
@@ -91,7 +91,7 @@ size_after : (g : Multigraph) (request : Request) (reply : Reply) → (graph_aft
 size_after g (Join u v) (Joined count d) = size_stays g u v
 size_after g request reply = refl
 
-gifts_counted : (o : Opening) (H : List Entry) (request : Request) (reply : Reply) → Replies o H request reply →
+gifts_counted : (o : StartData) (H : List Entry) (request : Request) (reply : Reply) → Replies o H request reply →
     gifts_after (gifts_in H) reply ≡ gifts_in H + gift_counted reply
 gifts_counted o H (Move m) (Moved d) right = omega arith
 gifts_counted o H (Move m) (Refused refusal) right = omega arith
@@ -108,7 +108,7 @@ gifts_counted o H (RankRequest i k) (RankReply x) right = omega arith
 gifts_counted o H (RankRequest i k) (Stale count) right = omega arith
 gifts_counted o H request reply right = absurd right
 
-pub leads_more : (o : Opening) (H : List Entry) (s t : State) (e : Entry) → LeadsTo o H s →
+pub leads_more : (o : StartData) (H : List Entry) (s t : State) (e : Entry) → LeadsTo o H s →
     Replies o H e.request e.reply →
     IsNext s e.request e.reply t → LeadsTo o (H ++ e ∷ []) t
 leads_more o H s t e leads right next =
@@ -132,7 +132,7 @@ leads_more o H s t e leads right next =
       entries = next.entries ∙ omega (arith, leads.entries, length-append H (e ∷ []));
     }
 
-pub start_leads : (o : Opening) (d : Vector) → o.divisor.size ≡ o.graph.size → ((v : ℕ) → at d v ≡ pos 0) →
+pub start_leads : (o : StartData) (d : Vector) → o.divisor.size ≡ o.graph.size → ((v : ℕ) → at d v ≡ pos 0) →
     LeadsTo o [] (record { graph = o.graph; q = o.q; amounts = o.divisor; drift = d; gifts = 0; entries = 0 })
 start_leads o d size still = record {
   graph = ap (λ (p : Position). p.graph) (sym (no_entry o));

@@ -15,7 +15,7 @@ use Rattle.dg_theory.specs.Multigraph.{Multigraph}
 use Rattle.dg_theory.specs.Firing.{Amounts}
 use Rattle.dg_theory.proofs.FiringLaws.{fired-fired, fired-constant}
 use Rattle.dg_theory.proofs.JoinLaws.{size_stays}
-use Rattle.dg_chips.specs.Opening.{Opening}
+use Rattle.dg_chips.specs.Starts.{StartData}
 use Rattle.dg_game.specs.Position.{Position, opened, fired_by}
 use Rattle.dg_game.specs.History.{script_by, scripts_played, is_change, changed, scripts_since, after_change, position_after, nothing}
 use Rattle.dg_game.specs.Step.{after_reply, NoEntry, OneMoreEntry, SinceChange, SinceStart, SinceLast, VerticesStay}
@@ -56,10 +56,10 @@ changes p (Move m) (Moved d) change = absurd (false≢true change)
 changes p request reply change = refl
 
 -- the position after entries that stand the latest first
-abbrev ahead : Opening → List Entry → Position
+abbrev ahead : StartData → List Entry → Position
 ahead o R = fired_by (after_change o R) (scripts_since R)
 
-ahead_more : (o : Opening) (R : List Entry) (seat : ℕ) (request : Request) (reply : Reply) →
+ahead_more : (o : StartData) (R : List Entry) (seat : ℕ) (request : Request) (reply : Reply) →
     ahead o (record { seat = seat; request = request; reply = reply } ∷ R) ≡ after_reply (ahead o R) request reply
 ahead_more o R seat request (Given g d) =
     sym (still (changed (ahead o R) request (Given g d))) ∙ sym (changes (ahead o R) request (Given g d) refl)
@@ -104,7 +104,7 @@ size_same p (Gift v x) (Given g d) = refl
 size_same p (Join u v) (Joined g d) = size_stays p.graph u v
 size_same p request reply = refl
 
-size_since : (o : Opening) (K L : List Entry) → (position_after o (K ++ L)).graph.size ≡ (position_after o K).graph.size
+size_since : (o : StartData) (K L : List Entry) → (position_after o (K ++ L)).graph.size ≡ (position_after o K).graph.size
 size_since o K [] = ap (λ (H : List Entry). (position_after o H).graph.size) (append-nil K)
 size_since o K (e ∷ L) =
     ap (λ (H : List Entry). (position_after o H).graph.size) (sym (append_assoc K (e ∷ []) L))

@@ -23,7 +23,7 @@
 use Rattle.std.specs.Prelude.{ℕ, ◌+◌, Bool, true, false, if◌then◌else◌, pos, ◌+ℤ◌, List, [], ◌∷◌, ◌++◌, reverse}
 use Rattle.dg_theory.specs.Firing.{Amounts}
 use Rattle.dg_chips.specs.Moves.{script_of}
-use Rattle.dg_chips.specs.Opening.{Opening}
+use Rattle.dg_chips.specs.Starts.{StartData}
 use Rattle.dg_game.specs.Position.{Position, opened, with_gift, joined_at, fired_by}
 use Rattle.dg_game.specs.declared.entry.Entry.{Entry}
 use Rattle.dg_game.specs.declared.entry.Request.{Request}
@@ -75,11 +75,11 @@ scripts_since [] v = pos 0
 scripts_since (e ∷ R) v =
     if is_change e.reply then pos 0 else (scripts_since R v +ℤ script_by e.request e.reply v)
 
-abbrev pub after_change : Opening → List Entry → Position
+abbrev pub after_change : StartData → List Entry → Position
 after_change o [] = opened o
 after_change o (e ∷ R) =
     if is_change e.reply then changed
     (fired_by (after_change o R) (scripts_since R)) e.request e.reply else after_change o R
 
-unfoldable pub position_after : Opening → List Entry → Position
+unfoldable pub position_after : StartData → List Entry → Position
 position_after o H = fired_by (after_change o (reverse H)) (scripts_since (reverse H))

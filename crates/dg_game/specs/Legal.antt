@@ -7,7 +7,7 @@
 --                            for a verdict or for a rank test, and is answered rightly after the
 --                            entries before it
 use Rattle.std.specs.Prelude.{◌≡◌, ℕ, ◌≤◌, List, take, slice_get, Some, ⊤}
-use Rattle.dg_chips.specs.Opening.{Opening}
+use Rattle.dg_chips.specs.Starts.{StartData}
 use Rattle.dg_game.specs.Replies.{Replies}
 use Rattle.dg_game.specs.declared.entry.Entry.{Entry}
 use Rattle.dg_game.specs.declared.entry.Request.{Request}
@@ -25,6 +25,6 @@ LooksBack H (Judge i) = IsLookIn H i
 LooksBack H (Rank i k) = IsLookIn H i
 LooksBack H request = ⊤
 
-abbrev pub IsLegal : Opening → List Entry → Type 0
+abbrev pub IsLegal : StartData → List Entry → Type 0
 IsLegal o H = (k : ℕ) (e : Entry) → slice_get H k ≡ Some e →
     IsSeat e.seat × LooksBack (take k H) e.request × Replies o (take k H) e.request e.reply

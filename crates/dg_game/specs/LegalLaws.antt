@@ -15,8 +15,8 @@
 --                            is kept with it
 use Rattle.std.specs.Prelude.{◌≡◌, ℕ, List, [], ◌∷◌, ◌++◌, take, slice_get, Some, ⊤}
 use Rattle.dg_graph.specs.Graph.{IsGraph}
-use Rattle.dg_chips.specs.Opening.{Opening}
-use Rattle.dg_ranked.specs.declared.rank_verdict.RankVerdict.TheVariants.{AtLeast, Below}
+use Rattle.dg_chips.specs.Starts.{StartData}
+use Rattle.dg_verdict.specs.declared.rank_verdict.RankVerdict.TheVariants.{AtLeast, Below}
 use Rattle.dg_game.specs.History.{position_after}
 use Rattle.dg_game.specs.Replies.{Replies}
 use Rattle.dg_game.specs.Legal.{IsSeat, LooksBack, IsLegal}
@@ -28,18 +28,18 @@ use Rattle.dg_game.specs.declared.entry.Reply.TheVariants.{Moved, Given, Joined,
 use Rattle.dg_game.specs.declared.look.LookData.{LookData}
 
 abbrev pub EmptyIsLegal : Type 0
-EmptyIsLegal = (o : Opening) → IsLegal o []
+EmptyIsLegal = (o : StartData) → IsLegal o []
 
 abbrev pub OneMoreIsLegal : Type 0
-OneMoreIsLegal = (o : Opening) (H : List Entry) (e : Entry) → IsLegal o H → IsSeat e.seat →
+OneMoreIsLegal = (o : StartData) (H : List Entry) (e : Entry) → IsLegal o H → IsSeat e.seat →
     LooksBack H e.request →
     Replies o H e.request e.reply → IsLegal o (H ++ e ∷ [])
 
 abbrev pub BeginningsAreLegal : Type 0
-BeginningsAreLegal = (o : Opening) (H : List Entry) (k : ℕ) → IsLegal o H → IsLegal o (take k H)
+BeginningsAreLegal = (o : StartData) (H : List Entry) (k : ℕ) → IsLegal o H → IsLegal o (take k H)
 
 abbrev pub PartsAreLegal : Type 0
-PartsAreLegal = (o : Opening) (K L : List Entry) → IsLegal o (K ++ L) → IsLegal o K
+PartsAreLegal = (o : StartData) (K L : List Entry) → IsLegal o (K ++ L) → IsLegal o K
 
 abbrev pub HasSize : ℕ → Reply → Type 0
 HasSize n (Moved d) = d.size ≡ n
@@ -55,14 +55,14 @@ HasSize n NotWon = ⊤
 HasSize n (Refused refusal) = ⊤
 
 abbrev pub LegalIsSized : Type 0
-LegalIsSized = (o : Opening) (H : List Entry) (i : ℕ) (e : Entry) → IsLegal o H →
+LegalIsSized = (o : StartData) (H : List Entry) (i : ℕ) (e : Entry) → IsLegal o H →
     slice_get H i ≡ Some e → HasSize o.graph.size e.reply
 
 abbrev pub GraphsHold : Type 0
-GraphsHold = (o : Opening) (H : List Entry) → IsGraph o.graph → IsLegal o H →
+GraphsHold = (o : StartData) (H : List Entry) → IsGraph o.graph → IsLegal o H →
     IsGraph (position_after o H).graph
 
 abbrev pub LooksAreShown : Type 0
-LooksAreShown = (o : Opening) (H : List Entry) (e : Entry) (x : LookData) → IsLegal o H →
+LooksAreShown = (o : StartData) (H : List Entry) (e : Entry) (x : LookData) → IsLegal o H →
     slice_get H x.number ≡ Some e →
     e.request ≡ Look → e.reply ≡ Looked x.gifts x.position x.graph → IsLookAt o H x

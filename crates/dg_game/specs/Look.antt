@@ -10,11 +10,11 @@
 --                           were found, and that of a rank test is entered as it was found
 use Rattle.std.specs.Prelude.{◌≡◌, ℕ, List, take, ⊤}
 use Rattle.dg_chips.specs.Vector.{at}
-use Rattle.dg_chips.specs.Opening.{Opening}
+use Rattle.dg_chips.specs.Starts.{StartData}
 use Rattle.dg_verdict.specs.Right.{IsRight}
-use Rattle.dg_ranked.specs.RankTests.{IsRankTest}
-use Rattle.dg_ranked.specs.declared.rank_verdict.RankVerdict.{RankVerdict}
-use Rattle.dg_ranked.specs.declared.rank_verdict.RankVerdict.TheVariants.{AtLeast, Below}
+use Rattle.dg_verdict.specs.RankTests.{IsRankTest}
+use Rattle.dg_verdict.specs.declared.rank_verdict.RankVerdict.{RankVerdict}
+use Rattle.dg_verdict.specs.declared.rank_verdict.RankVerdict.TheVariants.{AtLeast, Below}
 use Rattle.dg_game.specs.Position.{Shows}
 use Rattle.dg_game.specs.History.{position_after, gifts_in}
 use Rattle.dg_game.specs.Legal.{IsLookIn}
@@ -29,7 +29,7 @@ use Rattle.dg_game.specs.declared.finding.Finding.TheVariants.{Judged, Ranked}
 use Rattle.dg_game.specs.declared.finding.Question.{Question}
 use Rattle.dg_game.specs.declared.finding.Question.TheVariants as question
 
-pub record IsLookAt (o : Opening) (H : List Entry) (x : LookData) : Type 0 where
+pub record IsLookAt (o : StartData) (H : List Entry) (x : LookData) : Type 0 where
   pub look : IsLookIn H x.number
   pub gifts : x.gifts ≡ gifts_in (take x.number H)
   pub graph : x.graph ≡ (position_after o (take x.number H)).graph

@@ -10,7 +10,7 @@ use Rattle.std.specs.Prelude.{◌≡◌, ℕ, ◌<◌, ℤ, ◌+ℤ◌}
 use Rattle.dg_theory.specs.Multigraph.{Multigraph}
 use Rattle.dg_theory.specs.Firing.{Amounts, fired, only_at}
 use Rattle.dg_theory.specs.Joins.{with_edge}
-use Rattle.dg_chips.specs.Opening.{Opening}
+use Rattle.dg_chips.specs.Starts.{StartData}
 use Rattle.dg_chips.specs.Vector.{Vector, at}
 
 pub record Position : Type 0 where
@@ -21,7 +21,7 @@ pub record Shows (p : Position) (d : Vector) : Type 0 where
   pub size : d.size ≡ p.graph.size
   pub amounts : (v : ℕ) → v < p.graph.size → at d v ≡ p.amounts v
 
-abbrev pub opened : Opening → Position
+abbrev pub opened : StartData → Position
 opened o = record { graph = o.graph; amounts = at o.divisor }
 
 abbrev pub with_gift : Position → ℕ → ℤ → Amounts

@@ -12,9 +12,9 @@
 --   Replies o H request reply      == the reply is right after the history H from the opening o
 use Rattle.std.specs.Prelude.{◌≡◌, ◌≢◌, ℕ, List, take}
 use Rattle.dg_theory.specs.Firing.{IsEffective}
-use Rattle.dg_chips.specs.Opening.{Opening}
+use Rattle.dg_chips.specs.Starts.{StartData}
 use Rattle.dg_verdict.specs.Right.{IsRight}
-use Rattle.dg_ranked.specs.RankTests.{IsRankTest}
+use Rattle.dg_verdict.specs.RankTests.{IsRankTest}
 use Rattle.dg_game.specs.Position.{Position, Shows}
 use Rattle.dg_game.specs.History.{position_after, gifts_in}
 use Rattle.dg_game.specs.MoveReplies.{RepliesToMove}
@@ -54,6 +54,6 @@ RepliesAt p q before g Claim reply = RepliesToClaim p reply
 RepliesAt p q before g (Judge i) reply = RepliesToJudge p q (before i) g reply
 RepliesAt p q before g (RankRequest i k) reply = RepliesToRank p (before i) g k reply
 
-abbrev pub Replies : Opening → List Entry → Request → Reply → Type 0
+abbrev pub Replies : StartData → List Entry → Request → Reply → Type 0
 Replies o H request reply =
     RepliesAt (position_after o H) o.q (λ i. gifts_in (take i H)) (gifts_in H) request reply

@@ -18,7 +18,7 @@ use Rattle.dg_theory.specs.Joins.{with_edge}
 use Rattle.dg_graph.specs.Graph.{IsGraph}
 use Rattle.dg_chips.specs.Vector.{Vector, at}
 use Rattle.dg_chips.specs.declared.limits.TheConstants.{MAX_ENTRY}
-use Rattle.dg_chips.specs.Opening.{Opening}
+use Rattle.dg_chips.specs.Starts.{StartData}
 use Rattle.dg_game.specs.Position.{Position, Shows}
 use Rattle.dg_game.specs.History.{position_after, gifts_in, scripts_played, script_by}
 use Rattle.dg_game.specs.Replies.{RepliesAt}
@@ -49,7 +49,7 @@ pub record IsState (s : State) : Type 0 where
   pub gifts : s.gifts ≤ s.entries
   pub entries : s.entries ≤ MAX_ENTRIES
 
-pub record LeadsTo (o : Opening) (H : List Entry) (s : State) : Type 0 where
+pub record LeadsTo (o : StartData) (H : List Entry) (s : State) : Type 0 where
   pub graph : s.graph ≡ (position_after o H).graph
   pub q : s.q ≡ o.q
   pub amounts : Shows (position_after o H) s.amounts

@@ -16,7 +16,7 @@
 --                                   start
 use Rattle.std.specs.Prelude.{◌≡◌, true, List, [], ◌∷◌, ◌++◌}
 use Rattle.dg_chips.specs.Moves.{script_of}
-use Rattle.dg_chips.specs.Opening.{Opening}
+use Rattle.dg_chips.specs.Starts.{StartData}
 use Rattle.dg_game.specs.Position.{Position, opened, fired_by}
 use Rattle.dg_game.specs.History.{position_after, scripts_played, is_change, changed, gifts_in}
 use Rattle.dg_game.specs.declared.entry.Entry.{Entry}
@@ -30,25 +30,25 @@ after_reply p (Move m) (Moved d) = fired_by p (script_of m)
 after_reply p request reply = changed p request reply
 
 abbrev pub NoEntry : Type 0
-NoEntry = (o : Opening) → position_after o [] ≡ opened o
+NoEntry = (o : StartData) → position_after o [] ≡ opened o
 
 abbrev pub OneMoreEntry : Type 0
-OneMoreEntry = (o : Opening) (H : List Entry) (e : Entry) →
+OneMoreEntry = (o : StartData) (H : List Entry) (e : Entry) →
     position_after o (H ++ e ∷ []) ≡ after_reply (position_after o H) e.request e.reply
 
 abbrev pub SinceChange : Type 0
-SinceChange = (o : Opening) (K L : List Entry) → gifts_in L ≡ 0 →
+SinceChange = (o : StartData) (K L : List Entry) → gifts_in L ≡ 0 →
     position_after o (K ++ L) ≡ fired_by (position_after o K) (scripts_played L)
 
 abbrev pub SinceStart : Type 0
-SinceStart = (o : Opening) (L : List Entry) → gifts_in L ≡ 0 →
+SinceStart = (o : StartData) (L : List Entry) → gifts_in L ≡ 0 →
     position_after o L ≡ fired_by (opened o) (scripts_played L)
 
 abbrev pub SinceLast : Type 0
-SinceLast = (o : Opening) (K L : List Entry) (c : Entry) → is_change c.reply ≡ true →
+SinceLast = (o : StartData) (K L : List Entry) (c : Entry) → is_change c.reply ≡ true →
     gifts_in L ≡ 0 →
     position_after o (K ++ c ∷ L)
     ≡ fired_by (changed (position_after o K) c.request c.reply) (scripts_played L)
 
 abbrev pub VerticesStay : Type 0
-VerticesStay = (o : Opening) (H : List Entry) → (position_after o H).graph.size ≡ o.graph.size
+VerticesStay = (o : StartData) (H : List Entry) → (position_after o H).graph.size ≡ o.graph.size

@@ -5,8 +5,7 @@ ghost use Rattle.dg_game.specs.Requests.{asked};
 
 use dg_chips::{Divisor, Move, MoveFault};
 use dg_graph::{Graph, JoinFault};
-use dg_ranked::RankVerdict;
-use dg_verdict::Verdict;
+use dg_verdict::{RankVerdict, Verdict};
 
 /// The most seats of a table: they are numbered from 1 up to this.
 pub const MAX_SEATS: u8 = 64;

@@ -6,9 +6,8 @@ ghost use Rattle.dg_game.specs.declared.entry.Request.TheVariants.{Judge as Judg
 use crate::entry::Request;
 use crate::look::LookData;
 use dg_graph::Graph;
-use dg_ranked::RankVerdict;
-use dg_reduce::Aim;
-use dg_verdict::{Verdict, judge_aimed};
+use dg_verdict::{RankVerdict, Verdict, judge_with_inverse};
+use dg_reduce::InverseLaplacian;
 
 /// What is asked on a look, whatever is found.
 #[derive(Clone, Copy, PartialEq, Eq)]
@@ -61,30 +60,30 @@ pub fn judge_look(q: usize, look: &LookData) -> Finding
     ensures found { IsFoundFor q look.now result }
     ensures asks { (i : ℕ) → asked_for i result ≡ JudgeRequest i }
 {
-    judge_look_aimed(&Aim::new(&look.graph, q), q, look)
+    judge_look_with_inverse(&InverseLaplacian::new(&look.graph, q), q, look)
 }
 
-/// The finding as `judge_look` gives it, whatever is aimed by: an aim that was made for the graph and q saves the time to
+/// The finding as `judge_look` gives it, whatever inverse it is given: one that was made for the graph and q saves the time to
 /// make it anew.
-pub fn judge_look_aimed(aim: &Aim, q: usize, look: &LookData) -> Finding
+pub fn judge_look_with_inverse(inverse: &InverseLaplacian, q: usize, look: &LookData) -> Finding
     requires size { look.now.position.size ≡ look.now.graph.size }
     requires vertex { q < look.now.graph.size }
     ensures found { IsFoundFor q look.now result }
     ensures asks { (i : ℕ) → asked_for i result ≡ JudgeRequest i }
 {
-    Finding::Judged(judge_aimed(&look.graph, aim, q, &look.position))
+    Finding::Judged(judge_with_inverse(&look.graph, inverse, q, &look.position))
 }
 
-/// Makes an aim anew, unless it may serve the verdict on a look, reckoned from the vertex q. Nothing is promised of it.
-pub fn renew(aim: &mut Aim, q: usize, look: &LookData) {
-    if !aim.may_serve(&look.graph, q) {
-        make_anew(aim, q, &look.graph);
+/// Makes an inverse anew, unless it may serve the verdict on a look, reckoned from the vertex q. Nothing is promised of it.
+pub fn renew_inverse(inverse: &mut InverseLaplacian, q: usize, look: &LookData) {
+    if !inverse.may_serve(&look.graph, q) {
+        make_anew(inverse, q, &look.graph);
     }
 }
 
-/// Makes an aim anew. It stands apart, so that no room for an aim is cleared where the one that is kept serves.
+/// Makes an inverse anew. It stands apart, so that no room for an inverse is cleared where the one that is kept serves.
 #[cold]
 #[inline(never)]
-fn make_anew(aim: &mut Aim, q: usize, graph: &Graph) {
-    *aim = Aim::new(graph, q);
+fn make_anew(inverse: &mut InverseLaplacian, q: usize, graph: &Graph) {
+    *inverse = InverseLaplacian::new(graph, q);
 }

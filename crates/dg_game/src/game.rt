@@ -1,7 +1,7 @@
 //! The game as it stands, and what calls and findings do to it.
 ghost use Rattle.std.specs.Prelude.{◌≡◌, ◌≢◌, ℕ, ◌+◌, ◌<◌, ◌≤◌, List, [], ◌∷◌, ◌++◌, MatchOption, MatchResult, ⊤};
 ghost use Rattle.std.specs.Int.RustNames.{unsigned_abs};
-ghost use Rattle.dg_chips.specs.Opening.{Opening};
+ghost use Rattle.dg_chips.specs.Starts.{StartData};
 ghost use Rattle.dg_chips.specs.Vector.{at};
 ghost use Rattle.dg_chips.specs.Moves.{script_of};
 ghost use Rattle.dg_theory.specs.Firing.{FiresTo, AreEquivalent};
@@ -149,11 +149,11 @@ impl Game {
     /// a seat of 1 to 64 calls. It takes no memory. The condition is that there are fewer than 65,536 entries.
     pub fn act(&mut self, plain: Plain) -> Reply
         requires { self.old.entries < MAX_ENTRIES }
-        ensures replies { (o : Opening) (H : List EntryData) → LeadsTo o H self.old →
+        ensures replies { (o : StartData) (H : List EntryData) → LeadsTo o H self.old →
             Replies o H (asked plain) result }
-        ensures leads { (o : Opening) (H : List EntryData) (seat : ℕ) → LeadsTo o H self.old →
+        ensures leads { (o : StartData) (H : List EntryData) (seat : ℕ) → LeadsTo o H self.old →
             LeadsTo o (with_entry H seat (asked plain) result) self.new }
-        ensures legal { (o : Opening) (H : List EntryData) (seat : ℕ) → LeadsTo o H self.old →
+        ensures legal { (o : StartData) (H : List EntryData) (seat : ℕ) → LeadsTo o H self.old →
             IsLegal o H → IsSeat seat → IsLegal o (with_entry H seat (asked plain) result) }
     {
         let mut entry = BLANK;
@@ -169,9 +169,9 @@ impl Game {
     pub fn answer(&self, plain: &Plain, reply: &mut Reply)
         ensures here { (before : ℕ → ℕ) →
             RepliesAt (position_of self.now) self.now.q before self.now.gifts (asked plain.now) reply.new }
-        ensures replies { (o : Opening) (H : List EntryData) → LeadsTo o H self.now →
+        ensures replies { (o : StartData) (H : List EntryData) → LeadsTo o H self.now →
             Replies o H (asked plain.now) reply.new }
-        ensures legal { (o : Opening) (H : List EntryData) (seat : ℕ) → LeadsTo o H self.now →
+        ensures legal { (o : StartData) (H : List EntryData) (seat : ℕ) → LeadsTo o H self.now →
             IsLegal o H → IsSeat seat → IsLegal o (with_entry H seat (asked plain.now) reply.new) }
     {
         self.answer_now(plain, reply);
@@ -243,7 +243,7 @@ impl Game {
         requires room { self.old.entries < MAX_ENTRIES }
         requires right { IsRightIn self.old entry.now.request entry.now.reply }
         ensures next { IsNext self.old entry.now.request entry.now.reply self.new }
-        ensures leads { (o : Opening) (H : List EntryData) → LeadsTo o H self.old →
+        ensures leads { (o : StartData) (H : List EntryData) → LeadsTo o H self.old →
             Replies o H entry.now.request entry.now.reply →
             LeadsTo o (H ++ entry.now ∷ []) self.new }
     {
@@ -294,15 +294,15 @@ impl Game {
     /// and that the finding is right for the amounts of the look, on its graph.
     pub fn settle(&mut self, look: &LookData, finding: &Finding) -> Reply
         requires room { self.old.entries < MAX_ENTRIES }
-        requires look { (o : Opening) × (H : List EntryData) × LeadsTo o H self.old ×
+        requires look { (o : StartData) × (H : List EntryData) × LeadsTo o H self.old ×
             IsLookAt o H look.now }
         requires found { IsFoundFor self.old.q look.now finding.now }
-        ensures replies { (o : Opening) (H : List EntryData) → LeadsTo o H self.old →
+        ensures replies { (o : StartData) (H : List EntryData) → LeadsTo o H self.old →
             IsLookAt o H look.now → Replies o H (asked_for look.now.number finding.now) result }
-        ensures leads { (o : Opening) (H : List EntryData) (seat : ℕ) → LeadsTo o H self.old →
+        ensures leads { (o : StartData) (H : List EntryData) (seat : ℕ) → LeadsTo o H self.old →
             IsLookAt o H look.now →
             LeadsTo o (with_entry H seat (asked_for look.now.number finding.now) result) self.new }
-        ensures legal { (o : Opening) (H : List EntryData) (seat : ℕ) → LeadsTo o H self.old →
+        ensures legal { (o : StartData) (H : List EntryData) (seat : ℕ) → LeadsTo o H self.old →
             IsLookAt o H look.now → IsLegal o H → IsSeat seat →
             IsLegal o (with_entry H seat (asked_for look.now.number finding.now) result) }
         ensures kept { KeepsFinding finding.now result }
@@ -317,12 +317,12 @@ impl Game {
     /// Writes the reply to what was reckoned on a look, as `settle` gives it. The game stays as it is: `follow` takes the entry
     /// into the history. The conditions are those of `settle` but for the number of entries.
     pub fn answer_finding(&self, look: &LookData, finding: &Finding, reply: &mut Reply)
-        requires look { (o : Opening) × (H : List EntryData) × LeadsTo o H self.now ×
+        requires look { (o : StartData) × (H : List EntryData) × LeadsTo o H self.now ×
             IsLookAt o H look.now }
         requires found { IsFoundFor self.now.q look.now finding.now }
-        ensures replies { (o : Opening) (H : List EntryData) → LeadsTo o H self.now →
+        ensures replies { (o : StartData) (H : List EntryData) → LeadsTo o H self.now →
             IsLookAt o H look.now → Replies o H (asked_for look.now.number finding.now) reply.new }
-        ensures legal { (o : Opening) (H : List EntryData) (seat : ℕ) → LeadsTo o H self.now →
+        ensures legal { (o : StartData) (H : List EntryData) (seat : ℕ) → LeadsTo o H self.now →
             IsLookAt o H look.now → IsLegal o H → IsSeat seat →
             IsLegal o (with_entry H seat (asked_for look.now.number finding.now) reply.new) }
         ensures kept { KeepsFinding finding.now reply.new }
@@ -332,10 +332,10 @@ impl Game {
 
     /// Writes the reply to a finding that is right as the game stands.
     fn answer_found(&self, look: &LookData, finding: &Finding, reply: &mut Reply)
-        requires look { (o : Opening) × (H : List EntryData) × LeadsTo o H self.now ×
+        requires look { (o : StartData) × (H : List EntryData) × LeadsTo o H self.now ×
             IsLookAt o H look.now }
         requires found { IsFoundFor self.now.q look.now finding.now }
-        ensures replies { (o : Opening) (H : List EntryData) → LeadsTo o H self.now →
+        ensures replies { (o : StartData) (H : List EntryData) → LeadsTo o H self.now →
             IsLookAt o H look.now → Replies o H (asked_for look.now.number finding.now) reply.new }
         ensures kept { KeepsFinding finding.now reply.new }
     {
@@ -358,10 +358,10 @@ impl Game {
     pub fn answer_stale(&self, look: &LookData, reply: &mut Reply)
         requires { look.now.gifts ≢ self.now.gifts }
         ensures stale { reply.new ≡ Stale self.now.gifts }
-        ensures replies { (o : Opening) (H : List EntryData) (asks : QuestionData) →
+        ensures replies { (o : StartData) (H : List EntryData) (asks : QuestionData) →
             LeadsTo o H self.now → IsLookAt o H look.now →
             Replies o H (asked_on look.now.number asks) reply.new }
-        ensures legal { (o : Opening) (H : List EntryData) (asks : QuestionData) (seat : ℕ) →
+        ensures legal { (o : StartData) (H : List EntryData) (asks : QuestionData) (seat : ℕ) →
             LeadsTo o H self.now → IsLookAt o H look.now → IsLegal o H → IsSeat seat →
             IsLegal o (with_entry H seat (asked_on look.now.number asks) reply.new) }
     {
@@ -429,7 +429,7 @@ impl Game {
         if dollars == 0 || !(-MAX_GIFT..=MAX_GIFT).contains(&dollars) {
             return Err(Refusal::Gift);
         }
-        self.amounts.with_more(v, dollars).ok_or(Refusal::Range)
+        self.amounts.checked_add_at(v, dollars).ok_or(Refusal::Range)
     }
 }
 

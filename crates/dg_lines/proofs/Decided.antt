@@ -1,4 +1,4 @@
--- Facts that hold or do not.
+-- Witnesses that hold or do not.
 --   IsDecided P == P holds, or it does not
 --   both_or     two facts that are decided are decided together
 use Rattle.std.proofs.Common.{◌⊎◌, inl, inr}

@@ -31,7 +31,7 @@ use Rattle.std.proofs.lemmas.Map.Keys.{IsDistinct-push, apart_from_distinct}
 use Rattle.std.proofs.lemmas.Nat.Bits.{bit_at_lowest, bit_at-suc, bit_at-zero, bit_at-lt, same_from_bits}
 use Rattle.std.proofs.lemmas.Slice.Eq.{bytes_eq-Decides}
 use Rattle.dg_graph.specs.Sets.{in_set}
-use Rattle.dg_names.specs.Names.{has, place_of, name_at}
+use Rattle.dg_tokens.specs.Names.{has, place_of, name_at}
 use Rattle.dg_lines.specs.CommandWords.{Kind, AreGiven, names_in, AreNamed, IsSetOf}
 use Rattle.dg_lines.proofs.Decided.{IsDecided, both_or}
 

@@ -14,7 +14,7 @@ use Rattle.dg_chips.specs.declared.moves.Move.TheVariants.{Lend, Borrow, Fire, S
 use Rattle.dg_game.specs.declared.step.Command.{Command}
 use Rattle.dg_game.specs.declared.step.Command.TheVariants.{Call, Commit, Rank}
 use Rattle.dg_game.specs.declared.entry.Plain.TheVariants.{Move as Play, Gift, Join, Look, Claim}
-use Rattle.dg_names.specs.Names.{place_of, name_at}
+use Rattle.dg_tokens.specs.Names.{place_of, name_at}
 use Rattle.dg_lines.specs.declared.line.LineFault.{LineFault}
 use Rattle.dg_lines.specs.declared.line.LineFault.TheVariants.{Seat, Word, Form, Name, Number}
 use Rattle.dg_lines.specs.Cuts.{before, after, words, items}

@@ -7,7 +7,7 @@ use Rattle.std.proofs.Common.{◌≡◌, ℕ, ◌+◌, ◌-◌, ◌<◌, ◌≤�
 use Rattle.std.specs.Fmt.{signed_decimal}
 use Rattle.std.proofs.Math.Seq.{drop-cons}
 use Rattle.std.proofs.lemmas.List.{drop_all, drop-drop, drop_min, take_rest}
-use Rattle.dg_names.specs.Names.{label, name_at}
+use Rattle.dg_tokens.specs.Names.{label, name_at}
 use Rattle.dg_lines.specs.Texts.{pair, more_pairs, pairs}
 
 more_pairs-at : (names : List (List ℕ)) (amounts : ℕ → ℤ) (v : ℕ) → v < length names

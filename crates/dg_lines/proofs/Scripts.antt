@@ -24,7 +24,7 @@ use Rattle.std.proofs.lemmas.List.Elements.{All-nil, All-cons, All-head, All-tai
 use Rattle.dg_graph.specs.Sets.{in_set}
 use Rattle.dg_chips.specs.Vector.{Vector, IsScript, HoldsNumbers}
 use Rattle.dg_chips.specs.declared.limits.TheConstants.{MAX_ENTRY}
-use Rattle.dg_names.specs.Names.{has, place_of, name_at}
+use Rattle.dg_tokens.specs.Names.{has, place_of, name_at}
 use Rattle.dg_lines.specs.Cuts.{after}
 use Rattle.dg_lines.specs.CommandWords.{IsNumberWithin, AreGiven, name_part, number_part, number_given, IsScriptOf}
 use Rattle.dg_lines.proofs.Given.{same_bytes, vertex_named, IsNamedNext, is_next, other_name, HasTaken, none_taken, one_taken, all_there}

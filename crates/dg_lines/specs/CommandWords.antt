@@ -30,7 +30,7 @@ use Rattle.std.specs.List.{IsDistinct}
 use Rattle.dg_graph.specs.Sets.{in_set, IsSetBelow}
 use Rattle.dg_chips.specs.Vector.{Vector, at}
 use Rattle.dg_chips.specs.declared.limits.TheConstants.{MAX_ENTRY}
-use Rattle.dg_names.specs.Names.{has, name_at}
+use Rattle.dg_tokens.specs.Names.{has, name_at}
 use Rattle.dg_lines.specs.Cuts.{before, after, items}
 
 pub data Kind : Type 0 where

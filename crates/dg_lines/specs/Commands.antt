@@ -25,7 +25,7 @@ use Rattle.dg_chips.specs.declared.moves.Move.TheVariants.{Lend, Borrow, Fire, S
 use Rattle.dg_game.specs.declared.step.Command.{Command}
 use Rattle.dg_game.specs.declared.step.Command.TheVariants.{Call, Commit, Rank}
 use Rattle.dg_game.specs.declared.entry.Plain.TheVariants.{Move as Play, Gift, Join, Look, Claim}
-use Rattle.dg_names.specs.Names.{place_of}
+use Rattle.dg_tokens.specs.Names.{place_of}
 use Rattle.dg_lines.specs.Cuts.{words, items}
 use Rattle.dg_lines.specs.CommandWords.{Kind, vertex, vertices, script, degree, dollars, IsSetOf, IsScriptWord}
 use Rattle.dg_lines.specs.declared.command.Keyword.{Keyword}

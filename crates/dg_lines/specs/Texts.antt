@@ -25,8 +25,8 @@ use Rattle.dg_game.specs.declared.entry.Reply.TheVariants.{Moved, Given, Joined,
 use Rattle.dg_game.specs.declared.entry.Refusal.{Refusal}
 use Rattle.dg_game.specs.declared.entry.Refusal.TheVariants.{NoVertex, Empty, Script, Gift, Range, Loop, Valence}
 use Rattle.dg_verdict.specs.declared.verdict.Verdict.{Verdict as VerdictFound}
-use Rattle.dg_ranked.specs.declared.rank_verdict.RankVerdict.{RankVerdict}
-use Rattle.dg_ranked.specs.declared.rank_verdict.RankVerdict.TheVariants.{AtLeast, Below}
+use Rattle.dg_verdict.specs.declared.rank_verdict.RankVerdict.{RankVerdict}
+use Rattle.dg_verdict.specs.declared.rank_verdict.RankVerdict.TheVariants.{AtLeast, Below}
 
 abbrev pub HasNames : List (List ℕ) → Reply → Type 0
 HasNames names reply = HasSize (length names) reply

@@ -8,7 +8,7 @@ use crate::line::LineFault;
 use crate::word::{degree_of, dollars_of, script_of, set_of, vertex_of};
 use dg_chips::Move;
 use dg_game::{Command, Plain};
-use dg_names::Names;
+use dg_tokens::Names;
 
 /// A command word.
 #[derive(Clone, Copy)]

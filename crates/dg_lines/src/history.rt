@@ -4,7 +4,7 @@ ghost use Rattle.dg_lines.specs.Texts.{AllHaveNames, history_text};
 
 use crate::text::push_entry;
 use dg_game::Entry;
-use dg_names::Names;
+use dg_tokens::Names;
 use std::alloc::{AllocError, Allocator};
 
 /// The lines of the entries of a history, numbered from 0 on.

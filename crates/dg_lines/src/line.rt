@@ -11,7 +11,7 @@ use crate::command::{command_of, keyword_of};
 use crate::cuts::cut;
 use crate::number::seat;
 use dg_game::{Command, Step};
-use dg_names::Names;
+use dg_tokens::Names;
 use std::fmt;
 use thiserror::Error;
 

@@ -8,7 +8,7 @@ ghost use Rattle.dg_lines.specs.CommandWords.{IsNumberWithin};
 
 use dg_chips::MAX_ENTRY;
 use dg_game::MAX_SEATS;
-use dg_numbers::integer;
+use dg_tokens::integer;
 
 /// The entry of a script, within 1,000,000,000, whose decimal the text is.
 pub fn entry(text: &[u8]) -> Option<i64>

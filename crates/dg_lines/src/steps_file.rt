@@ -6,7 +6,7 @@ ghost use Rattle.dg_lines.specs.Schedules.{AreStepsOf, HaveSeats, IsStepsFault};
 use crate::line::{LineFault, parse_step};
 use crate::lines::Lines;
 use dg_game::Step;
-use dg_names::Names;
+use dg_tokens::Names;
 use std::alloc::Allocator;
 
 /// Why a schedule is refused.

@@ -10,9 +10,8 @@ use crate::digits::MAX_DIGITS;
 use dg_chips::Divisor;
 use dg_game::{Refusal, Reply};
 use dg_graph::MAX_VERTICES;
-use dg_names::{MAX_LABEL, Names};
-use dg_ranked::RankVerdict;
-use dg_verdict::Verdict;
+use dg_tokens::{MAX_LABEL, Names};
+use dg_verdict::{RankVerdict, Verdict};
 use itoa::Buffer;
 use std::alloc::{AllocError, Allocator};
 

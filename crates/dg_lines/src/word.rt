@@ -2,7 +2,7 @@
 ghost use Rattle.std.specs.Prelude.{◌≡◌, ℕ, ◌<◌, ◌^◌, Some, FitsSigned, MatchOption, MatchResult, decimal};
 ghost use Rattle.std.specs.Int.{w64};
 ghost use Rattle.std.specs.Fmt.{signed_decimal};
-ghost use Rattle.dg_names.specs.Names.{place_of};
+ghost use Rattle.dg_tokens.specs.Names.{place_of};
 ghost use Rattle.dg_lines.specs.Cuts.{items};
 ghost use Rattle.dg_lines.specs.CommandWords.{vertex, vertices, degree, dollars, names_in, IsNumberFor, AreGiven, IsSetOf, IsScriptWord};
 ghost use Rattle.dg_lines.specs.Keywords.{IsBadScript};
@@ -12,8 +12,7 @@ use crate::line::LineFault;
 use crate::number::{degree, entry};
 use dg_chips::Script;
 use dg_graph::{MAX_VERTICES, contains, with_vertex};
-use dg_names::Names;
-use dg_numbers::integer;
+use dg_tokens::{Names, integer};
 
 /// The vertex of that name.
 pub(crate) fn vertex_of(word: &[u8], names: &Names) -> Result<u8, LineFault>
@@ -108,7 +107,7 @@ pub(crate) fn script_of(text: &[u8], names: &Names) -> Result<Script, LineFault>
         return Err(LineFault::Number);
     }
     let script = Script::sized(&entries[..size]);
-    // Past its size a script has nothing but 0.
+    // past its size a script has nothing but 0.
     let _size = script.size();
     Ok(script)
 }

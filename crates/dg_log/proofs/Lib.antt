@@ -1,3 +1,3 @@
 -- What receipts say, and the cells that a pen has set.
 mod Cells
-mod Digests
+mod ReceiptSets

@@ -4,4 +4,4 @@ pub mod Written
 pub mod Rows
 -- Words of private fields.
 pub mod Nobody
-pub mod Digests
+pub mod ReceiptSets

@@ -2,19 +2,19 @@
 //! `Row::new`.
 #![tactic(auto)]
 
-mod digest;
+mod receipt_set;
 mod log;
 mod name;
-mod past;
+mod prefix;
 mod pen;
 mod receipt;
 mod row;
 mod seating;
 
-pub use digest::Digest;
+pub use receipt_set::ReceiptSet;
 pub use log::Log;
 pub use name::Name;
-pub use past::Past;
+pub use prefix::Prefix;
 pub use pen::Pen;
 pub use receipt::Receipt;
 pub use row::{LogFault, Row};

@@ -10,7 +10,7 @@ use crate::receipt::Receipt;
 use crate::row::Row;
 use crate::seating::Seating;
 use dg_game::Entry;
-use dg_known::{Facts, Known};
+use dg_witness::{Witnesses, Witness};
 use once_cell::race::OnceBox;
 use std::marker::PhantomData;
 
@@ -51,7 +51,7 @@ impl<N: Name> Log<N> {
     {
         let cell = &self.cells[receipt.number() as usize];
         let mut note = cell.note();
-        receipt.known.tell(&mut note);
+        receipt.witness.tell(&mut note);
         match cell.get_as(&mut note) {
             Some(entry) => entry,
             None => unreachable!(),
@@ -67,7 +67,7 @@ impl<N: Name> Log<N> {
         let cell = self.cells.get(number as usize)?;
         let mut note = cell.note();
         let entry = cell.get_as(&mut note)?;
-        let known = Known::of(&mut note);
-        Some((Receipt::of(number, known), entry))
+        let witness = Witness::of(&mut note);
+        Some((Receipt::of(number, witness), entry))
     }
 }

@@ -1,6 +1,6 @@
 //! Names of tables, which exist in the proofs alone.
 ghost use Rattle.std.specs.Prelude.{ℕ, List, []};
-ghost use Rattle.dg_chips.specs.Opening.{Opening};
+ghost use Rattle.dg_chips.specs.Starts.{StartData};
 ghost use Rattle.dg_log.specs.Nobody.{nowhere};
 
 use std::marker::Brand;
@@ -12,7 +12,7 @@ pub trait Name {
     ghost cells: { List ℕ };
 
     /// The start of the game.
-    ghost start: { Opening };
+    ghost start: { StartData };
 
     /// How many seats there are.
     ghost seats: { ℕ };

@@ -5,19 +5,19 @@ ghost use Rattle.std.specs.declared.option.Option.TheVariants.{Some};
 ghost use Rattle.dg_game.specs.declared.game.TheConstants.{MAX_ENTRIES};
 ghost use Rattle.dg_log.specs.Numbered.{AreBelow, StandIn, IsBeginning};
 
-use crate::digest::Digest;
+use crate::receipt_set::ReceiptSet;
 use crate::log::Log;
 use crate::name::Name;
-use crate::past::Past;
+use crate::prefix::Prefix;
 use crate::receipt::Receipt;
 use dg_game::Entry;
-use dg_known::{Facts, Known};
+use dg_witness::{Witnesses, Witness};
 use std::marker::{Model, PhantomData};
 
 /// The one pen of the table N. A contract sees the history that it wrote, and whether the last entry was refused.
 #[derive(Drop)]
 pub struct Pen<N: Name> {
-    facts: Facts<Entry>,
+    witnesses: Witnesses<Entry>,
     len: u32,
     stuck: bool,
     of: PhantomData<N>,
@@ -30,10 +30,10 @@ impl<N: Name> Model for Pen<N> {
 
     ghost Value = { Written };
 
-    ghost view = { λ p. record { entries = map (λ x. x.2) p.facts.items; stuck = p.stuck } };
+    ghost view = { λ p. record { entries = map (λ x. x.2) p.witnesses.items; stuck = p.stuck } };
 
-    ghost invariant = { λ p. (p.len ≡ length p.facts.items) × (p.len ≤ length N.cells) × (length N.cells ≤ MAX_ENTRIES) ×
-        (map (λ x. x.1) p.facts.items ≡ take (length p.facts.items) N.cells) };
+    ghost invariant = { λ p. (p.len ≡ length p.witnesses.items) × (p.len ≤ length N.cells) × (length N.cells ≤ MAX_ENTRIES) ×
+        (map (λ x. x.1) p.witnesses.items ≡ take (length p.witnesses.items) N.cells) };
 }
 
 impl<N: Name> Pen<N> {
@@ -43,7 +43,7 @@ impl<N: Name> Pen<N> {
         ensures { result ≡ record { entries = []; stuck = false } }
     {
         Pen {
-            facts: Facts::new(),
+            witnesses: Witnesses::new(),
             len: 0,
             stuck: false,
             of: PhantomData,
@@ -64,12 +64,12 @@ impl<N: Name> Pen<N> {
         let mut note = cell.note();
         match cell.set_as(entry, &mut note) {
             Ok(()) => {
-                let known = Known::of(&mut note);
+                let witness = Witness::of(&mut note);
                 let number = self.len;
-                self.facts = self.facts.and(number, &known);
+                self.witnesses = self.witnesses.and(number, &witness);
                 self.len += 1;
                 self.stuck = false;
-                Ok(Receipt::of(number, known))
+                Ok(Receipt::of(number, witness))
             }
             Err(entry) => {
                 self.stuck = true;
@@ -100,31 +100,31 @@ impl<N: Name> Pen<N> {
         ensures number { result.0 ≡ number }
         ensures entry { slice_get self.now.entries number ≡ Some result.1 }
     {
-        Receipt::of(number, self.facts.at(number))
+        Receipt::of(number, self.witnesses.at(number))
     }
 
     /// What receipts say stands in the history that was written. It does nothing. The condition is that their numbers are
     /// less than its length.
-    pub fn holds(&self, digest: &Digest<N>)
-        requires { AreBelow (length self.now.entries) digest.now }
-        ensures { StandIn self.now.entries digest.now }
+    pub fn holds(&self, receipt_set: &ReceiptSet<N>)
+        requires { AreBelow (length self.now.entries) receipt_set.now }
+        ensures { StandIn self.now.entries receipt_set.now }
     {
-        digest.facts.agree(&self.facts);
+        receipt_set.witnesses.agree(&self.witnesses);
     }
 
     /// The history as it stands.
-    pub fn past(&self) -> Past<N>
+    pub fn prefix(&self) -> Prefix<N>
         ensures { result ≡ self.now.entries }
     {
-        Past::of(self.facts.again(), self.len)
+        Prefix::of(self.witnesses.copy(), self.len)
     }
 
     /// The history that was written begins with what was written once. It does nothing. The condition is that it has as
     /// many entries, or more.
-    pub fn began(&self, past: &Past<N>)
-        requires { length past.now ≤ length self.now.entries }
-        ensures { IsBeginning past.now self.now.entries }
+    pub fn began(&self, prefix: &Prefix<N>)
+        requires { length prefix.now ≤ length self.now.entries }
+        ensures { IsBeginning prefix.now self.now.entries }
     {
-        past.facts.agree(&self.facts);
+        prefix.witnesses.agree(&self.witnesses);
     }
 }

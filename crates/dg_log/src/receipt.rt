@@ -6,7 +6,7 @@ ghost use Rattle.dg_game.specs.declared.entry.Entry.{Entry as EntryData};
 
 use crate::name::Name;
 use dg_game::Entry;
-use dg_known::Known;
+use dg_witness::Witness;
 use std::marker::{Model, PhantomData};
 
 /// A receipt for an entry of the table N. A contract sees the entry's number and the entry. It takes four bytes, and can be
@@ -14,27 +14,27 @@ use std::marker::{Model, PhantomData};
 #[derive(Drop)]
 pub struct Receipt<N: Name> {
     number: u32,
-    pub(crate) known: Known<Entry>,
+    pub(crate) witness: Witness<Entry>,
     of: PhantomData<N>,
 }
 
 impl<N: Name> Model for Receipt<N> {
     ghost Value = { ℕ × EntryData };
 
-    ghost view = { λ r. (r.number, r.known.value) };
+    ghost view = { λ r. (r.number, r.witness.value) };
 
-    ghost invariant = { λ r. slice_get N.cells r.number ≡ Some r.known.cell };
+    ghost invariant = { λ r. slice_get N.cells r.number ≡ Some r.witness.cell };
 }
 
 impl<N: Name> Receipt<N> {
     /// A receipt for the entry that the cell of this number is known to hold.
-    pub(crate) fn of(number: u32, known: Known<Entry>) -> Receipt<N>
-        requires { slice_get N.cells number ≡ Some known.cell }
-        ensures { result ≡ (number, known.value) }
+    pub(crate) fn of(number: u32, witness: Witness<Entry>) -> Receipt<N>
+        requires { slice_get N.cells number ≡ Some witness.cell }
+        ensures { result ≡ (number, witness.value) }
     {
         Receipt {
             number,
-            known,
+            witness,
             of: PhantomData,
         }
     }
@@ -51,7 +51,7 @@ impl<N: Name> Receipt<N> {
     pub fn again(&self) -> Receipt<N>
         ensures { result ≡ self.now }
     {
-        Receipt::of(self.number, self.known.again())
+        Receipt::of(self.number, self.witness.copy())
     }
 
     /// Two receipts of one number are for one entry. It does nothing. The condition is that their numbers are equal.
@@ -59,6 +59,6 @@ impl<N: Name> Receipt<N> {
         requires { other.now.0 ≡ self.now.0 }
         ensures { other.now.1 ≡ self.now.1 }
     {
-        self.known.agrees(&other.known);
+        self.witness.agrees(&other.witness);
     }
 }

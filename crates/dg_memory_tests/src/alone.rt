@@ -9,7 +9,7 @@ use dg_game::{Command, Entry, Plain, Reply, Step};
 use dg_graph::Graph;
 use dg_lines::{StepsFault, parse_steps, reply_text};
 use dg_rank::{OpenGate, rank_with};
-use dg_ranked::RankVerdict;
+use dg_verdict::RankVerdict;
 use dg_rehearsal::{RehearseFault, rehearse};
 use std::alloc::Global;
 use std::process::Abort;

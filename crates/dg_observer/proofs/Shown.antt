@@ -3,7 +3,7 @@
 use Rattle.std.proofs.Common.{◌≡◌, List, [], ◌∷◌, ◌++◌, length, take, append_assoc, append-nil, refl, sym, subst}
 use Rattle.std.proofs.Math.Seq.{take-append_seam}
 use Rattle.std.specs.List.{FoldsTo}
-use Rattle.dg_chips.specs.Opening.{Opening}
+use Rattle.dg_chips.specs.Starts.{StartData}
 use Rattle.dg_chips.specs.Vector.{Vector}
 use Rattle.dg_game.specs.History.{position_after}
 use Rattle.dg_game.specs.Legal.{IsLegal}
@@ -16,7 +16,7 @@ use Rattle.dg_game.proofs.StateLaws.{shows_after}
 use Rattle.dg_game.proofs.StepLaw.{no_entry, one_more_entry}
 use Rattle.dg_observer.specs.Watched.{PositionsAreShown}
 
-shown_along : (o : Opening) (K L : List Entry) (d last : Vector) → IsLegal o (K ++ L) → Shows (position_after o K) d →
+shown_along : (o : StartData) (K L : List Entry) (d last : Vector) → IsLegal o (K ++ L) → Shows (position_after o K) d →
     FoldsTo (λ old e next. next ≡ amounts_after old e.reply) d L last → Shows (position_after o (K ++ L)) last
 shown_along o K [] d last legal shows same =
     subst (λ (H : List Entry). Shows (position_after o H) last) (sym (append-nil K))

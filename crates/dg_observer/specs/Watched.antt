@@ -15,7 +15,7 @@
 --                                legal history, are the position after it
 use Rattle.std.specs.Prelude.{◌≡◌, ℕ, ◌+◌, ◌-◌, ◌^◌, ◌<◌, ◌&&◌, min, Bool, true, false, cond, if◌then◌else◌, leb, List, length, slice_set}
 use Rattle.std.specs.List.{slice_index_or}
-use Rattle.dg_chips.specs.Opening.{Opening, IsOpening}
+use Rattle.dg_chips.specs.Starts.{StartData, IsStart}
 use Rattle.dg_chips.specs.Vector.{Vector}
 use Rattle.dg_game.specs.History.{is_change, gifts_in, position_after}
 use Rattle.dg_game.specs.Legal.{IsLegal}
@@ -59,6 +59,6 @@ GiftsAreCounted = (H : List Entry) (n : ℕ) → length H < 2 ^ 64
     → n ≡ gifts_in H
 
 abbrev pub PositionsAreShown : Type 0
-PositionsAreShown = (o : Opening) (H : List Entry) (d : Vector) → IsOpening o → IsLegal o H
+PositionsAreShown = (o : StartData) (H : List Entry) (d : Vector) → IsStart o → IsLegal o H
     → Folds (λ first. first ≡ o.divisor) (λ old e next. next ≡ amounts_after old e.reply) H d
     → Shows (position_after o H) d

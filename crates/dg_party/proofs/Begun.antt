@@ -5,17 +5,17 @@
 --   party_lacks    a party whose sessions are not told is refused for what they lack
 use Rattle.std.proofs.Common.{◌≡◌, ℕ, suc, List, ◌∷◌, length, arith, refl, sym, ap, subst, ◌∙◌, Result}
 use Rattle.std.specs.Global.{Vec}
-use Rattle.dg_chips.specs.Opening.{Opening}
+use Rattle.dg_chips.specs.Starts.{StartData}
 use Rattle.dg_table.specs.Opened.{AreFresh}
 use Rattle.dg_table.specs.Seats.{SeatView}
 use Rattle.dg_session.specs.declared.ends.SessionEnd.{SessionEnd}
 use Rattle.dg_party.specs.Sessions.{IsSessionOver, AreSessions, HaveBegun, RefusesSessions, contents}
-use Rattle.dg_beside.specs.declared.shortage.Shortage.{Shortage}
-use Rattle.dg_beside.specs.declared.shortage.Shortage.TheVariants.{OutOfMemory, Spawn}
+use Rattle.dg_system.specs.declared.shortage.Shortage.{Shortage}
+use Rattle.dg_system.specs.declared.shortage.Shortage.TheVariants.{OutOfMemory, Spawn}
 use Rattle.dg_party.specs.declared.ending.PartyRefusal.TheVariants as party
 use Rattle.dg_party.specs.Parties.{IsPartyRefused}
 
-pub none_begun : (o : Opening) (seats cap : ℕ) (names : List (List ℕ)) (scripts left : List (Vec ℕ)) (script : Vec ℕ)
+pub none_begun : (o : StartData) (seats cap : ℕ) (names : List (List ℕ)) (scripts left : List (Vec ℕ)) (script : Vec ℕ)
     (xs rest ys : List SeatView) (x y : SeatView) (lack : Shortage)
     → scripts ≡ script ∷ left → xs ≡ x ∷ rest → y ≡ x → ys ≡ rest → lack ≡ Spawn
     → RefusesSessions o seats cap names (contents scripts) xs (y ∷ ys) lack
@@ -23,7 +23,7 @@ unfolding HaveBegun
 none_begun o seats cap names scripts left script xs rest ys x y lack d e f h told =
     rw told (0, rw d (omega arith), ap (λ z. z ∷ ys) f ∙ ap (λ zs. x ∷ zs) h ∙ sym e)
 
-pub more_begun : (o : Opening) (seats cap : ℕ) (names : List (List ℕ)) (scripts left : List (Vec ℕ)) (script : Vec ℕ)
+pub more_begun : (o : StartData) (seats cap : ℕ) (names : List (List ℕ)) (scripts left : List (Vec ℕ)) (script : Vec ℕ)
     (xs rest ys : List SeatView) (x y : SeatView) (end : Result ℕ SessionEnd) (lack : Shortage)
     → scripts ≡ script ∷ left → xs ≡ x ∷ rest → IsSessionOver o seats cap names script.items x y end
     → RefusesSessions o seats cap names (contents left) rest ys lack
@@ -34,7 +34,7 @@ more_begun o seats cap names scripts left script xs rest ys x y end OutOfMemory 
 more_begun o seats cap names scripts left script xs rest ys x y end Spawn e f session (k, some, begun) =
     (suc k, rw e (omega (arith, some)), rw (e, f) ((end, session), begun))
 
-pub all_begun : (o : Opening) (seats cap : ℕ) (names : List (List ℕ)) (scripts left : List (Vec ℕ)) (script : Vec ℕ)
+pub all_begun : (o : StartData) (seats cap : ℕ) (names : List (List ℕ)) (scripts left : List (Vec ℕ)) (script : Vec ℕ)
     (xs rest ys : List SeatView) (x y : SeatView) (end : Result ℕ SessionEnd) (ends : List (Result ℕ SessionEnd))
     (lack : Shortage)
     → scripts ≡ script ∷ left → xs ≡ x ∷ rest → IsSessionOver o seats cap names script.items x y end
@@ -43,7 +43,7 @@ pub all_begun : (o : Opening) (seats cap : ℕ) (names : List (List ℕ)) (scrip
 all_begun o seats cap names scripts left script xs rest ys x y end ends lack e f session are told =
     rw told (more_begun o seats cap names scripts left script xs rest ys x y end OutOfMemory e f session (ends, are))
 
-pub party_lacks : (o : Opening) (n m cap : ℕ) (names scripts : List (List ℕ)) (opened xs ys : List SeatView)
+pub party_lacks : (o : StartData) (n m cap : ℕ) (names scripts : List (List ℕ)) (opened xs ys : List SeatView)
     (lack : Shortage)
     → length scripts ≡ n → n ≡ m → AreFresh n opened → xs ≡ opened
     → RefusesSessions o m cap names scripts xs ys lack → IsPartyRefused o cap names scripts (party.Shortage lack)

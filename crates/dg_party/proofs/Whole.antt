@@ -14,7 +14,7 @@ use Rattle.std.specs.Global.{Vec}
 use Rattle.std.proofs.lemmas.Option.{none-some}
 use Rattle.std.proofs.Math.Seq.{take-append_seam}
 use Rattle.dg_theory.specs.Multigraph.{Multigraph}
-use Rattle.dg_chips.specs.Opening.{Opening}
+use Rattle.dg_chips.specs.Starts.{StartData}
 use Rattle.dg_chips.specs.Vector.{Vector, at}
 use Rattle.dg_game.specs.Position.{Shows}
 use Rattle.dg_game.specs.History.{position_after, gifts_in}
@@ -26,16 +26,16 @@ use Rattle.dg_table.specs.Opened.{AreFresh}
 use Rattle.dg_table.specs.Closing.{IsClosed, AreTotals, IsCloseRefused}
 use Rattle.dg_session.specs.declared.ends.SessionEnd.{SessionEnd}
 use Rattle.dg_party.specs.Sessions.{IsSessionOver, AreSessions, contents}
-use Rattle.dg_totals.specs.Printed.{entries_text, seat_text, seats_text, calls_text, totals_text}
+use Rattle.dg_transcript.specs.Printed.{entries_text, seat_text, seats_text, calls_text, totals_text}
 use Rattle.dg_party.specs.Parties.{IsParty, IsPartyRefused}
 use Rattle.dg_party.specs.declared.ending.PartyRefusal.TheVariants.{Log}
 
-number_kept : {o : Opening} {seats cap : ℕ} {names : List (List ℕ)} {script : List ℕ} {x y : SeatView}
+number_kept : {o : StartData} {seats cap : ℕ} {names : List (List ℕ)} {script : List ℕ} {x y : SeatView}
     {end : Result ℕ SessionEnd}
     → IsSessionOver o seats cap names script x y end → y.number ≡ x.number
 number_kept h = ap (λ numbers. slice_index numbers 0) h.session.numbers
 
-record IsSessionAt (o : Opening) (seats cap : ℕ) (names : List (List ℕ)) (xs ys : List SeatView) (i : ℕ)
+record IsSessionAt (o : StartData) (seats cap : ℕ) (names : List (List ℕ)) (xs ys : List SeatView) (i : ℕ)
     (script : List ℕ)
     (end : Result ℕ SessionEnd) : Type 0 where
   before : SeatView
@@ -44,7 +44,7 @@ record IsSessionAt (o : Opening) (seats cap : ℕ) (names : List (List ℕ)) (xs
   last : slice_get ys i ≡ Some after
   session : IsSessionOver o seats cap names script before after end
 
-session_at : (o : Opening) (seats cap : ℕ) (names scripts : List (List ℕ)) (xs ys : List SeatView)
+session_at : (o : StartData) (seats cap : ℕ) (names scripts : List (List ℕ)) (xs ys : List SeatView)
     (ends : List (Result ℕ SessionEnd))
     → AreSessions o seats cap names scripts xs ys ends → (i : ℕ) (script : List ℕ) (end : Result ℕ SessionEnd)
     → slice_get scripts i ≡ Some script → slice_get ends i ≡ Some end → IsSessionAt o seats cap names xs ys i script end
@@ -64,7 +64,7 @@ session_at o seats cap names (c ∷ cs) [] ys ends are i script end there told =
 session_at o seats cap names (c ∷ cs) (x ∷ xs) [] ends are i script end there told = elim are [ ]
 session_at o seats cap names (c ∷ cs) (x ∷ xs) (y ∷ ys) [] are i script end there told = elim are [ ]
 
-ends_count : (o : Opening) (seats cap : ℕ) (names scripts : List (List ℕ)) (xs ys : List SeatView)
+ends_count : (o : StartData) (seats cap : ℕ) (names scripts : List (List ℕ)) (xs ys : List SeatView)
     (ends : List (Result ℕ SessionEnd))
     → AreSessions o seats cap names scripts xs ys ends → length ends ≡ length scripts
 unfolding AreSessions
@@ -94,7 +94,7 @@ calls_are H s (suc n) (count ∷ calls) enough each =
     ap (λ c. seat_text s c ++ calls_text (s + 1) (take n calls)) first
     ∙ ap (λ t. seat_text s (length (entries_of s H)) ++ t) (calls_are H (s + 1) n calls (omega (arith, enough)) rest)
 
-call_counts : (o : Opening) (n cap : ℕ) (ys : List SeatView) (H : List Entry) (entries gifts : ℕ) (graph : Multigraph)
+call_counts : (o : StartData) (n cap : ℕ) (ys : List SeatView) (H : List Entry) (entries gifts : ℕ) (graph : Multigraph)
     (position : Vector) (calls : List ℕ)
     → IsClosed o n cap ys H → AreTotals o n ys H entries gifts graph position calls
     → (k : ℕ) → k < n → slice_index calls k ≡ length (entries_of (1 + k) H)
@@ -109,7 +109,7 @@ pub contents_count : (scripts : List (Vec ℕ)) → length (contents scripts) �
 contents_count [] = refl
 contents_count (script ∷ scripts) = ap suc (contents_count scripts)
 
-pub shown_size : (o : Opening) (H : List Entry) (position : Vector) → Shows (position_after o H) position
+pub shown_size : (o : StartData) (H : List Entry) (position : Vector) → Shows (position_after o H) position
     → o.graph.size ≡ position.size
 shown_size o H position shown = sym (shown.size ∙ vertices_stay o H)
 
@@ -119,7 +119,7 @@ audit_with names H position seats =
     codes "entries " ++ decimal (length H) ++ codes "\ngifts " ++ decimal (gifts_in H) ++ codes "\nposition "
     ++ pairs names (at position) ++ codes "\n" ++ seats
 
-whole : (o : Opening) (cap : ℕ) (names scripts : List (List ℕ)) (n : ℕ) (xs ys : List SeatView)
+whole : (o : StartData) (cap : ℕ) (names scripts : List (List ℕ)) (n : ℕ) (xs ys : List SeatView)
     (ends : List (Result ℕ SessionEnd)) (H : List Entry) (entries gifts : ℕ) (graph : Multigraph) (position : Vector)
     (calls text : List ℕ)
     → length scripts ≡ n → AreFresh n xs → AreSessions o n cap names scripts xs ys ends → IsClosed o n cap ys H
@@ -140,7 +140,7 @@ whole o cap names scripts n xs ys ends H entries gifts graph position calls text
             after = s.after;
             seat = fresh.number i s.before s.first;
             fresh = fresh.mine i s.before s.first;
-            begins = (closed.held i s.after s.last).past;
+            begins = (closed.held i s.after s.last).prefix;
             own = ap (λ k. entries_of k H) (sym number) ∙ (closed.held i s.after s.last).mine;
             session = rw many s.session;
           };
@@ -155,7 +155,7 @@ whole o cap names scripts n xs ys ends H entries gifts graph position calls text
           ∙ ap (λ k. seats_text 1 k H) (sym many));
     }
 
-seats_kept : (o : Opening) (seats cap : ℕ) (names scripts : List (List ℕ)) (xs ys : List SeatView)
+seats_kept : (o : StartData) (seats cap : ℕ) (names scripts : List (List ℕ)) (xs ys : List SeatView)
     (ends : List (Result ℕ SessionEnd))
     → AreSessions o seats cap names scripts xs ys ends → length ys ≡ length xs
 unfolding AreSessions
@@ -169,7 +169,7 @@ seats_kept o seats cap names (c ∷ cs) [] ys ends are = elim are [ ]
 seats_kept o seats cap names (c ∷ cs) (x ∷ xs) [] ends are = elim are [ ]
 seats_kept o seats cap names (c ∷ cs) (x ∷ xs) (y ∷ ys) [] are = elim are [ ]
 
-pub whole_lent : (o : Opening) (cap : ℕ) (names scripts : List (List ℕ)) (n m len : ℕ)
+pub whole_lent : (o : StartData) (cap : ℕ) (names scripts : List (List ℕ)) (n m len : ℕ)
     (opened xs ys rest : List SeatView)
     (ends : List (Result ℕ SessionEnd)) (H : List Entry) (entries gifts : ℕ) (graph : Multigraph)
     (position : Vector) (calls text : List ℕ)
@@ -187,7 +187,7 @@ whole_lent o cap names scripts n m len opened xs ys rest ends H entries gifts gr
     whole o cap names scripts n xs ys ends H entries gifts graph position calls text many (rw lent fresh) (rw same are)
     (rw (same, ← front) closed.0) (rw (same, ← front) closed.1) enough printed
 
-pub party_unclosed : (o : Opening) (cap : ℕ) (names scripts : List (List ℕ)) (n m len : ℕ)
+pub party_unclosed : (o : StartData) (cap : ℕ) (names scripts : List (List ℕ)) (n m len : ℕ)
     (opened xs ys rest : List SeatView)
     (ends : List (Result ℕ SessionEnd)) (seat : ℕ)
     → length scripts ≡ n → n ≡ m → AreFresh n opened → xs ≡ opened → len ≡ length opened

@@ -11,7 +11,7 @@
 --                        was not started, and some first scripts had sessions, not all; or all had,
 --                        and then the table was not closed
 use Rattle.std.specs.Prelude.{◌≡◌, ℕ, ◌+◌, List, [], ◌++◌, length, slice_get, Some, ⊤, Result}
-use Rattle.dg_chips.specs.Opening.{Opening}
+use Rattle.dg_chips.specs.Starts.{StartData}
 use Rattle.dg_chips.specs.Vector.{Vector}
 use Rattle.dg_game.specs.Position.{Shows}
 use Rattle.dg_game.specs.History.{position_after}
@@ -25,10 +25,10 @@ use Rattle.dg_session.specs.declared.ends.SessionEnd.{SessionEnd}
 use Rattle.dg_party.specs.Sessions.{IsSessionOver, AreSessions, RefusesSessions}
 use Rattle.dg_party.specs.declared.ending.PartyRefusal.{PartyRefusal}
 use Rattle.dg_party.specs.declared.ending.PartyRefusal.TheVariants.{Shortage, Log}
-use Rattle.dg_beside.specs.declared.shortage.Shortage.TheVariants.{OutOfMemory, Spawn}
-use Rattle.dg_totals.specs.Printed.{entries_text, audit_text}
+use Rattle.dg_system.specs.declared.shortage.Shortage.TheVariants.{OutOfMemory, Spawn}
+use Rattle.dg_transcript.specs.Printed.{entries_text, audit_text}
 
-pub record IsSessionIn (o : Opening) (seats cap : ℕ) (names : List (List ℕ)) (H : List Entry)
+pub record IsSessionIn (o : StartData) (seats cap : ℕ) (names : List (List ℕ)) (H : List Entry)
     (s : ℕ) (script : List ℕ)
     (end : Result ℕ SessionEnd) : Type 0 where
   pub before : SeatView
@@ -36,10 +36,10 @@ pub record IsSessionIn (o : Opening) (seats cap : ℕ) (names : List (List ℕ))
   pub seat : before.number ≡ s
   pub fresh : before.mine ≡ []
   pub own : entries_of s H ≡ after.mine
-  pub begins : IsBeginning after.past H
+  pub begins : IsBeginning after.prefix H
   pub session : IsSessionOver o seats cap names script before after end
 
-pub record IsParty (o : Opening) (cap : ℕ) (names : List (List ℕ)) (scripts : List (List ℕ))
+pub record IsParty (o : StartData) (cap : ℕ) (names : List (List ℕ)) (scripts : List (List ℕ))
     (ends : List (Result ℕ SessionEnd))
     (text : List ℕ) : Type 0 where
   pub history : List Entry
@@ -60,7 +60,7 @@ pub record IsOfSeats (n : ℕ) (P : List SeatView → List SeatView → Type 0) 
   pub fresh : AreFresh n before
   pub holds : P before after
 
-abbrev pub IsPartyRefused : Opening → ℕ → List (List ℕ) → List (List ℕ) → PartyRefusal → Type 0
+abbrev pub IsPartyRefused : StartData → ℕ → List (List ℕ) → List (List ℕ) → PartyRefusal → Type 0
 IsPartyRefused o cap names scripts (Shortage OutOfMemory) = ⊤
 IsPartyRefused o cap names scripts (Shortage Spawn) = IsOfSeats (length scripts) (λ xs ys.
     RefusesSessions o (length scripts) cap names scripts xs ys Spawn)

@@ -14,18 +14,18 @@
 --                         the others are as they were
 use Rattle.std.specs.Prelude.{◌≡◌, ◌≢◌, ℕ, zero, suc, ◌<◌, List, [], ◌∷◌, length, Option, Some, ⊤, Result, Err, map}
 use Rattle.std.specs.Global.{Vec}
-use Rattle.dg_chips.specs.Opening.{Opening}
+use Rattle.dg_chips.specs.Starts.{StartData}
 use Rattle.dg_table.specs.Seats.{SeatView}
 use Rattle.dg_session.specs.Ends.{IsSession}
 use Rattle.dg_session.specs.declared.ends.SessionEnd.{SessionEnd}
 use Rattle.dg_session.specs.declared.ends.SessionEnd.TheVariants.{Write}
-use Rattle.dg_beside.specs.declared.shortage.Shortage.{Shortage}
-use Rattle.dg_beside.specs.declared.shortage.Shortage.TheVariants.{OutOfMemory, Spawn}
+use Rattle.dg_system.specs.declared.shortage.Shortage.{Shortage}
+use Rattle.dg_system.specs.declared.shortage.Shortage.TheVariants.{OutOfMemory, Spawn}
 
 abbrev pub contents : List (Vec ℕ) → List (List ℕ)
 contents scripts = map (λ (script : Vec ℕ). script.items) scripts
 
-pub record IsSessionOver (o : Opening) (seats cap : ℕ) (names : List (List ℕ)) (script : List ℕ)
+pub record IsSessionOver (o : StartData) (seats cap : ℕ) (names : List (List ℕ)) (script : List ℕ)
     (x y : SeatView)
     (end : Result ℕ SessionEnd) : Type 0 where
   pub rest : Option (List ℕ)
@@ -34,7 +34,7 @@ pub record IsSessionOver (o : Opening) (seats cap : ℕ) (names : List (List ℕ
   pub session : IsSession o seats cap names (Some script) rest old new x y end
   pub heard : end ≢ Err Write
 
-unfoldable pub AreSessions : Opening → ℕ → ℕ → List (List ℕ) → List (List ℕ) → List SeatView
+unfoldable pub AreSessions : StartData → ℕ → ℕ → List (List ℕ) → List (List ℕ) → List SeatView
     → List SeatView → List (Result ℕ SessionEnd) → Type 0
 AreSessions o seats cap names (script ∷ scripts) (x ∷ xs) (y ∷ ys) (end ∷ ends) =
     IsSessionOver o seats cap names script x y end
@@ -42,7 +42,7 @@ AreSessions o seats cap names (script ∷ scripts) (x ∷ xs) (y ∷ ys) (end �
 AreSessions o seats cap names [] [] [] [] = ⊤
 AreSessions o seats cap names scripts xs ys ends = ⊥
 
-unfoldable pub HaveBegun : Opening → ℕ → ℕ → List (List ℕ) → ℕ → List (List ℕ) → List SeatView
+unfoldable pub HaveBegun : StartData → ℕ → ℕ → List (List ℕ) → ℕ → List (List ℕ) → List SeatView
     → List SeatView → Type 0
 HaveBegun o seats cap names zero scripts xs ys = ys ≡ xs
 HaveBegun o seats cap names (suc k) (script ∷ scripts) (x ∷ xs) (y ∷ ys) =
@@ -50,7 +50,7 @@ HaveBegun o seats cap names (suc k) (script ∷ scripts) (x ∷ xs) (y ∷ ys) =
     × HaveBegun o seats cap names k scripts xs ys
 HaveBegun o seats cap names k scripts xs ys = ⊥
 
-abbrev pub RefusesSessions : Opening → ℕ → ℕ → List (List ℕ) → List (List ℕ) → List SeatView
+abbrev pub RefusesSessions : StartData → ℕ → ℕ → List (List ℕ) → List (List ℕ) → List SeatView
     → List SeatView → Shortage → Type 0
 RefusesSessions o seats cap names scripts xs ys OutOfMemory =
     (ends : List (Result ℕ SessionEnd)) × AreSessions o seats cap names scripts xs ys ends

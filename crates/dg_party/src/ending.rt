@@ -1,5 +1,5 @@
 //! What a party comes to, and why there is none.
-use dg_beside::Shortage;
+use dg_system::Shortage;
 use dg_session::SessionEnd;
 
 /// What a party came to.

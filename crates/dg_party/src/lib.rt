@@ -7,6 +7,6 @@ mod threads;
 
 pub use ending::{PartyRefusal, Played};
 /// Why sessions are not held, or what they came to is not told.
-pub use dg_beside::Shortage as PartyFault;
+pub use dg_system::Shortage as PartyFault;
 pub use parties::party;
 pub use threads::sessions;

@@ -6,9 +6,9 @@ use Rattle.std.specs.Prelude.{Result, MatchResult}
 use Rattle.std.proofs.lemmas.Result.{MatchResult-weaker}
 use Rattle.dg_theory.specs.Multigraph.{Multigraph}
 use Rattle.dg_theory.specs.Firing.{Amounts}
-use Rattle.dg_ranked.specs.RankTests.{IsRankTest}
+use Rattle.dg_verdict.specs.RankTests.{IsRankTest}
 use Rattle.dg_rank.specs.Ranks.{IsWithin, IsRankFault, MayHaveWorkers}
-use Rattle.dg_ranked.specs.declared.rank_verdict.RankVerdict.{RankVerdict}
+use Rattle.dg_verdict.specs.declared.rank_verdict.RankVerdict.{RankVerdict}
 use Rattle.dg_rank.specs.declared.rank_fault.RankFault.{RankFault}
 use Rattle.dg_rank.specs.declared.rank_fault.RankFault.TheVariants.{Spawn}
 

@@ -21,7 +21,7 @@ use crate::rank_fault::RankFault;
 use crate::reduced_trials::{few_visits, most_visits, told_by_reduced};
 use dg_chips::{Divisor, Wide};
 use dg_graph::Graph;
-use dg_reduce::{Aim, reduce_certified};
+use dg_reduce::{InverseLaplacian, reduce_certified};
 
 /// Whether the rank of a divisor is at least k: whether every effective divisor of degree k can be lost and the rest still
 /// won. The test is made of the divisor or of its dual, where that has fewer trials.
@@ -36,11 +36,11 @@ pub fn has_rank(graph: &Graph, q: usize, divisor: &Divisor, k: u32) -> Result<bo
         (¬ HasRankAtLeast graph.now (at divisor.now) k))
         (λ e. (e ≡ TooMany) × BothArePast graph.now (at divisor.now) k) }
 {
-    passes(graph, &Aim::new(graph, 0), divisor, k)
+    passes(graph, &InverseLaplacian::new(graph, 0), divisor, k)
 }
 
-/// What `has_rank` answers, whatever is aimed by.
-pub(crate) fn passes(graph: &Graph, aim: &Aim, divisor: &Divisor, k: u32) -> Result<bool, RankFault>
+/// What `has_rank` answers, whatever the inverse.
+pub(crate) fn passes(graph: &Graph, inverse: &InverseLaplacian, divisor: &Divisor, k: u32) -> Result<bool, RankFault>
     requires size { divisor.now.size ≡ graph.now.size }
     requires some { 0 < graph.now.size }
     ensures { MatchResult result
@@ -65,9 +65,9 @@ pub(crate) fn passes(graph: &Graph, aim: &Aim, divisor: &Divisor, k: u32) -> Res
         return Err(RankFault::TooMany);
     };
     if k <= other {
-        Ok(all_win(graph, aim, &Wide::of(divisor), k, count))
+        Ok(all_win(graph, inverse, &Wide::of(divisor), k, count))
     } else {
-        Ok(all_win(graph, aim, &dual_of(graph, divisor), other, count))
+        Ok(all_win(graph, inverse, &dual_of(graph, divisor), other, count))
     }
 }
 
@@ -89,7 +89,7 @@ const MANY: u32 = 8192;
 /// last vertex. The amounts are what the divisor can be fired to.
 pub(crate) fn told_before(
     graph: &Graph,
-    aim: &Aim,
+    inverse: &InverseLaplacian,
     divisor: &Divisor,
     chips: &Wide,
     k: u32,
@@ -105,15 +105,15 @@ pub(crate) fn told_before(
     requires most { most ≤ count }
     ensures { IsPartial graph.now (at chips.now) k 0 count result }
 {
-    match told_by_dual(graph, aim, divisor, chips, k, most) {
+    match told_by_dual(graph, inverse, divisor, chips, k, most) {
         Partial::Lost(trial) => Partial::Lost(trial),
         Partial::Won => Partial::Won,
-        Partial::Open(from) => told_after(graph, aim, chips, k, from, count),
+        Partial::Open(from) => told_after(graph, inverse, chips, k, from, count),
     }
 }
 
 /// What is told of all trials where those before a number win: by some more, and by those that are reduced for the last vertex.
-fn told_after(graph: &Graph, aim: &Aim, chips: &Wide, k: u32, from: u32, count: u32) -> Partial
+fn told_after(graph: &Graph, inverse: &InverseLaplacian, chips: &Wide, k: u32, from: u32, count: u32) -> Partial
     requires size { chips.now.size ≡ graph.now.size }
     requires range { AreSmall graph.now.size (at chips.now) }
     requires limits { IsWithinLimits graph.now.size k count }
@@ -125,10 +125,10 @@ fn told_after(graph: &Graph, aim: &Aim, chips: &Wide, k: u32, from: u32, count: 
         return Partial::Open(from);
     }
     let to = count.min(from + FIRST_TRIALS);
-    if let Some(trial) = first_loss(graph, aim, chips, k, from, to) {
+    if let Some(trial) = first_loss(graph, inverse, chips, k, from, to) {
         return Partial::Lost(trial);
     }
-    match told_by_reduced(graph, aim, chips, k, few_visits(count)) {
+    match told_by_reduced(graph, inverse, chips, k, few_visits(count)) {
         Some(true) => Partial::Won,
         _ => Partial::Open(to),
     }
@@ -139,7 +139,7 @@ fn told_after(graph: &Graph, aim: &Aim, chips: &Wide, k: u32, from: u32, count: 
 /// can be fired to.
 fn told_by_dual(
     graph: &Graph,
-    aim: &Aim,
+    inverse: &InverseLaplacian,
     divisor: &Divisor,
     chips: &Wide,
     k: u32,
@@ -166,10 +166,10 @@ fn told_by_dual(
     if fewer > most {
         return Partial::Open(0);
     }
-    if let Some(trial) = first_loss(graph, aim, chips, k, 0, fewer) {
+    if let Some(trial) = first_loss(graph, inverse, chips, k, 0, fewer) {
         return Partial::Lost(trial);
     }
-    if all_win(graph, aim, &dual_of(graph, divisor), other, fewer) {
+    if all_win(graph, inverse, &dual_of(graph, divisor), other, fewer) {
         return Partial::Won;
     }
     Partial::Open(fewer)
@@ -178,7 +178,7 @@ fn told_by_dual(
 /// The first loss of all trials, of which so much is told; `None` where there is none.
 pub(crate) fn loss_after(
     graph: &Graph,
-    aim: &Aim,
+    inverse: &InverseLaplacian,
     chips: &Wide,
     k: u32,
     count: u32,
@@ -195,7 +195,7 @@ pub(crate) fn loss_after(
     match told {
         Partial::Lost(trial) => Some(trial),
         Partial::Won => None,
-        Partial::Open(from) => first_loss(graph, aim, chips, k, from, count),
+        Partial::Open(from) => first_loss(graph, inverse, chips, k, from, count),
     }
 }
 
@@ -237,7 +237,7 @@ fn dual_of(graph: &Graph, divisor: &Divisor) -> Wide
 }
 
 /// Whether all trials of degree k win, of which there are so many.
-fn all_win(graph: &Graph, aim: &Aim, amounts: &Wide, k: u32, count: u32) -> bool
+fn all_win(graph: &Graph, inverse: &InverseLaplacian, amounts: &Wide, k: u32, count: u32) -> bool
     requires graph { IsGraph graph.now }
     requires size { amounts.now.size ≡ graph.now.size }
     requires range { (v : ℕ) → v < graph.now.size → unsigned_abs (at amounts.now v) ≤ MAX_START }
@@ -247,9 +247,9 @@ fn all_win(graph: &Graph, aim: &Aim, amounts: &Wide, k: u32, count: u32) -> bool
         (HasRankAtLeast graph.now (at amounts.now) k)
         (¬ HasRankAtLeast graph.now (at amounts.now) k) }
 {
-    let chips = reduce_certified(graph, aim, 0, amounts).reduced.divisor;
-    match told_by_reduced(graph, aim, &chips, k, most_visits(graph, count)) {
+    let chips = reduce_certified(graph, inverse, 0, amounts).reduced.divisor;
+    match told_by_reduced(graph, inverse, &chips, k, most_visits(graph, count)) {
         Some(wins) => wins,
-        None => first_loss(graph, aim, &chips, k, 0, count).is_none(),
+        None => first_loss(graph, inverse, &chips, k, 0, count).is_none(),
     }
 }

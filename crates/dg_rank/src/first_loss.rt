@@ -18,14 +18,14 @@ use crate::counting::count;
 use crate::enumeration::{Moved, Trial};
 use dg_chips::Wide;
 use dg_graph::Graph;
-use dg_reduce::{Aim, Form, reduce_certified};
+use dg_reduce::{InverseLaplacian, EffectiveForm, reduce_certified};
 
 /// The first trial of degree k, of those from one number up to another, whose loss leaves what can't be won; `None`
 /// where there is none. What is left of one trial is not far from what is left of the next, so each starts from it; and those
 /// that are seen to win by what is left of one before them are passed over.
 pub fn first_loss(
     graph: &Graph,
-    aim: &Aim,
+    inverse: &InverseLaplacian,
     chips: &Wide,
     k: u32,
     from: u32,
@@ -42,7 +42,7 @@ pub fn first_loss(
         return None;
     }
     let mut trial = Trial::with_number(graph.size(), k, from);
-    let Some(mut left) = left_without(graph, aim, chips, &trial) else {
+    let Some(mut left) = left_without(graph, inverse, chips, &trial) else {
         return Some(trial);
     };
     let mut number = from + leap(&mut trial, &mut left);
@@ -57,7 +57,7 @@ pub fn first_loss(
 }
 
 /// Amounts without debts that amounts without a trial's can be fired to; `None` where those can't be won.
-pub(crate) fn left_without(graph: &Graph, aim: &Aim, chips: &Wide, trial: &Trial) -> Option<Form>
+pub(crate) fn left_without(graph: &Graph, inverse: &InverseLaplacian, chips: &Wide, trial: &Trial) -> Option<EffectiveForm>
     requires graph { IsGraph graph.now }
     requires size { chips.now.size ≡ graph.now.size }
     requires range { AreSmall graph.now.size (at chips.now) }
@@ -68,19 +68,19 @@ pub(crate) fn left_without(graph: &Graph, aim: &Aim, chips: &Wide, trial: &Trial
         (IsEffectiveForm graph.now (less (at chips.now) (amounts_of trial.now))) }
 {
     let lost = trial.to_divisor();
-    let left = reduce_certified(graph, aim, 0, &chips.less(&lost))
+    let left = reduce_certified(graph, inverse, 0, &chips.less(&lost))
         .reduced
         .divisor;
     if left.get(0) < 0 {
         return None;
     }
-    Some(Form::of(&left))
+    Some(EffectiveForm::of(&left))
 }
 
 /// From what is left without a trial to what is left without the next one: the dollars of the place that is left come back, one is
 /// taken at the place before it and the others at the last place, each as far as there are too few by firing. False where that
 /// can't be won.
-fn lose_elsewhere(graph: &Graph, left: &mut Form, moved: &Moved) -> bool
+fn lose_elsewhere(graph: &Graph, left: &mut EffectiveForm, moved: &Moved) -> bool
     requires size { left.old.size ≡ graph.now.size }
     requires effective { IsEffective graph.now.size (at left.old) }
     requires degree { AddUpToFew graph.now.size (at left.old) }
@@ -104,7 +104,7 @@ fn lose_elsewhere(graph: &Graph, left: &mut Form, moved: &Moved) -> bool
 
 /// Goes on to the last of the trials that are seen to win at once: those that hold the dollars of the last place anywhere after the
 /// other places that hold some, where each vertex has as many left. Returns how many trials further that is.
-fn leap(trial: &mut Trial, left: &mut Form) -> u32
+fn leap(trial: &mut Trial, left: &mut EffectiveForm) -> u32
     requires size { left.old.size ≡ length trial.old }
     requires trial { (k : ℕ) × (c : ℕ) × (i : ℕ) × IsWithinLimits left.old.size k c × (i < c) ×
         (trial.old ≡ nth_trial left.old.size k i) }
@@ -133,7 +133,7 @@ fn leap(trial: &mut Trial, left: &mut Form) -> u32
 
 /// A place from which on the trial holds nothing before its last place, and each vertex before the last has at least so many
 /// dollars left.
-fn first_rich(trial: &Trial, left: &Form, dollars: u32) -> usize
+fn first_rich(trial: &Trial, left: &EffectiveForm, dollars: u32) -> usize
     requires some { 0 < length trial.now }
     requires size { left.now.size ≡ length trial.now }
     requires few { dollars ≤ 1000 }

@@ -11,7 +11,7 @@ use crate::counting::trials;
 use crate::duals::{passes, ranks_apart};
 use dg_chips::Divisor;
 use dg_graph::Graph;
-use dg_reduce::Aim;
+use dg_reduce::InverseLaplacian;
 
 /// The rank of a divisor: the greatest k of which its rank is at least k, and -1 where it is not winnable. `None` where a
 /// test past the limits would be needed.
@@ -74,9 +74,9 @@ fn first_failing(graph: &Graph, divisor: &Divisor) -> Option<u32>
     // A divisor passes all tests for which it is rich, and from the genus on no others.
     let first = ranks_apart(graph, divisor).max(0);
     let end = first.max(i64::from(graph.genus())) + 1;
-    let aim = Aim::new(graph, 0);
+    let inverse = InverseLaplacian::new(graph, 0);
     for k in first as u32..end as u32 {
-        match passes(graph, &aim, divisor, k) {
+        match passes(graph, &inverse, divisor, k) {
             Ok(true) => {}
             Ok(false) => return Some(k),
             Err(_) => return None,

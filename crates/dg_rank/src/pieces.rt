@@ -12,10 +12,10 @@ use crate::first_loss::first_loss;
 use crate::partial::Partial;
 use crate::rank_fault::RankFault;
 use crate::workers::Gate;
-use dg_beside::beside;
+use dg_system::in_parallel;
 use dg_chips::Wide;
 use dg_graph::Graph;
-use dg_reduce::Aim;
+use dg_reduce::InverseLaplacian;
 use std::sync::Wait;
 use std::sync::atomic::{AtomicU32, Ordering};
 use std::thread::Threads;
@@ -59,7 +59,7 @@ pub(crate) fn first_loss_among<R: Threads + Wait, G: Gate>(
         // This never comes: a piece leaves trials open only if an earlier one has lost.
         Ok(Partial::Open(from)) => Ok(first_loss(
             &search.graph,
-            &Aim::new(&search.graph, 0),
+            &InverseLaplacian::new(&search.graph, 0),
             &search.chips,
             search.k,
             from,
@@ -101,7 +101,7 @@ fn search_from<R: Threads + Wait, G: Gate>(
             (Tells search.entry.now (piece_start search.entry.now next) search.entry.now.count)
             (λ e. e ≡ Spawn) }
     { search_from(rt, search, lost, gate, next) };
-    let (here, later) = match beside(rt, &mut here, &mut later) {
+    let (here, later) = match in_parallel(rt, &mut here, &mut later) {
         Ok(both) => both,
         Err(_) => return Err(RankFault::Spawn),
     };
@@ -155,14 +155,14 @@ fn search_trials(search: &Search, lost: &AtomicU32, piece: u32) -> Partial
     if start >= end {
         return Partial::Won;
     }
-    let aim = Aim::new(&search.graph, 0);
+    let inverse = InverseLaplacian::new(&search.graph, 0);
     let mut from = start;
     while from < end {
         if lost.load(Ordering::SeqCst) < piece {
             return Partial::Open(from);
         }
         let to = end.min(from + FIRST_LOOK.max(from - start));
-        let loss = first_loss(&search.graph, &aim, &search.chips, search.k, from, to);
+        let loss = first_loss(&search.graph, &inverse, &search.chips, search.k, from, to);
         if let Some(trial) = loss {
             lost.fetch_min(piece, Ordering::SeqCst);
             return Partial::Lost(trial);

@@ -6,7 +6,7 @@ ghost use Rattle.dg_chips.specs.Vector.{at};
 ghost use Rattle.dg_rank.specs.Limits.{IsPastLimits, IsWithinLimits};
 ghost use Rattle.dg_rank.specs.Trials.{IsTrial};
 ghost use Rattle.dg_rank.specs.Losses.{AreSmall, AllWin, IsFirstLossIn};
-ghost use Rattle.dg_ranked.specs.RankTests.{IsRankTest};
+ghost use Rattle.dg_verdict.specs.RankTests.{IsRankTest};
 ghost use Rattle.dg_rank.specs.Ranks.{IsWithin, IsUnsettled};
 ghost use Rattle.dg_rank.specs.declared.rank_fault.RankFault.TheVariants.{TooMany};
 
@@ -16,8 +16,8 @@ use crate::enumeration::Trial;
 use crate::rank_fault::RankFault;
 use dg_chips::{Divisor, Wide};
 use dg_graph::Graph;
-use dg_ranked::RankVerdict;
-use dg_reduce::{Aim, reduce_certified};
+use dg_verdict::RankVerdict;
+use dg_reduce::{InverseLaplacian, reduce_certified};
 
 /// Tests whether the rank of a divisor is at least k: whether every effective divisor of degree k can be lost and the
 /// rest still won. If not, the answer names the first that can't, in the order of trials. Where the dual of the divisor has
@@ -43,16 +43,16 @@ pub fn rank_at_least(
     if let Some(verdict) = settled(graph, divisor, k) {
         return Ok(verdict);
     }
-    let aim = Aim::new(graph, 0);
-    let chips = small_amounts(graph, &aim, divisor, k);
-    let told = told_before(graph, &aim, divisor, &chips, k, count, count / 2);
-    let loss = loss_after(graph, &aim, &chips, k, count, told);
+    let inverse = InverseLaplacian::new(graph, 0);
+    let chips = small_amounts(graph, &inverse, divisor, k);
+    let told = told_before(graph, &inverse, divisor, &chips, k, count, count / 2);
+    let loss = loss_after(graph, &inverse, &chips, k, count, told);
     Ok(verdict_on(k, loss))
 }
 
 /// The amounts that are reduced for the first vertex and that a divisor can be fired to, where the degree does not settle its
 /// test: all of them are small.
-pub(crate) fn small_amounts(graph: &Graph, aim: &Aim, divisor: &Divisor, k: u32) -> Wide
+pub(crate) fn small_amounts(graph: &Graph, inverse: &InverseLaplacian, divisor: &Divisor, k: u32) -> Wide
     requires size { divisor.now.size ≡ graph.now.size }
     requires limits { IsWithin graph.now.size k }
     requires unsettled { IsUnsettled graph.now (at divisor.now) k }
@@ -63,7 +63,7 @@ pub(crate) fn small_amounts(graph: &Graph, aim: &Aim, divisor: &Divisor, k: u32)
     let _size = graph.size();
     // The clause of `size` says that the amounts are within their limit.
     let _amounts = divisor.size();
-    reduce_certified(graph, aim, 0, &Wide::of(divisor))
+    reduce_certified(graph, inverse, 0, &Wide::of(divisor))
         .reduced
         .divisor
 }

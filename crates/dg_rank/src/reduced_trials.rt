@@ -13,7 +13,7 @@ use crate::enumeration::Trial;
 use crate::first_loss::left_without;
 use dg_chips::Wide;
 use dg_graph::Graph;
-use dg_reduce::{Aim, Form};
+use dg_reduce::{InverseLaplacian, EffectiveForm};
 
 /// How many trials there are for each visit that those which are reduced may take: where these tell nothing, little is lost.
 const TRIALS_A_VISIT: u32 = 256;
@@ -60,7 +60,7 @@ fn neighbours(row: &[u8; 16]) -> usize {
 /// Whether all trials of degree k can be lost. `None` where so many visits do not tell.
 pub(crate) fn told_by_reduced(
     graph: &Graph,
-    aim: &Aim,
+    inverse: &InverseLaplacian,
     chips: &Wide,
     k: u32,
     visits: u32,
@@ -73,10 +73,10 @@ pub(crate) fn told_by_reduced(
         (¬ HasRankAtLeast graph.now (at chips.now) k)) }
 {
     let first = Trial::with_number(graph.size(), k, 0);
-    let Some(mut left) = left_without(graph, aim, chips, &first) else {
+    let Some(mut left) = left_without(graph, inverse, chips, &first) else {
         return Some(false);
     };
-    let lost = Form::of(&Wide::of(&first.to_divisor()));
+    let lost = EffectiveForm::of(&Wide::of(&first.to_divisor()));
     let mut visits = visits;
     reduced_win(graph, &mut left, &lost, 0, &mut visits)
 }
@@ -87,8 +87,8 @@ pub(crate) fn told_by_reduced(
 /// tell.
 fn reduced_win(
     graph: &Graph,
-    left: &mut Form,
-    lost: &Form,
+    left: &mut EffectiveForm,
+    lost: &EffectiveForm,
     place: usize,
     visits: &mut u32,
 ) -> Option<bool>
@@ -134,7 +134,7 @@ fn reduced_win(
 }
 
 /// A trial with one dollar more at a place, from the last.
-fn with_more(lost: &Form, place: usize, last: usize) -> Form
+fn with_more(lost: &EffectiveForm, place: usize, last: usize) -> EffectiveForm
     requires place { place < lost.now.size }
     requires last { last < lost.now.size }
     requires lost { IsEffective lost.now.size (at lost.now) }
@@ -151,7 +151,7 @@ fn with_more(lost: &Form, place: usize, last: usize) -> Form
 
 /// Gives a dollar to one vertex, and takes one from another, as far as there are too few by firing. False where that can't be
 /// won.
-fn carry(graph: &Graph, left: &mut Form, from: usize, to: usize) -> bool
+fn carry(graph: &Graph, left: &mut EffectiveForm, from: usize, to: usize) -> bool
     requires size { left.old.size ≡ graph.now.size }
     requires from { from < graph.now.size }
     requires to { to < graph.now.size }
@@ -168,7 +168,7 @@ fn carry(graph: &Graph, left: &mut Form, from: usize, to: usize) -> bool
 }
 
 /// Whether each vertex from a place on, before the last, has at least as much left as the trial holds at the last place.
-fn is_rich(left: &Form, lost: &Form, place: usize, last: usize) -> bool
+fn is_rich(left: &EffectiveForm, lost: &EffectiveForm, place: usize, last: usize) -> bool
     requires left { last < left.now.size }
     requires lost { last < lost.now.size }
     ensures { MatchBool result

@@ -1,7 +1,7 @@
 //! Rank tests among workers.
 ghost use Rattle.std.specs.Prelude.{◌≡◌, ◌<◌, MatchResult};
 ghost use Rattle.dg_chips.specs.Vector.{at};
-ghost use Rattle.dg_ranked.specs.RankTests.{IsRankTest};
+ghost use Rattle.dg_verdict.specs.RankTests.{IsRankTest};
 ghost use Rattle.dg_rank.specs.Ranks.{IsWithin, IsRankFault, MayHaveWorkers};
 ghost use Rattle.dg_rank.specs.declared.rank_fault.RankFault.TheVariants.{Spawn};
 
@@ -13,8 +13,8 @@ use crate::rank_fault::RankFault;
 use crate::ranks::{settled, small_amounts, verdict_on};
 use dg_chips::{Divisor, Wide};
 use dg_graph::Graph;
-use dg_ranked::RankVerdict;
-use dg_reduce::Aim;
+use dg_verdict::RankVerdict;
+use dg_reduce::InverseLaplacian;
 use std::marker::Sync;
 use std::sync::Wait;
 use std::thread::Threads;
@@ -70,11 +70,11 @@ pub fn rank_with<R: Threads + Wait, G: Gate>(
     if let Some(verdict) = settled(graph, divisor, k) {
         return after_the_gate(rt, graph, k, workers, gate, verdict);
     }
-    let aim = Aim::new(graph, 0);
-    let chips = small_amounts(graph, &aim, divisor, k);
+    let inverse = InverseLaplacian::new(graph, 0);
+    let chips = small_amounts(graph, &inverse, divisor, k);
     // The first trials and the dual's are made before there are threads to share the rest.
     let most = count / (2 * workers);
-    match told_before(graph, &aim, divisor, &chips, k, count, most) {
+    match told_before(graph, &inverse, divisor, &chips, k, count, most) {
         Partial::Lost(trial) => {
             let verdict = verdict_on(k, Some(trial));
             after_the_gate(rt, graph, k, workers, gate, verdict)

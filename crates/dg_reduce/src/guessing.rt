@@ -11,7 +11,7 @@ ghost use Rattle.dg_chips.specs.declared.limits.TheConstants.{MAX_ENTRY};
 ghost use Rattle.dg_fallback.specs.declared.limits.TheConstants.{MAX_START};
 ghost use Rattle.dg_reduce.specs.Burnings.{IsWhole};
 
-use crate::aim::{Aim, Lending, lendings_once};
+use crate::inverse_laplacian::{InverseLaplacian, Lending, lendings_once};
 use crate::certificate::Burning;
 use dg_burn::burn_counted;
 use dg_chips::{Script, Wide};
@@ -51,8 +51,8 @@ pub struct Guessed {
 }
 
 /// A script that is 0 at q and that may lead from the amounts, which are within 2,000,000, to those that are reduced for q:
-/// each entry is at most a thousand million, lendings or borrowings. What is aimed by makes the guess good or bad.
-pub fn guess(graph: &Graph, aim: &Aim, q: usize, chips: &Wide) -> Guessed
+/// each entry is at most a thousand million, lendings or borrowings. The inverse makes the guess good or bad.
+pub fn guess(graph: &Graph, inverse: &InverseLaplacian, q: usize, chips: &Wide) -> Guessed
     requires size { chips.now.size ≡ graph.now.size }
     requires vertex { q < graph.now.size }
     requires range { (v : ℕ) → v < graph.now.size → unsigned_abs (at chips.now v) ≤ MAX_START }
@@ -62,10 +62,10 @@ pub fn guess(graph: &Graph, aim: &Aim, q: usize, chips: &Wide) -> Guessed
 {
     let _size = graph.size();
     let amounts = amounts_off(q, chips);
-    guess_near(graph, &aim.lending, q, &amounts, &aim.lendings(&amounts))
+    guess_near(graph, &inverse.lending, q, &amounts, &inverse.lendings(&amounts))
 }
 
-/// The same where no other reduction on the graph is asked for: what is made for one alone costs less than an aim.
+/// The same where no other reduction on the graph is asked for: what is made for one alone costs less than an inverse.
 pub fn guess_once(graph: &Graph, q: usize, chips: &Wide) -> Guessed
     requires size { chips.now.size ≡ graph.now.size }
     requires vertex { q < graph.now.size }

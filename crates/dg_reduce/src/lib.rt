@@ -2,15 +2,15 @@
 //! without debts, kept so while dollars are taken. No call takes memory.
 #![tactic(auto)]
 
-mod aim;
+mod inverse_laplacian;
 mod certificate;
-mod form;
+mod effective_form;
 mod guessing;
 mod reducing;
 
-pub use aim::Aim;
+pub use inverse_laplacian::InverseLaplacian;
 pub use certificate::{Burning, is_solvent_off, order_by, order_if_reduced};
 pub use dg_fallback::{MAX_START, Reduced};
-pub use form::Form;
+pub use effective_form::EffectiveForm;
 pub use guessing::{Guessed, guess, guess_once};
 pub use reducing::{Certified, certified_by, reduce, reduce_certified, reduce_wide};

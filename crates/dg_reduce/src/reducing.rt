@@ -7,7 +7,7 @@ ghost use Rattle.dg_fallback.specs.Reductions.{IsReduction};
 ghost use Rattle.dg_reduce.specs.Certificates.{IsCertified};
 ghost use Rattle.dg_reduce.specs.Burnings.{IsWhole};
 
-use crate::aim::Aim;
+use crate::inverse_laplacian::InverseLaplacian;
 use crate::certificate::{Burning, order_by};
 use crate::guessing::guess;
 use dg_burn::burn;
@@ -44,18 +44,18 @@ pub fn reduce_wide(graph: &Graph, q: usize, chips: &Wide) -> Reduced
     requires range { (v : ℕ) → v < graph.now.size → unsigned_abs (at chips.now v) ≤ MAX_START }
     ensures { IsReduction graph.now q (at chips.now) 451000000 result }
 {
-    reduce_certified(graph, &Aim::new(graph, q), q, chips).reduced
+    reduce_certified(graph, &InverseLaplacian::new(graph, q), q, chips).reduced
 }
 
 /// The amounts, within 2,000,000 before, that are reduced for q and can be reached by firing, with the script that leads to
-/// them and the order in which all vertices burn. What is aimed by changes how long that takes, and no answer.
-pub fn reduce_certified(graph: &Graph, aim: &Aim, q: usize, chips: &Wide) -> Certified
+/// them and the order in which all vertices burn. The inverse changes how long that takes, and no answer.
+pub fn reduce_certified(graph: &Graph, inverse: &InverseLaplacian, q: usize, chips: &Wide) -> Certified
     requires size { chips.now.size ≡ graph.now.size }
     requires vertex { q < graph.now.size }
     requires range { (v : ℕ) → v < graph.now.size → unsigned_abs (at chips.now v) ≤ MAX_START }
     ensures { IsCertified graph.now q (at chips.now) 451000000 result }
 {
-    let guess = guess(graph, aim, q, chips);
+    let guess = guess(graph, inverse, q, chips);
     certified_by(graph, q, chips, &guess.script, &guess.burning)
 }
 

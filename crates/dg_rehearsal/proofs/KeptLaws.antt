@@ -8,7 +8,7 @@
 --   keeps_none     after a step of the seat that uses its look up it keeps none
 use Rattle.std.proofs.Common.{◌≡◌, ℕ, ◌+◌, List, [], ◌∷◌, ◌++◌, length, length-append, slice_get, Option, Some, None, arith, refl, sym, ap, subst, ◌∙◌, inl, inr}
 use Rattle.std.proofs.lemmas.Bool.{cases_lt}
-use Rattle.dg_chips.specs.Opening.{Opening}
+use Rattle.dg_chips.specs.Starts.{StartData}
 use Rattle.dg_game.specs.Look.{IsLookAt}
 use Rattle.dg_rehearsal.specs.Rehearsal.{KeepsLook}
 use Rattle.dg_rehearsal.specs.Schedule.{UsesUp, UsesLook, IsKept}
@@ -99,7 +99,7 @@ kept_none steps seat n i c there up kept = elim (cases_lt i n) [
 longer : (H : List Entry) (e : Entry) → length (H ++ e ∷ []) ≡ length H + 1
 longer H e = omega (arith, length-append H (e ∷ []))
 
-pub keeps_more : (o : Opening) (H : List Entry) (e : Entry) (steps : List Step) (seat : ℕ) (step : Step)
+pub keeps_more : (o : StartData) (H : List Entry) (e : Entry) (steps : List Step) (seat : ℕ) (step : Step)
     (x : Option LookData) →
     slice_get steps (length H) ≡ Some step → LeavesLook seat step → KeepsLook o H steps seat x →
     KeepsLook o (H ++ e ∷ []) steps seat x
@@ -109,12 +109,12 @@ keeps_more o H e steps seat step None there leaves none =
     λ i kept. none i (kept_less steps seat (length H) i step there leaves
     (subst (λ n. IsKept steps seat n i) (longer H e) kept))
 
-pub keeps_new : (o : Opening) (H : List Entry) (e : Entry) (steps : List Step) (seat : ℕ) (x : LookData) →
+pub keeps_new : (o : StartData) (H : List Entry) (e : Entry) (steps : List Step) (seat : ℕ) (x : LookData) →
     slice_get steps (length H) ≡ Some (record { seat = seat; command = Call plain.Look }) → x.number ≡ length H →
     IsLookAt o (H ++ e ∷ []) x → KeepsLook o (H ++ e ∷ []) steps seat (Some x)
 keeps_new o H e steps seat x there number look = (rw (longer H e, number) (kept_new steps seat (length H) there), look)
 
-pub keeps_none : (o : Opening) (H : List Entry) (e : Entry) (steps : List Step) (seat : ℕ) (c : Command) →
+pub keeps_none : (o : StartData) (H : List Entry) (e : Entry) (steps : List Step) (seat : ℕ) (c : Command) →
     slice_get steps (length H) ≡ Some (record { seat = seat; command = c }) → UsesUp c →
     KeepsLook o (H ++ e ∷ []) steps seat None
 keeps_none o H e steps seat c there up i kept =

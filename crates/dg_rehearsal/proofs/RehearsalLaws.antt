@@ -9,7 +9,7 @@
 --   looks_left     the looks kept after a call that is no look
 --   called         a call plays the schedule on
 --   entered        what is asked on the seat's look plays the schedule on when it is entered
---   aimed          the schedule goes on with any aim
+--   aimed          the schedule goes on with any inverse
 --   past_limits    a rank test past the limits is the first fault, where the seat keeps a look
 --   told_err       a refusal that is handed on tells what it told before
 use Rattle.std.proofs.Common.{◌≡◌, ℕ, ◌+◌, ◌<◌, List, [], ◌∷◌, ◌++◌, length, length-append, slice_get, Option, Some, None, Result, Ok, Err, set, arith, refl, sym, ap, ◌∙◌, inl, inr, length-set, replicate}
@@ -17,7 +17,7 @@ use Rattle.std.specs.List.{slice_index_or}
 use Rattle.std.specs.Result.{MatchResult, IsErrAnd}
 use Rattle.std.proofs.lemmas.Bool.{cases_lt, cases_eq}
 use Rattle.std.proofs.lemmas.List.{get_or-set_same, get_or-set_other, get_or-replicate, length-replicate}
-use Rattle.dg_chips.specs.Opening.{Opening}
+use Rattle.dg_chips.specs.Starts.{StartData}
 use Rattle.dg_rank.specs.Limits.{IsPastLimits}
 use Rattle.dg_game.specs.Legal.{IsSeat, IsLegal}
 use Rattle.dg_rehearsal.specs.Rehearsal.{KeepsLook, IsPlaying}
@@ -69,10 +69,10 @@ good_more size steps n step there good before k s below at = elim (cases_lt k n)
 ]
 
 -- the looks kept after a history
-abbrev pub AreLooks : Opening → List Entry → List Step → List (Option LookData) → Type 0
+abbrev pub AreLooks : StartData → List Entry → List Step → List (Option LookData) → Type 0
 AreLooks o H steps looks = (seat : ℕ) → IsSeat seat → KeepsLook o H steps seat (slice_index_or looks seat None)
 
-pub playing_more : (o : Opening) (H : List Entry) (steps : List Step) (r t : Rehearsal) (step : Step) (e : Entry) →
+pub playing_more : (o : StartData) (H : List Entry) (steps : List Step) (r t : Rehearsal) (step : Step) (e : Entry) →
     IsPlaying o steps H r →
     slice_get steps (length H) ≡ Some step → IsGood o.graph.size steps (length H) step →
     IsEntryOf steps (length H) step e →
@@ -90,14 +90,14 @@ playing_more o H steps r t step e playing there good asks legal leads q places l
       looks = looks;
     }
 
-pub looks_same : (o : Opening) (H : List Entry) (e : Entry) (steps : List Step) (step : Step)
+pub looks_same : (o : StartData) (H : List Entry) (e : Entry) (steps : List Step) (step : Step)
     (looks : List (Option LookData)) →
     slice_get steps (length H) ≡ Some step → (¬ UsesLook step.command) → AreLooks o H steps looks →
     AreLooks o (H ++ e ∷ []) steps looks
 looks_same o H e steps step looks there leaves kept seat is =
     keeps_more o H e steps seat step (slice_index_or looks seat None) there (λ its. leaves) (kept seat is)
 
-pub looks_set : (o : Opening) (H : List Entry) (e : Entry) (steps : List Step) (step : Step)
+pub looks_set : (o : StartData) (H : List Entry) (e : Entry) (steps : List Step) (step : Step)
     (looks : List (Option LookData)) (x : Option LookData) →
     slice_get steps (length H) ≡ Some step → length looks ≡ 65 → IsSeat step.seat →
     KeepsLook o (H ++ e ∷ []) steps step.seat x →
@@ -116,7 +116,7 @@ no_look plain.Look other uses = other refl
 no_look p other uses = uses
 
 -- the looks kept after a call that is a look, and after one that is not
-pub looks_looked : (o : Opening) (H : List Entry) (steps : List Step) (r : Rehearsal) (seat : ℕ) (p : Plain)
+pub looks_looked : (o : StartData) (H : List Entry) (steps : List Step) (r : Rehearsal) (seat : ℕ) (p : Plain)
     (x : LookData) (reply : Reply) →
     IsPlaying o steps H r → slice_get steps (length H) ≡ Some (record { seat = seat; command = Call p }) → IsSeat seat →
     p ≡ plain.Look →
@@ -130,7 +130,7 @@ looks_looked o H steps r seat p x reply playing there is look number gifts graph
     (keeps_new o H e steps seat x looks (number ∙ playing.leads.entries)
     (look_new o H r.game e x playing.leads (ap asked look) number gifts graph position)) playing.looks
 
-pub looks_left : (o : Opening) (H : List Entry) (steps : List Step) (r : Rehearsal) (seat : ℕ) (p : Plain)
+pub looks_left : (o : StartData) (H : List Entry) (steps : List Step) (r : Rehearsal) (seat : ℕ) (p : Plain)
     (reply : Reply) →
     IsPlaying o steps H r → slice_get steps (length H) ≡ Some (record { seat = seat; command = Call p }) →
     (p ≡ plain.Look → ⊥) →
@@ -140,7 +140,7 @@ looks_left o H steps r seat p reply playing there other =
     (record { seat = seat; command = Call p }) r.looks there
     (no_look p other) playing.looks
 
-pub called : (o : Opening) (H : List Entry) (steps : List Step) (r t : Rehearsal) (seat : ℕ) (p : Plain)
+pub called : (o : StartData) (H : List Entry) (steps : List Step) (r t : Rehearsal) (seat : ℕ) (p : Plain)
     (reply : Reply) →
     IsPlaying o steps H r → slice_get steps (length H) ≡ Some (record { seat = seat; command = Call p }) → IsSeat seat →
     IsLegal o (H ++ (record { seat = seat; request = asked p; reply = reply }) ∷ []) →
@@ -158,7 +158,7 @@ has_look steps seat j i (Call p) kept = tt
 has_look steps seat j i Commit kept = (i, kept)
 has_look steps seat j i (Rank k) kept = (i, kept)
 
-pub entered : (o : Opening) (H : List Entry) (steps : List Step) (r t : Rehearsal) (seat : ℕ) (c : Command)
+pub entered : (o : StartData) (H : List Entry) (steps : List Step) (r t : Rehearsal) (seat : ℕ) (c : Command)
     (x : LookData) (request : Request)
     (reply : Reply) → IsPlaying o steps H r → slice_get steps (length H) ≡ Some (record { seat = seat; command = c }) →
     IsSeat seat →
@@ -176,7 +176,7 @@ entered o H steps r t seat c x request reply playing there is (kept, look) up tr
     (rw replaced (looks_set o H e steps step r.looks None there playing.places is
     (keeps_none o H e steps seat c there up) playing.looks))
 
-pub aimed : (o : Opening) (H : List Entry) (steps : List Step) (r t : Rehearsal) → t.game ≡ r.game → t.q ≡ r.q →
+pub aimed : (o : StartData) (H : List Entry) (steps : List Step) (r t : Rehearsal) → t.game ≡ r.game → t.q ≡ r.q →
     t.looks ≡ r.looks → IsPlaying o steps H r → IsPlaying o steps H t
 aimed o H steps r t game q looks playing = record {
   leads = rw game playing.leads;
@@ -188,7 +188,7 @@ aimed o H steps r t game q looks playing = record {
   looks = rw looks playing.looks;
 }
 
-pub playing_none : (o : Opening) (steps : List Step) (r : Rehearsal) → LeadsTo o [] r.game → r.q ≡ o.q →
+pub playing_none : (o : StartData) (steps : List Step) (r : Rehearsal) → LeadsTo o [] r.game → r.q ≡ o.q →
     r.looks ≡ replicate 65 None → IsPlaying o steps [] r
 playing_none o steps r leads q empty = record {
   leads = leads;
@@ -201,7 +201,7 @@ playing_none o steps r leads q empty = record {
       (λ i kept. absurd (omega (arith, kept.before)));
 }
 
-pub past_limits : (o : Opening) (H : List Entry) (steps : List Step) (r : Rehearsal) (seat k j i : ℕ) →
+pub past_limits : (o : StartData) (H : List Entry) (steps : List Step) (r : Rehearsal) (seat k j i : ℕ) →
     IsPlaying o steps H r →
     slice_get steps (length H) ≡ Some (record { seat = seat; command = Rank k }) → i ≡ length H → i < MAX_ENTRIES →
     IsSeat seat →

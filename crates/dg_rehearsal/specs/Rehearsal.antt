@@ -10,7 +10,7 @@
 --                                  first of the schedule, and not want of memory
 use Rattle.std.specs.Prelude.{◌≡◌, ◌≢◌, ℕ, List, [], ◌∷◌, ◌++◌, length, slice_get, Option, Some, None}
 use Rattle.std.specs.List.{slice_index_or}
-use Rattle.dg_chips.specs.Opening.{Opening}
+use Rattle.dg_chips.specs.Starts.{StartData}
 use Rattle.dg_game.specs.Legal.{IsSeat, IsLegal}
 use Rattle.dg_game.specs.Look.{IsLookAt}
 use Rattle.dg_game.specs.State.{LeadsTo}
@@ -23,11 +23,11 @@ use Rattle.dg_rehearsal.specs.declared.schedule.RehearseFault.{RehearseFault}
 use Rattle.dg_rehearsal.specs.declared.schedule.RehearseFault.TheVariants.{OutOfMemory}
 use Rattle.dg_game.specs.declared.step.Step.{Step}
 
-abbrev pub KeepsLook : Opening → List Entry → List Step → ℕ → Option LookData → Type 0
+abbrev pub KeepsLook : StartData → List Entry → List Step → ℕ → Option LookData → Type 0
 KeepsLook o H steps seat (Some x) = IsKept steps seat (length H) x.number × IsLookAt o H x
 KeepsLook o H steps seat None = (i : ℕ) → ¬ IsKept steps seat (length H) i
 
-pub record IsPlaying (o : Opening) (steps : List Step) (H : List Entry)
+pub record IsPlaying (o : StartData) (steps : List Step) (H : List Entry)
     (r : Rehearsal) : Type 0 where
   pub leads : LeadsTo o H r.game
   pub q : r.q ≡ o.q
@@ -39,13 +39,13 @@ pub record IsPlaying (o : Opening) (steps : List Step) (H : List Entry)
   pub looks : (seat : ℕ) → IsSeat seat → KeepsLook o H steps seat (slice_index_or r.looks seat None)
 
 abbrev pub IsInPlay : Rehearsal → Type 0
-IsInPlay r = (o : Opening) × (H : List Entry) × (steps : List Step) × IsPlaying o steps H r
+IsInPlay r = (o : StartData) × (H : List Entry) × (steps : List Step) × IsPlaying o steps H r
 
 abbrev pub PlaysOn : Rehearsal → Step → Entry → Rehearsal → Type 0
-PlaysOn r step e t = (o : Opening) (H : List Entry) (steps : List Step) → IsPlaying o steps H r →
+PlaysOn r step e t = (o : StartData) (H : List Entry) (steps : List Step) → IsPlaying o steps H r →
     slice_get steps (length H) ≡ Some step → IsPlaying o steps (H ++ e ∷ []) t
 
 abbrev pub StopsPlay : Rehearsal → Step → RehearseFault → Type 0
 StopsPlay r step fault = (fault ≢ OutOfMemory) ×
-    ((o : Opening) (H : List Entry) (steps : List Step) → IsPlaying o steps H r →
+    ((o : StartData) (H : List Entry) (steps : List Step) → IsPlaying o steps H r →
     slice_get steps (length H) ≡ Some step → IsFirstFault o.graph.size steps fault)

@@ -19,7 +19,7 @@
 --                                    those of the steps, in order; these are all good, and no more
 --                                    than a history has room for
 use Rattle.std.specs.Prelude.{◌≡◌, ℕ, ◌<◌, ◌≤◌, List, length, slice_get, Some, ⊤}
-use Rattle.dg_chips.specs.Opening.{Opening}
+use Rattle.dg_chips.specs.Starts.{StartData}
 use Rattle.dg_rank.specs.Ranks.{IsWithin}
 use Rattle.dg_game.specs.Requests.{asked}
 use Rattle.dg_game.specs.Legal.{IsSeat, IsLegal}
@@ -80,7 +80,7 @@ abbrev pub AreGoodBefore : ℕ → List Step → ℕ → Type 0
 AreGoodBefore n steps j =
     (k : ℕ) (step : Step) → k < j → slice_get steps k ≡ Some step → IsGood n steps k step
 
-pub record IsRehearsal (o : Opening) (steps : List Step) (H : List Entry) : Type 0 where
+pub record IsRehearsal (o : StartData) (steps : List Step) (H : List Entry) : Type 0 where
   pub legal : IsLegal o H
   pub length' : length H ≡ length steps
   pub few : length steps ≤ MAX_ENTRIES

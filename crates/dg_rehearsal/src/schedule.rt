@@ -1,6 +1,6 @@
 //! Schedules: their steps are played one after another.
 ghost use Rattle.std.specs.Prelude.{◌≡◌, ◌≢◌, ℕ, ◌<◌, ◌≤◌, List, [], ◌∷◌, ◌++◌, length, slice_get, Some, MatchResult, MatchOption, OnErr, None};
-ghost use Rattle.dg_chips.specs.Opening.{Opening};
+ghost use Rattle.dg_chips.specs.Starts.{StartData};
 ghost use Rattle.dg_game.specs.Legal.{IsSeat};
 ghost use Rattle.dg_game.specs.Look.{IsFoundFor, asked_for, asked_on};
 ghost use Rattle.dg_rehearsal.specs.Schedule.{UsesUp, IsKept, IsAsked, HasTrials, IsRehearsal};
@@ -15,10 +15,10 @@ use crate::ranking::rank_look;
 use dg_chips::Start;
 use dg_game::{
     BLANK, Command, Entry, Finding, Game, LookData, MAX_ENTRIES, MAX_SEATS, Plain, Question, Step,
-    judge_look_aimed, renew,
+    judge_look_with_inverse, renew_inverse,
 };
 use dg_rank::trials;
-use dg_reduce::Aim;
+use dg_reduce::InverseLaplacian;
 use std::alloc::Allocator;
 
 /// Why a schedule is not played. Steps are numbered from 0.
@@ -44,7 +44,7 @@ pub struct Rehearsal {
     /// The vertex from which verdicts are reckoned.
     pub q: usize,
     /// What serves its verdicts, made anew after an edge was added; no answer depends on it.
-    pub aim: Aim,
+    pub inverse: InverseLaplacian,
     /// The look that a seat has taken last and not used up, at the place of the seat's number.
     pub looks: [Option<LookData>; 65],
 }
@@ -85,7 +85,7 @@ impl Rehearsal {
         Rehearsal {
             game: Game::new(start),
             q,
-            aim: Aim::new(start.graph(), q),
+            inverse: InverseLaplacian::new(start.graph(), q),
             looks: [None; 65],
         }
     }
@@ -168,8 +168,8 @@ impl Rehearsal {
             return Ok(());
         }
         let q = self.q();
-        renew(&mut self.aim, q, &look);
-        let finding = judge_look_aimed(&self.aim, q, &look);
+        renew_inverse(&mut self.inverse, q, &look);
+        let finding = judge_look_with_inverse(&self.inverse, q, &look);
         self.enter(seat, &look, &finding, entry);
         Ok(())
     }
@@ -207,7 +207,7 @@ impl Rehearsal {
         entry: &mut Entry,
     ) -> Result<(), RehearseFault>
         requires playing { IsInPlay self.old }
-        requires kept { (o : Opening) (H : List Entry) (steps : List Step) →
+        requires kept { (o : StartData) (H : List Entry) (steps : List Step) →
             IsPlaying o steps H self.old → KeepsLook o H steps seat (Some look.now) }
         requires stale { look.now.gifts ≢ self.old.game.gifts }
         requires room { self.old.game.entries < MAX_ENTRIES }
@@ -239,7 +239,7 @@ impl Rehearsal {
     fn kept(&self, seat: u8) -> Option<LookData>
         requires playing { IsInPlay self.now }
         requires seat { IsSeat seat }
-        ensures { (o : Opening) (H : List Entry) (steps : List Step) →
+        ensures { (o : StartData) (H : List Entry) (steps : List Step) →
             IsPlaying o steps H self.now → KeepsLook o H steps seat result }
     {
         self.looks[usize::from(seat)]
@@ -247,12 +247,12 @@ impl Rehearsal {
 
     /// Enters what was reckoned on the look that a seat keeps, writes the entry, and uses the look up.
     fn enter(&mut self, seat: u8, look: &LookData, finding: &Finding, entry: &mut Entry)
-        requires playing { (o : Opening) × (H : List Entry) × (steps : List Step) ×
+        requires playing { (o : StartData) × (H : List Entry) × (steps : List Step) ×
             IsPlaying o steps H self.old × KeepsLook o H steps seat (Some look.now) }
         requires found { IsFoundFor self.old.game.q look.now finding.now }
         requires room { self.old.game.entries < MAX_ENTRIES }
         requires seat { IsSeat seat }
-        ensures { (o : Opening) (H : List Entry) (steps : List Step) (c : Command) →
+        ensures { (o : StartData) (H : List Entry) (steps : List Step) (c : Command) →
             IsPlaying o steps H self.old → KeepsLook o H steps seat (Some look.now) →
             slice_get steps (length H) ≡ Some (record { seat = seat; command = c }) →
             UsesUp c → HasTrials o.graph.size c →
@@ -268,12 +268,12 @@ impl Rehearsal {
 
     /// Enters a question as stale, on the look that a seat keeps, writes the entry, and uses the look up.
     fn enter_stale(&mut self, seat: u8, look: &LookData, asks: &Question, entry: &mut Entry)
-        requires playing { (o : Opening) × (H : List Entry) × (steps : List Step) ×
+        requires playing { (o : StartData) × (H : List Entry) × (steps : List Step) ×
             IsPlaying o steps H self.old × KeepsLook o H steps seat (Some look.now) }
         requires stale { look.now.gifts ≢ self.old.game.gifts }
         requires room { self.old.game.entries < MAX_ENTRIES }
         requires seat { IsSeat seat }
-        ensures { (o : Opening) (H : List Entry) (steps : List Step) (c : Command) →
+        ensures { (o : StartData) (H : List Entry) (steps : List Step) (c : Command) →
             IsPlaying o steps H self.old → KeepsLook o H steps seat (Some look.now) →
             slice_get steps (length H) ≡ Some (record { seat = seat; command = c }) →
             UsesUp c → HasTrials o.graph.size c →

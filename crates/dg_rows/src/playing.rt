@@ -3,10 +3,9 @@
 use crate::matching::is_wanted;
 use crate::rows::{Named, Row};
 use anyhow::Result;
-use dg_command::CommandLine;
+use dg_cli::CommandLine;
 use dg_server::run;
-use dg_sources::Shelf;
-use dg_streams::{Input, Output};
+use dg_system::{Input, Output, Shelf};
 use std::alloc::{AllocError, Global};
 use std::rt::Files;
 use std::str;

@@ -1,11 +1,10 @@
 //! Faults that no row in tests/rows meets: the line of each, and the exit status.
 
-use dg_asked::WordsFault;
-use dg_beside::Shortage;
+use dg_invocation::ArgsFault;
+use dg_system::{Shortage, SourceFault};
 use dg_file::FileFault;
 use dg_server::{Fault, report, status_of};
 use dg_session::SessionEnd;
-use dg_sources::SourceFault;
 use dg_table::Fault as TableFault;
 use dg_tasks::TaskFault;
 use std::alloc::Global;
@@ -15,11 +14,11 @@ use std::test::Fail;
 // A fault, what is said of it after `dollar: `, and the status.
 const FAULTS: [(Fault, &str, u8); 10] = [
     (
-        Fault::Words(WordsFault::NotText),
+        Fault::Words(ArgsFault::NotText),
         "a word of the command line is not UTF-8",
         2,
     ),
-    (Fault::Words(WordsFault::OutOfMemory), "out of memory", 4),
+    (Fault::Words(ArgsFault::OutOfMemory), "out of memory", 4),
     (
         Fault::Task(TaskFault::Source(SourceFault::OutOfMemory)),
         "out of memory",

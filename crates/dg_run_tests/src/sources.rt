@@ -1,7 +1,7 @@
 //! Files that fail as they are read.
 
 use crate::session::streams::Flow;
-use dg_sources::{SourceFault, read_within};
+use dg_system::{SourceFault, read_within};
 use std::io::ErrorKind;
 use std::test::Fail;
 

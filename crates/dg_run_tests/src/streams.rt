@@ -1,9 +1,8 @@
 //! An output that fails.
 
-use dg_asked::{Asked, Task};
+use dg_invocation::{Invocation, Task};
 use dg_server::{Fault, perform};
-use dg_sources::Shelf;
-use dg_streams::{Input, Output};
+use dg_system::{Input, Output, Shelf};
 use std::process::Abort;
 use std::rt::Files;
 use std::sync::Wait;
@@ -28,7 +27,7 @@ where
     let shelf = Shelf {
         files: &[("table.json", ALONE.as_bytes())],
     };
-    let asked = Asked::Task(Task::Judge { file: "table.json" });
+    let asked = Invocation::Task(Task::Judge { file: "table.json" });
     let mut page = [0; 26];
     assert!(rt; size <= 26);
     let mut output = Output::new(&mut page[..size]);

@@ -1,7 +1,7 @@
 //! Sweeps over lines: what stands in no clause, that they end well, and laws before limits on tables reckoned by hand.
 
-use dg_asked::Question;
-use dg_streams::{Input, Output};
+use dg_invocation::Question;
+use dg_system::{Input, Output};
 use dg_sweep::{SweepEnd, sweep};
 use std::alloc::Global;
 use std::io;

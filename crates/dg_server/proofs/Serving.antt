@@ -13,21 +13,21 @@ use Rattle.std.proofs.Math.Seq.{take-append_seam}
 use Rattle.dg_game.specs.declared.entry.TheConstants.{MAX_SEATS}
 use Rattle.dg_table.specs.Opened.{MayHaveSeats}
 use Rattle.dg_table.specs.Seats.{SeatView}
-use Rattle.dg_sources.specs.Held.{Held}
-use Rattle.dg_chips.specs.Opening.{Opening}
+use Rattle.dg_system.specs.Held.{Held}
+use Rattle.dg_chips.specs.Starts.{StartData}
 use Rattle.std.specs.Prelude.{Result, Option}
 use Rattle.dg_game.specs.declared.entry.Entry.{Entry}
 use Rattle.dg_table.specs.Closing.{IsClosed}
 use Rattle.dg_session.proofs.Entered.{entered_all, full_at_close}
-use Rattle.dg_session.specs.declared.addressing.Addressing.{Addressing}
+use Rattle.dg_session.specs.declared.line_format.LineFormat.{LineFormat}
 use Rattle.dg_server.specs.Sessions.{IsHeard, IsServed}
 use Rattle.dg_session.specs.declared.ends.SessionEnd.{SessionEnd}
 use Rattle.dg_party.specs.Sessions.{contents}
 use Rattle.dg_party.specs.Parties.{IsParty, IsPartyRefused}
 use Rattle.dg_party.specs.declared.ending.PartyRefusal.{PartyRefusal}
-use Rattle.dg_asked.specs.declared.asked.PartyTask.{PartyTask}
+use Rattle.dg_invocation.specs.declared.invocation.PartyTask.{PartyTask}
 use Rattle.dg_tasks.specs.Tasks.{DescribesTable}
-use Rattle.dg_sources.specs.AllHeld.{MayHoldAll}
+use Rattle.dg_system.specs.AllHeld.{MayHoldAll}
 use Rattle.std.specs.Io.KnownBytes.{Keeps}
 use Rattle.dg_server.specs.Parties.{names_in, IsPartyOn, IsRefusedOn}
 
@@ -60,7 +60,7 @@ may_play held n names all known count least most =
     let total : length all ≡ n = sym scripts ∙ same ∙ given ∙ sym count in
     rw total (least, most)
 
-pub served : {how : Addressing} {o : Opening} {n cap : ℕ} {names : List (List ℕ)} {input old new : Option (List ℕ)}
+pub served : {how : LineFormat} {o : StartData} {n cap : ℕ} {names : List (List ℕ)} {input old new : Option (List ℕ)}
     {end : Result ℕ SessionEnd} (heard : IsHeard how o n cap names input old new end) (H : List Entry)
     → map (λ (x : SeatView). x.number) heard.after ≡ map (λ (x : SeatView). x.number) heard.seats
     → IsClosed o n cap heard.after H → IsServed how o n cap names input old new end
@@ -72,7 +72,7 @@ served heard H same closed = record {
   whole = entered_all heard.session.over heard.fresh same closed;
 }
 
-pub party_on : (held : List ℕ → Held) (task : PartyTask) (o : Opening) (names : List (List ℕ))
+pub party_on : (held : List ℕ → Held) (task : PartyTask) (o : StartData) (names : List (List ℕ))
     (all : List (Vec ℕ Global))
     (ends : List (Result ℕ SessionEnd)) (text : List ℕ) → DescribesTable (held task.file.now) o names →
     MayHoldAll held (names_in task) (map (λ script. script.items) all)
@@ -81,21 +81,21 @@ pub party_on : (held : List ℕ → Held) (task : PartyTask) (o : Opening) (name
 party_on held task o names all ends text table known party =
     record { opening = o; names = names; table = table; holds = (contents all, known, party) }
 
-pub refused_on : (held : List ℕ → Held) (task : PartyTask) (o : Opening) (names : List (List ℕ))
+pub refused_on : (held : List ℕ → Held) (task : PartyTask) (o : StartData) (names : List (List ℕ))
     (all : List (Vec ℕ Global)) (refusal : PartyRefusal) → DescribesTable (held task.file.now) o names →
     MayHoldAll held (names_in task) (map (λ script. script.items) all)
     → IsPartyRefused o task.capacity names (contents all) refusal → IsRefusedOn held task refusal
 refused_on held task o names all refusal table known refused =
     record { opening = o; names = names; table = table; holds = (contents all, known, refused) }
 
-pub refused_lent : (held : List ℕ → Held) (task : PartyTask) {o o' : Opening} {names names' : List (List ℕ)}
+pub refused_lent : (held : List ℕ → Held) (task : PartyTask) {o o' : StartData} {names names' : List (List ℕ)}
     {all all' : List (Vec ℕ Global)} (refusal : PartyRefusal) → o' ≡ o → names' ≡ names → all' ≡ all
     → DescribesTable (held task.file.now) o names
     → MayHoldAll held (names_in task) (map (λ script. script.items) all)
     → IsPartyRefused o' task.capacity names' (contents all') refusal → IsRefusedOn held task refusal
 refused_lent held task {o} {o'} {names} {names'} {all} {all'} refusal opened named lent table known refused =
     refused_on held task o names all refusal table known
-    (subst (λ (x : Opening). IsPartyRefused x task.capacity names (contents all) refusal) opened
+    (subst (λ (x : StartData). IsPartyRefused x task.capacity names (contents all) refusal) opened
     (subst (λ (x : List (List ℕ)). IsPartyRefused o' task.capacity x (contents all) refusal) named
     (subst (λ (x : List (Vec ℕ Global)). IsPartyRefused o' task.capacity names' (contents x) refusal) lent refused)))
 

@@ -9,18 +9,18 @@
 --                         output failed at the text of the answer, or of the help
 use Rattle.std.specs.Prelude.{◌⊎◌, ℕ, List, Option, string_bytes}
 use Rattle.std.specs.Io.KnownBytes.{Appends, Keeps}
-use Rattle.dg_sources.specs.Held.{Held}
+use Rattle.dg_system.specs.Held.{Held}
 use Rattle.dg_tasks.specs.Tasks.{IsAnswer, RefusesTask}
 use Rattle.dg_server.specs.OfTasks.{IsOfTask}
 use Rattle.dg_server.specs.Streams.{BreaksOff}
 use Rattle.dg_server.specs.Sessions.{Serves, RefusesServing}
 use Rattle.dg_server.specs.Parties.{PlaysParty, RefusesParty}
 use Rattle.dg_server.specs.Sweeping.{Sweeps, RefusesSweeping}
-use Rattle.dg_asked.specs.declared.asked.Asked.{Asked}
-use Rattle.dg_asked.specs.declared.asked.Asked.TheVariants.{Task, Serve, Party, Sweep, Text}
+use Rattle.dg_invocation.specs.declared.invocation.Invocation.{Invocation}
+use Rattle.dg_invocation.specs.declared.invocation.Invocation.TheVariants.{Task, Serve, Party, Sweep, Text}
 use Rattle.dg_server.specs.declared.fault.Fault.{Fault}
 
-abbrev pub Performs : (List ℕ → Held) → Option (List ℕ) → Asked → Option (List ℕ) → Option (List ℕ)
+abbrev pub Performs : (List ℕ → Held) → Option (List ℕ) → Invocation → Option (List ℕ) → Option (List ℕ)
     → Type 0
 Performs held input (Task task) old new = (text : List ℕ) × IsAnswer held task text
     × Appends old new text
@@ -29,7 +29,7 @@ Performs held input (Party task) old new = PlaysParty held task old new
 Performs held input (Sweep task) old new = Sweeps held task old new
 Performs held input (Text help) old new = Appends old new (string_bytes help)
 
-abbrev pub Refuses : (List ℕ → Held) → Option (List ℕ) → Asked → Fault → Option (List ℕ)
+abbrev pub Refuses : (List ℕ → Held) → Option (List ℕ) → Invocation → Fault → Option (List ℕ)
     → Option (List ℕ) → Type 0
 Refuses held input (Task task) fault old new =
     (IsOfTask (RefusesTask held task) fault × Keeps old new)

@@ -12,47 +12,47 @@
 --                         cause
 use Rattle.std.specs.Prelude.{◌≡◌, ◌⊎◌, ℕ, List, Option, true}
 use Rattle.std.specs.Io.KnownBytes.{Keeps}
-use Rattle.dg_asked.specs.declared.asked.Asked.{Asked}
-use Rattle.dg_asked.specs.declared.words.WordsFault.{WordsFault}
-use Rattle.dg_streams.specs.Streams.{Reading, Writing}
-use Rattle.dg_sources.specs.Held.{Held}
+use Rattle.dg_invocation.specs.declared.invocation.Invocation.{Invocation}
+use Rattle.dg_invocation.specs.declared.parse_args.ArgsFault.{ArgsFault}
+use Rattle.dg_system.specs.Growth.{Reading, Writing}
+use Rattle.dg_system.specs.Held.{Held}
 use Rattle.dg_server.specs.Streams.{IsOfInput, IsOfOutput}
 use Rattle.dg_server.specs.Performed.{Performs, Refuses}
 use Rattle.dg_server.specs.Status.{status}
 use Rattle.dg_server.specs.declared.fault.Fault.{Fault}
 use Rattle.dg_server.specs.declared.fault.Fault.TheVariants.{Words}
 
-pub record Succeeds (asks : List (List ℕ) → Asked → Type 0) (held : List ℕ → Held)
+pub record Succeeds (asks : List (List ℕ) → Invocation → Type 0) (held : List ℕ → Held)
     (words : List (List ℕ)) (input : Option (List ℕ))
     (old new : Writing) : Type 0 where
-  pub asked : Asked
+  pub asked : Invocation
   pub wanted : asks words asked
   pub done : Performs held input asked old.contents new.contents
 
-pub record IsOfWords (refuses : List (List ℕ) → WordsFault → Type 0) (words : List (List ℕ))
+pub record IsOfWords (refuses : List (List ℕ) → ArgsFault → Type 0) (words : List (List ℕ))
     (fault : Fault) (old new : Writing) : Type 0 where
-  pub why : WordsFault
+  pub why : ArgsFault
   pub tells : fault ≡ Words why
   pub refused : refuses words why
   pub kept : Keeps old.contents new.contents
 
-pub record IsOfAsked (asks : List (List ℕ) → Asked → Type 0) (held : List ℕ → Held)
+pub record IsOfAsked (asks : List (List ℕ) → Invocation → Type 0) (held : List ℕ → Held)
     (words : List (List ℕ)) (input rest : Reading)
     (fault : Fault) (old new : Writing) : Type 0 where
-  pub asked : Asked
+  pub asked : Invocation
   pub wanted : asks words asked
   pub refused : Refuses held input.remaining asked fault old.contents new.contents
   pub read : IsOfInput fault → rest.has_failed ≡ true
   pub write : IsOfOutput fault → new.has_failed ≡ true
 
-abbrev pub IsCause : (List (List ℕ) → Asked → Type 0) → (List (List ℕ) → WordsFault → Type 0)
+abbrev pub IsCause : (List (List ℕ) → Invocation → Type 0) → (List (List ℕ) → ArgsFault → Type 0)
     → (List ℕ → Held) → List (List ℕ) → Reading → Reading
     → Fault → Writing → Writing → Type 0
 IsCause asks refuses held words input rest fault old new =
     IsOfWords refuses words fault old new ⊎ IsOfAsked asks held words input rest fault old new
 
-pub record Fails (asks : List (List ℕ) → Asked → Type 0)
-    (refuses : List (List ℕ) → WordsFault → Type 0) (held : List ℕ → Held)
+pub record Fails (asks : List (List ℕ) → Invocation → Type 0)
+    (refuses : List (List ℕ) → ArgsFault → Type 0) (held : List ℕ → Held)
     (words : List (List ℕ)) (input rest : Reading) (n : ℕ) (old new : Writing) : Type 0 where
   pub fault : Fault
   pub tells : status fault ≡ n

@@ -21,31 +21,31 @@ use Rattle.std.specs.declared.result.Result.{Result}
 use Rattle.std.specs.declared.result.Result.TheVariants.{Ok, Err}
 use Rattle.std.specs.Io.KnownBytes.{Keeps}
 use Rattle.std.specs.List.{enumerate_from}
-use Rattle.dg_chips.specs.Opening.{Opening}
+use Rattle.dg_chips.specs.Starts.{StartData}
 use Rattle.dg_game.specs.declared.entry.Entry.{Entry}
 use Rattle.dg_table.specs.Opened.{AreFresh}
 use Rattle.dg_table.specs.Closing.{IsClosed}
 use Rattle.dg_table.specs.Seats.{SeatView}
 use Rattle.dg_session.specs.Ends.{IsSessionOf}
-use Rattle.dg_session.specs.declared.addressing.Addressing.{Addressing}
-use Rattle.dg_session.specs.declared.addressing.Addressing.TheVariants.{OneSeat, BySeat}
+use Rattle.dg_session.specs.declared.line_format.LineFormat.{LineFormat}
+use Rattle.dg_session.specs.declared.line_format.LineFormat.TheVariants.{OneSeat, BySeat}
 use Rattle.dg_session.specs.declared.ends.SessionEnd.{SessionEnd}
 use Rattle.dg_session.specs.declared.ends.SessionEnd.TheVariants.{Table}
 use Rattle.dg_table.specs.declared.fault.Fault.TheVariants.{Full}
-use Rattle.dg_sources.specs.Held.{Held}
+use Rattle.dg_system.specs.Held.{Held}
 use Rattle.dg_tasks.specs.Tasks.{IsOnTable, RefusesItsTable}
 use Rattle.dg_server.specs.OfTasks.{IsOfTask}
-use Rattle.dg_asked.specs.Seats.{count_of}
-use Rattle.dg_asked.specs.declared.asked.ServeTask.{ServeTask}
+use Rattle.dg_invocation.specs.Seats.{count_of}
+use Rattle.dg_invocation.specs.declared.invocation.ServeTask.{ServeTask}
 use Rattle.dg_server.specs.declared.fault.Fault.{Fault}
 use Rattle.dg_server.specs.declared.fault.Fault.TheVariants.{Session, Shortage, History}
-use Rattle.dg_beside.specs.declared.shortage.Shortage.TheVariants.{OutOfMemory}
+use Rattle.dg_system.specs.declared.shortage.Shortage.TheVariants.{OutOfMemory}
 
-abbrev pub how_of : Option ℕ → Addressing
+abbrev pub how_of : Option ℕ → LineFormat
 how_of None = OneSeat
 how_of (Some n) = BySeat
 
-pub record IsHeard (how : Addressing) (o : Opening) (n cap : ℕ) (names : List (List ℕ))
+pub record IsHeard (how : LineFormat) (o : StartData) (n cap : ℕ) (names : List (List ℕ))
     (input old new : Option (List ℕ))
     (end : Result ℕ SessionEnd) : Type 0 where
   pub rest : Option (List ℕ)
@@ -54,7 +54,7 @@ pub record IsHeard (how : Addressing) (o : Opening) (n cap : ℕ) (names : List 
   pub after : List SeatView
   pub session : IsSessionOf how o n cap names input rest old new seats after end
 
-pub record IsServed (how : Addressing) (o : Opening) (n cap : ℕ) (names : List (List ℕ))
+pub record IsServed (how : LineFormat) (o : StartData) (n cap : ℕ) (names : List (List ℕ))
     (input old new : Option (List ℕ))
     (end : Result ℕ SessionEnd) : Type 0 where
   pub heard : IsHeard how o n cap names input old new end
@@ -70,7 +70,7 @@ Serves held input task old new =
     × IsServed (how_of task.seats) o (count_of task.seats) task.capacity names input old new
     (Ok count))
 
-abbrev pub EndsEarly : Addressing → Opening → ℕ → ℕ → List (List ℕ) → Option (List ℕ) → Fault
+abbrev pub EndsEarly : LineFormat → StartData → ℕ → ℕ → List (List ℕ) → Option (List ℕ) → Fault
     → Option (List ℕ) → Option (List ℕ)
     → Type 0
 EndsEarly how o n cap names input (Session end) old new =

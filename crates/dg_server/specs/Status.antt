@@ -10,8 +10,8 @@
 --   status fault           == 2 for a refused command line, 3 for refused input, 4 for want of
 --                         memory, 5 for reading and writing
 use Rattle.std.specs.Prelude.{◌≡◌, ℕ, ◌≤◌, ◌⊎◌}
-use Rattle.dg_asked.specs.declared.words.WordsFault.{WordsFault}
-use Rattle.dg_asked.specs.declared.words.WordsFault.TheVariants.{OutOfMemory as NoMemoryForWords}
+use Rattle.dg_invocation.specs.declared.parse_args.ArgsFault.{ArgsFault}
+use Rattle.dg_invocation.specs.declared.parse_args.ArgsFault.TheVariants.{OutOfMemory as NoMemoryForWords}
 use Rattle.dg_server.specs.declared.fault.Fault.{Fault}
 use Rattle.dg_server.specs.declared.fault.Fault.TheVariants.{Words, Task, Shortage, Session, Sessions, Sweep, Seats, History, Write}
 use Rattle.dg_tasks.specs.declared.fault.TaskFault.{TaskFault}
@@ -22,12 +22,12 @@ use Rattle.dg_sweep.specs.declared.ends.SweepEnd.{SweepEnd}
 use Rattle.dg_sweep.specs.declared.ends.SweepEnd.TheVariants as sweep
 use Rattle.dg_table.specs.declared.fault.Fault.{Fault as TableFault}
 use Rattle.dg_table.specs.declared.fault.Fault.TheVariants.{OutOfMemory as NoMemoryForCall, Full as FullHistory, Log}
-use Rattle.dg_sources.specs.declared.sources.SourceFault.{SourceFault}
-use Rattle.dg_sources.specs.declared.sources.SourceFault.TheVariants.{Unreadable, TooLong, OutOfMemory as NoMemoryToRead}
+use Rattle.dg_system.specs.declared.sources.SourceFault.{SourceFault}
+use Rattle.dg_system.specs.declared.sources.SourceFault.TheVariants.{Unreadable, TooLong, OutOfMemory as NoMemoryToRead}
 use Rattle.dg_file.specs.declared.fault.FileFault.{FileFault}
 use Rattle.dg_file.specs.declared.fault.FileFault.TheVariants.{OutOfMemory as NoMemoryForTable}
 
-abbrev pub status_of_words : WordsFault → ℕ
+abbrev pub status_of_words : ArgsFault → ℕ
 status_of_words NoMemoryForWords = 4
 status_of_words _ = 2
 

@@ -15,10 +15,10 @@
 use Rattle.std.specs.Prelude.{◌⊎◌, ℕ, List, Option, None, Some, Result, Ok, Err}
 use Rattle.std.specs.Borrow.{Bor}
 use Rattle.std.specs.Io.KnownBytes.{Keeps}
-use Rattle.dg_asked.specs.declared.question.Question.{Question}
-use Rattle.dg_asked.specs.declared.question.SweepTask.{SweepTask}
-use Rattle.dg_sources.specs.Held.{Held}
-use Rattle.dg_sources.specs.Streams.{MayGive, RefusesStream}
+use Rattle.dg_invocation.specs.declared.question.Question.{Question}
+use Rattle.dg_invocation.specs.declared.question.SweepTask.{SweepTask}
+use Rattle.dg_system.specs.Held.{Held}
+use Rattle.dg_system.specs.Streams.{MayGive, RefusesStream}
 use Rattle.dg_sweep.specs.Answers.{AnswersTableWithin}
 use Rattle.dg_sweep.specs.Divisors.{AnswersAmounts}
 use Rattle.dg_sweep.specs.Sweeps.{IsSweep}

@@ -2,12 +2,10 @@
 ghost use Rattle.std.specs.Prelude.{◌≡◌};
 ghost use Rattle.dg_server.specs.Status.{status};
 
-use dg_asked::WordsFault;
-use dg_beside::Shortage;
+use dg_invocation::ArgsFault;
+use dg_system::{Shortage, SourceFault, WriteFailed};
 use dg_file::FileFault;
 use dg_session::SessionEnd;
-use dg_sources::SourceFault;
-use dg_streams::WriteFailed;
 use dg_sweep::SweepEnd;
 use dg_tasks::{TaskFault, call_text};
 use std::io::{self, Write};
@@ -18,7 +16,7 @@ use thiserror::Error;
 pub enum Fault {
     /// The words of the command line ask for nothing.
     #[error(transparent)]
-    Words(#[from] WordsFault),
+    Words(#[from] ArgsFault),
     /// A file is not read, a table file is refused, or a task is not done.
     #[error(transparent)]
     Task(#[from] TaskFault),
@@ -67,7 +65,7 @@ pub fn status_of(fault: &Fault) -> u8
     ensures { result ≡ status fault.now }
 {
     match fault {
-        Fault::Words(WordsFault::OutOfMemory) => 4,
+        Fault::Words(ArgsFault::OutOfMemory) => 4,
         Fault::Words(_) => 2,
         Fault::Task(fault) => status_of_task(fault),
         Fault::Session(end) | Fault::Sessions { least: end, .. } => status_of_end(*end),
@@ -158,7 +156,7 @@ pub fn report<F: Write>(fault: &Fault, faults: &mut F) -> u8
     ensures { result ≡ status fault.now }
 {
     let _ = match fault {
-        Fault::Words(WordsFault::CommandLine(text)) => faults.write_all(text.as_bytes()),
+        Fault::Words(ArgsFault::CommandLine(text)) => faults.write_all(text.as_bytes()),
         Fault::Sessions { all, .. } => report_seats(all.as_slice(), faults),
         _ => writeln!(faults, "dollar: {fault}"),
     };

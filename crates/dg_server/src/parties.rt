@@ -2,21 +2,19 @@
 ghost use Rattle.std.specs.Prelude.{◌≡◌, [], map, true, IfOk, IfErr, OnOk};
 ghost use Rattle.std.specs.Io.KnownBytes.{Appends};
 ghost use Rattle.dg_tasks.specs.Tasks.{DescribesTable};
-ghost use Rattle.dg_sources.specs.AllHeld.{MayHoldAll};
+ghost use Rattle.dg_system.specs.AllHeld.{MayHoldAll};
 ghost use Rattle.dg_server.specs.OfTasks.{IsOfTask};
 ghost use Rattle.dg_server.specs.Parties.{early, PlaysParty, names_in, RefusesFiles, IsPrintedWith, RefusesParty};
 ghost use Rattle.dg_server.specs.Streams.{IsOfInput, IsOfOutput};
 
 use crate::fault::Fault;
-use dg_asked::PartyTask;
-use dg_beside::Shortage;
+use dg_invocation::PartyTask;
+use dg_system::{Output, Shortage, Sources, read_all};
 use dg_file::{TableFile, read_table};
 use dg_game::MAX_SEATS;
 use dg_party::{PartyRefusal, Played, party};
 use dg_rank::OpenGate;
 use dg_session::SessionEnd;
-use dg_sources::{Sources, read_all};
-use dg_streams::Output;
 use dg_tasks::TaskFault;
 use std::alloc::{AllocError, Global};
 use std::io::Write;

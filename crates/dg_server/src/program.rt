@@ -7,9 +7,8 @@ use crate::fault::Fault;
 use crate::parties::play_party;
 use crate::sessions::serve_input;
 use crate::sweeps::sweep_file;
-use dg_asked::Asked;
-use dg_sources::Sources;
-use dg_streams::{Input, Output};
+use dg_invocation::Invocation;
+use dg_system::{Input, Output, Sources};
 use dg_tasks::answer;
 use std::io::{Read, Write};
 use std::rt::Files;
@@ -21,7 +20,7 @@ use std::thread::Threads;
 /// lines come, and the history of a party is printed also where sessions of it ended early. Only a session reads the input.
 pub fn perform<R, S, I, O>(
     rt: &R,
-    asked: Asked<'_>,
+    asked: Invocation<'_>,
     sources: &S,
     input: &mut Input<I>,
     output: &mut Output<O>,
@@ -41,20 +40,20 @@ where
     ensures write { IfErr result (λ fault. IsOfOutput fault → output.new.has_failed ≡ true) }
 {
     match asked {
-        Asked::Text(text) => Ok(output.write_whole(text.as_bytes())?),
-        Asked::Task(task) => match answer(rt, &task, sources) {
+        Invocation::Text(text) => Ok(output.write_whole(text.as_bytes())?),
+        Invocation::Task(task) => match answer(rt, &task, sources) {
             Ok(text) => Ok(output.write_whole(text.as_slice())?),
             Err(fault) => Err(Fault::Task(fault)),
         },
-        Asked::Serve(task) => match serve_input(rt, &task, sources, input, output) {
+        Invocation::Serve(task) => match serve_input(rt, &task, sources, input, output) {
             Ok(()) => Ok(()),
             Err(fault) => Err(fault),
         },
-        Asked::Sweep(task) => match sweep_file(rt, &task, sources, output) {
+        Invocation::Sweep(task) => match sweep_file(rt, &task, sources, output) {
             Ok(()) => Ok(()),
             Err(fault) => Err(fault),
         },
-        Asked::Party(task) => match play_party(rt, &task, sources, output) {
+        Invocation::Party(task) => match play_party(rt, &task, sources, output) {
             Ok(()) => Ok(()),
             Err(fault) => Err(fault),
         },

@@ -5,9 +5,8 @@ ghost use Rattle.dg_server.specs.Status.{IsStatus};
 
 use crate::fault::{Fault, report};
 use crate::program::perform;
-use dg_asked::Words;
-use dg_sources::Sources;
-use dg_streams::{Input, Output};
+use dg_invocation::ParseArgs;
+use dg_system::{Input, Output, Sources};
 use std::io::{Read, Write};
 use std::rt::Files;
 use std::sync::Wait;
@@ -27,7 +26,7 @@ pub fn run<R, W, S, I, O, F>(
 ) -> u8
 where
     R: Files + AllocGlobal + Threads + Wait + Sync,
-    W: Words,
+    W: ParseArgs,
     S: Sources,
     I: Read,
     O: Write,
@@ -41,7 +40,7 @@ where
         (map string_bytes words.now) input.old input.new result
         output.old output.new }
 {
-    match reader.asked(rt.alloc(), words) {
+    match reader.parse(rt.alloc(), words) {
         Ok(asked) => match perform(rt, asked, sources, input, output) {
             Ok(()) => 0,
             Err(fault) => report(&fault, faults),

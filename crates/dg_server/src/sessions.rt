@@ -1,19 +1,17 @@
 //! Sessions over the input of the program.
 ghost use Rattle.std.specs.Prelude.{◌≡◌, ℕ, length, Ok, true, IfErr, OnOk};
-ghost use Rattle.dg_asked.specs.Seats.{count_of};
+ghost use Rattle.dg_invocation.specs.Seats.{count_of};
 ghost use Rattle.dg_rank.specs.Ranks.{MayHaveWorkers};
 ghost use Rattle.dg_table.specs.Opened.{MayHaveSeats};
 ghost use Rattle.dg_server.specs.Sessions.{how_of, Serves, EndsEarly, IsServed, RefusesServing};
 ghost use Rattle.dg_server.specs.Streams.{IsOfInput, IsOfOutput};
 
 use crate::fault::Fault;
-use dg_asked::ServeTask;
-use dg_beside::Shortage;
+use dg_invocation::ServeTask;
+use dg_system::{Input, Output, Shortage, Sources};
 use dg_file::TableFile;
 use dg_log::{LogFault, Name, Row};
-use dg_session::{Addressing, serve_seats};
-use dg_sources::Sources;
-use dg_streams::{Input, Output};
+use dg_session::{LineFormat, serve_seats};
 use dg_table::Table;
 use dg_tasks::table_in;
 use std::io::{Read, Write};
@@ -62,13 +60,13 @@ where
 }
 
 /// How many seats there are, and how lines name them.
-fn places_of(seats: Option<u8>) -> (u8, Addressing)
+fn places_of(seats: Option<u8>) -> (u8, LineFormat)
     ensures count { result.0 ≡ count_of seats }
     ensures how { result.1 ≡ how_of seats }
 {
     match seats {
-        Some(count) => (count, Addressing::BySeat),
-        None => (1, Addressing::OneSeat),
+        Some(count) => (count, LineFormat::BySeat),
+        None => (1, LineFormat::OneSeat),
     }
 }
 
@@ -78,7 +76,7 @@ fn serve_on<N, R, I, O>(
     row: Row,
     table: &TableFile,
     seats: u8,
-    how: Addressing,
+    how: LineFormat,
     workers: u32,
     input: &mut Input<I>,
     output: &mut Output<O>,

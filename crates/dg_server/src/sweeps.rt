@@ -4,9 +4,8 @@ ghost use Rattle.dg_server.specs.Sweeping.{Sweeps, RefusesSweeping};
 ghost use Rattle.dg_server.specs.Streams.{IsOfInput, IsOfOutput};
 
 use crate::fault::Fault;
-use dg_asked::SweepTask;
-use dg_sources::Sources;
-use dg_streams::{Input, Output};
+use dg_invocation::SweepTask;
+use dg_system::{Input, Output, Sources};
 use dg_sweep::{sweep, sweep_divisors};
 use dg_tasks::{TaskFault, table_in};
 use std::io::Write;

@@ -13,7 +13,7 @@
 --   last_made      what was made is the last entry, where there is one more
 use Rattle.std.proofs.Common.{◌≡◌, ℕ, ◌+◌, ◌-◌, ◌<◌, ◌≤◌, inl, inr, List, [], ◌∷◌, ◌++◌, length, length-append, Option, Some, None, slice_get, refl, sym, ap, subst, ◌∙◌, arith}
 use Rattle.std.proofs.lemmas.Option.{slice_get_within, same_Some}
-use Rattle.dg_chips.specs.Opening.{Opening}
+use Rattle.dg_chips.specs.Starts.{StartData}
 use Rattle.dg_game.proofs.LegalLaws.{legal_none}
 use Rattle.dg_game.specs.declared.entry.Entry.{Entry}
 use Rattle.dg_table.specs.Histories.{IsHistoryOf}
@@ -29,7 +29,7 @@ use Rattle.dg_session.specs.Refusing.{RefusesLine}
 use Rattle.dg_session.specs.declared.ends.SessionEnd.{SessionEnd}
 use Rattle.dg_session.specs.declared.ends.SessionEnd.TheVariants.{Table, Memory, Spawn}
 
-pub history_none : (o : Opening) (n cap : ℕ) → IsHistoryOf o n cap []
+pub history_none : (o : StartData) (n cap : ℕ) → IsHistoryOf o n cap []
 history_none o n cap = record { legal = legal_none o; few = omega arith; seated = λ k e at. absurd (cc) }
 
 pub ascend_from : (a b : ℕ) (ps : List (ℕ × Entry)) → a ≤ b → AscendFrom b ps → AscendFrom a ps
@@ -68,9 +68,9 @@ module _ {L : List Entry} {x m : SeatView} (meets : Meets L x m) where
     mine = g.mine ∙ ap (λ ps. ps ++ made) meets.mine;
     heard = g.heard;
     told = g.told ∙ ap (λ ps. ps ++ g.heard) meets.told;
-    past = subst (λ K. IsBeginning K y.past) meets.past g.past;
+    prefix = subst (λ K. IsBeginning K y.prefix) meets.prefix g.prefix;
     order = comes_from x.met m.met y.met made meets.met.first g.order;
-    still = λ none. let kept = g.still none in (kept.0 ∙ meets.told, kept.1 ∙ meets.past);
+    still = λ none. let kept = g.still none in (kept.0 ∙ meets.told, kept.1 ∙ meets.prefix);
   }
 
   pub line_met : (t : Setup) (k : Option ℕ) (line : List ℕ) (y : SeatView) (end : SessionEnd)
@@ -88,7 +88,7 @@ command_one t None Commit made after said a = omega (arith, ap length a.0)
 command_one t (Some i) Commit made after said a = omega (arith, ap length a.2)
 command_one t None (Rank n) made after said a = omega (arith, ap length a.0)
 command_one t (Some i) (Rank n) made after said a = elim a [
-  | inl past ↦ omega (arith, ap length past.1.0)
+  | inl prefix ↦ omega (arith, ap length prefix.1.0)
   | inr within ↦ omega (arith, ap length within.1.2)
 ]
 

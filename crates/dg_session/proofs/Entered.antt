@@ -10,7 +10,7 @@ use Rattle.std.specs.List.{enumerate_from}
 use Rattle.std.proofs.lemmas.Option.{same_Some}
 use Rattle.std.proofs.lemmas.List.{length-map, nil_from_length}
 use Rattle.std.proofs.lemmas.List.Sums.{sum_by-cons}
-use Rattle.dg_chips.specs.Opening.{Opening}
+use Rattle.dg_chips.specs.Starts.{StartData}
 use Rattle.dg_game.specs.declared.entry.Entry.{Entry}
 use Rattle.dg_game.proofs.ListLaws.{slice_get-seam}
 use Rattle.dg_log.specs.Numbered.{AreBelow, StandIn, IsBeginning}
@@ -94,7 +94,7 @@ number_at xs ys i y same fresh at = there xs i (i + 1) fresh
     there (x ∷ xs) zero m fresh at = sym (same_Some _ _ at) ∙ fresh x refl
     there (x ∷ xs) (suc i) m fresh at = there xs i m fresh at
 
-pub calls_all : {o : Opening} {n cap : ℕ} {H : List Entry} (xs ys : List SeatView) → AreFresh n xs
+pub calls_all : {o : StartData} {n cap : ℕ} {H : List Entry} (xs ys : List SeatView) → AreFresh n xs
     → map (λ (x : SeatView). x.number) ys ≡ map (λ (x : SeatView). x.number) xs → IsClosed o n cap ys H
     → calls_of ys ≡ length H
 calls_all {o} {n} {cap} {H} xs ys fresh same closed =
@@ -107,7 +107,7 @@ calls_all {o} {n} {cap} {H} xs ys fresh same closed =
     ∙ ap (λ s. length (entries_of s H)) (number_at xs ys i y same (λ x there. fresh.number i x there) at)))
     closed.history.seated
 
-pub entered_all : {t : Setup} {o : Opening} {n cap : ℕ} {input rest old new : Option (List ℕ)} {xs ys : List SeatView}
+pub entered_all : {t : Setup} {o : StartData} {n cap : ℕ} {input rest old new : Option (List ℕ)} {xs ys : List SeatView}
     {result : Result ℕ SessionEnd} {H : List Entry} (over : IsOver t input rest old new xs ys result) → AreFresh n xs
     → map (λ (x : SeatView). x.number) ys ≡ map (λ (x : SeatView). x.number) xs → IsClosed o n cap ys H
     → over.end.entered ≡ enumerate_from 0 H

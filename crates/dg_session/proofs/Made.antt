@@ -14,12 +14,12 @@
 --   with_look, with_none   so it is with the look that is kept, and with none
 --   call_keeps      a call that is no look keeps the look
 use Rattle.std.proofs.Common.{◌≡◌, ◌≢◌, ℕ, inl, inr, List, [], ◌∷◌, ◌++◌, length, Option, Some, None, slice_get, Result, Ok, Err, OnOk, refl, sym, ap, subst, ◌∙◌, append-nil, codes, arith}
-use Rattle.dg_chips.specs.Opening.{Opening}
+use Rattle.dg_chips.specs.Starts.{StartData}
 use Rattle.dg_rank.specs.Ranks.{IsWithin}
 use Rattle.dg_rank.specs.Limits.{IsPastLimits}
 use Rattle.dg_rank.proofs.CountedOnce.{counted_once}
-use Rattle.dg_ranked.specs.declared.rank_verdict.RankVerdict.{RankVerdict}
-use Rattle.dg_ranked.specs.declared.rank_verdict.RankVerdict.TheVariants.{AtLeast, Below}
+use Rattle.dg_verdict.specs.declared.rank_verdict.RankVerdict.{RankVerdict}
+use Rattle.dg_verdict.specs.declared.rank_verdict.RankVerdict.TheVariants.{AtLeast, Below}
 use Rattle.dg_game.specs.Look.{degree_of, asked_for, asked_on}
 use Rattle.dg_game.specs.Requests.{asked}
 use Rattle.dg_game.specs.declared.entry.Entry.{Entry}
@@ -56,9 +56,9 @@ gains_none x y keeps = record {
   mine = keeps.mine ∙ sym (append-nil x.mine);
   heard = [];
   told = keeps.told ∙ sym (append-nil x.told);
-  past = ([], keeps.past ∙ sym (append-nil x.past));
+  prefix = ([], keeps.prefix ∙ sym (append-nil x.prefix));
   order = record { begins = keeps.met; stand = tt; after = tt };
-  still = λ none. (keeps.told, keeps.past);
+  still = λ none. (keeps.told, keeps.prefix);
 }
 
 pub gains_same : (x : SeatView) → Gains x x []
@@ -66,16 +66,16 @@ gains_same x = gains_none x x (record {
   number = refl;
   mine = refl;
   told = refl;
-  past = refl;
+  prefix = refl;
   met = ([], sym (append-nil x.met));
 })
 
-pub record Stands (o : Opening) (request : Request) (r : ℕ × Entry) (x y : SeatView) : Type 0 where
+pub record Stands (o : StartData) (request : Request) (r : ℕ × Entry) (x y : SeatView) : Type 0 where
   pub asked' : r.1.request ≡ request
   pub sized : HasSize o.graph.size r.1.reply
   pub gained : Gains x y (r ∷ [])
 
-pub entry_made : (o : Opening) (seats cap : ℕ) (H : List Entry) (request : Request) (known heard : List (ℕ × Entry))
+pub entry_made : (o : StartData) (seats cap : ℕ) (H : List Entry) (request : Request) (known heard : List (ℕ × Entry))
     (r : ℕ × Entry) (x y : SeatView)
     → known ≡ x.told ++ heard → IsEnteredAfter o seats cap H request known r x y → Stands o request r x y
 entry_made o seats cap H request known heard r x y told e = record {
@@ -86,7 +86,7 @@ entry_made o seats cap H request known heard r x y told e = record {
     mine = e.mine;
     heard = heard;
     told = e.told ∙ told;
-    past = begins_on x.past H y.past e.before.past (r.1 ∷ [], e.past);
+    prefix = begins_on x.prefix H y.prefix e.before.prefix (r.1 ∷ [], e.prefix);
     order = record {
       begins = begins_on x.met H y.met e.before.met (r.1 ∷ [], e.met);
       stand = (
@@ -99,12 +99,12 @@ entry_made o seats cap H request known heard r x y told e = record {
   };
 }
 
-pub call_made : {o : Opening} {seats cap : ℕ} {request : Request} {r : ℕ × Entry} {x y : SeatView}
+pub call_made : {o : StartData} {seats cap : ℕ} {request : Request} {r : ℕ × Entry} {x y : SeatView}
     → IsAnswered o seats cap request r x y → Stands o request r x y
 call_made {o} {seats} {cap} {request} {r} {x} {y} answered = entry_made o seats cap answered.0 request x.told [] r x y
     (sym (append-nil x.told)) answered.1
 
-pub settled_made : {o : Opening} {seats cap : ℕ} {look found : LookView} {f : Finding} {r : ℕ × Entry}
+pub settled_made : {o : StartData} {seats cap : ℕ} {look found : LookView} {f : Finding} {r : ℕ × Entry}
     {x y : SeatView} → found ≡ look → IsTaken o look
     → IsSettled o seats cap found.receipt found.shown f r x y → Stands o (asked_for look.receipt.0 f) r x y
 settled_made {o} {seats} {cap} {look} {found} {f} {r} {x} {y} same taken settled =
@@ -112,7 +112,7 @@ settled_made {o} {seats} {cap} {look} {found} {f} {r} {x} {y} same taken settled
     subst (λ i. Stands o (asked_for i f) r x y) taken.look.number
     (entry_made o seats cap settled.0 (asked_for look.shown.number f) _ (look.receipt ∷ []) r x y refl of.entered)
 
-pub stale_made : {o : Opening} {seats cap : ℕ} {look : LookView} {r : ℕ × Entry} {x y : SeatView} (asks : Question)
+pub stale_made : {o : StartData} {seats cap : ℕ} {look : LookView} {r : ℕ × Entry} {x y : SeatView} (asks : Question)
     → IsTaken o look → IsStale o seats cap look.receipt look.shown asks r x y
     → Stands o (asked_on look.receipt.0 asks) r x y
 stale_made {o} {seats} {cap} {look} {r} {x} {y} asks taken stale =
@@ -123,7 +123,7 @@ degree_kept : (look : LookView) (k w : ℕ) (v : RankVerdict) → IsTried look k
 degree_kept look k w (AtLeast j) tried = tried.right.0
 degree_kept look k w (Below j d) tried = tried.right.0
 
-pub rank_made : {o : Opening} {seats cap : ℕ} {look found : LookView} {k w : ℕ} {v : RankVerdict} {r : ℕ × Entry}
+pub rank_made : {o : StartData} {seats cap : ℕ} {look found : LookView} {k w : ℕ} {v : RankVerdict} {r : ℕ × Entry}
     {x y : SeatView} → found ≡ look → IsTaken o look
     → IsTried look k w v → IsSettled o seats cap found.receipt found.shown (Ranked v) r x y
     → Stands o (RankRequest look.receipt.0 k) r x y
@@ -131,12 +131,12 @@ rank_made {o} {seats} {cap} {look} {found} {k} {w} {v} {r} {x} {y} same taken tr
     subst (λ d. Stands o (RankRequest look.receipt.0 d) r x y) (degree_kept look k w v tried)
     (settled_made {f = Ranked v} same taken settled)
 
-pub rank_within : {o : Opening} {look : LookView} {k : ℕ} → IsTaken o look → IsWithin look.shown.graph.size k
+pub rank_within : {o : StartData} {look : LookView} {k : ℕ} → IsTaken o look → IsWithin look.shown.graph.size k
     → IsWithin o.graph.size k
 rank_within {k = k} taken within = subst (λ n. IsWithin n k) taken.vertices.0 within
 
 past_within : (n k : ℕ) → IsPastLimits n k → IsWithin n k → ⊥
-past_within n k past (c, within) = elim past [
+past_within n k prefix (c, within) = elim prefix [
   | inl none ↦ omega (arith, none, within.some)
   | inr more ↦ elim more [
     | inl many ↦ omega (arith, many, within.few)
@@ -147,11 +147,11 @@ past_within n k past (c, within) = elim past [
   ]
 ]
 
-pub rank_past : {o : Opening} {look : LookView} {k : ℕ} → IsTaken o look → IsPastLimits look.shown.graph.size k
+pub rank_past : {o : StartData} {look : LookView} {k : ℕ} → IsTaken o look → IsPastLimits look.shown.graph.size k
     → IsWithin o.graph.size k → ⊥
-rank_past {o} {k = k} taken past = past_within o.graph.size k (subst (λ n. IsPastLimits n k) taken.vertices.0 past)
+rank_past {o} {k = k} taken prefix = past_within o.graph.size k (subst (λ n. IsPastLimits n k) taken.vertices.0 prefix)
 
-pub named : {o : Opening} {request : Request} {r : ℕ × Entry} {x y : SeatView} (names : List (List ℕ))
+pub named : {o : StartData} {request : Request} {r : ℕ × Entry} {x y : SeatView} (names : List (List ℕ))
     → length names ≡ o.graph.size
     → Stands o request r x y → HasNames names r.1.reply
 named {r = r} names size stands = subst (λ n. HasSize n r.1.reply) (sym size) stands.sized

@@ -20,17 +20,17 @@ use Rattle.dg_session.proofs.Coming.{comes_from, gained_met, line_met, line_one,
 use Rattle.dg_session.specs.Setup.{Setup}
 use Rattle.dg_session.specs.Speakers.{Speakers, speakers, kept_number, IsFor, IsForNone, Becomes, GoesOn, AnswersLineOf, RefusesLineOf}
 use Rattle.dg_session.specs.SoFar.{Hears, Handles}
-use Rattle.dg_session.specs.declared.addressing.Addressing.TheVariants.{BySeat}
+use Rattle.dg_session.specs.declared.line_format.LineFormat.TheVariants.{BySeat}
 use Rattle.dg_session.specs.declared.ends.SessionEnd.{SessionEnd}
 use Rattle.dg_session.specs.declared.ends.SessionEnd.TheVariants.{Table, Memory, Spawn}
 
 pub seat_past : (n seat : ℕ) (text line : List ℕ) → IsSeated seat text line → (seat ≤ n → ⊥) → IsForNone BySeat n line
-seat_past n seat text line is past i other for =
+seat_past n seat text line is prefix i other for =
     let one = seated_parts line seat text is in
     let two = seated_parts line (i + 1) other for.0 in
     let both : Some seat ≡ Some (i + 1) = sym one.2 ∙ two.2 in
     let same : seat ≡ i + 1 = cc in
-    past (omega (arith, same, for.1))
+    prefix (omega (arith, same, for.1))
 
 get_map : {X Y : Type 0} (f : X → Y) (xs : List X) (i : ℕ) (x : X) → slice_get xs i ≡ Some x
     → slice_get (map f xs) i ≡ Some (f x)

@@ -26,9 +26,9 @@ use Rattle.dg_game.specs.declared.entry.Entry.{Entry}
 use Rattle.dg_table.specs.Seats.{SeatView}
 use Rattle.dg_lines.specs.Streams.{Begins, with_newline, last_line}
 use Rattle.dg_lines.proofs.Streams.{begins_then, begins_more, one_cutting}
-use Rattle.dg_streams.specs.Streams.{Writing, AppendsFront}
-use Rattle.dg_streams.proofs.Growing.{appends_none, appends_more}
-use Rattle.dg_streams.proofs.Reading.{consumes_none, consumes_more, consumes_kept}
+use Rattle.dg_system.specs.Growth.{Writing, AppendsFront}
+use Rattle.dg_system.proofs.Growing.{appends_none, appends_more}
+use Rattle.dg_system.proofs.InputReads.{consumes_none, consumes_more, consumes_kept}
 use Rattle.dg_session.specs.Setup.{Setup}
 use Rattle.dg_session.specs.Streams.{IsLine, AreLines}
 use Rattle.dg_session.specs.Speakers.{Speakers, newcomers}

@@ -26,19 +26,19 @@
 --   IsSession ..          == that of one seat, whose lines name none
 use Rattle.std.specs.Prelude.{◌≡◌, ℕ, ◌+◌, ◌<◌, ◌≤◌, ◌⊎◌, List, [], ◌∷◌, ◌++◌, length, slice_get, Option, Some, All, map, flat_map, Result, Ok, Err}
 use Rattle.std.specs.Io.KnownBytes.{Appends, Consumes, IsAtEnd}
-use Rattle.dg_chips.specs.Opening.{Opening}
+use Rattle.dg_chips.specs.Starts.{StartData}
 use Rattle.dg_log.specs.Numbered.{StandIn}
 use Rattle.dg_table.specs.Histories.{HasPast}
 use Rattle.dg_table.specs.Seats.{SeatView}
 use Rattle.dg_lines.specs.Cuts.{lines}
 use Rattle.dg_lines.specs.Streams.{HasNoNewline, Begins, with_newline}
-use Rattle.dg_streams.specs.Streams.{AppendsFront}
+use Rattle.dg_system.specs.Growth.{AppendsFront}
 use Rattle.dg_session.specs.Setup.{Setup, setup}
 use Rattle.dg_session.specs.Streams.{IsLine, AreLines}
 use Rattle.dg_session.specs.Order.{AscendFrom}
 use Rattle.dg_session.specs.Speakers.{Speakers, newcomers, AnswersLineOf, RefusesLineOf}
-use Rattle.dg_session.specs.declared.addressing.Addressing.{Addressing}
-use Rattle.dg_session.specs.declared.addressing.Addressing.TheVariants.{OneSeat}
+use Rattle.dg_session.specs.declared.line_format.LineFormat.{LineFormat}
+use Rattle.dg_session.specs.declared.line_format.LineFormat.TheVariants.{OneSeat}
 use Rattle.dg_session.specs.declared.ends.TheConstants.{MAX_LINE, MAX_LINES, READ_SIZE}
 use Rattle.dg_session.specs.declared.ends.SessionEnd.{SessionEnd}
 use Rattle.dg_session.specs.declared.ends.SessionEnd.TheVariants.{Read, Write, LongLine, Turns, Memory}
@@ -108,14 +108,14 @@ pub record IsOver (t : Setup) (input rest old new : Option (List ℕ)) (xs ys : 
   pub seats : end.seats ≡ ys
   pub order : AreInOrder end
 
-pub record IsSessionOf (how : Addressing) (o : Opening) (seats cap : ℕ) (names : List (List ℕ))
+pub record IsSessionOf (how : LineFormat) (o : StartData) (seats cap : ℕ) (names : List (List ℕ))
     (input rest old new : Option (List ℕ)) (xs ys : List SeatView)
     (result : Result ℕ SessionEnd) : Type 0 where
   pub over : IsOver (setup how o seats cap names) input rest old new xs ys result
   pub found : All (HasPast o seats cap) ys
   pub numbers : map (λ (y : SeatView). y.number) ys ≡ map (λ (x : SeatView). x.number) xs
 
-abbrev pub IsSession : Opening → ℕ → ℕ → List (List ℕ) → Option (List ℕ) → Option (List ℕ)
+abbrev pub IsSession : StartData → ℕ → ℕ → List (List ℕ) → Option (List ℕ) → Option (List ℕ)
     → Option (List ℕ) → Option (List ℕ) → SeatView → SeatView → Result ℕ SessionEnd → Type 0
 IsSession o seats cap names input rest old new x y result =
     IsSessionOf OneSeat o seats cap names input rest old new (x ∷ []) (y ∷ []) result

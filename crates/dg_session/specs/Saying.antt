@@ -76,6 +76,6 @@ pub record Gains (x y : SeatView) (made : List (ℕ × Entry)) : Type 0 where
   pub mine : y.mine ≡ x.mine ++ made
   pub heard : List (ℕ × Entry)
   pub told : y.told ≡ x.told ++ heard
-  pub past : IsBeginning x.past y.past
+  pub prefix : IsBeginning x.prefix y.prefix
   pub order : ComeAfter x.met made y.met
-  pub still : made ≡ [] → (y.told ≡ x.told) × (y.past ≡ x.past)
+  pub still : made ≡ [] → (y.told ≡ x.told) × (y.prefix ≡ x.prefix)

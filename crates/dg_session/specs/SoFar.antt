@@ -37,7 +37,7 @@ use Rattle.dg_game.specs.declared.entry.Entry.{Entry}
 use Rattle.dg_game.specs.declared.step.Command.{Command}
 use Rattle.dg_table.specs.Seats.{SeatView}
 use Rattle.dg_analyst.specs.Views.{LookView}
-use Rattle.dg_streams.specs.Streams.{Writing, AppendsFront}
+use Rattle.dg_system.specs.Growth.{Writing, AppendsFront}
 use Rattle.dg_lines.specs.Streams.{Begins, last_line}
 use Rattle.dg_session.specs.Setup.{Setup}
 use Rattle.dg_session.specs.Course.{CourseView}

@@ -34,8 +34,8 @@ use Rattle.dg_session.specs.Setup.{Setup}
 use Rattle.dg_session.specs.Order.{ComeAfter}
 use Rattle.dg_session.specs.Saying.{Gains, AnswersLine}
 use Rattle.dg_session.specs.Refusing.{RefusesLine}
-use Rattle.dg_session.specs.declared.addressing.Addressing.{Addressing}
-use Rattle.dg_session.specs.declared.addressing.Addressing.TheVariants.{OneSeat, BySeat}
+use Rattle.dg_session.specs.declared.line_format.LineFormat.{LineFormat}
+use Rattle.dg_session.specs.declared.line_format.LineFormat.TheVariants.{OneSeat, BySeat}
 use Rattle.dg_session.specs.declared.ends.SessionEnd.{SessionEnd}
 use Rattle.dg_session.specs.declared.ends.SessionEnd.TheVariants.{Memory}
 
@@ -57,11 +57,11 @@ speakers xs looks H ps =
 abbrev pub newcomers : List SeatView → Speakers
 newcomers xs = record { seats = xs; kept = map (λ x. None) xs; latest = []; entered = [] }
 
-abbrev pub IsFor : Addressing → ℕ → List ℕ → ℕ → List ℕ → Type 0
+abbrev pub IsFor : LineFormat → ℕ → List ℕ → ℕ → List ℕ → Type 0
 IsFor OneSeat n line i text = (i ≡ 0) × (text ≡ line)
 IsFor BySeat n line i text = IsSeated (i + 1) text line × (i < n)
 
-abbrev pub IsForNone : Addressing → ℕ → List ℕ → Type 0
+abbrev pub IsForNone : LineFormat → ℕ → List ℕ → Type 0
 IsForNone how n line = (i : ℕ) (text : List ℕ) → ¬ IsFor how n line i text
 
 pub record Becomes (i : ℕ) (s z : Speakers) (x y : SeatView) (kept after : Option ℕ) : Type 0 where

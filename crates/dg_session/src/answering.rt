@@ -6,15 +6,15 @@ ghost use Rattle.dg_lines.specs.Texts.{HasNames, entry_text};
 ghost use Rattle.dg_session.specs.Setup.{setup};
 ghost use Rattle.dg_session.specs.SoFar.{heard, speaker, Tells, Hears, Obeys};
 
-use crate::addressing::Addressing;
+use crate::line_format::LineFormat;
 use crate::ends::SessionEnd;
 use dg_analyst::{Look, commit_look, commit_rank, commit_stale, look, try_rank};
 use dg_game::{Command, Plain, Question};
 use dg_lines::{parse_line, push_entry};
 use dg_log::{Name, Receipt};
-use dg_names::Names;
+use dg_tokens::Names;
 use dg_rank::{OpenGate, RankFault, trials};
-use dg_reduce::Aim;
+use dg_reduce::InverseLaplacian;
 use dg_table::{Seat, Table};
 use std::alloc::Global;
 use std::sync::Wait;
@@ -28,7 +28,7 @@ pub(crate) struct Shared<'a, N: Name, R: Threads + Wait> {
     pub(crate) table: &'a Table<N>,
     pub(crate) names: &'a Names,
     pub(crate) workers: u32,
-    pub(crate) how: Addressing,
+    pub(crate) how: LineFormat,
     ghost named: { length names.now ≡ N.start.graph.size },
     ghost helped: { MayHaveWorkers workers },
 }
@@ -41,7 +41,7 @@ pub(crate) struct Said {
     /// Where the line of an entry is made.
     pub(crate) line: Vec<u8>,
     /// What serves the verdicts, made anew after an edge was added; no answer depends on it.
-    pub(crate) aim: Aim,
+    pub(crate) inverse: InverseLaplacian,
 }
 
 impl Said {
@@ -224,7 +224,7 @@ fn reckon_verdict<N: Name, R: Threads + Wait>(
         shared.alloc,
         seat,
         look,
-        &mut said.aim,
+        &mut said.inverse,
     ) {
         Ok(receipt) => {
             *kept = None;

@@ -3,15 +3,15 @@ ghost use Rattle.std.specs.Prelude.{◌≡◌, ◌≤◌, ℕ, List, [], ◌++�
 ghost use Rattle.dg_game.specs.declared.entry.Entry.{Entry as EntryData};
 ghost use Rattle.dg_table.specs.Seats.{Meets};
 
-use dg_log::{Digest, Name, Past};
+use dg_log::{ReceiptSet, Name, Prefix};
 use dg_table::Seat;
 use std::marker::Model;
 
 /// The history as the last line left it, and what all lines have entered, in their order.
 #[derive(Drop)]
 pub(crate) struct Course<N: Name> {
-    latest: Past<N>,
-    entered: Digest<N>,
+    latest: Prefix<N>,
+    entered: ReceiptSet<N>,
 }
 
 impl<N: Name> Model for Course<N> {
@@ -33,8 +33,8 @@ impl<N: Name> Course<N> {
         ensures entered { result.entered ≡ [] }
     {
         Course {
-            latest: Past::new(),
-            entered: Digest::new(),
+            latest: Prefix::new(),
+            entered: ReceiptSet::new(),
         }
     }
 
@@ -52,7 +52,7 @@ impl<N: Name> Course<N> {
             seat.now.mine ≡ before ++ made → length made ≤ 1 →
             self.new.entered ≡ self.old.entered ++ made }
     {
-        self.latest = seat.met().again();
+        self.latest = seat.met().copy();
         if seat.calls() > calls {
             if let Some(receipt) = seat.last_call() {
                 self.entered = self.entered.and(receipt);

@@ -6,13 +6,13 @@ ghost use Rattle.dg_session.specs.Ends.{IsOver, IsSession, IsSessionOf};
 ghost use Rattle.dg_session.specs.Setup.{setup};
 ghost use Rattle.dg_session.specs.SoFar.{heard, IsSaid, IsCleared, IsWritten};
 
-use crate::addressing::Addressing;
+use crate::line_format::LineFormat;
 use crate::answering::{Said, Shared};
 use crate::ends::{READ_SIZE, SessionEnd};
 use crate::taking::{Progress, take_bytes, take_end};
 use dg_log::Name;
-use dg_names::Names;
-use dg_streams::{Input, Output};
+use dg_tokens::Names;
+use dg_system::{Input, Output};
 use dg_table::{Seat, Table};
 use std::alloc::Global;
 use std::io::{self, Read, Write};
@@ -54,7 +54,7 @@ pub fn serve<N: Name, R: Threads + Wait, I: Read, O: Write>(
         reader,
         writer,
         workers,
-        Addressing::OneSeat,
+        LineFormat::OneSeat,
     )
 }
 
@@ -69,7 +69,7 @@ pub fn serve_seats<N: Name, R: Threads + Wait, I: Read, O: Write>(
     reader: &mut Input<I>,
     writer: &mut Output<O>,
     workers: u32,
-    how: Addressing,
+    how: LineFormat,
 ) -> Result<u32, SessionEnd>
     requires names { length names.now ≡ N.start.graph.size }
     requires workers { MayHaveWorkers workers }
@@ -89,7 +89,7 @@ pub fn serve_seats<N: Name, R: Threads + Wait, I: Read, O: Write>(
         how,
     };
     let ended = serve_lines(&shared, seats, reader, writer, Some(Vec::new(alloc)));
-    have_pasts(seats);
+    have_prefixes(seats);
     ended
 }
 
@@ -116,21 +116,21 @@ pub fn serve_unheard<N: Name, R: Threads + Wait, I: Read>(
         table,
         names,
         workers,
-        how: Addressing::OneSeat,
+        how: LineFormat::OneSeat,
     };
     let mut writer = Output::new(io::sink());
     let seats = slice::from_mut(seat);
     let ended = serve_lines(&shared, seats, reader, &mut writer, None);
-    have_pasts(seats);
+    have_prefixes(seats);
     ended
 }
 
 /// Each seat has found a history of its table. Nothing is done.
-fn have_pasts<N: Name>(seats: &[Seat<N>])
+fn have_prefixes<N: Name>(seats: &[Seat<N>])
     ensures { All (HasPast N.start N.seats (length N.cells)) seats.now }
 {
     for seat in seats {
-        let _past = seat.past();
+        let _past = seat.prefix();
     }
 }
 
@@ -156,7 +156,7 @@ fn serve_lines<N: Name, R: Threads + Wait, I: Read, O: Write>(
     let Ok(mut buffer) = vec![in shared.alloc; 0u8; READ_SIZE] else {
         return Err(SessionEnd::Memory);
     };
-    let Some(mut progress) = Progress::new(shared.alloc, seats, text, shared.table.aim()) else {
+    let Some(mut progress) = Progress::new(shared.alloc, seats, text, shared.table.inverse()) else {
         return Err(SessionEnd::Memory);
     };
     'reads: loop {

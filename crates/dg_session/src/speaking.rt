@@ -3,7 +3,7 @@ ghost use Rattle.std.specs.Prelude.{◌≡◌, ◌≤◌, length};
 ghost use Rattle.dg_session.specs.Setup.{setup};
 ghost use Rattle.dg_session.specs.SoFar.{talk, Handles};
 
-use crate::addressing::addressed;
+use crate::line_format::addressed;
 use crate::answering::{Said, Shared, answer_seat};
 use crate::course::Course;
 use crate::ends::SessionEnd;

@@ -11,7 +11,7 @@ use crate::speaking::answer_line;
 use dg_analyst::Look;
 use dg_lines::cut;
 use dg_log::Name;
-use dg_reduce::Aim;
+use dg_reduce::InverseLaplacian;
 use dg_table::Seat;
 use std::alloc::Global;
 use std::sync::Wait;
@@ -32,13 +32,13 @@ pub(crate) struct Progress<N: Name> {
 }
 
 impl<N: Name> Progress<N> {
-    /// That of a session which has read nothing, of seats that keep no look, with this text to say it in, and this aim for its
+    /// That of a session which has read nothing, of seats that keep no look, with this text to say it in, and this inverse for its
     /// verdicts. `None` where memory is refused.
     pub(crate) fn new(
         alloc: Global,
         seats: &[Seat<N>],
         text: Option<Vec<u8>>,
-        aim: &Aim,
+        inverse: &InverseLaplacian,
     ) -> Option<Progress<N>>
         ensures pending { IfSome result (λ p. p.pending.items ≡ []) }
         ensures count { IfSome result (λ p. p.count ≡ 0) }
@@ -60,7 +60,7 @@ impl<N: Name> Progress<N> {
             said: Said {
                 text,
                 line: Vec::new(alloc),
-                aim: *aim,
+                inverse: *inverse,
             },
         })
     }

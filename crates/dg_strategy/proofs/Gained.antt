@@ -10,7 +10,7 @@
 use Rattle.std.proofs.Common.{◌≡◌, ℕ, ◌+◌, ◌<◌, List, [], ◌∷◌, ◌++◌, length, length-append, Option, Some, None, append_assoc, append-nil, arith, refl, sym, ap, subst, ◌∙◌}
 use Rattle.std.proofs.lemmas.Fn.{FoldsTo-push}
 use Rattle.std.specs.List.{FoldsTo}
-use Rattle.dg_chips.specs.Opening.{Opening}
+use Rattle.dg_chips.specs.Starts.{StartData}
 use Rattle.dg_chips.specs.declared.moves.Move.{Move}
 use Rattle.dg_game.specs.declared.entry.Entry.{Entry}
 use Rattle.dg_game.specs.declared.entry.Request.TheVariants.{Claim}
@@ -29,7 +29,7 @@ pub record Left (x : SeatView) (es : List (ℕ × Entry)) (y : SeatView) : Type 
   pub mine : y.mine ≡ x.mine ++ es
   pub told : y.told ≡ x.told
 
-pub left_by : (A : Choosing) (o : Opening) (seats cap : ℕ) (x : SeatView) (es : List (ℕ × Entry)) (y : SeatView) →
+pub left_by : (A : Choosing) (o : StartData) (seats cap : ℕ) (x : SeatView) (es : List (ℕ × Entry)) (y : SeatView) →
     FoldsTo (IsTurnBy A o seats cap) x es y → Left x es y
 left_by A o seats cap x [] y same =
     subst (Left x []) same (record { number = refl; mine = sym (append-nil x.mine); told = refl })
@@ -41,7 +41,7 @@ left_by A o seats cap x (r ∷ es) y (z, turn, rest) =
       told = left.told ∙ turn.answered.told;
     }
 
-pub gained_by : (A : Choosing) (o : Opening) (seats cap : ℕ) (x : SeatView) (es : List (ℕ × Entry)) (y z : SeatView) →
+pub gained_by : (A : Choosing) (o : StartData) (seats cap : ℕ) (x : SeatView) (es : List (ℕ × Entry)) (y z : SeatView) →
     FoldsTo (IsTurnBy A o seats cap) x es y → Keeps y z → Gains (IsTurnBy A o seats cap) x es z
 gained_by A o seats cap x es y z steps kept =
     let left = left_by A o seats cap x es y steps in
@@ -61,7 +61,7 @@ moves_more (p ∷ es) r moves move = (moves.0, moves_more es r moves.1 move)
 keeps_itself : (x : SeatView) → Keeps x x
 keeps_itself x = record { number = refl; mine = refl; told = refl; past = refl; met = ([], sym (append-nil x.met)) }
 
-module _ (A : Choosing) (o : Opening) (seats cap : ℕ) where
+module _ (A : Choosing) (o : StartData) (seats cap : ℕ) where
   pub a_move : (x : SeatView) (r : ℕ × Entry) (y : SeatView) → IsTurnBy A o seats cap x r y → ¬ (r.1.request ≡ Claim) →
       IsMove r.1.request
   a_move x r y turn other = asks turn.answer turn.answered.request'
@@ -144,7 +144,7 @@ module _ (T S : SeatView → ℕ × Entry → SeatView → Type 0)
     count = played.count;
   }
 
-  pub stopped_as : (o : Opening) (seats cap n : ℕ) (x y : SeatView) (fault : Fault) →
+  pub stopped_as : (o : StartData) (seats cap n : ℕ) (x y : SeatView) (fault : Fault) →
       IsStopped T o seats cap n x y fault → IsStopped S o seats cap n x y fault
   stopped_as o seats cap n x y fault stopped = record {
     entries = stopped.entries;

@@ -7,7 +7,7 @@ use Rattle.std.specs.Prelude.{◌==◌}
 use Rattle.std.specs.List.{filter, enumerate_from, FoldsTo}
 use Rattle.std.proofs.lemmas.List.{map-append, length-map, append_cancel_right}
 use Rattle.std.proofs.lemmas.List.FromFn.{length-enumerate_from}
-use Rattle.dg_chips.specs.Opening.{Opening}
+use Rattle.dg_chips.specs.Starts.{StartData}
 use Rattle.dg_game.specs.History.{position_after}
 use Rattle.dg_game.specs.Legal.{IsLegal}
 use Rattle.dg_game.specs.declared.entry.Entry.{Entry}
@@ -60,7 +60,7 @@ alone s K ps own count =
     ap length own ∙ count ∙ sym (length-enumerate_from 0 K) in
     sym (entries_enumerated 0 K) ∙ ap entries (sym (filter_whole P (enumerate_from 0 K) all) ∙ own)
 
-greedy_along : (o : Opening) (seats cap n : ℕ) (x : SeatView) (H : List Entry) (last : SeatView) → x.number ≡ 1 →
+greedy_along : (o : StartData) (seats cap n : ℕ) (x : SeatView) (H : List Entry) (last : SeatView) → x.number ≡ 1 →
     length x.mine ≡ n →
     FoldsTo (IsSettlerTurn greedily o seats cap) x (enumerate_from n H) last → AreGreedy o (entries x.mine) H
 greedy_along o seats cap n x [] last one count steps = tt
@@ -95,7 +95,7 @@ moves_in [] moves = tt
 moves_in (p ∷ es) moves = (moves.0, moves_in es moves.1)
 
 -- a claim by the settler is won
-claim_won : (o : Opening) (seats cap : ℕ) (x : SeatView) (es : List (ℕ × Entry)) (r : ℕ × Entry) (last : SeatView) →
+claim_won : (o : StartData) (seats cap : ℕ) (x : SeatView) (es : List (ℕ × Entry)) (r : ℕ × Entry) (last : SeatView) →
     FoldsTo (IsSettlerTurn greedily o seats cap) x (es ++ r ∷ []) last → r.1.request ≡ Claim → r.1.reply ≡ Won
 claim_won o seats cap x [] r last (z, step, same) claim = none step.strategy.turn.answer refl
   where
@@ -106,7 +106,7 @@ claim_won o seats cap x [] r last (z, step, same) claim = none step.strategy.tur
     none None is = step.won is
 claim_won o seats cap x (p ∷ es) r last (z, step, rest) claim = claim_won o seats cap z es r last rest claim
 
-module _ (o : Opening) (seats cap n : ℕ) (x y : SeatView) (H : List Entry) (one : x.number ≡ 1) (fresh : x.mine ≡ [])
+module _ (o : StartData) (seats cap n : ℕ) (x y : SeatView) (H : List Entry) (one : x.number ≡ 1) (fresh : x.mine ≡ [])
     (legal : IsLegal o H) (seated : AreSeated 1 H) (held : Holds H y) where
   numbered : (es : List (ℕ × Entry)) → Gains (IsSettlerTurn greedily o seats cap) x es y → es ≡ enumerate_from 0 H
   numbered es gained =
@@ -158,7 +158,7 @@ none_else xs [] x is one = refl
 none_else xs (z ∷ rest) x is one = absurd (omega (arith, one, ap length is, length-append (z ∷ rest) (x ∷ [])))
 
 -- the only seat of a table that was opened, played on by it, and closed
-pub game_of : {N : Type 0} (o : Opening) (cap n k m : ℕ) (xs rest ys : List SeatView) (x y : SeatView) (H : List Entry)
+pub game_of : {N : Type 0} (o : StartData) (cap n k m : ℕ) (xs rest ys : List SeatView) (x y : SeatView) (H : List Entry)
     (ended : Ended N) → k ≡ 1 → m ≡ 1 → AreFresh k xs → xs ≡ rest ++ x ∷ [] →
     IsPlayed (IsSettlerTurn greedily o m cap) n x y ended → ys ≡ rest ++ y ∷ [] →
     IsClosed o m cap ys H → IsGreedyGame o n H (is_settled ended)

@@ -5,7 +5,7 @@
 use Rattle.std.proofs.Common.{◌≡◌, ℕ, ◌<◌, [], ◌∷◌, Option, Some, None, arith, refl, ap, subst, ◌∙◌}
 use Rattle.dg_theory.specs.Firing.{IsEffective}
 use Rattle.dg_graph.specs.Graph.{IsGraph}
-use Rattle.dg_chips.specs.Opening.{Opening}
+use Rattle.dg_chips.specs.Starts.{StartData}
 use Rattle.dg_chips.specs.Vector.{at}
 use Rattle.dg_chips.specs.Moves.{IsPlayable}
 use Rattle.dg_chips.specs.declared.moves.Move.{Move}
@@ -68,12 +68,12 @@ settler_moves A settles g d m graph size may = borrows m (settles.moves g d m gr
     borrows m debt = absurd debt
 
 -- the graph that a turn finds is within the limits
-graph_found : (A : Choosing) (o : Opening) (seats cap : ℕ) (x : SeatView) (r : ℕ × Entry) (y : SeatView) →
+graph_found : (A : Choosing) (o : StartData) (seats cap : ℕ) (x : SeatView) (r : ℕ × Entry) (y : SeatView) →
     IsGraph o.graph → (turn : IsTurnBy A o seats cap x r y) → IsGraph (position_after o turn.history).graph
 graph_found A o seats cap x r y graph turn =
     graphs_hold o turn.history graph (legal_part o turn.history (r.1 ∷ []) turn.answered.history.legal)
 
-module _ (A : Choosing) (o : Opening) (seats cap : ℕ) (opening : IsGraph o.graph) (x : SeatView) (r : ℕ × Entry)
+module _ (A : Choosing) (o : StartData) (seats cap : ℕ) (opening : IsGraph o.graph) (x : SeatView) (r : ℕ × Entry)
     (y : SeatView) where
   -- the reply to what was answered, and what is known of it where the answer is a move that can be made
   answered : (gives : GivesMoves A) (turn : IsTurnBy A o seats cap x r y) (m : Option Move) → turn.answer ≡ m →

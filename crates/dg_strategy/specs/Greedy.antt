@@ -9,7 +9,7 @@
 --                                 moves than n, and then a claim that is won
 --   IsGreedyGame o n H settled == the history H from the opening o is legal and greedy, and ends so
 use Rattle.std.specs.Prelude.{◌≡◌, ℕ, ◌<◌, Bool, true, false, List, [], ◌∷◌, ◌++◌, length, Option, ⊤}
-use Rattle.dg_chips.specs.Opening.{Opening}
+use Rattle.dg_chips.specs.Starts.{StartData}
 use Rattle.dg_chips.specs.Vector.{Vector}
 use Rattle.dg_chips.specs.declared.moves.Move.{Move}
 use Rattle.dg_game.specs.Position.{Position, Shows}
@@ -30,7 +30,7 @@ pub record IsGreedyCall (p : Position) (request : Request) : Type 0 where
   pub least : BorrowsAtLeast amounts answer
   pub asked : request ≡ request_for answer
 
-abbrev pub AreGreedy : Opening → List Entry → List Entry → Type 0
+abbrev pub AreGreedy : StartData → List Entry → List Entry → Type 0
 AreGreedy o K [] = ⊤
 AreGreedy o K (e ∷ H) =
     (e.seat ≡ 1) × IsGreedyCall (position_after o K) e.request × AreGreedy o (K ++ e ∷ []) H
@@ -45,7 +45,7 @@ EndsSo n H true = (moves : List Entry) × (claim : Entry) × (H ≡ moves ++ cla
     AllMoves moves × (length moves < n)
     × (claim.request ≡ Claim) × (claim.reply ≡ Won)
 
-pub record IsGreedyGame (o : Opening) (n : ℕ) (H : List Entry) (settled : Bool) : Type 0 where
+pub record IsGreedyGame (o : StartData) (n : ℕ) (H : List Entry) (settled : Bool) : Type 0 where
   pub legal : IsLegal o H
   pub greedy : AreGreedy o [] H
   pub ends : EndsSo n H settled

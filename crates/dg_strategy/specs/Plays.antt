@@ -21,7 +21,7 @@
 --                                          refused with the fault
 use Rattle.std.specs.Prelude.{◌≡◌, ℕ, ◌<◌, Bool, true, false, List, [], ◌∷◌, ◌++◌, length, Option, Some, None, ⊤}
 use Rattle.std.specs.List.{FoldsTo}
-use Rattle.dg_chips.specs.Opening.{Opening}
+use Rattle.dg_chips.specs.Starts.{StartData}
 use Rattle.dg_chips.specs.Vector.{Vector}
 use Rattle.dg_chips.specs.declared.moves.Move.{Move}
 use Rattle.dg_game.specs.Position.{Shows}
@@ -49,7 +49,7 @@ abbrev pub AreMoves : List (ℕ × Entry) → Type 0
 AreMoves [] = ⊤
 AreMoves (p ∷ es) = IsMove p.1.request × AreMoves es
 
-pub record IsTurnBy (A : Choosing) (o : Opening) (seats cap : ℕ) (x : SeatView) (r : ℕ × Entry)
+pub record IsTurnBy (A : Choosing) (o : StartData) (seats cap : ℕ) (x : SeatView) (r : ℕ × Entry)
     (y : SeatView) : Type 0 where
   pub history : List Entry
   pub amounts : Vector
@@ -63,13 +63,13 @@ IsMadeOrPastRange (Moved d) = ⊤
 IsMadeOrPastRange (Refused Range) = ⊤
 IsMadeOrPastRange reply = ⊥
 
-pub record IsStrategyTurn (A : Choosing) (o : Opening) (seats cap : ℕ) (x : SeatView)
+pub record IsStrategyTurn (A : Choosing) (o : StartData) (seats cap : ℕ) (x : SeatView)
     (r : ℕ × Entry) (y : SeatView) : Type 0 where
   pub turn : IsTurnBy A o seats cap x r y
   pub gifts : gifts_in (turn.history ++ r.1 ∷ []) ≡ gifts_in turn.history
   pub moved : IsMove r.1.request → IsMadeOrPastRange r.1.reply
 
-pub record IsSettlerTurn (A : Choosing) (o : Opening) (seats cap : ℕ) (x : SeatView) (r : ℕ × Entry)
+pub record IsSettlerTurn (A : Choosing) (o : StartData) (seats cap : ℕ) (x : SeatView) (r : ℕ × Entry)
     (y : SeatView) : Type 0 where
   pub strategy : IsStrategyTurn A o seats cap x r y
   pub borrows : (m : Move) → strategy.turn.answer ≡ Some m → BorrowsInDebt strategy.turn.amounts m
@@ -105,7 +105,7 @@ module _ (T : SeatView → ℕ × Entry → SeatView → Type 0) where
   IsPlayed n x y (Settled r) = IsClaimed n x y r
   IsPlayed n x y Turns = IsPlayedOut n x y
 
-  pub record IsStopped (o : Opening) (seats cap n : ℕ) (x y : SeatView)
+  pub record IsStopped (o : StartData) (seats cap n : ℕ) (x y : SeatView)
       (fault : Fault) : Type 0 where
     pub entries : List (ℕ × Entry)
     pub gained : Gains x entries y

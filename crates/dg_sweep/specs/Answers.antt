@@ -30,14 +30,14 @@ use Rattle.std.specs.Fmt.{signed_decimal}
 use Rattle.dg_theory.specs.Multigraph.{genus}
 use Rattle.dg_theory.specs.Firing.{degree}
 use Rattle.dg_theory.specs.Rank.{less, canonical, HasRankAtLeast, IsRank}
-use Rattle.dg_chips.specs.Opening.{Opening}
+use Rattle.dg_chips.specs.Starts.{StartData}
 use Rattle.dg_chips.specs.Vector.{at}
 use Rattle.dg_verdict.specs.declared.verdict.Verdict.{Verdict}
 use Rattle.dg_verdict.specs.Right.{IsRight}
 use Rattle.dg_rank.specs.Limits.{IsPastLimits}
-use Rattle.dg_ranked.specs.RankTests.{IsRankTest}
+use Rattle.dg_verdict.specs.RankTests.{IsRankTest}
 use Rattle.dg_rank.specs.Ranks.{BothArePast, NeedsPastTests}
-use Rattle.dg_ranked.specs.declared.rank_verdict.RankVerdict.{RankVerdict}
+use Rattle.dg_verdict.specs.declared.rank_verdict.RankVerdict.{RankVerdict}
 use Rattle.dg_game.specs.declared.entry.Reply.TheVariants.{Verdict as Found, Rank as Tested}
 use Rattle.dg_lines.specs.Texts.{text_of}
 use Rattle.dg_file.specs.TableFiles.{IsTableFile}
@@ -45,41 +45,41 @@ use Rattle.dg_file.specs.FileFaults.{RefusesFile}
 use Rattle.dg_file.specs.declared.fault.FileFault.{FileFault}
 use Rattle.dg_file.specs.declared.fault.FileFault.TheVariants.{OutOfMemory}
 use Rattle.dg_sweep.specs.FaultTexts.{file_fault_text}
-use Rattle.dg_asked.specs.declared.question.Question.{Question}
-use Rattle.dg_asked.specs.declared.question.Question.TheVariants.{Judge, Rank, RiemannRoch}
+use Rattle.dg_invocation.specs.declared.question.Question.{Question}
+use Rattle.dg_invocation.specs.declared.question.Question.TheVariants.{Judge, Rank, RiemannRoch}
 use Rattle.dg_sweep.specs.declared.ends.TheConstants.{MAX_LINE}
 
-pub record IsVerdict (o : Opening) (names : List (List ℕ)) (text : List ℕ) : Type 0 where
+pub record IsVerdict (o : StartData) (names : List (List ℕ)) (text : List ℕ) : Type 0 where
   pub verdict : Verdict
   pub right : IsRight o.graph o.q (at o.divisor) verdict
   pub printed : text ≡ text_of names (Found verdict) ++ codes "\n"
 
-pub record IsTested (o : Opening) (k : ℕ) (names : List (List ℕ)) (text : List ℕ) : Type 0 where
+pub record IsTested (o : StartData) (k : ℕ) (names : List (List ℕ)) (text : List ℕ) : Type 0 where
   pub verdict : RankVerdict
   pub right : IsRankTest o.graph (at o.divisor) k verdict
   pub printed : text ≡ text_of names (Tested verdict) ++ codes "\n"
 
-pub record IsBelow (o : Opening) (k : ℕ) (text : List ℕ) : Type 0 where
+pub record IsBelow (o : StartData) (k : ℕ) (text : List ℕ) : Type 0 where
   pub past : IsPastLimits o.graph.size k
   pub below : ¬ HasRankAtLeast o.graph (at o.divisor) k
   pub printed : text ≡ codes "rank below " ++ decimal k ++ codes " at ?\n"
 
-pub record IsUntested (o : Opening) (k : ℕ) (text : List ℕ) : Type 0 where
+pub record IsUntested (o : StartData) (k : ℕ) (text : List ℕ) : Type 0 where
   pub past : BothArePast o.graph (at o.divisor) k
   pub printed : text ≡ codes "refused too many trials\n"
 
-abbrev pub AnswersRank : Opening → ℕ → List (List ℕ) → List ℕ → Type 0
+abbrev pub AnswersRank : StartData → ℕ → List (List ℕ) → List ℕ → Type 0
 AnswersRank o k names text = IsTested o k names text ⊎ IsBelow o k text ⊎ IsUntested o k text
 
 abbrev pub number_after : List ℕ → ℤ → List ℕ
 number_after label z = label ++ signed_decimal z
 
-abbrev pub numbers_text : Opening → List ℕ
+abbrev pub numbers_text : StartData → List ℕ
 numbers_text o =
     number_after (codes "degree ") (degree o.graph.size (at o.divisor))
     ++ number_after (codes " genus ") (genus o.graph)
 
-pub record AreRanks (o : Opening) (text : List ℕ) : Type 0 where
+pub record AreRanks (o : StartData) (text : List ℕ) : Type 0 where
   pub rank : ℤ
   pub of_divisor : IsRank o.graph (at o.divisor) rank
   pub dual_rank : ℤ
@@ -87,11 +87,11 @@ pub record AreRanks (o : Opening) (text : List ℕ) : Type 0 where
   pub printed : text ≡ numbers_text o ++ number_after (codes " rank ") rank
       ++ number_after (codes " dual ") dual_rank ++ codes "\n"
 
-pub record AreUntested (o : Opening) (text : List ℕ) : Type 0 where
+pub record AreUntested (o : StartData) (text : List ℕ) : Type 0 where
   pub past : NeedsPastTests o.graph (at o.divisor)
   pub printed : text ≡ numbers_text o ++ codes " rank ? dual ?\n"
 
-abbrev pub AnswersTable : Question → Opening → List (List ℕ) → List ℕ → Type 0
+abbrev pub AnswersTable : Question → StartData → List (List ℕ) → List ℕ → Type 0
 AnswersTable Judge o names text = IsVerdict o names text
 AnswersTable (Rank k) o names text = AnswersRank o k names text
 AnswersTable RiemannRoch o names text = AreRanks o text ⊎ AreUntested o text
@@ -106,7 +106,7 @@ pub record IsRefused (refuses : FileFault → Type 0) (text : List ℕ) : Type 0
   pub printed : text ≡ refusal (file_fault_text fault)
 
 pub record IsOfTable (question : Question) (line text : List ℕ) : Type 0 where
-  pub opening : Opening
+  pub opening : StartData
   pub names : List (List ℕ)
   pub table : IsTableFile line opening names
   pub answer : AnswersTable question opening names text

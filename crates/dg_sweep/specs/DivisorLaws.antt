@@ -4,7 +4,7 @@
 --                          number or range, it spells numbers with which the file that says the table
 --                          would describe that opening, or would be refused so
 use Rattle.std.specs.Prelude.{ℕ, ℤ, List}
-use Rattle.dg_chips.specs.Opening.{Opening}
+use Rattle.dg_chips.specs.Starts.{StartData}
 use Rattle.dg_chips.specs.declared.divisor.ChipFault.{ChipFault}
 use Rattle.dg_file.specs.Content.{Content}
 use Rattle.dg_file.specs.TableFiles.{IsTable}
@@ -16,9 +16,9 @@ abbrev pub with_amounts : Content → List ℤ → Content
 with_amounts content xs = record content { amounts = xs }
 
 pub record LinesStandForTables : Type 0 where
-  pub stands : (content : Content) (o p : Opening) (names : List (List ℕ)) (line : List ℕ)
+  pub stands : (content : Content) (o p : StartData) (names : List (List ℕ)) (line : List ℕ)
       → IsTable content o names → HasAmountsOf o line p
       → (xs : List ℤ) × SpellsAmounts line xs × IsTable (with_amounts content xs) p names
-  pub refused : (content : Content) (o : Opening) (names : List (List ℕ)) (line : List ℕ)
+  pub refused : (content : Content) (o : StartData) (names : List (List ℕ)) (line : List ℕ)
       (fault : ChipFault) → IsTable content o names → RefusesAmounts o.graph.size line (Chip fault)
       → (xs : List ℤ) × SpellsAmounts line xs × RefusesTable (with_amounts content xs) (Chip fault)

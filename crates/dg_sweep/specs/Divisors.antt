@@ -11,14 +11,14 @@
 use Rattle.std.specs.Prelude.{◌≡◌, ℕ, ◌⊎◌, ℤ, List, map, All, FitsSigned, ⊤}
 use Rattle.std.specs.Fmt.{signed_decimal}
 use Rattle.std.specs.Int.{w64}
-use Rattle.dg_chips.specs.Opening.{Opening}
+use Rattle.dg_chips.specs.Starts.{StartData}
 use Rattle.dg_chips.specs.Vector.{Vector, HoldsNumbers, IsDivisor}
 use Rattle.dg_chips.specs.DivisorFaults.{IsFirstChipFault}
 use Rattle.dg_lines.specs.Cuts.{words}
 use Rattle.dg_file.specs.declared.fault.FileFault.{FileFault}
 use Rattle.dg_file.specs.declared.fault.FileFault.TheVariants.{Shape, Chip, OutOfMemory}
 use Rattle.dg_file.specs.declared.fault.Shape.TheVariants.{Amounts}
-use Rattle.dg_asked.specs.declared.question.Question.{Question}
+use Rattle.dg_invocation.specs.declared.question.Question.{Question}
 use Rattle.dg_sweep.specs.Answers.{AnswersTable, IsRefused}
 
 pub record SpellsAmounts (line : List ℕ) (xs : List ℤ) : Type 0 where
@@ -28,7 +28,7 @@ pub record SpellsAmounts (line : List ℕ) (xs : List ℤ) : Type 0 where
 abbrev pub SpellsNone : List ℕ → Type 0
 SpellsNone line = (xs : List ℤ) → ¬ SpellsAmounts line xs
 
-pub record HasAmountsOf (o : Opening) (line : List ℕ) (p : Opening) : Type 0 where
+pub record HasAmountsOf (o : StartData) (line : List ℕ) (p : StartData) : Type 0 where
   pub xs : List ℤ
   pub spelled : SpellsAmounts line xs
   pub divisor : Vector
@@ -44,12 +44,12 @@ RefusesAmounts n line (Chip fault) =
 RefusesAmounts n line OutOfMemory = ⊤
 RefusesAmounts n line fault = ⊥
 
-pub record IsOfAmounts (question : Question) (o : Opening) (names : List (List ℕ))
+pub record IsOfAmounts (question : Question) (o : StartData) (names : List (List ℕ))
     (line text : List ℕ) : Type 0 where
-  pub opening : Opening
+  pub opening : StartData
   pub stands : HasAmountsOf o line opening
   pub answer : AnswersTable question opening names text
 
-abbrev pub AnswersAmounts : Question → Opening → List (List ℕ) → List ℕ → List ℕ → Type 0
+abbrev pub AnswersAmounts : Question → StartData → List (List ℕ) → List ℕ → List ℕ → Type 0
 AnswersAmounts question o names line text =
     IsRefused (RefusesAmounts o.graph.size line) text ⊎ IsOfAmounts question o names line text

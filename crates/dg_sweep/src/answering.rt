@@ -10,14 +10,14 @@ use crate::ends::MAX_LINE;
 use crate::fault_words::push_fault;
 use crate::ranking::{push_rank, push_ranks};
 use crate::tables::Tables;
-use dg_asked::Question;
+use dg_invocation::Question;
 use dg_chips::Start;
 use dg_file::FileFault;
 use dg_game::Reply;
 use dg_lines::push_reply;
-use dg_names::Names;
-use dg_reduce::Aim;
-use dg_verdict::{Verdict, judge, judge_aimed};
+use dg_tokens::Names;
+use dg_reduce::InverseLaplacian;
+use dg_verdict::{Verdict, judge, judge_with_inverse};
 use std::alloc::{AllocError, Global};
 
 /// What the lines of a sweep are, and how each is answered.
@@ -76,13 +76,13 @@ pub(crate) fn push_refusal(fault: &FileFault, answer: &mut Vec<u8>) -> Result<()
     Ok(())
 }
 
-/// The answer for a start whose vertices have these names, into an empty buffer. An aim that was made for its graph and q saves
+/// The answer for a start whose vertices have these names, into an empty buffer. An inverse that was made for its graph and q saves
 /// the time to make it anew.
 pub(crate) fn push_answer(
     question: Question,
     start: &Start,
     names: &Names,
-    aim: Option<&Aim>,
+    inverse: Option<&InverseLaplacian>,
     answer: &mut Vec<u8>,
 ) -> Result<(), AllocError>
     requires names { length names.now ≡ start.now.graph.size }
@@ -90,7 +90,7 @@ pub(crate) fn push_answer(
     ensures { OnOk result (AnswersTable question start.now names.now answer.new.items) }
 {
     match question {
-        Question::Judge => push_verdict(start, names, aim, answer),
+        Question::Judge => push_verdict(start, names, inverse, answer),
         Question::Rank(k) => push_rank(start, names, k, answer),
         Question::RiemannRoch => push_ranks(start, answer),
     }
@@ -100,25 +100,25 @@ pub(crate) fn push_answer(
 fn push_verdict(
     start: &Start,
     names: &Names,
-    aim: Option<&Aim>,
+    inverse: Option<&InverseLaplacian>,
     answer: &mut Vec<u8>,
 ) -> Result<(), AllocError>
     requires names { length names.now ≡ start.now.graph.size }
     requires empty { answer.old.items ≡ [] }
     ensures { OnOk result (IsVerdict start.now names.now answer.new.items) }
 {
-    let verdict = verdict_on(start, aim);
+    let verdict = verdict_on(start, inverse);
     push_line(answer, &Reply::Verdict(verdict), names)
 }
 
 /// The verdict on the amounts of a start.
-fn verdict_on(start: &Start, aim: Option<&Aim>) -> Verdict
+fn verdict_on(start: &Start, inverse: Option<&InverseLaplacian>) -> Verdict
     ensures { IsVerdictOn start.now.graph start.now.q (at start.now.divisor) result }
 {
     let graph = start.graph();
     let q = usize::from(start.q());
-    match aim {
-        Some(aim) => judge_aimed(graph, aim, q, start.divisor()),
+    match inverse {
+        Some(inverse) => judge_with_inverse(graph, inverse, q, start.divisor()),
         None => judge(graph, q, start.divisor()),
     }
 }

@@ -5,13 +5,13 @@ ghost use Rattle.std.specs.Int.{w64};
 ghost use Rattle.dg_sweep.specs.Divisors.{HasAmountsOf, RefusesAmounts, SpellsAmounts, SpellsNone};
 
 use crate::answering::{LineKind, push_answer, push_refusal};
-use dg_asked::Question;
+use dg_invocation::Question;
 use dg_chips::{Divisor, Start};
 use dg_file::{FileFault, Shape, TableFile};
 use dg_graph::MAX_VERTICES;
 use dg_lines::cut;
-use dg_numbers::integer;
-use dg_reduce::Aim;
+use dg_tokens::integer;
+use dg_reduce::InverseLaplacian;
 use std::alloc::{AllocError, Global};
 
 /// Lines each of which has amounts for the vertices of one table, and what is asked of that table with these amounts.
@@ -20,7 +20,7 @@ pub(crate) struct Divisors<'a> {
     question: Question,
     table: &'a TableFile,
     /// What verdicts on the table's graph share.
-    aim: Aim,
+    inverse: InverseLaplacian,
 }
 
 impl<'a> Divisors<'a> {
@@ -30,11 +30,11 @@ impl<'a> Divisors<'a> {
         ensures table { result.table.now ≡ table.now }
     {
         let start = table.start();
-        let aim = Aim::new(start.graph(), usize::from(start.q()));
+        let inverse = InverseLaplacian::new(start.graph(), usize::from(start.q()));
         Divisors {
             question,
             table,
-            aim,
+            inverse,
         }
     }
 }
@@ -48,7 +48,7 @@ impl LineKind for Divisors<'_> {
         match start_of(alloc, self.table.start(), line) {
             Ok(start) => {
                 let names = self.table.names();
-                push_answer(self.question, &start, names, Some(&self.aim), answer)
+                push_answer(self.question, &start, names, Some(&self.inverse), answer)
             }
             Err(FileFault::OutOfMemory) => Err(AllocError),
             Err(fault) => push_refusal(&fault, answer),

@@ -1,6 +1,6 @@
 //! The limits of sweeps, and how they end early.
 
-use dg_beside::Shortage;
+use dg_system::Shortage;
 
 /// The most bytes that the line of a table may have before its newline, as many as a table file may have.
 pub const MAX_LINE: usize = 1_048_576;

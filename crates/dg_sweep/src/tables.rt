@@ -2,7 +2,7 @@
 ghost use Rattle.std.specs.Prelude.{◌≡◌, OnOk};
 
 use crate::answering::{LineKind, push_answer, push_refusal};
-use dg_asked::Question;
+use dg_invocation::Question;
 use dg_file::{FileFault, read_table};
 use std::alloc::{AllocError, Global};
 

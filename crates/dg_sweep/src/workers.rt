@@ -5,7 +5,7 @@ ghost use Rattle.dg_sweep.specs.Pieces.{AnswersPiece, IsAnswered, Leads};
 
 use crate::answering::LineKind;
 use crate::taking::answer_lines;
-use dg_beside::{Shortage, beside};
+use dg_system::{Shortage, in_parallel};
 use dg_lines::cut;
 use std::alloc::{AllocError, Global};
 use std::sync::Wait;
@@ -91,7 +91,7 @@ fn answer_among<R: Threads + Wait + Sync, K: LineKind + Sync>(
         ensures { IfOk result (λ done. All (IsAnswered (K.answers room.entry.now.kind.now)
             (map (λ piece. piece.now) pieces.entry.now)) done.items) }
     { answer_among(room, workers - 1, pieces, next) };
-    let (here, there) = match beside(room.rt, &mut first, &mut others) {
+    let (here, there) = match in_parallel(room.rt, &mut first, &mut others) {
         Ok(both) => both,
         Err(shortage) => return Err(shortage),
     };

@@ -55,7 +55,7 @@ none_from s n (e ∷ H) others =
     ∙ none_from s (n + 1) H (λ k x at. others (suc k) x at)
 
 pub none_past : (n s : ℕ) (H : List Entry) → AreSeated n H → n < s → entries_of s H ≡ []
-none_past n s H seated past = none_from s 0 H (λ k e at is. let few = (seated k e at).1 in omega arith)
+none_past n s H seated prefix = none_from s 0 H (λ k e at is. let few = (seated k e at).1 in omega arith)
 
 -- the sum of m values of f, from that at a on
 abbrev total : (ℕ → ℕ) → ℕ → ℕ → ℕ
@@ -98,8 +98,8 @@ place-before b a (suc m) before =
     omega (arith, place-before b (a + 1) m (omega arith))
 
 place-within : (b a m : ℕ) → a < b → b ≤ a + m → total (place_of b) a m ≡ 1
-place-within b a zero past within = absurd (omega arith)
-place-within b a (suc m) past within = elim (cases_eq b (a + 1)) [
+place-within b a zero prefix within = absurd (omega arith)
+place-within b a (suc m) prefix within = elim (cases_eq b (a + 1)) [
   | inl here ↦
       let first : place_of b a ≡ 1 = ap (λ t. cond t 1 0) (eq-eqb b (a + 1) here) in
       omega (arith, place-before b (a + 1) m (omega arith))

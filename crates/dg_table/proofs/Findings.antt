@@ -15,7 +15,7 @@ use Rattle.std.proofs.lemmas.List.{append-nil}
 use Rattle.std.proofs.lemmas.Option.{same_Some}
 use Rattle.std.proofs.lemmas.List.Elements.{filter-append}
 use Rattle.dg_theory.specs.Multigraph.{Multigraph}
-use Rattle.dg_chips.specs.Opening.{Opening}
+use Rattle.dg_chips.specs.Starts.{StartData}
 use Rattle.dg_chips.specs.Vector.{Vector}
 use Rattle.dg_game.specs.History.{position_after, gifts_in}
 use Rattle.dg_game.specs.Legal.{IsLegal}
@@ -51,7 +51,7 @@ last_kept ps p test =
     ap (last_or None) (filter-append is_look ps (p ∷ [])
     ∙ ap (λ (b : Bool). filter is_look ps ++ cond b (p ∷ []) []) test ∙ append-nil (filter is_look ps))
 
-pub look_kept : (o : Opening) (ps : List (ℕ × Entry)) (p : ℕ × Entry) (look : Option LookData) → is_look p ≡ false →
+pub look_kept : (o : StartData) (ps : List (ℕ × Entry)) (p : ℕ × Entry) (look : Option LookData) → is_look p ≡ false →
     IsKeptLook o ps look →
     IsKeptLook o (ps ++ p ∷ []) look
 look_kept o ps p None test kept = record { last = last_kept ps p test ∙ kept.last; vertices = tt }
@@ -59,7 +59,7 @@ look_kept o ps p (Some x) test kept =
     let (q, last, of) = kept.last in
     record { last = (q, last_kept ps p test ∙ last, of); vertices = kept.vertices }
 
-pub look_seen : (o : Opening) (ps : List (ℕ × Entry)) (p : ℕ × Entry) (x : LookData) → IsLookOf p x →
+pub look_seen : (o : StartData) (ps : List (ℕ × Entry)) (p : ℕ × Entry) (x : LookData) → IsLookOf p x →
     HasVertices o.graph.size x →
     IsKeptLook o (ps ++ p ∷ []) (Some x)
 look_seen o ps p x of vertices = record { last = (p, last_after ps p of.look, of); vertices = vertices }
@@ -69,12 +69,12 @@ pub look_of : (ps : List (ℕ × Entry)) (p : ℕ × Entry) (x : LookData) → p
 look_of ps p x look (q, last, of) =
     subst (λ (r : ℕ × Entry). IsLookOf r x) (same_Some q p (sym last ∙ last_after ps p look)) of
 
-pub look_asked : (o : Opening) (H : List Entry) (request : Request) (n : ℕ) (d : Vector) (g : Multigraph) →
+pub look_asked : (o : StartData) (H : List Entry) (request : Request) (n : ℕ) (d : Vector) (g : Multigraph) →
     Replies o H request (Looked n d g) → request ≡ Look
 look_asked o H Look n d g right = refl
 look_asked o H request n d g right = absurd right
 
-pub looked_vertices : (o : Opening) (H : List Entry) (x : LookData) →
+pub looked_vertices : (o : StartData) (H : List Entry) (x : LookData) →
     Replies o H Look (Looked x.gifts x.position x.graph) →
     HasVertices o.graph.size x
 looked_vertices o H x right =
@@ -82,7 +82,7 @@ looked_vertices o H x right =
     let size : x.graph.size ≡ o.graph.size = ap (λ (g : Multigraph). g.size) graph ∙ vertices_stay o H in
     (size, shows.size ∙ vertices_stay o H)
 
-pub stale_both : (o : Opening) (H : List Entry) (i : ℕ) (f : Finding) (reply : Reply) →
+pub stale_both : (o : StartData) (H : List Entry) (i : ℕ) (f : Finding) (reply : Reply) →
     Replies o H (asked_for i f) reply →
     (gifts_in (take i H) ≢ gifts_in H) ↔ (reply ≡ Stale (gifts_in H))
 stale_both o H i (Judged v) (Verdict w) right = ((λ other. absurd (other right.0)), (λ is. absurd (cc)))
@@ -91,7 +91,7 @@ stale_both o H i (Ranked v) (RankReply w) right = ((λ other. absurd (other righ
 stale_both o H i (Ranked v) (Stale count) right = ((λ other. ap Stale right.1), (λ is. right.0))
 stale_both o H i f reply right = absurd right
 
-pub carried_over : (o : Opening) (H : List Entry) (i : ℕ) (f : Finding) (reply : Reply) → KeepsFinding f reply →
+pub carried_over : (o : StartData) (H : List Entry) (i : ℕ) (f : Finding) (reply : Reply) → KeepsFinding f reply →
     Replies o H (asked_for i f) reply → gifts_in (take i H) ≡ gifts_in H → IsCarriedTo (position_after o H) o.q f reply
 carried_over o H i (Judged v) (Verdict w) kept right same = (right.1, rw kept.0 at right.1.led)
 carried_over o H i (Judged v) (Stale count) kept right same = right.0 same
@@ -99,7 +99,7 @@ carried_over o H i (Ranked v) (RankReply w) kept right same = right.1
 carried_over o H i (Ranked v) (Stale count) kept right same = right.0 same
 carried_over o H i f reply kept right same = absurd right
 
-pub look_stands : (o : Opening) (H : List Entry) (p : ℕ × Entry) (x : LookData) → IsLegal o H → IsLookOf p x →
+pub look_stands : (o : StartData) (H : List Entry) (p : ℕ × Entry) (x : LookData) → IsLegal o H → IsLookOf p x →
     slice_get H p.0 ≡ Some p.1 → IsLookAt o H x
 look_stands o H p x legal of stands =
     legal_looks o H p.1 x legal (ap (slice_get H) of.number ∙ stands) of.look of.shown

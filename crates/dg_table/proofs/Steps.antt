@@ -15,7 +15,7 @@
 use Rattle.std.proofs.Common.{inl, inr, Bool, ◌≡◌, ◌≢◌, Option, take, ℕ, ◌+◌, ◌<◌, ◌≤◌, List, [], ◌∷◌, ◌++◌, length, get_or, set, slice_get, Some, arith, refl, sym, ap, subst, ◌∙◌}
 use Rattle.std.proofs.lemmas.List.{length-set, length_push, append-nil}
 use Rattle.std.proofs.lemmas.Option.{slice_get_within}
-use Rattle.dg_chips.specs.Opening.{Opening}
+use Rattle.dg_chips.specs.Starts.{StartData}
 use Rattle.dg_game.specs.Legal.{IsLegal}
 use Rattle.dg_game.specs.History.{gifts_in}
 use Rattle.dg_game.specs.Look.{IsLookAt, asked_for, asked_on, KeepsFinding}
@@ -46,17 +46,17 @@ use Rattle.dg_table.proofs.Numbered.{stand_more, stand_longer}
 use Rattle.dg_table.proofs.Counts.{seated_more, counted_more, counted_none}
 
 pub holds_more : (H : List Entry) (e : Entry) (x y : SeatView) → Holds H x → e.seat ≡ x.number → y.number ≡ x.number →
-    y.mine ≡ x.mine ++ (length H, e) ∷ [] → y.told ≡ x.told → y.past ≡ H ++ e ∷ [] → y.met ≡ H ++ e ∷ [] →
+    y.mine ≡ x.mine ++ (length H, e) ∷ [] → y.told ≡ x.told → y.prefix ≡ H ++ e ∷ [] → y.met ≡ H ++ e ∷ [] →
     Holds (H ++ e ∷ []) y
-holds_more H e x y holds own number mine told past met = record {
-  past = ([], sym (append-nil (H ++ e ∷ [])) ∙ ap (λ K. K ++ []) (sym past));
+holds_more H e x y holds own number mine told prefix met = record {
+  prefix = ([], sym (append-nil (H ++ e ∷ [])) ∙ ap (λ K. K ++ []) (sym prefix));
   met = ([], sym (append-nil (H ++ e ∷ [])) ∙ ap (λ K. K ++ []) (sym met));
   mine = ap (λ s. entries_of s (H ++ e ∷ [])) number ∙ own_more x.number H e own
       ∙ ap (λ ps. ps ++ (length H, e) ∷ []) holds.mine ∙ sym mine;
   told = rw told (stand_longer H (e ∷ []) x.told holds.told);
 }
 
-pub history_more : (o : Opening) (n cap : ℕ) (H : List Entry) (e : Entry) → AreSeated n H → 1 ≤ e.seat → e.seat ≤ n →
+pub history_more : (o : StartData) (n cap : ℕ) (H : List Entry) (e : Entry) → AreSeated n H → 1 ≤ e.seat → e.seat ≤ n →
     length H < cap → IsLegal o (H ++ e ∷ []) → IsHistoryOf o n cap (H ++ e ∷ [])
 history_more o n cap H e seated least most room legal = record {
   legal = legal;
@@ -64,13 +64,13 @@ history_more o n cap H e seated least most room legal = record {
   seated = seated_more n H e seated least most;
 }
 
-pub kept_more : {o : Opening} {n cap s : ℕ} {mine told second : List
-    (ℕ × Entry)} {past met : List Entry} {look : Option LookData}
-    (H : List Entry) (e : Entry) (next : Option LookData) → IsSeatState o n cap s mine told past met second look →
+pub kept_more : {o : StartData} {n cap s : ℕ} {mine told second : List
+    (ℕ × Entry)} {prefix met : List Entry} {look : Option LookData}
+    (H : List Entry) (e : Entry) (next : Option LookData) → IsSeatState o n cap s mine told prefix met second look →
     IsHistoryOf o n cap (H ++ e ∷ []) → entries_of s H ≡ mine → e.seat ≡ s →
     IsKeptLook o (mine ++ (length H, e) ∷ []) next →
     IsSeatState o n cap s (mine ++ (length H, e) ∷ []) told (H ++ e ∷ []) (H ++ e ∷ []) second next
-kept_more {o} {n} {cap} {s} {mine} {told} {second} {past} {met} {look} H e next seated found held own last = record {
+kept_more {o} {n} {cap} {s} {mine} {told} {second} {prefix} {met} {look} H e next seated found held own last = record {
   least = seated.least;
   most = seated.most;
   found = found;
@@ -81,33 +81,33 @@ kept_more {o} {n} {cap} {s} {mine} {told} {second} {past} {met} {look} H e next 
   look_kept = last;
 }
 
-pub answered : {o : Opening} {n cap : ℕ} {H : List Entry} {x : SeatView} (e : Entry) (y : SeatView) →
+pub answered : {o : StartData} {n cap : ℕ} {H : List Entry} {x : SeatView} (e : Entry) (y : SeatView) →
     Replies o H e.request e.reply → IsHistoryOf o n cap (H ++ e ∷ []) → Holds H x → e.seat ≡ x.number →
     y.number ≡ x.number →
-    y.mine ≡ x.mine ++ (length H, e) ∷ [] → y.told ≡ x.told → y.past ≡ H ++ e ∷ [] → y.met ≡ H ++ e ∷ [] →
+    y.mine ≡ x.mine ++ (length H, e) ∷ [] → y.told ≡ x.told → y.prefix ≡ H ++ e ∷ [] → y.met ≡ H ++ e ∷ [] →
     IsAnsweredAfter o n cap H e.request (length H, e) x y
-answered {o} {n} {cap} {H} {x} e y replies history holds own number mine told past met = record {
+answered {o} {n} {cap} {H} {x} e y replies history holds own number mine told prefix met = record {
   place = refl;
   seat = own;
   request' = refl;
   reply = replies;
   before = holds;
   history = history;
-  holds = holds_more H e x y holds own number mine told past met;
+  holds = holds_more H e x y holds own number mine told prefix met;
   number = number;
   mine = mine;
   told = told;
-  past = past;
+  prefix = prefix;
   met = met;
 }
 
-pub told_of : {o : Opening} {n cap : ℕ} {H : List Entry} {request : Request} {r : ℕ × Entry} {s m : SeatView}
+pub told_of : {o : StartData} {n cap : ℕ} {H : List Entry} {request : Request} {r : ℕ × Entry} {s m : SeatView}
     (look : ℕ × Entry) (t : SeatView) →
     IsAnsweredAfter o n cap H request r s m → slice_get H look.0 ≡ Some look.1 →
-    t.number ≡ m.number → t.mine ≡ m.mine → t.told ≡ m.told ++ look ∷ [] → t.past ≡ m.past →
+    t.number ≡ m.number → t.mine ≡ m.mine → t.told ≡ m.told ++ look ∷ [] → t.prefix ≡ m.prefix →
     t.met ≡ m.met →
     IsEnteredAfter o n cap H request (s.told ++ look ∷ []) r s t
-told_of {o} {n} {cap} {H} {request} {r} {s} {m} look t answered stands number mine told past met =
+told_of {o} {n} {cap} {H} {request} {r} {s} {m} look t answered stands number mine told prefix met =
     let hears : t.told ≡ s.told ++ look ∷ [] = told ∙ ap (λ ps. ps ++ look ∷ []) answered.told in
     let there : slice_get (H ++ r.1 ∷ []) look.0 ≡ Some look.1 =
     slice_get-append H (r.1 ∷ []) look.0 (slice_get_within H look.0 look.1 stands) ∙ stands in
@@ -119,7 +119,7 @@ told_of {o} {n} {cap} {H} {request} {r} {s} {m} look t answered stands number mi
       before = answered.before;
       history = answered.history;
       holds = record {
-        past = subst (λ K. IsBeginning K (H ++ r.1 ∷ [])) (sym past) answered.holds.past;
+        prefix = subst (λ K. IsBeginning K (H ++ r.1 ∷ [])) (sym prefix) answered.holds.prefix;
         met = subst (λ K. IsBeginning K (H ++ r.1 ∷ [])) (sym met) answered.holds.met;
         mine = ap (λ n. entries_of n (H ++ r.1 ∷ [])) number ∙ answered.holds.mine ∙ sym mine;
         told = rw told (stand_more (H ++ r.1 ∷ []) m.told look answered.holds.told there);
@@ -127,45 +127,45 @@ told_of {o} {n} {cap} {H} {request} {r} {s} {m} look t answered stands number mi
       number = number ∙ answered.number;
       mine = mine ∙ answered.mine;
       told = hears;
-      past = past ∙ answered.past;
+      prefix = prefix ∙ answered.prefix;
       met = met ∙ answered.met;
     }
 
-pub settled : (o : Opening) (n cap : ℕ) (H : List Entry) (look : ℕ × Entry) (x : LookData) (f : Finding) (r : ℕ × Entry)
+pub settled : (o : StartData) (n cap : ℕ) (H : List Entry) (look : ℕ × Entry) (x : LookData) (f : Finding) (r : ℕ × Entry)
     (s m t : SeatView) →
     IsAnsweredAfter o n cap H (asked_for x.number f) r s m → IsLookOf look x → slice_get H look.0 ≡ Some look.1 →
     KeepsFinding f r.1.reply →
-    t.number ≡ m.number → t.mine ≡ m.mine → t.told ≡ m.told ++ look ∷ [] → t.past ≡ m.past →
+    t.number ≡ m.number → t.mine ≡ m.mine → t.told ≡ m.told ++ look ∷ [] → t.prefix ≡ m.prefix →
     t.met ≡ m.met →
     IsSettledAfter o n cap H look x f r s t
-settled o n cap H look x f r s m t answered of stands kept number mine told past met =
+settled o n cap H look x f r s m t answered of stands kept number mine told prefix met =
     let replies : Replies o H (asked_for look.0 f) r.1.reply =
     subst (λ i. Replies o H (asked_for i f) r.1.reply) of.number answered.reply in
     record {
-      entered = told_of look t answered stands number mine told past met;
+      entered = told_of look t answered stands number mine told prefix met;
       stands = stands;
       kept = kept;
       stale = stale_both o H look.0 f r.1.reply replies;
       carried = carried_over o H look.0 f r.1.reply kept replies;
     }
 
-pub staled : (o : Opening) (n cap : ℕ) (H : List Entry) (look : ℕ × Entry) (x : LookData) (asks : Question)
+pub staled : (o : StartData) (n cap : ℕ) (H : List Entry) (look : ℕ × Entry) (x : LookData) (asks : Question)
     (game : State) (r : ℕ × Entry)
     (s m t : SeatView) →
     IsAnsweredAfter o n cap H (asked_on x.number asks) r s m → IsLookOf look x → slice_get H look.0 ≡ Some look.1 →
     LeadsTo o H game → IsLookAt o H x → x.gifts ≢ game.gifts → r.1.reply ≡ Stale game.gifts →
-    t.number ≡ m.number → t.mine ≡ m.mine → t.told ≡ m.told ++ look ∷ [] → t.past ≡ m.past →
+    t.number ≡ m.number → t.mine ≡ m.mine → t.told ≡ m.told ++ look ∷ [] → t.prefix ≡ m.prefix →
     t.met ≡ m.met →
     IsStaleAfter o n cap H look x asks r s t
-staled o n cap H look x asks game r s m t answered of stands leads at other reply number mine told past met =
+staled o n cap H look x asks game r s m t answered of stands leads at other reply number mine told prefix met =
     record {
-      entered = told_of look t answered stands number mine told past met;
+      entered = told_of look t answered stands number mine told prefix met;
       stands = stands;
       since = λ same. other (at.gifts ∙ ap (λ i. gifts_in (take i H)) of.number ∙ same ∙ sym leads.gifts);
       stale = reply ∙ ap Stale leads.gifts;
     }
 
-pub settling_refused : (o : Opening) (n cap : ℕ) (H : List Entry) (i : ℕ) (x : SeatView) (b c : Bool) (f : Fault) →
+pub settling_refused : (o : StartData) (n cap : ℕ) (H : List Entry) (i : ℕ) (x : SeatView) (b c : Bool) (f : Fault) →
     IsAdmissible H x →
     i < length H → RefusesStep o n cap H x b c f → RefusesSettling o n cap H i x b c f
 settling_refused o n cap H i x b c OutOfMemory admissible read refused = refused
@@ -178,7 +178,7 @@ settling_refused o n cap H i x b c Log admissible read (room, refused) = (
   ],
 )
 
-pub held_none : {o : Opening} {game : State} (seats : ℕ) (counts : List ℕ) → LeadsTo o [] game →
+pub held_none : {o : StartData} {game : State} (seats : ℕ) (counts : List ℕ) → LeadsTo o [] game →
     length counts ≡ MAX_SEATS → ((s : ℕ) → s < MAX_SEATS → get_or counts s 0 ≡ 0) → seats ≤ MAX_SEATS →
     IsUnderLock o seats [] game counts
 held_none {o} {game} seats counts leads places zeros few = record {
@@ -190,7 +190,7 @@ held_none {o} {game} seats counts leads places zeros few = record {
   few = few;
 }
 
-pub held_more : {o : Opening} {seats : ℕ} {H : List Entry} {game next : State} {counts : List ℕ} (e : Entry) (s c : ℕ) →
+pub held_more : {o : StartData} {seats : ℕ} {H : List Entry} {game next : State} {counts : List ℕ} (e : Entry) (s c : ℕ) →
     IsUnderLock o seats H game counts → IsLegal o (H ++ e ∷ []) → LeadsTo o (H ++ e ∷ []) next → e.seat ≡ s + 1 →
     e.seat ≤ seats → c ≡ get_or counts s 0 + 1 → IsUnderLock o seats (H ++ e ∷ []) next (set counts s c)
 held_more {o} {seats} {H} {game} {next} {counts} e s c held legal leads own few more = record {

@@ -5,7 +5,7 @@
 use Rattle.std.proofs.Common.{◌≡◌, ℕ, ◌+◌, ◌≤◌, List, length, get_or, arith, sym, ap, subst, ◌∙◌, inl, inr}
 use Rattle.std.proofs.lemmas.List.{get_or_past}
 use Rattle.std.proofs.lemmas.Bool.{cases_lt}
-use Rattle.dg_chips.specs.Opening.{Opening}
+use Rattle.dg_chips.specs.Starts.{StartData}
 use Rattle.dg_game.specs.State.{State}
 use Rattle.dg_game.specs.declared.entry.Entry.{Entry}
 use Rattle.dg_game.specs.declared.entry.TheConstants.{MAX_SEATS}
@@ -16,16 +16,16 @@ use Rattle.dg_table.specs.Lock.{IsUnderLock}
 use Rattle.dg_table.specs.Seats.{SeatView, entries_of}
 use Rattle.dg_table.proofs.Counts.{none_past, all_counted}
 
-counted_at : {o : Opening} {seats : ℕ} {H : List Entry} {game : State} {counts : List ℕ} (s : ℕ) →
+counted_at : {o : StartData} {seats : ℕ} {H : List Entry} {game : State} {counts : List ℕ} (s : ℕ) →
     IsUnderLock o seats H game counts → get_or counts s 0 ≡ length (entries_of (s + 1) H)
 counted_at {o} {seats} {H} {game} {counts} s held = elim (cases_lt s MAX_SEATS) [
   | inl inside ↦ held.counted s inside
-  | inr past ↦
+  | inr prefix ↦
       let none = none_past seats (s + 1) H held.seated (omega (arith, held.few)) in
       get_or_past counts s 0 (omega (arith, held.places)) ∙ ap length (sym none)
 ]
 
-pub totals : {o : Opening} {seats : ℕ} {H : List Entry} {game : State} {counts : List ℕ} (xs : List SeatView) →
+pub totals : {o : StartData} {seats : ℕ} {H : List Entry} {game : State} {counts : List ℕ} (xs : List SeatView) →
     IsUnderLock o seats H game counts → AllHeld H xs →
     AreTotals o seats xs H game.entries game.gifts game.graph game.amounts counts
 totals {o} {seats} {H} {game} {counts} xs held all =
@@ -36,17 +36,17 @@ totals {o} {seats} {H} {game} {counts} xs held all =
       position' = held.game'.amounts;
       calls' = λ i x at s number.
           counted_at s held ∙ ap (λ n. length (entries_of n H)) (sym number) ∙ ap length (all i x at).mine;
-      others = λ s past below. counted_at s held ∙ ap length (none_past seats (s + 1) H held.seated (omega arith));
+      others = λ s prefix below. counted_at s held ∙ ap length (none_past seats (s + 1) H held.seated (omega arith));
       all = all_counted counts H held.counted held.places (λ k e at.
           let (least, most) = held.seated k e at in
           (least, omega (arith, held.few))) ∙ sym held.game'.entries;
     }
 
-pub history_of : {o : Opening} {seats : ℕ} {H : List Entry} {game : State} {counts : List ℕ} (cap : ℕ) →
+pub history_of : {o : StartData} {seats : ℕ} {H : List Entry} {game : State} {counts : List ℕ} (cap : ℕ) →
     IsUnderLock o seats H game counts → length H ≤ cap → IsHistoryOf o seats cap H
 history_of cap held few = record { legal = held.legal; few = few; seated = held.seated }
 
-pub longer_history : {o : Opening} {n cap : ℕ} {K H M : List Entry} → IsHistoryOf o n cap K → IsHistoryOf o n cap H →
+pub longer_history : {o : StartData} {n cap : ℕ} {K H M : List Entry} → IsHistoryOf o n cap K → IsHistoryOf o n cap H →
     IsLonger K H M → IsHistoryOf o n cap M
 longer_history {o} {n} {cap} {K} {H} {M} first second longer = elim (cases_lt (length H) (length K)) [
   | inl shorter ↦ subst (IsHistoryOf o n cap) (sym (longer.first_longer shorter)) first

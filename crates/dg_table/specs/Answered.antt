@@ -9,14 +9,14 @@
 --                                                     seat is told of nothing more
 --   IsAnswered o n cap request r x y               == it is so answered after some history
 use Rattle.std.specs.Prelude.{◌≡◌, ℕ, List, [], ◌∷◌, ◌++◌, length}
-use Rattle.dg_chips.specs.Opening.{Opening}
+use Rattle.dg_chips.specs.Starts.{StartData}
 use Rattle.dg_game.specs.Replies.{Replies}
 use Rattle.dg_game.specs.declared.entry.Entry.{Entry}
 use Rattle.dg_game.specs.declared.entry.Request.{Request}
 use Rattle.dg_table.specs.Histories.{IsHistoryOf}
 use Rattle.dg_table.specs.Seats.{SeatView, Holds}
 
-pub record IsEnteredAfter (o : Opening) (n cap : ℕ) (H : List Entry) (request : Request)
+pub record IsEnteredAfter (o : StartData) (n cap : ℕ) (H : List Entry) (request : Request)
     (known : List (ℕ × Entry)) (r : ℕ × Entry)
     (x y : SeatView) : Type 0 where
   pub place : r.0 ≡ length H
@@ -29,12 +29,12 @@ pub record IsEnteredAfter (o : Opening) (n cap : ℕ) (H : List Entry) (request 
   pub number : y.number ≡ x.number
   pub mine : y.mine ≡ x.mine ++ r ∷ []
   pub told : y.told ≡ known
-  pub past : y.past ≡ H ++ r.1 ∷ []
+  pub prefix : y.prefix ≡ H ++ r.1 ∷ []
   pub met : y.met ≡ H ++ r.1 ∷ []
 
-abbrev pub IsAnsweredAfter : Opening → ℕ → ℕ → List Entry → Request → ℕ × Entry → SeatView →
+abbrev pub IsAnsweredAfter : StartData → ℕ → ℕ → List Entry → Request → ℕ × Entry → SeatView →
     SeatView → Type 0
 IsAnsweredAfter o n cap H request r x y = IsEnteredAfter o n cap H request x.told r x y
 
-abbrev pub IsAnswered : Opening → ℕ → ℕ → Request → ℕ × Entry → SeatView → SeatView → Type 0
+abbrev pub IsAnswered : StartData → ℕ → ℕ → Request → ℕ × Entry → SeatView → SeatView → Type 0
 IsAnswered o n cap request r x y = (H : List Entry) × IsAnsweredAfter o n cap H request r x y

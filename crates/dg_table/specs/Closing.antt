@@ -17,7 +17,7 @@
 use Rattle.std.specs.Prelude.{◌≡◌, ℕ, ◌+◌, ◌<◌, ◌≤◌, List, length, slice_get, Some, ◌⊎◌, sum}
 use Rattle.std.specs.List.{slice_index}
 use Rattle.dg_theory.specs.Multigraph.{Multigraph}
-use Rattle.dg_chips.specs.Opening.{Opening}
+use Rattle.dg_chips.specs.Starts.{StartData}
 use Rattle.dg_chips.specs.Vector.{Vector}
 use Rattle.dg_game.specs.Position.{Shows}
 use Rattle.dg_game.specs.History.{position_after, gifts_in}
@@ -35,12 +35,12 @@ IsComplete n xs = (s : ℕ) → 1 ≤ s → s ≤ n → HasSeat xs s
 abbrev pub AllHeld : List Entry → List SeatView → Type 0
 AllHeld H xs = (i : ℕ) (x : SeatView) → slice_get xs i ≡ Some x → Holds H x
 
-pub record IsClosed (o : Opening) (n cap : ℕ) (xs : List SeatView) (H : List Entry) : Type 0 where
+pub record IsClosed (o : StartData) (n cap : ℕ) (xs : List SeatView) (H : List Entry) : Type 0 where
   pub history : IsHistoryOf o n cap H
   pub complete : IsComplete n xs
   pub held : AllHeld H xs
 
-pub record AreTotals (o : Opening) (n : ℕ) (xs : List SeatView) (H : List Entry) (entries gifts : ℕ)
+pub record AreTotals (o : StartData) (n : ℕ) (xs : List SeatView) (H : List Entry) (entries gifts : ℕ)
     (graph : Multigraph)
     (position : Vector) (calls : List ℕ) : Type 0 where
   pub entries' : entries ≡ length H
@@ -63,5 +63,5 @@ SomeKeepsMore H xs = (i : ℕ) × (x : SeatView) × (slice_get xs i ≡ Some x) 
 abbrev pub RefusesClose : List Entry → ℕ → List SeatView → ℕ → Type 0
 RefusesClose H n xs s = IsMissing n xs s ⊎ ((s ≡ 0) × IsComplete n xs × SomeKeepsMore H xs)
 
-abbrev pub IsCloseRefused : Opening → ℕ → ℕ → List SeatView → ℕ → Type 0
+abbrev pub IsCloseRefused : StartData → ℕ → ℕ → List SeatView → ℕ → Type 0
 IsCloseRefused o n cap xs s = (H : List Entry) × IsHistoryOf o n cap H × RefusesClose H n xs s

@@ -11,7 +11,7 @@
 --                                    if with `Full`, the history that it has met then fills the
 --                                    table; if with `Log`, that has room
 use Rattle.std.specs.Prelude.{◌≡◌, ℕ, ◌<◌, ◌≤◌, List, Bool, true, length, ⊤, ◌⊎◌}
-use Rattle.dg_chips.specs.Opening.{Opening}
+use Rattle.dg_chips.specs.Starts.{StartData}
 use Rattle.dg_game.specs.declared.entry.Entry.{Entry}
 use Rattle.dg_log.specs.Numbered.{StandIn, IsBeginning}
 use Rattle.dg_table.specs.Histories.{IsHistoryOf}
@@ -19,20 +19,20 @@ use Rattle.dg_table.specs.Seats.{SeatView, IsAdmissible}
 use Rattle.dg_table.specs.declared.fault.Fault.{Fault}
 use Rattle.dg_table.specs.declared.fault.Fault.TheVariants.{OutOfMemory, Full, Log}
 
-pub record StandsFull (o : Opening) (n cap : ℕ) (H : List Entry) (x : SeatView) : Type 0 where
+pub record StandsFull (o : StartData) (n cap : ℕ) (H : List Entry) (x : SeatView) : Type 0 where
   pub full : length H ≡ cap
   pub history : IsHistoryOf o n cap H
-  pub past : IsBeginning x.past H
+  pub prefix : IsBeginning x.prefix H
   pub mine : StandIn H x.mine
   pub told : StandIn H x.told
 
-abbrev pub RefusesStep : Opening → ℕ → ℕ → List Entry → SeatView → Bool → Bool → Fault → Type 0
+abbrev pub RefusesStep : StartData → ℕ → ℕ → List Entry → SeatView → Bool → Bool → Fault → Type 0
 RefusesStep o n cap H x b c OutOfMemory = ⊥
 RefusesStep o n cap H x b c Full = StandsFull o n cap H x × (c ≡ b)
 RefusesStep o n cap H x b c Log =
     (length H < cap) × (((¬ IsAdmissible H x) × (c ≡ b)) ⊎ (IsAdmissible H x × (c ≡ true)))
 
-abbrev pub RefusesSettling : Opening → ℕ → ℕ → List Entry → ℕ → SeatView → Bool → Bool → Fault →
+abbrev pub RefusesSettling : StartData → ℕ → ℕ → List Entry → ℕ → SeatView → Bool → Bool → Fault →
     Type 0
 RefusesSettling o n cap H i x b c OutOfMemory = ⊥
 RefusesSettling o n cap H i x b c Full = StandsFull o n cap H x × (c ≡ b)
@@ -40,7 +40,7 @@ RefusesSettling o n cap H i x b c Log = (length H < cap) ×
     (((¬ IsAdmissible H x) × (c ≡ b)) ⊎ (IsAdmissible H x × (length H ≤ i) × (c ≡ b)) ⊎
     (IsAdmissible H x × (i < length H) × (c ≡ true)))
 
-abbrev pub RefusesCall : Opening → ℕ → ℕ → SeatView → Fault → Type 0
+abbrev pub RefusesCall : StartData → ℕ → ℕ → SeatView → Fault → Type 0
 RefusesCall o n cap x OutOfMemory = ⊤
 RefusesCall o n cap x Full = StandsFull o n cap x.met x
 RefusesCall o n cap x Log = length x.met < cap

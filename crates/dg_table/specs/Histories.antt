@@ -8,18 +8,18 @@
 --                              such a history too
 use Rattle.std.specs.Prelude.{◌≡◌, ℕ, ◌≤◌, List, length}
 use Rattle.dg_log.specs.Numbered.{IsBeginning}
-use Rattle.dg_chips.specs.Opening.{Opening}
+use Rattle.dg_chips.specs.Starts.{StartData}
 use Rattle.dg_game.specs.Legal.{IsLegal}
 use Rattle.dg_game.specs.declared.entry.Entry.{Entry}
 use Rattle.dg_table.specs.Seats.{SeatView, AreSeated, entries_of}
 
-pub record IsHistoryOf (o : Opening) (n cap : ℕ) (H : List Entry) : Type 0 where
+pub record IsHistoryOf (o : StartData) (n cap : ℕ) (H : List Entry) : Type 0 where
   pub legal : IsLegal o H
   pub few : length H ≤ cap
   pub seated : AreSeated n H
 
-pub record HasPast (o : Opening) (n cap : ℕ) (x : SeatView) : Type 0 where
-  pub history : IsHistoryOf o n cap x.past
-  pub own : entries_of x.number x.past ≡ x.mine
+pub record HasPast (o : StartData) (n cap : ℕ) (x : SeatView) : Type 0 where
+  pub history : IsHistoryOf o n cap x.prefix
+  pub own : entries_of x.number x.prefix ≡ x.mine
   pub met : IsHistoryOf o n cap x.met
-  pub since : IsBeginning x.past x.met
+  pub since : IsBeginning x.prefix x.met

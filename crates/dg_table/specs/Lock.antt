@@ -11,11 +11,11 @@
 --   IsSeatState o n cap s ps qs H M d look == what the seat s of n keeps fits together: the history
 --                                      H that it found is one of the table, with the entries ps as
 --                                      its own; so is the history M that it has met, which begins
---                                      with H; the digest d is of the entries qs that it was told
+--                                      with H; the receipt_set d is of the entries qs that it was told
 --                                      of, and look is its last look
 use Rattle.std.specs.Prelude.{◌≡◌, ℕ, ◌+◌, ◌<◌, ◌≤◌, List, length, Option, IfSome}
 use Rattle.std.specs.List.{slice_index}
-use Rattle.dg_chips.specs.Opening.{Opening}
+use Rattle.dg_chips.specs.Starts.{StartData}
 use Rattle.dg_game.specs.Legal.{IsSeat, IsLegal}
 use Rattle.dg_game.specs.State.{State, LeadsTo}
 use Rattle.dg_game.specs.declared.entry.Entry.{Entry}
@@ -31,7 +31,7 @@ abbrev pub AreCountsOf : List ℕ → List Entry → Type 0
 AreCountsOf counts H =
     (s : ℕ) → s < MAX_SEATS → slice_index counts s ≡ length (entries_of (s + 1) H)
 
-pub record IsUnderLock (o : Opening) (n : ℕ) (H : List Entry) (game : State)
+pub record IsUnderLock (o : StartData) (n : ℕ) (H : List Entry) (game : State)
     (counts : List ℕ) : Type 0 where
   pub legal : IsLegal o H
   pub game' : LeadsTo o H game
@@ -47,11 +47,11 @@ pub record IsReady (cap : ℕ) (H : List Entry) (x : SeatView) : Type 0 where
   pub admissible : IsAdmissible H x
   pub holds : Holds H x
 
-pub record IsKeptLook (o : Opening) (ps : List (ℕ × Entry)) (look : Option LookData) : Type 0 where
+pub record IsKeptLook (o : StartData) (ps : List (ℕ × Entry)) (look : Option LookData) : Type 0 where
   pub last : IsLastLook ps look
   pub vertices : IfSome look (HasVertices o.graph.size)
 
-pub record IsSeatState (o : Opening) (n cap s : ℕ) (ps qs : List (ℕ × Entry)) (H M : List Entry)
+pub record IsSeatState (o : StartData) (n cap s : ℕ) (ps qs : List (ℕ × Entry)) (H M : List Entry)
     (d : List (ℕ × Entry))
     (look : Option LookData) : Type 0 where
   pub least : 1 ≤ s

@@ -1,4 +1,4 @@
--- Opening a table.
+-- StartData a table.
 --   MayHaveSeats n         == a table may have n seats
 --   AreFresh n xs          == xs are the seats 1 to n, in order, which know of no entry
 --   RefusesOpening n fault   == a table with n seats is refused with the fault
@@ -17,7 +17,7 @@ pub record AreFresh (n : ℕ) (xs : List SeatView) : Type 0 where
   pub number : (i : ℕ) (x : SeatView) → slice_get xs i ≡ Some x → x.number ≡ i + 1
   pub mine : (i : ℕ) (x : SeatView) → slice_get xs i ≡ Some x → x.mine ≡ []
   pub told : (i : ℕ) (x : SeatView) → slice_get xs i ≡ Some x → x.told ≡ []
-  pub past : (i : ℕ) (x : SeatView) → slice_get xs i ≡ Some x → x.past ≡ []
+  pub prefix : (i : ℕ) (x : SeatView) → slice_get xs i ≡ Some x → x.prefix ≡ []
   pub met : (i : ℕ) (x : SeatView) → slice_get xs i ≡ Some x → x.met ≡ []
 
 abbrev pub RefusesOpening : ℕ → TableFault → Type 0

@@ -32,13 +32,13 @@ pub record SeatView : Type 0 where
   pub number : ℕ
   pub mine : List (ℕ × Entry)
   pub told : List (ℕ × Entry)
-  pub past : List Entry
+  pub prefix : List Entry
   pub met : List Entry
   pub space : Bool
   pub hears : Bool
 
 pub record Holds (H : List Entry) (x : SeatView) : Type 0 where
-  pub past : IsBeginning x.past H
+  pub prefix : IsBeginning x.prefix H
   pub met : IsBeginning x.met H
   pub mine : entries_of x.number H ≡ x.mine
   pub told : StandIn H x.told
@@ -52,14 +52,14 @@ pub record Keeps (x y : SeatView) : Type 0 where
   pub number : y.number ≡ x.number
   pub mine : y.mine ≡ x.mine
   pub told : y.told ≡ x.told
-  pub past : y.past ≡ x.past
+  pub prefix : y.prefix ≡ x.prefix
   pub met : IsBeginning x.met y.met
 
 pub record Meets (H : List Entry) (x y : SeatView) : Type 0 where
   pub number : y.number ≡ x.number
   pub mine : y.mine ≡ x.mine
   pub told : y.told ≡ x.told
-  pub past : y.past ≡ x.past
+  pub prefix : y.prefix ≡ x.prefix
   pub met : IsLonger x.met H y.met
   pub space : y.space ≡ x.space
   pub hears : y.hears ≡ x.hears

@@ -16,10 +16,10 @@
 --   IsStale o n cap look x asks r s t   == it is so entered after some history
 use Rattle.std.specs.Prelude.{◌≡◌, ◌≢◌, ◌↔◌, ℕ, List, [], ◌∷◌, ◌++◌, take, slice_get, Some}
 use Rattle.dg_theory.specs.Firing.{FiresTo}
-use Rattle.dg_chips.specs.Opening.{Opening}
+use Rattle.dg_chips.specs.Starts.{StartData}
 use Rattle.dg_chips.specs.Vector.{at}
 use Rattle.dg_verdict.specs.Right.{IsRight}
-use Rattle.dg_ranked.specs.RankTests.{IsRankTest}
+use Rattle.dg_verdict.specs.RankTests.{IsRankTest}
 use Rattle.dg_game.specs.Position.{Position}
 use Rattle.dg_game.specs.History.{position_after, gifts_in}
 use Rattle.dg_game.specs.Look.{asked_for, asked_on, degree_of, KeepsFinding}
@@ -39,7 +39,7 @@ IsCarriedTo p q (Judged v) (Verdict w) =
 IsCarriedTo p q (Ranked v) (Rank w) = IsRankTest p.graph p.amounts (degree_of v) w
 IsCarriedTo p q f reply = ⊥
 
-pub record IsSettledAfter (o : Opening) (n cap : ℕ) (H : List Entry) (look : ℕ × Entry)
+pub record IsSettledAfter (o : StartData) (n cap : ℕ) (H : List Entry) (look : ℕ × Entry)
     (x : LookData) (f : Finding) (r : ℕ × Entry)
     (s t : SeatView) : Type 0 where
   pub entered : IsEnteredAfter o n cap H (asked_for x.number f) (s.told ++ look ∷ []) r s t
@@ -51,11 +51,11 @@ pub record IsSettledAfter (o : Opening) (n cap : ℕ) (H : List Entry) (look : �
   pub carried : gifts_in (take look.0 H) ≡ gifts_in H →
       IsCarriedTo (position_after o H) o.q f r.1.reply
 
-abbrev pub IsSettled : Opening → ℕ → ℕ → ℕ × Entry → LookData → Finding → ℕ × Entry → SeatView →
+abbrev pub IsSettled : StartData → ℕ → ℕ → ℕ × Entry → LookData → Finding → ℕ × Entry → SeatView →
     SeatView → Type 0
 IsSettled o n cap look x f r s t = (H : List Entry) × IsSettledAfter o n cap H look x f r s t
 
-pub record IsStaleAfter (o : Opening) (n cap : ℕ) (H : List Entry) (look : ℕ × Entry)
+pub record IsStaleAfter (o : StartData) (n cap : ℕ) (H : List Entry) (look : ℕ × Entry)
     (x : LookData) (asks : Question) (r : ℕ × Entry)
     (s t : SeatView) : Type 0 where
   pub entered : IsEnteredAfter o n cap H (asked_on x.number asks) (s.told ++ look ∷ []) r s t
@@ -63,7 +63,7 @@ pub record IsStaleAfter (o : Opening) (n cap : ℕ) (H : List Entry) (look : ℕ
   pub since : gifts_in (take look.0 H) ≢ gifts_in H
   pub stale : r.1.reply ≡ Stale (gifts_in H)
 
-abbrev pub IsStale : Opening → ℕ → ℕ → ℕ × Entry → LookData → Question → ℕ × Entry → SeatView
+abbrev pub IsStale : StartData → ℕ → ℕ → ℕ × Entry → LookData → Question → ℕ × Entry → SeatView
     → SeatView → Type 0
 IsStale o n cap look x asks r s t =
     (H : List Entry) × IsStaleAfter o n cap H look x asks r s t

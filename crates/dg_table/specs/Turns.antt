@@ -22,7 +22,7 @@ use Rattle.std.specs.Prelude.{◌≡◌, ℕ, ◌<◌, List, length, Bool, true,
 use Rattle.std.specs.Fn.{Mut, Called, Takes}
 use Rattle.std.specs.Borrow.{Bor}
 use Rattle.dg_theory.specs.Multigraph.{Multigraph}
-use Rattle.dg_chips.specs.Opening.{Opening}
+use Rattle.dg_chips.specs.Starts.{StartData}
 use Rattle.dg_chips.specs.Vector.{Vector}
 use Rattle.dg_chips.specs.declared.moves.Move.{Move}
 use Rattle.dg_game.specs.Position.{Shows}
@@ -52,7 +52,7 @@ request_for (Some m) = request.Move m
 request_for None = request.Claim
 
 module _ {F : Type 0} (c : Mut F (Bor Multigraph × (Bor Vector × Unit {0})) (Option Move))
-    (o : Opening) where
+    (o : StartData) where
   pub record IsAskedAfter (H : List Entry) (f : F) (m : Option Move) (f' : F) : Type 0 where
     pub amounts : Vector
     pub shown : Shows (position_after o H) amounts

@@ -1,6 +1,6 @@
 //! What the lock of a table holds.
 ghost use Rattle.std.specs.Prelude.{ℕ, List, Some, slice_get, ◌≡◌, ◌<◌, ◌≤◌, ◌↔◌, [], ◌∷◌, ◌++◌, true, false, length, IsTrue, IfOk, IfSome, IfErr, MatchOption, MatchResult, MatchBool};
-ghost use Rattle.dg_chips.specs.Opening.{Opening};
+ghost use Rattle.dg_chips.specs.Starts.{StartData};
 ghost use Rattle.dg_game.specs.History.{gifts_in};
 ghost use Rattle.dg_game.specs.Legal.{IsSeat, IsLegal};
 ghost use Rattle.dg_game.specs.Look.{IsFoundFor};
@@ -78,11 +78,11 @@ impl<N: Name> Held<N> {
     {
         let count = self.counts[usize::from(seat.number - 1)];
         let len = self.pen.len();
-        if seat.mine.len() as u64 != count || seat.met.len() > len || !seat.told_digest.below(len) {
+        if seat.mine.len() as u64 != count || seat.met.len() > len || !seat.told_receipt_set.below(len) {
             return false;
         }
         self.pen.began(&seat.met);
-        self.pen.holds(&seat.told_digest);
+        self.pen.holds(&seat.told_receipt_set);
         true
     }
 
@@ -91,7 +91,7 @@ impl<N: Name> Held<N> {
         ensures { Meets self.now.entries seat.old seat.new }
     {
         let _len = self.pen.len();
-        seat.meet(&self.pen.past());
+        seat.meet(&self.pen.prefix());
     }
 
     /// Whether the history has room for an entry of the seat, and holds what the seat knows; or why not.
@@ -106,8 +106,8 @@ impl<N: Name> Held<N> {
         let len = self.pen.len();
         if len == log.len() {
             self.pen.began(&seat.met);
-            if seat.told_digest.below(len) {
-                self.pen.holds(&seat.told_digest);
+            if seat.told_receipt_set.below(len) {
+                self.pen.holds(&seat.told_receipt_set);
             }
             return Err(Fault::Full);
         }
@@ -327,7 +327,7 @@ impl<N: Name> Held<N> {
             RefusesStep N.start N.seats (length N.cells) self.old.entries seat.old self.old.stuck self.new.stuck f) }
     {
         let Ok(receipt) = self.pen.put(log, slot) else {
-            seat.meet(&self.pen.past());
+            seat.meet(&self.pen.prefix());
             return Err(Fault::Log);
         };
         let place = usize::from(seat.number - 1);
@@ -335,8 +335,8 @@ impl<N: Name> Held<N> {
         keep_look(&mut seat.look, &self.game, entry);
         self.game.follow(entry);
         self.counts[place] += 1;
-        seat.past = self.pen.past();
-        seat.met = self.pen.past();
+        seat.prefix = self.pen.prefix();
+        seat.met = self.pen.prefix();
         seat.mine.push(receipt.again()).unwrap();
         Ok(receipt)
     }
@@ -401,7 +401,7 @@ impl<N: Name> Held<N> {
 
 /// Keeps the look that an entry after the game's history takes, where it takes one, in place of an older look.
 fn keep_look(look: &mut Option<LookData>, game: &Game, entry: &Entry)
-    ensures { (o : Opening) (H : List EntryData) (ps : List (ℕ × EntryData)) →
+    ensures { (o : StartData) (H : List EntryData) (ps : List (ℕ × EntryData)) →
         LeadsTo o H game.now → Replies o H entry.now.request entry.now.reply →
         IsKeptLook o ps look.old → IsKeptLook o (ps ++ (length H, entry.now) ∷ []) look.new }
 {

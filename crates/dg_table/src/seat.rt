@@ -8,7 +8,7 @@ ghost use Rattle.dg_table.specs.Opened.{MayHaveSeats, AreFresh};
 ghost use Rattle.dg_table.specs.Seats.{Keeps, Meets};
 
 use dg_game::{BLANK, Entry, LookData};
-use dg_log::{Digest, Log, Name, Past, Receipt, Seating};
+use dg_log::{ReceiptSet, Log, Name, Prefix, Receipt, Seating};
 use std::alloc::{AllocError, Global};
 use std::marker::{Model, PhantomData};
 
@@ -20,9 +20,9 @@ pub struct Seat<N: Name> {
     pub(crate) number: u8,
     pub(crate) mine: Vec<Receipt<N>>,
     pub(crate) told: Vec<Receipt<N>>,
-    pub(crate) past: Past<N>,
-    pub(crate) met: Past<N>,
-    pub(crate) told_digest: Digest<N>,
+    pub(crate) prefix: Prefix<N>,
+    pub(crate) met: Prefix<N>,
+    pub(crate) told_receipt_set: ReceiptSet<N>,
     pub(crate) look: Option<LookData>,
     // Private: so a seat is made here alone, with the leave to make it.
     of: PhantomData<N>,
@@ -40,13 +40,13 @@ impl<N: Name> Model for Seat<N> {
       number = x.number;
       mine = x.mine.items;
       told = x.told.items;
-      past = x.past;
+      prefix = x.prefix;
       met = x.met;
       space = nat_lt (vec_len x.mine) (vec_capacity x.mine) && nat_lt (vec_len x.told) (vec_capacity x.told);
       hears = nat_lt (vec_len x.told) (vec_capacity x.told);
     } };
 
-    ghost invariant = { λ x. IsSeatState N.start N.seats (length N.cells) x.number x.mine.items x.told.items x.past x.met x.told_digest x.look };
+    ghost invariant = { λ x. IsSeatState N.start N.seats (length N.cells) x.number x.mine.items x.told.items x.prefix x.met x.told_receipt_set x.look };
 }
 
 impl<N: Name> Seat<N> {
@@ -77,16 +77,16 @@ impl<N: Name> Seat<N> {
         ensures number { result.number ≡ number }
         ensures mine { result.mine ≡ [] }
         ensures told { result.told ≡ [] }
-        ensures past { result.past ≡ [] }
+        ensures prefix { result.prefix ≡ [] }
         ensures met { result.met ≡ [] }
     {
         Seat {
             number,
             mine: Vec::new(alloc),
             told: Vec::new(alloc),
-            past: Past::new(),
-            met: Past::new(),
-            told_digest: Digest::new(),
+            prefix: Prefix::new(),
+            met: Prefix::new(),
+            told_receipt_set: ReceiptSet::new(),
             look: None,
             of: PhantomData,
         }
@@ -108,16 +108,16 @@ impl<N: Name> Seat<N> {
 
     /// The history as the seat found it at its last call, with that call at its end; it is empty before the first call. It is a
     /// history of the table, and the seat's entries in it are just those of its own calls.
-    pub fn past(&self) -> &Past<N>
-        ensures past { result.now ≡ self.now.past }
+    pub fn prefix(&self) -> &Prefix<N>
+        ensures prefix { result.now ≡ self.now.prefix }
         ensures found { HasPast N.start N.seats (length N.cells) self.now }
     {
-        &self.past
+        &self.prefix
     }
 
     /// The longest history that the seat has met: the one that it found, or a longer one, which a refused call met or the seat
     /// was told of. It is a history of the table.
-    pub fn met(&self) -> &Past<N>
+    pub fn met(&self) -> &Prefix<N>
         ensures met { result.now ≡ self.now.met }
         ensures found { HasPast N.start N.seats (length N.cells) self.now }
     {
@@ -126,7 +126,7 @@ impl<N: Name> Seat<N> {
 
     /// Tells the seat of a history; each later call then comes after all its entries. It takes no memory. The condition is
     /// that it is a history of the table, as what a seat has met is.
-    pub fn meet(&mut self, met: &Past<N>)
+    pub fn meet(&mut self, met: &Prefix<N>)
         requires { IsHistoryOf N.start N.seats (length N.cells) met.now }
         ensures { Meets met.now self.old self.new }
     {
@@ -143,8 +143,8 @@ impl<N: Name> Seat<N> {
         if len < log.len() {
             return false;
         }
-        if self.told_digest.below(len) {
-            self.met.holds(&self.told_digest);
+        if self.told_receipt_set.below(len) {
+            self.met.holds(&self.told_receipt_set);
         }
         true
     }
@@ -184,11 +184,11 @@ impl<N: Name> Seat<N> {
         ensures told { MatchResult result
             (λ _. self.new.told ≡ self.old.told ++ receipt.now ∷ [])
             (λ _. self.new.told ≡ self.old.told) }
-        ensures past { self.new.past ≡ self.old.past }
+        ensures prefix { self.new.prefix ≡ self.old.prefix }
         ensures met { self.new.met ≡ self.old.met }
     {
         self.told.push(receipt.again())?;
-        self.told_digest = self.told_digest.and(receipt);
+        self.told_receipt_set = self.told_receipt_set.and(receipt);
         Ok(())
     }
 
@@ -198,10 +198,10 @@ impl<N: Name> Seat<N> {
         ensures number { self.new.number ≡ self.old.number }
         ensures mine { self.new.mine ≡ self.old.mine }
         ensures told { self.new.told ≡ self.old.told ++ receipt.now ∷ [] }
-        ensures past { self.new.past ≡ self.old.past }
+        ensures prefix { self.new.prefix ≡ self.old.prefix }
         ensures met { self.new.met ≡ self.old.met }
     {
-        self.told_digest = self.told_digest.and(receipt);
+        self.told_receipt_set = self.told_receipt_set.and(receipt);
         self.told.push(receipt.again()).unwrap();
     }
 

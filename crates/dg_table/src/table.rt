@@ -20,7 +20,7 @@ use dg_chips::{Divisor, Move, Start};
 use dg_game::{Entry, Finding, LookData, MAX_SEATS, Plain, Question};
 use dg_graph::Graph;
 use dg_log::{Log, Name, Receipt, Row};
-use dg_reduce::Aim;
+use dg_reduce::InverseLaplacian;
 use std::alloc::Global;
 use std::sync::{Mutex, Wait};
 
@@ -30,7 +30,7 @@ pub struct Table<N: Name> {
     held: Mutex<Held<N>>,
     log: Log<N>,
     start: Start,
-    aim: Aim,
+    inverse: InverseLaplacian,
     ghost started: { start ≡ N.start },
 }
 
@@ -77,7 +77,7 @@ impl<N: Name> Table<N> {
             held,
             log,
             start: *start,
-            aim: Aim::new(start.graph(), usize::from(start.q())),
+            inverse: InverseLaplacian::new(start.graph(), usize::from(start.q())),
         };
         Ok((table, all))
     }
@@ -216,8 +216,8 @@ impl<N: Name> Table<N> {
     }
 
     /// What serves the verdicts on looks at this table whose graph is that of the start. Nothing is promised of it.
-    pub fn aim(&self) -> &Aim {
-        &self.aim
+    pub fn inverse(&self) -> &InverseLaplacian {
+        &self.inverse
     }
 
     /// The cells of the history, which anyone may read at any time.
@@ -241,7 +241,7 @@ impl<N: Name> Table<N> {
             held,
             log,
             start,
-            aim,
+            inverse,
         } = self;
         let held = held.into_inner();
         match held.missing(&seats) {
@@ -253,7 +253,7 @@ impl<N: Name> Table<N> {
                         held,
                         log,
                         start,
-                        aim,
+                        inverse,
                     },
                     seats,
                 })

@@ -17,7 +17,7 @@
 --   never_unseated   a step that a line spells has a seat
 use Rattle.std.proofs.Common.{◌≡◌, ℕ, ◌+◌, ◌<◌, ◌≤◌, ◌==◌, cond, true, false, List, [], ◌∷◌, ◌++◌, length, slice_get, Option, Some, None, arith, refl, sym, ap, subst, ◌∙◌, append_assoc, append-nil, length-append}
 use Rattle.std.specs.Option.{is_none}
-use Rattle.dg_chips.specs.Opening.{Opening}
+use Rattle.dg_chips.specs.Starts.{StartData}
 use Rattle.dg_rehearsal.specs.Rehearsal.{IsPlaying, PlaysOn, StopsPlay}
 use Rattle.dg_rehearsal.specs.ScheduleFaults.{IsFirstFault}
 use Rattle.dg_game.specs.declared.entry.Entry.{Entry}
@@ -35,11 +35,11 @@ use Rattle.dg_lines.proofs.Schedule.{AreRead, none_read, one_more, all_read, ste
 use Rattle.dg_tasks.specs.Rehearsals.{IsPrinted, IsPlayed, IsStopped}
 use Rattle.dg_tasks.specs.Refusals.{IsFaultOf}
 
-abbrev pub StandsAt : Opening → List (List ℕ) → List Step → Rehearsal → List ℕ → Option RehearseFault → Type 0
+abbrev pub StandsAt : StartData → List (List ℕ) → List Step → Rehearsal → List ℕ → Option RehearseFault → Type 0
 StandsAt o names steps r text None = IsPlayed o names steps r text
 StandsAt o names steps r text (Some fault) = IsStopped o steps fault
 
-pub record IsUnderWay (o : Opening) (names all left : List (List ℕ)) (line : ℕ) (r : Rehearsal) (text : List ℕ)
+pub record IsUnderWay (o : StartData) (names all left : List (List ℕ)) (line : ℕ) (r : Rehearsal) (text : List ℕ)
     (stopped : Option RehearseFault) : Type 0 where
   pub steps : List Step
   pub read : AreRead names all left steps
@@ -53,7 +53,7 @@ next_is steps more step n e = ap (slice_get (steps ++ step ∷ more)) e ∙ slic
 together : (steps more : List Step) (step : Step) → (steps ++ step ∷ []) ++ more ≡ steps ++ step ∷ more
 together steps more step = append_assoc steps (step ∷ []) more
 
-pub played_none : (o : Opening) (names : List (List ℕ)) (r : Rehearsal) (text : List ℕ) →
+pub played_none : (o : StartData) (names : List (List ℕ)) (r : Rehearsal) (text : List ℕ) →
     ((steps : List Step) → IsPlaying o steps [] r) → text ≡ []
     → IsPlayed o names [] r text
 unfolding history_text
@@ -65,7 +65,7 @@ played_none o names r text playing empty = record {
   printed = empty;
 }
 
-pub played_more : (o : Opening) (names : List (List ℕ)) (steps : List Step) (step : Step) (e : Entry) (r t : Rehearsal)
+pub played_more : (o : StartData) (names : List (List ℕ)) (steps : List Step) (step : Step) (e : Entry) (r t : Rehearsal)
     (text longer : List ℕ) (number : ℕ)
     → PlaysOn r step e t → r.game.entries < MAX_ENTRIES → number ≡ r.game.entries
     → longer ≡ text ++ entry_text names number e.reply
@@ -90,7 +90,7 @@ played_more o names steps step e r t text longer number plays room counted writt
           ∙ ap (λ (n : ℕ). history_text names 0 H ++ entry_text names n e.reply) place ∙ sym (history_more names 0 H e);
     }
 
-pub stopped_at : (o : Opening) (names : List (List ℕ)) (steps : List Step) (step : Step) (r : Rehearsal) (text : List ℕ)
+pub stopped_at : (o : StartData) (names : List (List ℕ)) (steps : List Step) (step : Step) (r : Rehearsal) (text : List ℕ)
     (fault : RehearseFault)
     → StopsPlay r step fault → IsPlayed o names steps r text → IsStopped o (steps ++ step ∷ []) fault
 stopped_at o names steps step r text fault stops known more =
@@ -99,7 +99,7 @@ stopped_at o names steps step r text fault stops known more =
     (next_is steps more step (length known.history) known.count))
 
 -- a fault stays the first
-pub stays_stopped : (o : Opening) (steps : List Step) (step : Step) (fault : RehearseFault) → IsStopped o steps fault →
+pub stays_stopped : (o : StartData) (steps : List Step) (step : Step) (fault : RehearseFault) → IsStopped o steps fault →
     IsStopped o (steps ++ step ∷ []) fault
 stays_stopped o steps step fault stopped more =
     subst (λ (all : List Step). IsFirstFault o.graph.size all fault) (sym (together steps more step))
@@ -117,7 +117,7 @@ lines_few (x ∷ xs) =
     elim (x == 10) as (λ t. length (cond t ([] ∷ lines xs) (onto_first x (lines xs))) ≤ length (x ∷ xs))
     [ true ↦ omega arith | false ↦ omega (arith, onto_first_few x (length xs) (lines xs) few) ]
 
-pub under_way_none : (o : Opening) (names : List (List ℕ)) (bytes left : List ℕ) (r : Rehearsal) (text : List ℕ)
+pub under_way_none : (o : StartData) (names : List (List ℕ)) (bytes left : List ℕ) (r : Rehearsal) (text : List ℕ)
     → ((steps : List Step) → IsPlaying o steps [] r) → text ≡ [] → left ≡ bytes →
     IsUnderWay o names (lines bytes) (lines left) 0 r text None
 under_way_none o names bytes left r text playing empty same = record {
@@ -139,11 +139,11 @@ one_counted : (steps : List Step) (step : Step) (line : ℕ) → line ≡ length
     line + 1 ≡ length (steps ++ step ∷ [])
 one_counted steps step line count = omega (arith, count, length-append steps (step ∷ []))
 
-pub one_played : (o : Opening) (names own all left back : List (List ℕ)) (bytes : List ℕ) (line : ℕ) (r t : Rehearsal)
+pub one_played : (o : StartData) (names own all left back : List (List ℕ)) (bytes : List ℕ) (line : ℕ) (r t : Rehearsal)
     (text longer : List ℕ)
     (stopped : Option RehearseFault) (step : Step) → own ≡ names → left ≡ bytes ∷ back → IsStepLine own step bytes →
     is_none stopped ≡ true
-    → ((o : Opening) (steps : List Step) → IsPlayed o own steps r text → IsPlayed o own (steps ++ step ∷ []) t longer)
+    → ((o : StartData) (steps : List Step) → IsPlayed o own steps r text → IsPlayed o own (steps ++ step ∷ []) t longer)
     → IsUnderWay o names all left line r text stopped → IsUnderWay o names all back (line + 1) t longer stopped
 one_played o names own all left back bytes line r t text longer None step same next accepted none plays known = record {
   steps = known.steps ++ step ∷ [];
@@ -155,12 +155,12 @@ one_played o names own all left back bytes line r t text longer None step same n
 one_played o names own all left back bytes line r t text longer (Some fault) step same next accepted none plays known =
     absurd (cc)
 
-pub one_refused : (o : Opening) (names own all left back : List (List ℕ)) (bytes : List ℕ) (line : ℕ) (r t : Rehearsal)
+pub one_refused : (o : StartData) (names own all left back : List (List ℕ)) (bytes : List ℕ) (line : ℕ) (r t : Rehearsal)
     (text longer : List ℕ)
     (stopped : Option RehearseFault) (step : Step) (fault : RehearseFault) → own ≡ names → left ≡ bytes ∷ back →
     IsStepLine own step bytes
     → is_none stopped ≡ true
-    → ((o : Opening) (steps : List Step) → IsPlayed o own steps r text → IsStopped o (steps ++ step ∷ []) fault)
+    → ((o : StartData) (steps : List Step) → IsPlayed o own steps r text → IsStopped o (steps ++ step ∷ []) fault)
     → IsUnderWay o names all left line r text stopped → IsUnderWay o names all back (line + 1) t longer (Some fault)
 one_refused o names own all left back bytes line r t text longer None step fault same next accepted none stops known =
     record {
@@ -173,7 +173,7 @@ one_refused o names own all left back bytes line r t text longer None step fault
 one_refused o names own all left back bytes line r t text longer
     (Some x) step fault same next accepted none stops known = absurd (cc)
 
-pub one_passed : (o : Opening) (names own all left back : List (List ℕ)) (bytes : List ℕ) (line : ℕ) (r : Rehearsal)
+pub one_passed : (o : StartData) (names own all left back : List (List ℕ)) (bytes : List ℕ) (line : ℕ) (r : Rehearsal)
     (text : List ℕ)
     (stopped : Option RehearseFault) (step : Step) → own ≡ names → left ≡ bytes ∷ back → IsStepLine own step bytes →
     is_none stopped ≡ false
@@ -186,7 +186,7 @@ one_passed o names own all left back bytes line r text (Some fault) step same ne
   stands = stays_stopped o known.steps step fault known.stands;
 }
 
-pub lines_read : (o : Opening) (names left back : List (List ℕ)) (bytes next : List ℕ) (line : ℕ) (r : Rehearsal)
+pub lines_read : (o : StartData) (names left back : List (List ℕ)) (bytes next : List ℕ) (line : ℕ) (r : Rehearsal)
     (text : List ℕ)
     (stopped : Option RehearseFault) → left ≡ next ∷ back → IsUnderWay o names (lines bytes) left line r text stopped →
     line + 1 ≤ length bytes
@@ -195,7 +195,7 @@ lines_read o names left back bytes next line r text stopped goes known =
     ap length known.read.whole ∙ length-append known.read.front left in
     omega (arith, whole, ap length goes, lines_few bytes, known.count, known.read.accepted.count)
 
-pub all_played : (o : Opening) (names all left : List (List ℕ)) (line : ℕ) (r : Rehearsal) (text : List ℕ)
+pub all_played : (o : StartData) (names all left : List (List ℕ)) (line : ℕ) (r : Rehearsal) (text : List ℕ)
     (stopped : Option RehearseFault)
     → left ≡ [] → stopped ≡ None → IsUnderWay o names all left line r text stopped → IsPrinted o names all text
 all_played o names all left line r text None none played known =
@@ -218,7 +218,7 @@ all_played o names all left line r text None none played known =
     }
 all_played o names all left line r text (Some fault) none played known = absurd (cc)
 
-pub first_fault : (o : Opening) (names all left : List (List ℕ)) (line : ℕ) (r : Rehearsal) (text : List ℕ)
+pub first_fault : (o : StartData) (names all left : List (List ℕ)) (line : ℕ) (r : Rehearsal) (text : List ℕ)
     (stopped : Option RehearseFault)
     (fault : RehearseFault) → left ≡ [] → stopped ≡ Some fault → IsUnderWay o names all left line r text stopped →
     IsFaultOf o.graph.size names all fault

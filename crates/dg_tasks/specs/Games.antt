@@ -7,20 +7,20 @@
 --   RefusesTurns fault         == memory was refused, or the table refused an entry, or it is not
 --                                 closed; the history is never full
 use Rattle.std.specs.Prelude.{◌≡◌, ◌≢◌, ℕ, Bool, true, false, List, [], ◌++◌, codes, ⊤}
-use Rattle.dg_chips.specs.Opening.{Opening}
+use Rattle.dg_chips.specs.Starts.{StartData}
 use Rattle.dg_game.specs.declared.entry.Entry.{Entry}
 use Rattle.dg_strategy.specs.Greedy.{IsGreedyGame}
 use Rattle.dg_lines.specs.Texts.{history_text}
 use Rattle.dg_table.specs.declared.fault.Fault.TheVariants.{Full}
 use Rattle.dg_tasks.specs.declared.fault.TaskFault.{TaskFault}
 use Rattle.dg_tasks.specs.declared.fault.TaskFault.TheVariants.{Turn, Shortage}
-use Rattle.dg_beside.specs.declared.shortage.Shortage.TheVariants.{OutOfMemory}
+use Rattle.dg_system.specs.declared.shortage.Shortage.TheVariants.{OutOfMemory}
 
 abbrev pub turns_text : Bool → List ℕ
 turns_text true = []
 turns_text false = codes "turns\n"
 
-pub record IsGreedyAnswer (o : Opening) (n : ℕ) (names : List (List ℕ))
+pub record IsGreedyAnswer (o : StartData) (n : ℕ) (names : List (List ℕ))
     (text : List ℕ) : Type 0 where
   pub history : List Entry
   pub settled : Bool

@@ -19,19 +19,19 @@ use Rattle.dg_theory.specs.Multigraph.{genus}
 use Rattle.dg_theory.specs.Firing.{degree}
 use Rattle.dg_theory.specs.Rank.{less, canonical}
 use Rattle.dg_chips.specs.Dual.{IsDualFault}
-use Rattle.dg_chips.specs.Opening.{Opening}
+use Rattle.dg_chips.specs.Starts.{StartData}
 use Rattle.dg_chips.specs.Vector.{at, IsInRange}
 use Rattle.dg_rank.specs.Limits.{IsPastLimits}
-use Rattle.dg_ranked.specs.RankTests.{IsRankTest}
+use Rattle.dg_verdict.specs.RankTests.{IsRankTest}
 use Rattle.dg_rank.specs.Ranks.{IsWithin, IsRankInLimits, DualNeedsTooMany}
-use Rattle.dg_ranked.specs.declared.rank_verdict.RankVerdict.{RankVerdict}
+use Rattle.dg_verdict.specs.declared.rank_verdict.RankVerdict.{RankVerdict}
 use Rattle.dg_game.specs.declared.entry.Reply.TheVariants.{Rank}
 use Rattle.dg_lines.specs.Texts.{text_of}
 use Rattle.dg_tasks.specs.declared.fault.TaskFault.{TaskFault}
 use Rattle.dg_tasks.specs.declared.fault.TaskFault.TheVariants.{TooMany, Chip, Shortage}
-use Rattle.dg_beside.specs.declared.shortage.Shortage.TheVariants.{OutOfMemory}
+use Rattle.dg_system.specs.declared.shortage.Shortage.TheVariants.{OutOfMemory}
 
-pub record IsRankAnswer (o : Opening) (k : ℕ) (names : List (List ℕ)) (text : List ℕ) : Type 0 where
+pub record IsRankAnswer (o : StartData) (k : ℕ) (names : List (List ℕ)) (text : List ℕ) : Type 0 where
   pub within : IsWithin o.graph.size k
   pub verdict : RankVerdict
   pub right : IsRankTest o.graph (at o.divisor) k verdict
@@ -45,14 +45,14 @@ RefusesRank n k fault = ⊥
 abbrev pub number_line : List ℕ → ℤ → List ℕ
 number_line label z = label ++ signed_decimal z ++ codes "\n"
 
-abbrev pub riemann_roch_text : Opening → ℤ → ℤ → List ℕ
+abbrev pub riemann_roch_text : StartData → ℤ → ℤ → List ℕ
 riemann_roch_text o rank dual_rank =
     number_line (codes "degree ") (degree o.graph.size (at o.divisor))
     ++ number_line (codes "genus ") (genus o.graph)
     ++ number_line (codes "rank ") rank
     ++ number_line (codes "dual ") dual_rank
 
-pub record IsRiemannRoch (o : Opening) (text : List ℕ) : Type 0 where
+pub record IsRiemannRoch (o : StartData) (text : List ℕ) : Type 0 where
   pub in_range : IsInRange o.graph.size (less (canonical o.graph) (at o.divisor))
   pub rank : ℤ
   pub of_divisor : IsRankInLimits o.graph (at o.divisor) rank
@@ -61,7 +61,7 @@ pub record IsRiemannRoch (o : Opening) (text : List ℕ) : Type 0 where
   pub apart : rank -ℤ dual_rank ≡ (degree o.graph.size (at o.divisor) +ℤ pos 1) -ℤ genus o.graph
   pub printed : text ≡ riemann_roch_text o rank dual_rank
 
-abbrev pub RefusesRiemannRoch : Opening → TaskFault → Type 0
+abbrev pub RefusesRiemannRoch : StartData → TaskFault → Type 0
 RefusesRiemannRoch o (Chip fault) = IsDualFault o.graph (at o.divisor) fault
 RefusesRiemannRoch o TooMany = DualNeedsTooMany o.graph (at o.divisor)
 RefusesRiemannRoch o (Shortage OutOfMemory) = ⊤

@@ -14,7 +14,7 @@ use Rattle.dg_game.specs.declared.step.Step.{Step}
 use Rattle.dg_lines.specs.Schedules.{AreStepsOf, IsFirstRefused}
 use Rattle.dg_tasks.specs.declared.fault.TaskFault.{TaskFault}
 use Rattle.dg_tasks.specs.declared.fault.TaskFault.TheVariants.{Line, Full, NoLook, StepTrials, Shortage}
-use Rattle.dg_beside.specs.declared.shortage.Shortage.TheVariants.{OutOfMemory}
+use Rattle.dg_system.specs.declared.shortage.Shortage.TheVariants.{OutOfMemory}
 
 abbrev pub IsFaultOf : ℕ → List (List ℕ) → List (List ℕ) → RehearseFault → Type 0
 IsFaultOf n names lines fault =

@@ -9,7 +9,7 @@
 --   GoesOn names step r text r' text' result == of all such steps, with this one they come to that;
 --                                      or the fault is the first of them with this one
 use Rattle.std.specs.Prelude.{◌≡◌, ℕ, List, [], ◌∷◌, ◌++◌, length, ◌≤◌, Result, MatchResult}
-use Rattle.dg_chips.specs.Opening.{Opening}
+use Rattle.dg_chips.specs.Starts.{StartData}
 use Rattle.dg_rehearsal.specs.Rehearsal.{IsPlaying}
 use Rattle.dg_rehearsal.specs.Schedule.{IsRehearsal}
 use Rattle.dg_rehearsal.specs.ScheduleFaults.{IsFirstFault}
@@ -21,7 +21,7 @@ use Rattle.dg_game.specs.declared.step.Step.{Step}
 use Rattle.dg_lines.specs.Schedules.{AreStepsOf}
 use Rattle.dg_lines.specs.Texts.{history_text}
 
-pub record IsPrinted (o : Opening) (names : List (List ℕ)) (lines : List (List ℕ))
+pub record IsPrinted (o : StartData) (names : List (List ℕ)) (lines : List (List ℕ))
     (text : List ℕ) : Type 0 where
   pub steps : List Step
   pub spelled : AreStepsOf names steps lines
@@ -29,7 +29,7 @@ pub record IsPrinted (o : Opening) (names : List (List ℕ)) (lines : List (List
   pub rehearsal : IsRehearsal o steps history
   pub printed : text ≡ history_text names 0 history
 
-pub record IsPlayed (o : Opening) (names : List (List ℕ)) (steps : List Step) (r : Rehearsal)
+pub record IsPlayed (o : StartData) (names : List (List ℕ)) (steps : List Step) (r : Rehearsal)
     (text : List ℕ) : Type 0 where
   pub history : List Entry
   pub playing : (more : List Step) → IsPlaying o (steps ++ more) history r
@@ -37,17 +37,17 @@ pub record IsPlayed (o : Opening) (names : List (List ℕ)) (steps : List Step) 
   pub few : length steps ≤ MAX_ENTRIES
   pub printed : text ≡ history_text names 0 history
 
-abbrev pub IsStopped : Opening → List Step → RehearseFault → Type 0
+abbrev pub IsStopped : StartData → List Step → RehearseFault → Type 0
 IsStopped o steps fault = (more : List Step) → IsFirstFault o.graph.size (steps ++ more) fault
 
 abbrev pub MayGoOn : List (List ℕ) → Rehearsal → List ℕ → Type 0
 MayGoOn names r text =
-    (o : Opening) × (steps : List Step) × (length names ≡ o.graph.size) × IsPlayed o names steps r text
+    (o : StartData) × (steps : List Step) × (length names ≡ o.graph.size) × IsPlayed o names steps r text
 
 abbrev pub GoesOn : {B : Type 0} → List (List ℕ) → Step → Rehearsal → List ℕ → Rehearsal → List ℕ
     → Result B RehearseFault → Type 0
 GoesOn names step r text r' text' result = MatchResult result
-    (λ _. (o : Opening) (steps : List Step) → IsPlayed o names steps r text →
+    (λ _. (o : StartData) (steps : List Step) → IsPlayed o names steps r text →
     IsPlayed o names (steps ++ step ∷ []) r' text')
-    (λ fault. (o : Opening) (steps : List Step) → IsPlayed o names steps r text →
+    (λ fault. (o : StartData) (steps : List Step) → IsPlayed o names steps r text →
     IsStopped o (steps ++ step ∷ []) fault)

@@ -19,31 +19,31 @@
 --   RefusesTask held task fault   == the table file is refused so, or it is good, and the task is
 --                                    refused so on its table
 use Rattle.std.specs.Prelude.{◌≡◌, ◌⊎◌, ℕ, List}
-use Rattle.dg_chips.specs.Opening.{Opening}
+use Rattle.dg_chips.specs.Starts.{StartData}
 use Rattle.dg_file.specs.TableFiles.{IsTableFile}
 use Rattle.dg_file.specs.FileFaults.{RefusesFile}
 use Rattle.dg_file.specs.declared.fault.FileFault.{FileFault}
 use Rattle.dg_lines.specs.Cuts.{lines}
-use Rattle.dg_sources.specs.Held.{Held, MayHold, RefusesHeld}
+use Rattle.dg_system.specs.Held.{Held, MayHold, RefusesHeld}
 use Rattle.dg_tasks.specs.Rehearsals.{IsPrinted}
 use Rattle.dg_tasks.specs.Judgements.{IsJudgement}
 use Rattle.dg_tasks.specs.RankTests.{IsRankAnswer, IsRiemannRoch, RefusesRank, RefusesRiemannRoch}
 use Rattle.dg_tasks.specs.Refusals.{RefusesSchedule}
 use Rattle.dg_tasks.specs.Games.{IsGreedyAnswer, RefusesTurns}
-use Rattle.dg_asked.specs.Files.{file_of}
-use Rattle.dg_asked.specs.declared.asked.Task.{Task}
-use Rattle.dg_asked.specs.declared.asked.Task.TheVariants.{Rehearse, Judge, Rank, RiemannRoch, Greedy}
+use Rattle.dg_invocation.specs.Files.{file_of}
+use Rattle.dg_invocation.specs.declared.invocation.Task.{Task}
+use Rattle.dg_invocation.specs.declared.invocation.Task.TheVariants.{Rehearse, Judge, Rank, RiemannRoch, Greedy}
 use Rattle.dg_tasks.specs.declared.fault.TaskFault.{TaskFault}
 use Rattle.dg_tasks.specs.declared.fault.TaskFault.TheVariants.{Source, File, Shortage}
-use Rattle.dg_beside.specs.declared.shortage.Shortage.TheVariants.{OutOfMemory}
+use Rattle.dg_system.specs.declared.shortage.Shortage.TheVariants.{OutOfMemory}
 
-pub record DescribesTable (h : Held) (o : Opening) (names : List (List ℕ)) : Type 0 where
+pub record DescribesTable (h : Held) (o : StartData) (names : List (List ℕ)) : Type 0 where
   pub bytes : List ℕ
   pub held : MayHold h bytes
   pub table : IsTableFile bytes o names
 
-pub record IsOnTable (h : Held) (P : Opening → List (List ℕ) → Type 0) : Type 0 where
-  pub opening : Opening
+pub record IsOnTable (h : Held) (P : StartData → List (List ℕ) → Type 0) : Type 0 where
+  pub opening : StartData
   pub names : List (List ℕ)
   pub table : DescribesTable h opening names
   pub holds : P opening names
@@ -53,7 +53,7 @@ pub record IsOfSteps (h : Held) (P : List (List ℕ) → Type 0) : Type 0 where
   pub held : MayHold h bytes
   pub holds : P (lines bytes)
 
-abbrev pub AnswersTask : (List ℕ → Held) → Opening → List (List ℕ) → Task → List ℕ → Type 0
+abbrev pub AnswersTask : (List ℕ → Held) → StartData → List (List ℕ) → Task → List ℕ → Type 0
 AnswersTask held o names (Rehearse file steps) text =
     IsOfSteps (held steps.now) (λ all. IsPrinted o names all text)
 AnswersTask held o names (Judge file) text = IsJudgement o names text
@@ -70,7 +70,7 @@ pub record RefusesContents (h : Held) (fault : FileFault) : Type 0 where
   pub held : MayHold h bytes
   pub refused : RefusesFile bytes fault
 
-abbrev pub RefusesOn : (List ℕ → Held) → Opening → List (List ℕ) → Task → TaskFault → Type 0
+abbrev pub RefusesOn : (List ℕ → Held) → StartData → List (List ℕ) → Task → TaskFault → Type 0
 RefusesOn held o names (Rehearse file steps) (Source fault) = RefusesHeld (held steps.now) fault
 RefusesOn held o names (Rehearse file steps) fault =
     IsOfSteps (held steps.now) (λ all. RefusesSchedule o.graph.size names all fault)

@@ -4,15 +4,15 @@ ghost use Rattle.dg_game.specs.declared.game.TheConstants.{MAX_ENTRIES};
 ghost use Rattle.dg_tasks.specs.Games.{IsGreedyAnswer, RefusesTurns};
 
 use crate::fault::TaskFault;
-use dg_beside::Shortage;
+use dg_system::Shortage;
 use dg_chips::Start;
 use dg_file::TableFile;
 use dg_game::MAX_ENTRIES;
 use dg_log::{LogFault, Name, Row};
-use dg_names::Names;
+use dg_tokens::Names;
 use dg_strategy::greedy_on;
 use dg_table::Fault;
-use dg_totals::audit_lines;
+use dg_transcript::audit_lines;
 use std::alloc::Global;
 use std::marker::Brand;
 use std::sync::Wait;

@@ -5,7 +5,7 @@ ghost use Rattle.dg_tasks.specs.RankTests.{IsRankAnswer, RefusesRank, number_lin
 
 use crate::fault::TaskFault;
 use crate::printed::reply_line;
-use dg_beside::Shortage;
+use dg_system::Shortage;
 use dg_chips::{Start, dual};
 use dg_file::TableFile;
 use dg_game::Reply;

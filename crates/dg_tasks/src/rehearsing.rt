@@ -5,11 +5,11 @@ ghost use Rattle.dg_tasks.specs.Rehearsals.{IsPrinted, MayGoOn, GoesOn};
 ghost use Rattle.dg_tasks.specs.Refusals.{RefusesSchedule};
 
 use crate::fault::TaskFault;
-use dg_beside::Shortage;
+use dg_system::Shortage;
 use dg_file::TableFile;
 use dg_game::{BLANK, Entry, Step};
 use dg_lines::{Lines, parse_step, push_entry};
-use dg_names::Names;
+use dg_tokens::Names;
 use dg_rehearsal::{Rehearsal, RehearseFault};
 use std::alloc::Global;
 

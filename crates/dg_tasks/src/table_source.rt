@@ -4,7 +4,7 @@ ghost use Rattle.dg_tasks.specs.Tasks.{RefusesItsTable, DescribesTable};
 
 use crate::fault::TaskFault;
 use dg_file::{TableFile, read_table};
-use dg_sources::Sources;
+use dg_system::Sources;
 use std::rt::Files;
 
 /// The table of the file with that name.

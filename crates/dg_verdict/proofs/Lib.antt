@@ -1,3 +1,4 @@
+-- The lemmas that the proofs cite.
 pub mod Orders
 pub mod Verdicts
 pub mod Rebased

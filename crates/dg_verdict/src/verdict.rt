@@ -7,7 +7,7 @@ ghost use Rattle.dg_verdict.specs.Right.{IsVerdictOn};
 
 use dg_chips::{Divisor, Script, Wide};
 use dg_graph::Graph;
-use dg_reduce::{Aim, Guessed, certified_by, guess, guess_once, order_by};
+use dg_reduce::{InverseLaplacian, Guessed, certified_by, guess, guess_once, order_by};
 
 /// Whether a divisor is winnable, with what shows it.
 #[derive(Clone, Copy, PartialEq, Eq)]
@@ -37,21 +37,21 @@ pub fn judge(graph: &Graph, q: usize, divisor: &Divisor) -> Verdict
     judge_by(graph, q, divisor, &chips, &found)
 }
 
-/// The verdict as `judge` gives it, whatever is aimed by: an aim that was made for the graph and q saves the time to make
+/// The verdict as `judge` gives it, whatever inverse it is given: one that was made for the graph and q saves the time to make
 /// it anew. One that was made before an edge was added is not used.
-pub fn judge_aimed(graph: &Graph, aim: &Aim, q: usize, divisor: &Divisor) -> Verdict
+pub fn judge_with_inverse(graph: &Graph, inverse: &InverseLaplacian, q: usize, divisor: &Divisor) -> Verdict
     requires size { divisor.now.size ≡ graph.now.size }
     requires vertex { q < graph.now.size }
     ensures { IsVerdictOn graph.now q (at divisor.now) result }
 {
-    if !aim.may_serve(graph, q) {
+    if !inverse.may_serve(graph, q) {
         return judge(graph, q, divisor);
     }
     // The clauses of `size` say that graph and divisor are within their limits.
     let _size = graph.size();
     let _amounts = divisor.size();
     let chips = Wide::of(divisor);
-    let guess = guess(graph, aim, q, &chips);
+    let guess = guess(graph, inverse, q, &chips);
     judge_by(graph, q, divisor, &chips, &guess)
 }
 

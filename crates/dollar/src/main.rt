@@ -1,10 +1,9 @@
 //! The program `dollar`: plays the dollar game on a graph. `dollar --help` says how it is called.
 #![tactic(auto)]
 
-use dg_command::{CommandLine, words_of};
+use dg_cli::{CommandLine, words_of};
 use dg_server::{Fault, report, run};
-use dg_sources::Disk;
-use dg_streams::{Input, Output};
+use dg_system::{Disk, Input, Output};
 use std::process::ExitCode;
 
 fn main(rt: HostRuntime) -> ExitCode {

@@ -6,7 +6,7 @@ use crate::rank::references::plainly;
 use dg_chips::{Divisor, dual};
 use dg_graph::Graph;
 use dg_rank::{OpenGate, RankFault, both_ranks, both_ranks_in_limits, has_rank, rank, rank_with};
-use dg_ranked::RankVerdict;
+use dg_verdict::RankVerdict;
 use std::process::Abort;
 use std::sync::Wait;
 use std::test::Fail;

@@ -5,7 +5,7 @@ use crate::edges::{FOUR, PAIR, SQUARE, TRIANGLE};
 use dg_chips::Divisor;
 use dg_graph::Graph;
 use dg_rank::{Gate, OpenGate, RankFault, rank_at_least, rank_with};
-use dg_ranked::RankVerdict;
+use dg_verdict::RankVerdict;
 use std::process::Abort;
 use std::sync::Wait;
 use std::sync::atomic::{AtomicBool, AtomicU64, Ordering};

@@ -3,8 +3,8 @@
 use crate::edges::{SQUARE, TRIANGLE};
 use dg_chips::Divisor;
 use dg_graph::Graph;
-use dg_reduce::Aim;
-use dg_verdict::{judge, judge_aimed};
+use dg_reduce::InverseLaplacian;
+use dg_verdict::{judge, judge_with_inverse};
 use std::process::Abort;
 use std::test::Fail;
 
@@ -36,7 +36,7 @@ fn how_vertices_burn(rt: HostRuntime) -> Result<(), Fail> {
     Ok(())
 }
 
-// Whether the verdict has the order, also by an aim at another vertex.
+// Whether the verdict has the order, also by an inverse at another vertex.
 fn has_order(rt: &impl Abort, case: &Case) -> Result<(), Fail> {
     let (items, q, amounts, order) = case;
     let graph = Graph::new(amounts.len(), items)?;
@@ -44,7 +44,7 @@ fn has_order(rt: &impl Abort, case: &Case) -> Result<(), Fail> {
     assert!(rt; *q < graph.size());
     let verdict = judge(&graph, *q, &divisor);
     assert!(rt; verdict.order.starts_with(order), "{order:?}");
-    let aim = Aim::new(&graph, 0);
-    assert!(rt; judge_aimed(&graph, &aim, *q, &divisor) == verdict);
+    let inverse = InverseLaplacian::new(&graph, 0);
+    assert!(rt; judge_with_inverse(&graph, &inverse, *q, &divisor) == verdict);
     Ok(())
 }

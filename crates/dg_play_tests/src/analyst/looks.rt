@@ -5,13 +5,13 @@ use crate::openings::{Scene, on_a_table};
 use crate::tables::{triangle, winnable};
 use dg_analyst::{
     Look, Reckoned, Tried, commit, commit_look, commit_rank, commit_stale, look, reckon,
-    reckon_aimed, try_rank,
+    reckon_with_inverse, try_rank,
 };
 use dg_chips::{Divisor, Move, Start};
 use dg_game::{Plain, Question, Reply, Request};
 use dg_log::{Log, Name, Receipt};
 use dg_rank::{OpenGate, RankFault};
-use dg_ranked::RankVerdict;
+use dg_verdict::RankVerdict;
 use dg_table::{Seat, Table};
 use std::alloc::Global;
 use std::process::Abort;
@@ -105,8 +105,8 @@ fn enters_on_a_look_of<N: Name, R: Wait + Abort>(
     second: &mut Seat<N>,
 ) -> Result<(), Fail> {
     let taken = look(table, rt, alloc, second)?;
-    let mut aim = *table.aim();
-    let receipt = commit_look(table, rt, alloc, first, &taken, &mut aim)?;
+    let mut inverse = *table.inverse();
+    let receipt = commit_look(table, rt, alloc, first, &taken, &mut inverse)?;
     assert!(rt; taken.receipt().number() == 3 && receipt.number() == 4);
     assert!(rt; is_won(&table.log().entry(&receipt).reply));
     Ok(())
@@ -183,7 +183,7 @@ pub(crate) fn asks_too_much<N: Name, R: Threads + Wait + Abort>(
     let taken = given_back(rt, taken, 631, 1, RankFault::TooMany)?;
     let taken = given_back(rt, taken, 0, 17, RankFault::Workers)?;
     assert!(rt; taken.receipt().number() == 0 && first.calls() == 1);
-    let reckoned = reckon_aimed(taken, table.aim());
+    let reckoned = reckon_with_inverse(taken, table.inverse());
     let receipt = commit(table, rt, alloc, second, reckoned)
         .ok()
         .ok_or("an entry")?;

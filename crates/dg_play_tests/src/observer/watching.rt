@@ -56,9 +56,9 @@ impl Watch for FirstTwo {
 
 // Counts in a cell how often it is asked for a step.
 #[derive(Clone, Copy)]
-struct Asked<'a>(&'a Cell<u64>);
+struct Invocation<'a>(&'a Cell<u64>);
 
-impl<'a> Watch for Asked<'a> {
+impl<'a> Watch for Invocation<'a> {
     ghost use Rattle.std.specs.Prelude.{⊤};
 
     type State = u64;
@@ -137,7 +137,7 @@ fn is_asked_once_for_each<N: Name>(
     log: &Log<N>,
 ) -> Result<(), Fail> {
     let steps = Cell::new(0);
-    let mut asked = Observer::<N, Asked<'_>>::new(alloc, Asked(&steps), 0);
+    let mut asked = Observer::<N, Invocation<'_>>::new(alloc, Invocation(&steps), 0);
     let read = asked.catch_up(log)?;
     assert!(rt; read == 3 && steps.get() == 3);
     Ok(())

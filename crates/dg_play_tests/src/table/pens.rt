@@ -2,7 +2,7 @@
 ghost use Rattle.std.specs.Prelude.{◌≡◌};
 
 use dg_game::{Entry, Reply, Request};
-use dg_log::{Digest, Log, Name, Row};
+use dg_log::{ReceiptSet, Log, Name, Row};
 use std::alloc::Global;
 use std::process::Abort;
 use std::test::Fail;
@@ -28,11 +28,11 @@ pub(crate) fn writes<N: Name>(rt: &impl Abort, alloc: Global, row: Row) -> Resul
     assert!(rt; pen.len() == 1);
     assert!(rt; receipt.number() == 0 && !pen.stuck());
     assert!(rt; *log.entry(&pen.receipt(0)) == claim);
-    let digest = Digest::new().and(&receipt);
-    assert!(rt; !digest.below(0));
-    if digest.below(1) {
-        pen.holds(&digest);
+    let receipt_set = ReceiptSet::new().and(&receipt);
+    assert!(rt; !receipt_set.below(0));
+    if receipt_set.below(1) {
+        pen.holds(&receipt_set);
         return Ok(());
     }
-    Err(Fail::from("a digest that ends too late"))
+    Err(Fail::from("a receipt_set that ends too late"))
 }

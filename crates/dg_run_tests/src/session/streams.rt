@@ -6,7 +6,7 @@ use dg_chips::Start;
 use dg_file::{Names, read_table};
 use dg_log::Name;
 use dg_session::{SessionEnd, serve, streams_are_cut_in_one_way};
-use dg_streams::{Input, Output};
+use dg_system::{Input, Output};
 use dg_table::{Seat, Table};
 use std::alloc::Global;
 use std::cell::Cell;

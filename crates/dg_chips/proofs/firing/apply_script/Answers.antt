@@ -5,7 +5,7 @@ use Rattle.dg_chips.proofs.firing.apply_script.Goals as goal
 use Rattle.dg_chips.proofs.firing.apply_script.Goals.{After-size-2}
 
 -- the numbers at hand come from firing the move's script
-made : (c : After-size-2) → AreFired c.args.graph.now (at c.args.divisor.now) (at c.in_ok-script.script) c.args.play.now
+made : (c : After-size-2) → AreFired c.args.graph.now (at c.args.divisor.now) (at c.in_ok-script.script) c.args.chip_move.now
     c.size-2.result c.fired_amounts-amounts.result
 made c = record {
   size = c.size-2.ensures.size;

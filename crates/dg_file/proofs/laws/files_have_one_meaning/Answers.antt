@@ -1,8 +1,8 @@
 -- One value, one content, one table or one fault.
 use Rattle.std.proofs.Common.{◌≡◌, ℕ, List, length, sym, ap, ◌∙◌}
-use Rattle.dg_chips.specs.Opening.{Opening}
+use Rattle.dg_chips.specs.Starts.{StartData}
 use Rattle.dg_file.specs.Content.{Content}
-use Rattle.dg_names.specs.Names.{place_of}
+use Rattle.dg_tokens.specs.Names.{place_of}
 use Rattle.dg_file.specs.TableFiles.{IsTable, IsTableFile}
 use Rattle.dg_file.specs.FileLaws.{AreSameOpenings}
 use Rattle.dg_file.proofs.OneContent.{found-once, same-value, same-content}
@@ -11,7 +11,7 @@ use Rattle.dg_file.proofs.OneFile.{file-none, file-one}
 use Rattle.dg_file.proofs.SomeFile.{some-file}
 use Rattle.dg_file.proofs.laws.files_have_one_meaning.Goals as goal
 
-alike : (content : Content) (o p : Opening) (names others : List (List ℕ)) → IsTable content o names
+alike : (content : Content) (o p : StartData) (names others : List (List ℕ)) → IsTable content o names
     → IsTable content p others → AreSameOpenings o p × (names ≡ others)
 alike content o p names others a b =
     let same : names ≡ others = a.given ∙ sym b.given in (
@@ -24,7 +24,7 @@ alike content o p names others a b =
       same,
     )
 
-one-table : (bytes : List ℕ) (o p : Opening) (names others : List (List ℕ)) → IsTableFile bytes o names
+one-table : (bytes : List ℕ) (o p : StartData) (names others : List (List ℕ)) → IsTableFile bytes o names
     → IsTableFile bytes p others → AreSameOpenings o p × (names ≡ others)
 one-table bytes o p names others a b =
     let value : a.value ≡ b.value = same-value bytes a.value b.value a.reads b.reads in

@@ -1,8 +1,8 @@
 -- The names so far are the first of the texts, and the texts that were seen are these names.
 use Rattle.std.proofs.Common.{ap, not, sym, [], ◌∷◌, ◌++◌, ◌∙◌, arith, rules}
 use Rattle.std.proofs.lemmas.Bool.{iff_false}
-use Rattle.dg_names.specs.Names.{IsName}
-use Rattle.dg_names.proofs.NamesLaws.{AreNames-nil, AreNames-push, is_new-named}
+use Rattle.dg_tokens.specs.Names.{IsName}
+use Rattle.dg_tokens.proofs.NamesLaws.{AreNames-nil, AreNames-push, is_new-named}
 use Rattle.dg_file.proofs.NamesRead.{texts, text_at, names-more, names-all, names-few, name-fault, twice-fault, old-seen}
 use Rattle.dg_file.proofs.table_file.names_of.Goals as goal
 

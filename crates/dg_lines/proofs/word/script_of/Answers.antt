@@ -1,6 +1,6 @@
 -- An item whose name is a vertex gives it its number; one that names none, or one that is given, refuses them all.
 use Rattle.std.proofs.Common.{◌≡◌, length, map, sym, ap, ◌∙◌, arith, rules, refl, subst, FitsSigned, w64, to_z-of_z}
-use Rattle.dg_names.specs.Names.{place_of}
+use Rattle.dg_tokens.specs.Names.{place_of}
 use Rattle.dg_lines.specs.Cuts.{items}
 use Rattle.dg_lines.specs.CommandWords.{name_part, number_part}
 use Rattle.dg_lines.proofs.Cutting.{pieces_left, none_left}

@@ -4,7 +4,7 @@ use Rattle.dg_theory.proofs.RankLaws.{equivalent-rank}
 use Rattle.dg_chips.specs.Vector.{at}
 use Rattle.dg_rank.specs.Limits.{IsWithinLimits}
 use Rattle.dg_rank.specs.Losses.{IsFirstLossIn}
-use Rattle.dg_ranked.specs.declared.rank_verdict.RankVerdict.TheVariants.{AtLeast}
+use Rattle.dg_verdict.specs.declared.rank_verdict.RankVerdict.TheVariants.{AtLeast}
 use Rattle.dg_rank.proofs.FirstLosses.{found_trial, loss-trial, found_rank}
 use Rattle.dg_rank.proofs.Gated.{known_verdict}
 use Rattle.dg_rank.proofs.workers.rank_with.Goals as goal

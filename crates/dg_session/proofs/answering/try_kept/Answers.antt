@@ -26,13 +26,13 @@ returns-in-Err g c =
 
 pub returns-in-Ok-say : goal.returns-in-Ok-say
 returns-in-Ok-say g c =
-    let (same, past) = c.in-Err-default-TooMany.ensures in
+    let (same, prefix) = c.in-Err-default-TooMany.ensures in
     with_look (sym c.take.ensures.value ∙ c.in-Some.is)
     (words_said (codes "bad trials\n")
     (inl (
       rank_past c.receipt-receipt.ensures.taken
           (subst (IsRankFault c.in-Some.look.shown.graph.size c.args.k c.args.shared.now.workers)
-          c.in-Err-default-TooMany.field-0-1-is past),
+          c.in-Err-default-TooMany.field-0-1-is prefix),
       (refl, ap (λ (l : LookView). Some l.receipt.0) same, refl),
     )) c.in-Ok-say.ensures)
 

@@ -1,5 +1,5 @@
 use Rattle.std.proofs.Common.{◌<◌, ◌∙◌, [], length, refl, ap, arith, map, None}
-use Rattle.dg_streams.proofs.Reading.{chunk_size, read_chunk, read_nothing}
+use Rattle.dg_system.proofs.InputReads.{chunk_size, read_chunk, read_nothing}
 use Rattle.dg_session.specs.Speakers.{kept_number}
 use Rattle.dg_session.proofs.Sessions.{so_far_new, so_far_more, session_unsaid, session_reads, session_ends, session_closes, session_halts, written_ok, not_read, write_failed, halts_by, fewer_left}
 use Rattle.dg_session.specs.SoFar.{heard}

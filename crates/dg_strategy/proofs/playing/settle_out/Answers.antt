@@ -1,6 +1,6 @@
 use Rattle.std.proofs.Common.{length, subst}
 use Rattle.dg_graph.specs.Graph.{IsGraph}
-use Rattle.dg_chips.specs.Opening.{IsOpening}
+use Rattle.dg_chips.specs.Starts.{IsStart}
 use Rattle.dg_strategy.specs.Plays.{IsTurnBy, IsSettlerTurn}
 use Rattle.dg_strategy.proofs.Gained.{played_as, stopped_as}
 use Rattle.dg_strategy.proofs.Turned.{settler_turn}
@@ -12,7 +12,7 @@ returns-in-Ok g c =
     let seats = g.N.Name.seats in
     let cap = length g.N.Name.cells in
     let A = g.C.Choose.may_answer c.settler.inside.choice in
-    let graph : IsGraph o.graph = (subst IsOpening c.start.ensures c.graph-graph.ensures.opening).graph in
+    let graph : IsGraph o.graph = (subst IsStart c.start.ensures c.graph-graph.ensures.opening).graph in
     rw (← c.settler.view_is)
     (played_as (IsTurnBy A o seats cap) (IsSettlerTurn A o seats cap)
     (λ x r y turn. settler_turn A o seats cap graph x r y c.settler.invariant turn)
@@ -24,7 +24,7 @@ returns-in-Err g c =
     let seats = g.N.Name.seats in
     let cap = length g.N.Name.cells in
     let A = g.C.Choose.may_answer c.settler.inside.choice in
-    let graph : IsGraph o.graph = (subst IsOpening c.start.ensures c.graph-graph.ensures.opening).graph in
+    let graph : IsGraph o.graph = (subst IsStart c.start.ensures c.graph-graph.ensures.opening).graph in
     rw (← c.settler.view_is)
     (stopped_as (IsTurnBy A o seats cap) (IsSettlerTurn A o seats cap)
     (λ x r y turn. settler_turn A o seats cap graph x r y c.settler.invariant turn)

@@ -1,6 +1,6 @@
 -- The table with other amounts has the same names, graph and q.
 use Rattle.std.proofs.Common.{◌≡◌, ℕ, ℤ, List, length, sym, ap, ◌∙◌, subst}
-use Rattle.dg_chips.specs.Opening.{Opening}
+use Rattle.dg_chips.specs.Starts.{StartData}
 use Rattle.dg_chips.specs.DivisorFaults.{IsFirstChipFault}
 use Rattle.dg_chips.specs.declared.divisor.ChipFault.{ChipFault}
 use Rattle.dg_file.specs.Content.{Content}
@@ -11,7 +11,7 @@ use Rattle.dg_sweep.specs.Divisors.{SpellsAmounts, HasAmountsOf, RefusesAmounts}
 use Rattle.dg_sweep.specs.DivisorLaws.{with_amounts}
 use Rattle.dg_sweep.proofs.laws.lines_stand_for_tables.Goals as goal
 
-stands : (content : Content) (o p : Opening) (names : List (List ℕ)) (line : List ℕ) → IsTable content o names
+stands : (content : Content) (o p : StartData) (names : List (List ℕ)) (line : List ℕ) → IsTable content o names
     → HasAmountsOf o line p → (xs : List ℤ) × SpellsAmounts line xs × IsTable (with_amounts content xs) p names
 stands content o p names line table has = (
   has.xs,
@@ -27,7 +27,7 @@ stands content o p names line table has = (
   }),
 )
 
-refused : (content : Content) (o : Opening) (names : List (List ℕ)) (line : List ℕ) (fault : ChipFault)
+refused : (content : Content) (o : StartData) (names : List (List ℕ)) (line : List ℕ) (fault : ChipFault)
     → IsTable content o names → RefusesAmounts o.graph.size line (Chip fault)
     → (xs : List ℤ) × SpellsAmounts line xs × RefusesTable (with_amounts content xs) (Chip fault)
 refused content o names line fault table (xs, spelled, first) =
@@ -36,7 +36,7 @@ refused content o names line fault table (xs, spelled, first) =
       spelled,
       (
         record {
-          names = subst (λ ns. Rattle.dg_names.specs.Names.AreNames ns) table.given table.are_names;
+          names = subst (λ ns. Rattle.dg_tokens.specs.Names.AreNames ns) table.given table.are_names;
           graph = o.graph;
           given = subst (λ n. Rattle.dg_graph.specs.Items.IsGiven n (Rattle.dg_file.specs.TableFiles.items_of content) o.graph)
               (ap length table.given) table.graph;

@@ -1,5 +1,5 @@
 use Rattle.std.proofs.Common.{inl, inr, refl}
-use Rattle.dg_ranked.specs.declared.rank_verdict.RankVerdict.TheVariants.{AtLeast}
+use Rattle.dg_verdict.specs.declared.rank_verdict.RankVerdict.TheVariants.{AtLeast}
 use Rattle.dg_sweep.proofs.ranking.push_rank.Goals as goal
 
 pub returns-then-passes : goal.returns-then-passes

@@ -2,16 +2,16 @@ use Rattle.std.proofs.Common.{◌≡◌, ◌≤◌, length, map, ap, subst, arit
 use Rattle.std.proofs.lemmas.List.{length-map}
 use Rattle.dg_log.specs.Written.{Written}
 use Rattle.dg_log.specs.Numbered.{IsBeginning}
-use Rattle.dg_log.proofs.Digests.{began}
+use Rattle.dg_log.proofs.ReceiptSets.{began}
 use Rattle.dg_log.proofs.pen.Pen.began.Goals as goal
 
 pub returns : goal.returns
 returns g c =
-    let mine = c.self.inside.facts.items in
-    let items = c.past.inside.facts.items in
+    let mine = c.self.inside.witnesses.items in
+    let items = c.prefix.inside.witnesses.items in
     let mine_view : record { entries = map (λ x. x.2) mine; stuck = c.self.inside.stuck } ≡ c.args.self.now =
     c.self.view_is in
-    let past_view : map (λ x. x.2) items ≡ c.args.past.now = c.past.view_is in
+    let past_view : map (λ x. x.2) items ≡ c.args.prefix.now = c.prefix.view_is in
     let entries : map (λ x. x.2) mine ≡ c.args.self.now.entries = ap (λ (w : Written). w.entries) mine_view in
     let few : length items ≤ length mine =
     omega (
@@ -22,6 +22,6 @@ returns g c =
       length-map items (λ x. x.2),
       length-map mine (λ x. x.2),
     ) in
-    subst (λ H. IsBeginning c.args.past.now H) entries
+    subst (λ H. IsBeginning c.args.prefix.now H) entries
     (subst (λ K. IsBeginning K (map (λ x. x.2) mine)) past_view
-    (began g.N.Name.cells items mine c.agree.ensures c.past.invariant.1 c.self.invariant.3 few))
+    (began g.N.Name.cells items mine c.agree.ensures c.prefix.invariant.1 c.self.invariant.3 few))

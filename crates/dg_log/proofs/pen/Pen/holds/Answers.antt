@@ -1,22 +1,22 @@
 use Rattle.std.proofs.Common.{◌≡◌, length, map, ap, subst, sym}
-use Rattle.dg_log.specs.Digests.{said_by}
+use Rattle.dg_log.specs.ReceiptSets.{said_by}
 use Rattle.dg_log.specs.Written.{Written}
 use Rattle.dg_log.specs.Numbered.{AreBelow, StandIn}
-use Rattle.dg_log.proofs.Digests.{stands}
+use Rattle.dg_log.proofs.ReceiptSets.{stands}
 use Rattle.dg_log.proofs.pen.Pen.holds.Goals as goal
 
 -- src/pen.rt:106:5
 pub returns : goal.returns
 returns g c =
-    let mine = c.self.inside.facts.items in
-    let said = c.digest.inside.facts.items in
+    let mine = c.self.inside.witnesses.items in
+    let said = c.receipt_set.inside.witnesses.items in
     let mine_view : record { entries = map (λ x. x.2) mine; stuck = c.self.inside.stuck } ≡ c.args.self.now =
     c.self.view_is in
-    let said_view : said_by said ≡ c.args.digest.now = c.digest.view_is in
+    let said_view : said_by said ≡ c.args.receipt_set.now = c.receipt_set.view_is in
     let below : AreBelow (length (map (λ x. x.2) mine)) (said_by said) =
     subst (λ n. AreBelow n (said_by said)) (ap (λ (w : Written). length w.entries) (sym mine_view))
     (subst (AreBelow (length c.args.self.now.entries)) (sym said_view) c.requires) in
     let all : StandIn (map (λ x. x.2) mine) (said_by said) =
-    stands g.N.Name.cells said mine c.agree.ensures c.digest.invariant.0 c.self.invariant.3 below in
-    subst (λ H. StandIn H c.args.digest.now) (ap (λ (w : Written). w.entries) mine_view)
+    stands g.N.Name.cells said mine c.agree.ensures c.receipt_set.invariant.0 c.self.invariant.3 below in
+    subst (λ H. StandIn H c.args.receipt_set.now) (ap (λ (w : Written). w.entries) mine_view)
     (subst (StandIn (map (λ x. x.2) mine)) said_view all)

@@ -1,7 +1,7 @@
 use Rattle.std.proofs.Common.{◌≡◌, ◌+◌, ◌<◌, [], ◌∷◌, ◌++◌, length, map, ℕ, Some, slice_get, arith, ap, sym, ◌∙◌, subst, length-append}
 use Rattle.std.proofs.lemmas.Option.{slice_get_within}
 use Rattle.dg_game.specs.declared.entry.Entry.{Entry}
-use Rattle.dg_log.proofs.Digests.{cells_more}
+use Rattle.dg_log.proofs.ReceiptSets.{cells_more}
 use Rattle.dg_log.proofs.Cells.{cell_named}
 use Rattle.dg_log.specs.Written.{Written}
 use Rattle.once_cell.specs.Once.{cell_name}
@@ -11,8 +11,8 @@ use Rattle.dg_log.proofs.pen.Pen.put.Goals as goal
 -- src/pen.rt:60:5
 pub invariant_of-self : goal.invariant_of-self
 invariant_of-self g c =
-    let items = c.self.inside.facts.items in
-    let k = c.of-known.result in
+    let items = c.self.inside.witnesses.items in
+    let k = c.of-witness.result in
     let x : ℕ × ℕ × Entry = (c.self.inside.len, k.cell, k.value) in
     let longer : c.and-self-inside.result.items ≡ items ++ x ∷ [] = c.and-self-inside.ensures in
     let count : length (items ++ x ∷ []) ≡ length items + 1 = length-append items (x ∷ []) in
@@ -22,7 +22,7 @@ invariant_of-self g c =
     subst (λ (w : Written). length w.entries < length g.N.Name.cells) (sym c.self.view_is) c.requires in
     let below : c.self.inside.len < length g.N.Name.cells =
     omega (arith, len, room, length-map items (λ (y : ℕ × ℕ × Entry). y.2)) in
-    let same : cell_name cell ≡ k.cell = sym (c.of-known.ensures.1 ∙ c.set_as.ensures.cell ∙ c.note-note.ensures.0) in
+    let same : cell_name cell ≡ k.cell = sym (c.of-witness.ensures.1 ∙ c.set_as.ensures.cell ∙ c.note-note.ensures.0) in
     let named = cell_named c.args.log.now.cells.items g.N.Name.cells c.self.inside.len cell c.args.log.now.named below
     c.index-cell.ensures in
     let next : slice_get g.N.Name.cells (length items) ≡ Some x.1 =

@@ -10,9 +10,9 @@ returns-clause-holds g c = λ is.
     let count = rw (← c.seat.view_is, ← c.self.view_is) at admissible.count in
     let seated = c.seat.invariant in
     rw (← c.seat.view_is, ← c.self.view_is) (record {
-      past = begins_on _ _ _ seated.since c.began.ensures;
+      prefix = begins_on _ _ _ seated.since c.began.ensures;
       met = c.began.ensures;
-      mine = all_own c.seat.inside.number c.seat.inside.past c.self.inside.pen.entries c.seat.inside.mine.items
+      mine = all_own c.seat.inside.number c.seat.inside.prefix c.self.inside.pen.entries c.seat.inside.mine.items
           (begins_on _ _ _ seated.since c.began.ensures)
           seated.own count;
       told = rw seated.told_said at c.holds.ensures;

@@ -59,7 +59,7 @@ invariant_of-seat g c =
     let history : c.put.new.self.entries ≡ H ++ e ∷ [] = ap (λ (w : Written). w.entries) c.in-Ok.ensures.1 in
     let found = history_more g.N.Name.start g.N.Name.seats (length g.N.Name.cells) H e c.self.invariant.0.seated
     (omega (arith, seated.least, own)) (omega (arith, seated.most, own)) room legal in
-    rw (items, c.past-seat-inside.ensures, c.past-seat-inside-2.ensures, history, receipt)
+    rw (items, c.prefix-seat-inside.ensures, c.prefix-seat-inside-2.ensures, history, receipt)
     (kept_more H e c.keep_look.new.look seated found holds.mine own seen)
 
 pub returns-clause-entered : goal.returns-clause-entered
@@ -79,8 +79,8 @@ returns-clause-entered g c =
     let found = history_more g.N.Name.start g.N.Name.seats (length g.N.Name.cells) H e c.self.invariant.0.seated
     (omega (arith, seated.least, own)) (omega (arith, seated.most, own)) room legal in
     rw (← c.self.view_is, ← c.seat.view_is, receipt) (
-      answered e _ replies found holds own refl (rw receipt at items) refl (c.past-seat-inside.ensures ∙ history)
-          (c.past-seat-inside-2.ensures ∙ history),
+      answered e _ replies found holds own refl (rw receipt at items) refl (c.prefix-seat-inside.ensures ∙ history)
+          (c.prefix-seat-inside-2.ensures ∙ history),
       c.in-Ok.ensures.1,
     )
 
@@ -90,5 +90,5 @@ meet-requires g c =
     let entries : c.put.new.self.entries ≡ c.self.inside.pen.entries =
     ap (λ (w : Written). w.entries) c.in_default.ensures.1 in
     let room = rw (← c.self.view_is) at c.requires.ready.room in
-    subst (IsHistoryOf g.N.Name.start g.N.Name.seats cap) (sym (c.past.ensures ∙ entries))
+    subst (IsHistoryOf g.N.Name.start g.N.Name.seats cap) (sym (c.prefix.ensures ∙ entries))
     (history_of cap c.self.invariant.0 (omega (arith, room)))

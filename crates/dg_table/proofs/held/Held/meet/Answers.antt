@@ -4,5 +4,5 @@ use Rattle.dg_table.proofs.held.Held.meet.Goals as goal
 
 pub meet-requires : goal.meet-requires
 meet-requires g c =
-    rw c.past.ensures (history_of (length g.N.Name.cells) c.self.invariant.0
+    rw c.prefix.ensures (history_of (length g.N.Name.cells) c.self.invariant.0
     (omega (arith, c.len-len.ensures.length, c.len-len.ensures.room)))

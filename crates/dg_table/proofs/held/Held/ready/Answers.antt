@@ -16,8 +16,8 @@ returns-then-below-clause-stands g c =
       record {
         full = size;
         history = history_of (length g.N.Name.cells) c.self.invariant.0 (omega arith);
-        past = begins_on _ _ _ seated.since c.began.ensures;
-        mine = own_stand c.seat.inside.number c.seat.inside.past c.self.inside.pen.entries c.seat.inside.mine.items
+        prefix = begins_on _ _ _ seated.since c.began.ensures;
+        mine = own_stand c.seat.inside.number c.seat.inside.prefix c.self.inside.pen.entries c.seat.inside.mine.items
             (begins_on _ _ _ seated.since c.began.ensures) seated.own;
         told = rw seated.told_said at c.holds.ensures;
       },

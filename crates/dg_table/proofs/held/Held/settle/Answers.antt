@@ -58,6 +58,6 @@ returns-clause-settled g c =
           (length g.N.Name.cells) H c.args.look.now c.args.shown.now c.args.finding.now c.in_ok-receipt.receipt
           c.args.seat.now c.enter.new.seat
           c.hear.new.self (rw c.request-entry.ensures at entered.0) c.requires.look c.in-Ok.ensures.1
-          kept c.hear.ensures.number c.hear.ensures.mine c.hear.ensures.told c.hear.ensures.past c.hear.ensures.met,
+          kept c.hear.ensures.number c.hear.ensures.mine c.hear.ensures.told c.hear.ensures.prefix c.hear.ensures.met,
       entered.1,
     )

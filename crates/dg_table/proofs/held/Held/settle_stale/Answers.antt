@@ -47,6 +47,6 @@ returns-clause-settled g c =
           c.args.seat.now c.enter.new.seat
           c.hear.new.self (rw c.request-entry.ensures at entered.0) c.requires.look c.in-Ok.ensures.1
           held.game' look (λ same. search rules) (rw c.in_ok-receipt.ensures.reply c.answer_stale.ensures.stale)
-          c.hear.ensures.number c.hear.ensures.mine c.hear.ensures.told c.hear.ensures.past c.hear.ensures.met,
+          c.hear.ensures.number c.hear.ensures.mine c.hear.ensures.told c.hear.ensures.prefix c.hear.ensures.met,
       entered.1,
     )

@@ -14,7 +14,7 @@ loop-i-preserved g c =
         | inr last ↦
             let number : c.new.result.number ≡ k + 1 =
             omega (arith, c.new.ensures.number, last.0, c.loop-i.invariant.count) in
-            rw last.1 (number, c.new.ensures.mine, c.new.ensures.told, c.new.ensures.past, c.new.ensures.met)
+            rw last.1 (number, c.new.ensures.mine, c.new.ensures.told, c.new.ensures.prefix, c.new.ensures.met)
       ];
       room = omega (arith, c.push.ensures.capacity, c.loop-i.invariant.room);
     }

@@ -7,6 +7,6 @@ abbrev pub invariant-loop-i : goal.invariant-loop-i
 invariant-loop-i g l = record {
   count : length l.seats.items ≡ l.i;
   fresh : (k : ℕ) (x : SeatView) → slice_get l.seats.items k ≡ Some x →
-      (x.number ≡ k + 1) × (x.mine ≡ []) × (x.told ≡ []) × (x.past ≡ []) × (x.met ≡ []);
+      (x.number ≡ k + 1) × (x.mine ≡ []) × (x.told ≡ []) × (x.prefix ≡ []) × (x.met ≡ []);
   room : l.count ≤ vec_capacity l.seats;
 }

@@ -8,8 +8,8 @@ returns-then-below g c =
     rw (← c.self.view_is) (record {
       full = omega (arith, kept.met.few, c.if-len.false, c.len-len.ensures, c.len.ensures.length);
       history = kept.met;
-      past = kept.since;
-      mine = own_stand c.self.inside.number c.self.inside.past c.self.inside.met c.self.inside.mine.items kept.since
+      prefix = kept.since;
+      mine = own_stand c.self.inside.number c.self.inside.prefix c.self.inside.met c.self.inside.mine.items kept.since
           kept.own;
       told = rw kept.told_said at c.holds.ensures;
     })

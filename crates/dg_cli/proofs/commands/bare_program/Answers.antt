@@ -1,0 +1,17 @@
+use Rattle.std.proofs.Common.{◌∙◌, ap, true}
+use Rattle.clap.specs.Simple.{app_of_fields, on_top}
+use Rattle.dg_cli.proofs.commands.bare_program.Goals as goal
+
+pub returns : goal.returns
+returns c =
+    let named = ap app_of_fields c.about.ensures ∙ c.new.ensures.app in
+    let versioned = ap app_of_fields c.version.ensures ∙ ap (on_top (λ s. record s { has_version = true })) named in
+    let told = ap app_of_fields c.after_help.ensures ∙ versioned in
+    let required = ap app_of_fields c.subcommand_required.ensures ∙ ap (on_top (λ s. record s {
+      subcommand_required =
+          true;
+    })) told in
+    ap app_of_fields c.arg_required_else_help.ensures ∙ ap (on_top (λ s. record s {
+      arg_required_else_help =
+          true;
+    })) required

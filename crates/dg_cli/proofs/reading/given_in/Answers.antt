@@ -1,0 +1,10 @@
+use Rattle.std.proofs.Common.{◌∙◌, ap}
+use Rattle.dg_cli.specs.Asks.{word_of}
+use Rattle.dg_cli.specs.Telling.{rows_in}
+use Rattle.dg_cli.proofs.Telling.{passes, number_before}
+use Rattle.dg_cli.proofs.reading.given_in.Goals as goal
+
+pub returns-in_err-number_of-in-Some : goal.returns-in_err-number_of-in-Some
+returns-in_err-number_of-in-Some c =
+    let is = c.in-Some.ensures ∙ ap (λ name. word_of name (rows_in c.args.inner.now)) c.name.ensures in
+    passes _ _ _ _ c.in_err-number_of-in-Some.ensures c.from_residual.ensures.1 (number_before _ _ _ _ is)

@@ -1,0 +1,137 @@
+-- What words ask for: those of a command line, of which the first is the program's name. The library
+-- of command lines tells which command they name, and the rows of that command: which word stands
+-- for which of its arguments. It also tells which faults the words have.
+--   word_of name rows                == the word of the argument of that name, where there is one
+--   words_of name rows               == all its words
+--   HasFile rows file                == the file is the word for `file`
+--   HasLines rows                    == the flag `--lines` is there
+--   divisors_of rows                 == the name of the file of amounts, where there is one
+--   LinesAre rows divisors           == there are lines, of one kind: the flag is there where no file of
+--                                       amounts is named, and nowhere else
+--   HasOneTable rows                 == there are no lines
+--   HasNumber name low high rows n   == the word of that argument is there, and is n, from low to high
+--   HasDegree rows n                 == so many dollars are lost, from 0 to 2^32 - 1
+--   HasWorkers rows n                == so many workers are given, from 1 to 16; or 1, where none are
+--   HasCapacity rows n               == so many entries are given, from 1 to 65,536; or the most
+--   AsksRank, AsksGreedy, AsksSweep, AsksServe, AsksParty
+--                                    == the rows have the file and the numbers of the task, and what
+--                                       else it has
+--   IsAlone rows                     == there are no lines, and no workers, which share lines
+--   AsksQuestion name rows question  == the command of that name asks this of each line
+--   AsksTask name rows task          == the command of that name asks for the task
+--   AsksFor name rows asked          == the command of that name asks for this
+--   CallsForHelp faults              == the words call for help, or for the version
+--   Asks words asked                 == the words ask for this: for a text where they call for help
+--                                       or the version, and else for what their command asks for,
+--                                       if the library finds no fault
+use Rattle.std.specs.Prelude.{◌≡◌, ◌-◌, ◌^◌, ◌⊎◌, ℕ, List, [], Option, None, Some, IsSomeAnd, codes, map, option_map}
+use Rattle.clap.specs.Words.{IsAmong, Kinds, Row, Text, all_of, fault_of, first_of, subcommand_of}
+use Rattle.clap.specs.declared.error.kind.ErrorKind.TheVariants.{DisplayHelp, DisplayVersion}
+use Rattle.dg_invocation.specs.declared.invocation.Invocation.{Invocation}
+use Rattle.dg_invocation.specs.declared.invocation.Invocation.TheVariants as asked
+use Rattle.dg_invocation.specs.declared.invocation.Task.{Task}
+use Rattle.dg_invocation.specs.declared.invocation.Task.TheVariants.{Rehearse, Judge, Rank, RiemannRoch, Greedy}
+use Rattle.dg_invocation.specs.declared.invocation.ServeTask.{ServeTask}
+use Rattle.dg_invocation.specs.declared.invocation.PartyTask.{PartyTask}
+use Rattle.dg_invocation.specs.declared.numbered.RankTask.{RankTask}
+use Rattle.dg_invocation.specs.declared.numbered.GreedyTask.{GreedyTask}
+use Rattle.dg_invocation.specs.declared.question.Question.{Question}
+use Rattle.dg_invocation.specs.declared.question.Question.TheVariants as question
+use Rattle.dg_invocation.specs.declared.question.SweepTask.{SweepTask}
+use Rattle.dg_invocation.specs.declared.limits.TheConstants.{MAX_CAPACITY, MAX_SEATS, MAX_TURNS, MAX_WORKERS}
+use Rattle.dg_cli.specs.Commands.{dollar}
+use Rattle.dg_cli.specs.Numbers.{IsNumber, IsGiven, IsGivenOr}
+
+abbrev pub word_of : Text → List Row → Option Text
+word_of name rows = first_of name rows
+
+abbrev pub words_of : Text → List Row → Option (List Text)
+words_of name rows = all_of name rows
+
+abbrev pub HasLines : List Row → Type 0
+HasLines rows = word_of (codes "lines") rows ≡ Some (codes "true")
+
+abbrev pub divisors_of : List Row → Option Text
+divisors_of rows = word_of (codes "divisors") rows
+
+abbrev pub LinesAre : List Row → Option Text → Type 0
+LinesAre rows None = HasLines rows
+LinesAre rows (Some name) = HasLines rows → ⊥
+
+abbrev pub HasOneTable : List Row → Type 0
+HasOneTable rows = (HasLines rows → ⊥) × (divisors_of rows ≡ None)
+
+abbrev pub HasFile : List Row → Text → Type 0
+HasFile rows file = word_of (codes "file") rows ≡ Some file
+
+abbrev pub HasNumber : Text → ℕ → ℕ → List Row → ℕ → Type 0
+HasNumber name low high rows n = IsSomeAnd (word_of name rows) (λ text. IsNumber low high text n)
+
+abbrev pub HasWorkers : List Row → ℕ → Type 0
+HasWorkers rows n = IsGivenOr 1 1 MAX_WORKERS (word_of (codes "workers") rows) n
+
+abbrev pub HasCapacity : List Row → ℕ → Type 0
+HasCapacity rows n = IsGivenOr MAX_CAPACITY 1 MAX_CAPACITY (word_of (codes "cap") rows) n
+
+abbrev pub HasDegree : List Row → ℕ → Type 0
+HasDegree rows n = HasNumber (codes "degree") 0 (2 ^ 32 - 1) rows n
+
+pub record AsksRank (rows : List Row) (task : RankTask) : Type 0 where
+  pub file : HasFile rows task.file.now
+  pub degree : HasDegree rows task.degree
+  pub workers : HasWorkers rows task.workers
+
+pub record AsksGreedy (rows : List Row) (task : GreedyTask) : Type 0 where
+  pub file : HasFile rows task.file.now
+  pub turns : HasNumber (codes "turns") 0 MAX_TURNS rows task.turns
+
+pub record AsksServe (rows : List Row) (task : ServeTask) : Type 0 where
+  pub file : HasFile rows task.file.now
+  pub seats : IsGiven 1 MAX_SEATS (word_of (codes "seats") rows) task.seats
+  pub capacity : HasCapacity rows task.capacity
+  pub workers : HasWorkers rows task.workers
+
+pub record AsksParty (rows : List Row) (task : PartyTask) : Type 0 where
+  pub file : HasFile rows task.file.now
+  pub scripts : words_of (codes "script") rows ≡ Some (map (λ script. script.now) task.scripts.items)
+  pub capacity : HasCapacity rows task.capacity
+
+abbrev pub AsksQuestion : Text → List Row → Question → Type 0
+AsksQuestion name rows question.Judge = name ≡ codes "judge"
+AsksQuestion name rows (question.Rank degree) = (name ≡ codes "rank") × HasDegree rows degree
+AsksQuestion name rows question.RiemannRoch = name ≡ codes "rr"
+
+pub record AsksSweep (name : Text) (rows : List Row) (task : SweepTask) : Type 0 where
+  pub divisors : option_map (λ name. name.now) task.divisors ≡ divisors_of rows
+  pub lines : LinesAre rows (divisors_of rows)
+  pub file : HasFile rows task.file.now
+  pub question : AsksQuestion name rows task.question
+  pub workers : HasWorkers rows task.workers
+
+abbrev pub IsAlone : List Row → Type 0
+IsAlone rows = HasOneTable rows × (word_of (codes "workers") rows ≡ None)
+
+abbrev pub AsksTask : Text → List Row → Task → Type 0
+AsksTask name rows (Judge file) = (name ≡ codes "judge") × HasFile rows file.now × IsAlone rows
+AsksTask name rows (RiemannRoch file) = (name ≡ codes "rr") × HasFile rows file.now × IsAlone rows
+AsksTask name rows (Rank task) =
+    (name ≡ codes "rank") × AsksRank rows task × HasOneTable rows
+AsksTask name rows (Greedy task) = (name ≡ codes "greedy") × AsksGreedy rows task
+AsksTask name rows (Rehearse file steps) =
+    (name ≡ codes "rehearse") × HasFile rows file.now
+    × (word_of (codes "steps") rows ≡ Some steps.now)
+
+abbrev pub AsksFor : Text → List Row → Invocation → Type 0
+AsksFor name rows (asked.Task task) = AsksTask name rows task
+AsksFor name rows (asked.Sweep task) = AsksSweep name rows task
+AsksFor name rows (asked.Serve task) = (name ≡ codes "serve") × AsksServe rows task
+AsksFor name rows (asked.Party task) = (name ≡ codes "party") × AsksParty rows task
+AsksFor name rows (asked.Text text) = ⊥
+
+abbrev pub CallsForHelp : Kinds → Type 0
+CallsForHelp faults = IsAmong DisplayHelp faults ⊎ IsAmong DisplayVersion faults
+
+abbrev pub Asks : List Text → Invocation → Type 0
+Asks words (asked.Text text) = CallsForHelp (fault_of dollar words)
+Asks words asked = (fault_of dollar words ≡ [])
+    × IsSomeAnd (subcommand_of dollar words) (λ entered. AsksFor entered.0 entered.1 asked)

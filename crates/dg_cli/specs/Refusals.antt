@@ -1,0 +1,31 @@
+-- Why words are refused.
+--   HasFault words      == the library of command lines finds a fault, which is no call for help or
+--                          the version
+--   AskNothing words    == it finds none, and yet there is nothing that the words ask for, as where a
+--                          number is not in its range, or `--workers` stands without `--lines`
+--   Refuses words fault == the words may be refused so: for want of memory, or else because they
+--                          have a fault or ask for nothing
+use Rattle.std.specs.Prelude.{◌≡◌, ◌≢◌, ◌⊎◌, List, [], ⊤}
+use Rattle.clap.specs.Words.{IsAmong, Text, fault_of}
+use Rattle.clap.specs.declared.error.kind.ErrorKind.{ErrorKind}
+use Rattle.clap.specs.declared.error.kind.ErrorKind.TheVariants.{DisplayHelp, DisplayVersion}
+use Rattle.dg_invocation.specs.declared.invocation.Invocation.{Invocation}
+use Rattle.dg_invocation.specs.declared.parse_args.ArgsFault.{ArgsFault}
+use Rattle.dg_invocation.specs.declared.parse_args.ArgsFault.TheVariants.{CommandLine, NotText, OutOfMemory}
+use Rattle.dg_cli.specs.Commands.{dollar}
+use Rattle.dg_cli.specs.Asks.{Asks}
+
+pub record HasFault (words : List Text) : Type 0 where
+  pub fault : ErrorKind
+  pub found : IsAmong fault (fault_of dollar words)
+  pub no_help : fault ≢ DisplayHelp
+  pub no_version : fault ≢ DisplayVersion
+
+pub record AskNothing (words : List Text) : Type 0 where
+  pub faultless : fault_of dollar words ≡ []
+  pub nothing : (asked : Invocation) → Asks words asked → ⊥
+
+abbrev pub Refuses : List Text → ArgsFault → Type 0
+Refuses words OutOfMemory = ⊤
+Refuses words NotText = ⊥
+Refuses words (CommandLine text) = HasFault words ⊎ AskNothing words

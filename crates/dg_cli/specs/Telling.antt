@@ -1,0 +1,41 @@
+-- How what the library of command lines tells is read.
+--   rows_in matches         == the rows of the command
+--   name_of, shown, least, most argument == the name of a number's argument, and its range
+--   Tells asks result       == what is asked for; or a refusal, because memory is refused or because
+--                              nothing is asked for
+use Rattle.std.specs.Prelude.{◌≡◌, ◌⊎◌, ◌-◌, ◌^◌, ℕ, List, Result, Ok, Err, codes}
+use Rattle.clap.specs.Words.{Row, Text, found_of, rows_of}
+use Rattle.clap.specs.declared.parser.matches.ArgMatches.{ArgMatches}
+use Rattle.dg_invocation.specs.declared.limits.TheConstants.{MAX_CAPACITY, MAX_SEATS, MAX_TURNS, MAX_WORKERS}
+use Rattle.dg_cli.specs.declared.reading.NumberArgument.{NumberArgument}
+use Rattle.dg_cli.specs.declared.reading.NumberArgument.TheVariants.{Capacity, Workers, Seats, Degree, Turns}
+use Rattle.dg_cli.specs.declared.reading.Refusal.{Refusal}
+use Rattle.dg_cli.specs.declared.reading.Refusal.TheVariants.{Memory}
+
+abbrev pub rows_in : ArgMatches → List Row
+rows_in matches = rows_of (found_of matches)
+
+abbrev pub name_of : NumberArgument → Text
+name_of Capacity = codes "cap"
+name_of Workers = codes "workers"
+name_of Seats = codes "seats"
+name_of Degree = codes "degree"
+name_of Turns = codes "turns"
+
+abbrev pub least : NumberArgument → ℕ
+least Capacity = 1
+least Workers = 1
+least Seats = 1
+least Degree = 0
+least Turns = 0
+
+abbrev pub most : NumberArgument → ℕ
+most Capacity = MAX_CAPACITY
+most Workers = MAX_WORKERS
+most Seats = MAX_SEATS
+most Degree = 2 ^ 32 - 1
+most Turns = MAX_TURNS
+
+abbrev pub Tells : {T : Type 0} → (T → Type 0) → Result T Refusal → Type 0
+Tells asks (Ok x) = asks x
+Tells asks (Err refusal) = (refusal ≡ Memory) ⊎ ((x : _) → asks x → ⊥)

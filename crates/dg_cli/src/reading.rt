@@ -1,0 +1,382 @@
+//! What the library's account of a command's arguments asks for.
+ghost use Rattle.std.specs.Prelude.{◌≡◌, ◌≤◌, ◌↔◌, ◌≢◌, IsTrue, Some, None, IsSomeAnd, map, codes, option_map};
+ghost use Rattle.std.specs.Vec.{vec_len};
+ghost use Rattle.dg_invocation.specs.declared.limits.TheConstants.{MAX_SEATS};
+ghost use Rattle.clap.specs.Words.{subcommand_rows_of};
+ghost use Rattle.dg_cli.specs.Asks.{
+  AsksFor,
+  AsksGreedy,
+  AsksParty,
+  AsksQuestion,
+  AsksRank,
+  AsksServe,
+  AsksSweep,
+  AsksTask,
+  HasLines,
+  HasOneTable,
+  IsAlone,
+  word_of,
+  words_of,
+  HasCapacity,
+  HasWorkers,
+  HasNumber,
+};
+ghost use Rattle.dg_cli.specs.Numbers.{IsGiven, IsNumber};
+ghost use Rattle.dg_cli.specs.Telling.{Tells, least, most, name_of, rows_in};
+
+use clap::ArgMatches;
+use dg_invocation::{
+    Invocation, GreedyTask, MAX_CAPACITY, MAX_SEATS, MAX_TURNS, MAX_WORKERS, PartyTask, Question,
+    RankTask, ServeTask, SweepTask, Task,
+};
+use dg_tokens::natural;
+use std::alloc::Global;
+
+/// An argument that is a whole number of some range.
+#[derive(Clone, Copy)]
+pub(crate) enum NumberArgument {
+    /// How many entries there may be.
+    Capacity,
+    /// How many workers there are.
+    Workers,
+    /// How many seats there are.
+    Seats,
+    /// The degree of a rank test.
+    Degree,
+    /// How many turns there may be.
+    Turns,
+}
+
+impl NumberArgument {
+    /// Its name among the arguments of a command.
+    fn name(self) -> &'static str
+        ensures { result.now ≡ name_of self }
+    {
+        match self {
+            NumberArgument::Capacity => "cap",
+            NumberArgument::Workers => "workers",
+            NumberArgument::Seats => "seats",
+            NumberArgument::Degree => "degree",
+            NumberArgument::Turns => "turns",
+        }
+    }
+
+    /// How the usage shows it.
+    pub(crate) fn shown(self) -> &'static str {
+        match self {
+            NumberArgument::Capacity => "--cap <N>",
+            NumberArgument::Workers => "--workers <N>",
+            NumberArgument::Seats => "--seats <N>",
+            NumberArgument::Degree => "<K>",
+            NumberArgument::Turns => "<TURNS>",
+        }
+    }
+
+    /// The least number that it takes, and the greatest.
+    pub(crate) fn range(self) -> (u64, u64)
+        ensures { (result.0 ≡ least self) × (result.1 ≡ most self) }
+    {
+        match self {
+            NumberArgument::Capacity => (1, u64::from(MAX_CAPACITY)),
+            NumberArgument::Workers => (1, u64::from(MAX_WORKERS)),
+            NumberArgument::Seats => (1, u64::from(MAX_SEATS)),
+            NumberArgument::Degree => (0, u64::from(u32::MAX)),
+            NumberArgument::Turns => (0, u64::from(MAX_TURNS)),
+        }
+    }
+}
+
+/// Why words that the library takes are refused.
+#[derive(Clone, Copy)]
+pub(crate) enum Refusal<'a> {
+    /// There is no command of that name with these arguments.
+    Command,
+    /// Memory is refused.
+    Memory,
+    /// The word is no number of the argument.
+    Number(NumberArgument, &'a str),
+    /// There are workers, but no lines.
+    Lines,
+    /// Lines are both tables and amounts.
+    Both,
+}
+
+/// What the words ask for, by the command that they name.
+pub(crate) fn asked_by<'a>(
+    alloc: Global,
+    matches: &ArgMatches<'a>,
+) -> Result<Invocation<'a>, Refusal<'a>>
+    ensures { Tells (λ asked. IsSomeAnd (subcommand_rows_of matches.now) (λ entered. AsksFor entered.0 entered.1 asked)) result }
+{
+    let (name, inner) = matches.subcommand().ok_or(Refusal::Command)?;
+    command_in(alloc, name, inner)
+}
+
+/// What a command with its arguments asks for.
+fn command_in<'a>(
+    alloc: Global,
+    name: &str,
+    inner: &ArgMatches<'a>,
+) -> Result<Invocation<'a>, Refusal<'a>>
+    ensures { Tells (AsksFor name.now (rows_in inner.now)) result }
+{
+    match name {
+        "serve" => Ok(Invocation::Serve(serve_in(inner)?)),
+        "party" => Ok(Invocation::Party(party_in(alloc, inner)?)),
+        "greedy" => Ok(Invocation::Task(Task::Greedy(greedy_in(inner)?))),
+        "rehearse" => Ok(Invocation::Task(rehearsal_in(inner)?)),
+        _ if has_lines(inner) || divisors_in(inner).is_some() => {
+            Ok(Invocation::Sweep(sweep_in(name, inner)?))
+        }
+        _ => Ok(Invocation::Task(task_in(name, inner)?)),
+    }
+}
+
+/// A session over the input.
+///
+/// Refused for the number of entries, then of workers, then of seats.
+fn serve_in<'a>(inner: &ArgMatches<'a>) -> Result<ServeTask<'a>, Refusal<'a>>
+    ensures { Tells (AsksServe (rows_in inner.now)) result }
+{
+    let file = word_in(inner, "file")?;
+    let capacity = capacity_in(inner)?;
+    let workers = workers_in(inner)?;
+    let seats = seats_in(inner)?;
+    Ok(ServeTask {
+        file,
+        seats,
+        capacity,
+        workers,
+    })
+}
+
+/// Scripts that are played side by side.
+fn party_in<'a>(alloc: Global, inner: &ArgMatches<'a>) -> Result<PartyTask<'a>, Refusal<'a>>
+    ensures { Tells (AsksParty (rows_in inner.now)) result }
+{
+    let file = word_in(inner, "file")?;
+    let capacity = capacity_in(inner)?;
+    let scripts = scripts_in(alloc, inner)?;
+    Ok(PartyTask {
+        file,
+        scripts,
+        capacity,
+    })
+}
+
+/// The lines of a file, where the flag for lines or the option for amounts is there.
+///
+/// Refused where both are there, then for the number of workers, then for the degree.
+fn sweep_in<'a>(name: &str, inner: &ArgMatches<'a>) -> Result<SweepTask<'a>, Refusal<'a>>
+    requires { (word_of (codes "divisors") (rows_in inner.now) ≡ None) → HasLines (rows_in inner.now) }
+    ensures { Tells (AsksSweep name.now (rows_in inner.now)) result }
+{
+    let file = word_in(inner, "file")?;
+    let divisors = divisors_in(inner);
+    if divisors.is_some() && has_lines(inner) {
+        return Err(Refusal::Both);
+    }
+    let workers = workers_in(inner)?;
+    let question = question_in(name, inner)?;
+    Ok(SweepTask {
+        file,
+        divisors,
+        question,
+        workers,
+    })
+}
+
+/// What a command asks of each line.
+fn question_in<'a>(name: &str, inner: &ArgMatches<'a>) -> Result<Question, Refusal<'a>>
+    ensures { Tells (AsksQuestion name.now (rows_in inner.now)) result }
+{
+    match name {
+        "judge" => Ok(Question::Judge),
+        "rank" => Ok(Question::Rank(number_in(inner, NumberArgument::Degree)?)),
+        "rr" => Ok(Question::RiemannRoch),
+        _ => Err(Refusal::Command),
+    }
+}
+
+/// The task of a command that may have lines, where it has none.
+fn task_in<'a>(name: &str, inner: &ArgMatches<'a>) -> Result<Task<'a>, Refusal<'a>>
+    requires lines { HasOneTable (rows_in inner.now) }
+    requires others { (name.now ≢ codes "greedy") × (name.now ≢ codes "rehearse") }
+    ensures { Tells (AsksTask name.now (rows_in inner.now)) result }
+{
+    match name {
+        "judge" => Ok(Task::Judge {
+            file: file_alone_in(inner)?,
+        }),
+        "rr" => Ok(Task::RiemannRoch {
+            file: file_alone_in(inner)?,
+        }),
+        "rank" => Ok(Task::Rank(rank_in(inner)?)),
+        _ => Err(Refusal::Command),
+    }
+}
+
+/// Steps that are played on a table.
+fn rehearsal_in<'a>(inner: &ArgMatches<'a>) -> Result<Task<'a>, Refusal<'a>>
+    ensures { Tells (AsksTask (codes "rehearse") (rows_in inner.now)) result }
+{
+    let file = word_in(inner, "file")?;
+    let steps = word_in(inner, "steps")?;
+    Ok(Task::Rehearse { file, steps })
+}
+
+/// The table file of a command that has workers for lines alone.
+fn file_alone_in<'a>(inner: &ArgMatches<'a>) -> Result<&'a str, Refusal<'a>>
+    ensures { Tells
+        (λ file. (word_of (codes "file") (rows_in inner.now) ≡ Some file.now)
+        × (word_of (codes "workers") (rows_in inner.now) ≡ None))
+        result }
+{
+    let file = word_in(inner, "file")?;
+    match text_in(inner, "workers") {
+        Some(_) => Err(Refusal::Lines),
+        None => Ok(file),
+    }
+}
+
+/// A rank test.
+///
+/// Refused for the number of workers, then for the degree.
+fn rank_in<'a>(inner: &ArgMatches<'a>) -> Result<RankTask<'a>, Refusal<'a>>
+    ensures { Tells (AsksRank (rows_in inner.now)) result }
+{
+    let file = word_in(inner, "file")?;
+    let workers = workers_in(inner)?;
+    let degree = number_in(inner, NumberArgument::Degree)?;
+    Ok(RankTask {
+        file,
+        degree,
+        workers,
+    })
+}
+
+/// The greedy strategy.
+fn greedy_in<'a>(inner: &ArgMatches<'a>) -> Result<GreedyTask<'a>, Refusal<'a>>
+    ensures { Tells (AsksGreedy (rows_in inner.now)) result }
+{
+    let file = word_in(inner, "file")?;
+    let turns = number_in(inner, NumberArgument::Turns)?;
+    Ok(GreedyTask { file, turns })
+}
+
+/// Whether the flag for lines is there.
+fn has_lines(inner: &ArgMatches<'_>) -> bool
+    ensures { IsTrue result ↔ HasLines (rows_in inner.now) }
+{
+    matches!(text_in(inner, "lines"), Some("true"))
+}
+
+/// The name of the file of amounts, if there is one.
+fn divisors_in<'a>(inner: &ArgMatches<'a>) -> Option<&'a str>
+    ensures { option_map (λ text. text.now) result ≡ word_of (codes "divisors") (rows_in inner.now) }
+{
+    text_in(inner, "divisors")
+}
+
+/// The word of an argument, if it has one.
+fn text_in<'a>(inner: &ArgMatches<'a>, name: &str) -> Option<&'a str>
+    ensures { option_map (λ text. text.now) result ≡ word_of name.now (rows_in inner.now) }
+{
+    inner.get_str(name)
+}
+
+/// The words of an argument, if it has any.
+fn texts_in<'a, 'm>(inner: &'m ArgMatches<'a>, name: &str) -> Option<&'m [&'a str]>
+    ensures { option_map (λ texts. map (λ text. text.now) texts.now) result ≡ words_of name.now (rows_in inner.now) }
+{
+    inner.get_strs(name)
+}
+
+/// The word of an argument that has to be there.
+fn word_in<'a>(inner: &ArgMatches<'a>, name: &str) -> Result<&'a str, Refusal<'a>>
+    ensures { Tells (λ word. word_of name.now (rows_in inner.now) ≡ Some word.now) result }
+{
+    text_in(inner, name).ok_or(Refusal::Command)
+}
+
+/// The number of entries that the history may have.
+fn capacity_in<'a>(inner: &ArgMatches<'a>) -> Result<u32, Refusal<'a>>
+    ensures { Tells (HasCapacity (rows_in inner.now)) result }
+{
+    match given_in(inner, NumberArgument::Capacity)? {
+        Some(capacity) => Ok(capacity),
+        None => Ok(MAX_CAPACITY),
+    }
+}
+
+/// The number of workers, 1 where none is given.
+fn workers_in<'a>(inner: &ArgMatches<'a>) -> Result<u32, Refusal<'a>>
+    ensures { Tells (HasWorkers (rows_in inner.now)) result }
+{
+    match given_in(inner, NumberArgument::Workers)? {
+        Some(workers) => Ok(workers),
+        None => Ok(1),
+    }
+}
+
+/// The number of seats, if one is given.
+fn seats_in<'a>(inner: &ArgMatches<'a>) -> Result<Option<u8>, Refusal<'a>>
+    ensures { Tells (IsGiven 1 MAX_SEATS (word_of (codes "seats") (rows_in inner.now))) result }
+{
+    match given_in(inner, NumberArgument::Seats)? {
+        Some(seats) => Ok(Some(seats as u8)),
+        None => Ok(None),
+    }
+}
+
+/// The number of an argument that has to be there.
+fn number_in<'a>(inner: &ArgMatches<'a>, argument: NumberArgument) -> Result<u32, Refusal<'a>>
+    ensures { Tells (HasNumber (name_of argument) (least argument) (most argument) (rows_in inner.now)) result }
+{
+    match text_in(inner, argument.name()) {
+        Some(word) => number_of(argument, word),
+        None => Err(Refusal::Command),
+    }
+}
+
+/// The number of an argument, if it is given.
+fn given_in<'a>(
+    inner: &ArgMatches<'a>,
+    argument: NumberArgument,
+) -> Result<Option<u32>, Refusal<'a>>
+    ensures { Tells (IsGiven (least argument) (most argument) (word_of (name_of argument) (rows_in inner.now))) result }
+{
+    match text_in(inner, argument.name()) {
+        Some(word) => Ok(Some(number_of(argument, word)?)),
+        None => Ok(None),
+    }
+}
+
+/// The number that the word of an argument is.
+fn number_of(argument: NumberArgument, word: &str) -> Result<u32, Refusal<'_>>
+    ensures { Tells (IsNumber (least argument) (most argument) word.entry.now) result }
+{
+    let (least, most) = argument.range();
+    match natural(word.as_bytes()) {
+        Some(number) if least <= number && number <= most => Ok(number as u32),
+        _ => Err(Refusal::Number(argument, word)),
+    }
+}
+
+/// The names of the scripts.
+fn scripts_in<'a>(alloc: Global, inner: &ArgMatches<'a>) -> Result<Vec<&'a str>, Refusal<'a>>
+    ensures { Tells
+        (λ scripts. (words_of (codes "script") (rows_in inner.now)
+        ≡ Some (map (λ script. script.now) scripts.items)) × (1 ≤ vec_len scripts))
+        result }
+{
+    let Some(names) = texts_in(inner, "script") else {
+        return Err(Refusal::Command);
+    };
+    let mut scripts = Vec::new(alloc);
+    match scripts.extend_from_slice(names) {
+        Ok(()) if scripts.is_empty() => Err(Refusal::Command),
+        Ok(()) => Ok(scripts),
+        Err(_) => Err(Refusal::Memory),
+    }
+}

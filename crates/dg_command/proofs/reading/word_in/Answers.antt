@@ -1,5 +1,0 @@
-use Rattle.dg_command.proofs.Telling.{found}
-use Rattle.dg_command.proofs.reading.word_in.Goals as goal
-
-pub returns : goal.returns
-returns c = rw c.ok_or.ensures.value (found c.text_in.result _ c.text_in.ensures)

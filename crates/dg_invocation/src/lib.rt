@@ -1,0 +1,14 @@
+//! What the words of a command line may ask for.
+#![tactic(auto)]
+
+mod invocation;
+mod limits;
+mod numbered;
+mod question;
+mod parse_args;
+
+pub use invocation::{Invocation, PartyTask, ServeTask, Task};
+pub use limits::{MAX_CAPACITY, MAX_SEATS, MAX_TURNS, MAX_WORKERS};
+pub use numbered::{GreedyTask, RankTask};
+pub use question::{Question, SweepTask};
+pub use parse_args::{ParseArgs, ArgsFault};

@@ -1,0 +1,28 @@
+//! What is asked of many tables.
+ghost use Rattle.std.specs.Prelude.{◌≤◌};
+ghost use Rattle.dg_invocation.specs.declared.limits.TheConstants.{MAX_WORKERS};
+
+/// What is asked of each table of a sweep.
+#[derive(Clone, Copy)]
+pub enum Question {
+    /// Whether its position can be won, and how.
+    Judge,
+    /// Whether the rank of its position is at least this degree.
+    Rank(u32),
+    /// The four numbers of Riemann-Roch for its position.
+    RiemannRoch,
+}
+
+/// A sweep over lines, each of which is a table, or has amounts for the vertices of one table.
+#[derive(Drop)]
+pub struct SweepTask<'a> {
+    /// The name of the file of lines that are tables; or, where there are lines of amounts, of the table file.
+    pub file: &'a str,
+    /// The name of the file of lines of amounts, if there is one.
+    pub divisors: Option<&'a str>,
+    /// What is asked of each table.
+    pub question: Question,
+    /// How many workers share the lines, 1 to 16.
+    pub workers: u32,
+    ghost helped: { (1 ≤ workers) × (workers ≤ MAX_WORKERS) },
+}

@@ -1,9 +1,0 @@
--- A `Facts` holds names of cells and values that no thread has to itself.
-use denote.RattleType.{RattleType}
-use denote.Param.Send.{IsSend}
-use Rattle.dg_known.specs.contracts.facts.Facts.{the_row}
-use Rattle.dg_known.proofs.AllNoted.{all_keyless}
-
-pub send : (T : RattleType) → IsSend (the_row T)
-send T =
-    record { owned = λ f vs. ((λ vss. (tt, ((λ uss. (tt, tt)), tt))), all_keyless T f.items); leaving = λ k d w. tt }

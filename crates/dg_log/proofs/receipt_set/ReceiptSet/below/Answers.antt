@@ -1,0 +1,24 @@
+use Rattle.std.proofs.Common.{◌≡◌, length, arith, sym}
+use Rattle.std.proofs.lemmas.Bool.Decides.{nat_tests}
+use Rattle.dg_log.specs.ReceiptSets.{said_by}
+use Rattle.dg_log.proofs.ReceiptSets.{below_up, named_below}
+use Rattle.dg_log.proofs.receipt_set.ReceiptSet.below.Goals as goal
+
+-- src/receipt_set.rt:55:5
+pub returns-clause-below : goal.returns-clause-below
+returns-clause-below g c =
+    let items = c.self.inside.witnesses.items in
+    let view : said_by items ≡ c.args.self.now = c.self.view_is in
+    let is_end = c.self.invariant.1 in rw (sym view) (
+      (λ yes. below_up c.self.inside.end c.args.count (said_by items)
+          (grind (arith, nat_tests, yes, c.from.ensures)) is_end.0),
+      (λ below. grind (arith, nat_tests, is_end.1 c.args.count below, c.from.ensures)),
+    )
+
+-- src/receipt_set.rt:55:5
+pub returns-clause-cells : goal.returns-clause-cells
+returns-clause-cells g c =
+    let items = c.self.inside.witnesses.items in
+    let named = named_below g.N.Name.cells items c.self.invariant.0 in
+    let least = c.self.invariant.1.1 (length g.N.Name.cells) named in
+    λ enough. grind (arith, nat_tests, least, enough, c.from.ensures)

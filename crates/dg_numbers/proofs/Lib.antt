@@ -1,3 +1,0 @@
--- The lemmas that the proofs cite.
-mod NoDecimals
-mod NoIntegers

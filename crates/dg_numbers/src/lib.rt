@@ -1,6 +1,0 @@
-//! Whole numbers that texts spell.
-#![tactic(auto)]
-
-mod decimals;
-
-pub use decimals::{integer, natural};

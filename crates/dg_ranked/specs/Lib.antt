@@ -1,2 +1,0 @@
--- What rank tests answer.
-pub mod RankTests

@@ -1,0 +1,15 @@
+use Rattle.std.proofs.Common.{◌≡◌, ℕ, ◌<◌, ◌≤◌, length}
+use Rattle.std.specs.List.{slice_index_or}
+use Rattle.std.proofs.Math.IntN.{pos}
+use Rattle.dg_theory.specs.Firing.{fired, indicator}
+use Rattle.dg_graph.specs.Sets.{in_set}
+use Rattle.dg_chips.specs.Vector.{at}
+use Rattle.dg_reduce.proofs.effective_form.EffectiveForm.fire.Given as goal
+
+abbrev pub invariant-loop-v : goal.invariant-loop-v
+invariant-loop-v l = record {
+  size : length l.amounts ≡ 16;
+  same : (w : ℕ) → w < l.v →
+      slice_index_or l.amounts w (pos 0) ≡ fired l.graph (at l.fn.self) (indicator (in_set l.rest.burnt.unburnt)) w;
+  left : (w : ℕ) → l.v ≤ w → slice_index_or l.amounts w (pos 0) ≡ at l.fn.self w;
+}

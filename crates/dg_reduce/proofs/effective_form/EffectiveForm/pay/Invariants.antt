@@ -1,0 +1,12 @@
+use Rattle.dg_theory.proofs.Potential.{weights}
+use Rattle.dg_theory.proofs.Weights.{weight_of}
+use Rattle.dg_theory.proofs.Reach.{distance_from}
+use Rattle.dg_chips.specs.Vector.{at}
+use Rattle.dg_reduce.proofs.DebtSteps.{IsRepaying}
+use Rattle.dg_reduce.proofs.effective_form.EffectiveForm.pay.Given as goal
+
+abbrev pub invariant-paying : goal.invariant-paying
+invariant-paying l = IsRepaying l.graph l.v l.fn.self l.self
+
+abbrev pub decreases-paying : goal.decreases-paying
+decreases-paying l = weight_of l.graph (weights (distance_from l.graph l.v)) (at l.self)

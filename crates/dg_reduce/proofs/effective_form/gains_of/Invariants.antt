@@ -1,0 +1,15 @@
+use Rattle.std.proofs.Common.{◌≡◌, ℕ, ◌<◌, ◌≤◌, length}
+use Rattle.std.specs.List.{slice_index_or}
+use Rattle.std.specs.Int.RustNames.{unsigned_abs}
+use Rattle.std.proofs.Math.IntN.{pos}
+use Rattle.dg_theory.specs.Firing.{gain, indicator}
+use Rattle.dg_graph.specs.Sets.{in_set}
+use Rattle.dg_reduce.proofs.effective_form.gains_of.Given as goal
+
+abbrev pub invariant-loop-v : goal.invariant-loop-v
+invariant-loop-v l = record {
+  places : length l.gains ≡ 16;
+  same : (w : ℕ) → w < l.v →
+      slice_index_or l.gains w (pos 0) ≡ gain l.graph (indicator (in_set l.rest.burnt.unburnt)) w;
+  few : (w : ℕ) → unsigned_abs (slice_index_or l.gains w (pos 0)) ≤ 63;
+}

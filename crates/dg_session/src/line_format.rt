@@ -1,0 +1,43 @@
+//! Whom a line is for.
+ghost use Rattle.std.specs.Prelude.{◌≡◌, ◌<◌, ◌≤◌, None, IfSome};
+ghost use Rattle.dg_session.specs.Speakers.{IsFor, IsForNone};
+
+use dg_lines::split_seat;
+
+/// How the lines of a session name the seat that makes their calls.
+#[derive(Clone, Copy)]
+pub enum LineFormat {
+    /// They do not: each line is a command of the first seat.
+    OneSeat,
+    /// Each line is a seat, by its place from 1, one space, and a command.
+    BySeat,
+}
+
+/// The place of the seat that a line is for, from 0, and the command line that it is to make. `None` where it is for no seat.
+pub(crate) fn addressed(how: LineFormat, count: usize, line: &[u8]) -> Option<(usize, &[u8])>
+    requires { 1 ≤ count }
+    ensures one { IfSome result (λ p. IsFor how count line.now p.0 p.1.now) }
+    ensures there { IfSome result (λ p. p.0 < count) }
+    ensures none { result ≡ None → IsForNone how count line.now }
+{
+    match how {
+        LineFormat::OneSeat => Some((0, line)),
+        LineFormat::BySeat => seated(count, line),
+    }
+}
+
+fn seated(count: usize, line: &[u8]) -> Option<(usize, &[u8])>
+    ensures one { IfSome result (λ p. IsFor LineFormat.BySeat count line.now p.0 p.1.now) }
+    ensures there { IfSome result (λ p. p.0 < count) }
+    ensures none { result ≡ None → IsForNone LineFormat.BySeat count line.now }
+{
+    let Some((seat, text)) = split_seat(line) else {
+        return None;
+    };
+    let seat = usize::from(seat);
+    if seat <= count {
+        Some((seat - 1, text))
+    } else {
+        None
+    }
+}

@@ -1,9 +1,0 @@
--- The files so far are held.
-use Rattle.std.proofs.Common.{take, map}
-use Rattle.dg_sources.specs.AllHeld.{MayHoldAll}
-use Rattle.dg_sources.proofs.reading.read_all.Given as goal
-
-abbrev pub invariant-names : goal.invariant-names
-invariant-names g l =
-    MayHoldAll (g.S.Sources.held l.sources) (map (λ name. name.now) (take l.name-index l.names))
-    (map (λ file. file.items) l.all.items)

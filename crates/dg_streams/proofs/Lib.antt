@@ -1,3 +1,0 @@
--- The lemmas that the proofs cite.
-pub mod Growing
-pub mod Reading

@@ -1,6 +1,0 @@
--- An interrupted flush has changed nothing.
-use Rattle.std.specs.Io.KnownBytes.{Keeps}
-use Rattle.dg_streams.proofs.again.flush_again.Given as goal
-
-abbrev pub invariant-loop : goal.invariant-loop
-invariant-loop g l = Keeps (g.O.Write.contents l.initial.writer) (g.O.Write.contents l.writer)

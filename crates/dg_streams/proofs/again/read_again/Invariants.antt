@@ -1,8 +1,0 @@
--- The buffer keeps its length, and an interrupted read has consumed nothing.
-use Rattle.std.proofs.Common.{◌≡◌, length}
-use Rattle.std.specs.Io.KnownBytes.{Keeps}
-use Rattle.dg_streams.proofs.again.read_again.Given as goal
-
-abbrev pub invariant-loop : goal.invariant-loop
-invariant-loop g l = (length l.buffer ≡ length l.initial.buffer)
-    × Keeps (g.I.Read.remaining l.initial.reader) (g.I.Read.remaining l.reader)

@@ -1,2 +1,0 @@
--- What is known of streams.
-pub mod Streams

@@ -1,9 +1,0 @@
-//! Streams that remember whether they failed.
-#![tactic(auto)]
-
-mod again;
-mod input;
-mod output;
-
-pub use input::Input;
-pub use output::{Output, WriteFailed};

@@ -1,0 +1,6 @@
+-- An interrupted write has appended nothing.
+use Rattle.std.specs.Io.KnownBytes.{Keeps}
+use Rattle.dg_system.proofs.retry.retry_write.Given as goal
+
+abbrev pub invariant-loop : goal.invariant-loop
+invariant-loop g l = Keeps (g.O.Write.contents l.initial.writer) (g.O.Write.contents l.writer)

@@ -1,0 +1,165 @@
+//! Where the bytes of files come from.
+ghost use Rattle.std.specs.Prelude.{◌≡◌, ◌≢◌, ◌<◌, ◌≤◌, ℕ, List, length, map, vec_len, IfOk, IfErr, IfSome};
+ghost use Rattle.dg_system.specs.Held.{Held, MayHold, RefusesHeld, held_among, held_by};
+ghost use Rattle.dg_system.specs.Streams.{MayGive, RefusesStream, stream_remaining};
+ghost use Rattle.std.specs.Option.{option_copied};
+
+use crate::stream::Stream;
+use std::alloc::Global;
+use std::fs;
+use std::io::{self, Read};
+use std::rt::Files;
+use thiserror::Error;
+
+/// The most bytes that a file may have.
+pub const MAX_FILE: usize = 1_048_576;
+
+/// Why a file is not read.
+#[derive(Clone, Copy, Debug, PartialEq, Eq, Error)]
+pub enum SourceFault {
+    /// It cannot be opened, or a read of it fails.
+    #[error("read fault")]
+    Unreadable,
+    /// It has more than 1,048,576 bytes.
+    #[error("file too long")]
+    TooLong,
+    /// There is not enough memory.
+    #[error("out of memory")]
+    OutOfMemory,
+}
+
+impl From<io::Error> for SourceFault {
+    ghost use Rattle.std.specs.Prelude.{◌≢◌};
+    ghost use Rattle.dg_system.specs.declared.sources.SourceFault.TheVariants.{TooLong};
+
+    ghost from_gives = { λ _ fault. fault ≢ TooLong };
+
+    fn from(error: io::Error) -> SourceFault {
+        match error.kind() {
+            io::ErrorKind::OutOfMemory => SourceFault::OutOfMemory,
+            _ => SourceFault::Unreadable,
+        }
+    }
+}
+
+/// Where a file's bytes come from.
+pub trait Sources {
+    ghost held: { Self → List ℕ → Held };
+
+    /// The bytes of the file with this name, at most 1,048,576.
+    ///
+    /// Refused with `Unreadable` where there is no such file or a read fails, with `TooLong` where one more byte can be
+    /// read, and with `OutOfMemory` at the growth that was refused.
+    fn bytes<R: Files + AllocGlobal>(&self, rt: &R, name: &str) -> Result<Vec<u8>, SourceFault>
+        ensures read { IfOk result (λ bytes. MayHold (held self.now name.now) bytes.items) }
+        ensures refused { IfErr result (RefusesHeld (held self.now name.now)) };
+
+    /// The file with this name, to be read as it comes; it may have any number of bytes, and need have no end.
+    ///
+    /// Refused with `Unreadable` where there is no such file, and with `OutOfMemory`.
+    fn open<'s, R: Files>(&'s self, rt: &R, name: &str) -> Result<Stream<'s, R::File>, SourceFault>
+        ensures opened { IfOk result
+            (λ s. MayGive (held self.now name.now) (stream_remaining R.File.remaining s)) }
+        ensures refused { IfErr result (RefusesStream (held self.now name.now)) };
+}
+
+/// The files of the machine.
+#[derive(Clone, Copy)]
+pub struct Disk;
+
+impl Sources for Disk {
+    ghost use Rattle.dg_system.specs.Held.{unknown};
+
+    ghost held = { λ _ name. unknown };
+
+    fn bytes<R: Files + AllocGlobal>(&self, rt: &R, name: &str) -> Result<Vec<u8>, SourceFault> {
+        read_within(rt.alloc(), fs::open(rt, name)?)
+    }
+
+    fn open<'s, R: Files>(
+        &'s self,
+        rt: &R,
+        name: &str,
+    ) -> Result<Stream<'s, R::File>, SourceFault> {
+        Ok(Stream::Opened(fs::open(rt, name)?))
+    }
+}
+
+/// Files in memory: each a name and its bytes. Of two with one name the first counts.
+#[derive(Clone, Copy)]
+pub struct Shelf<'a> {
+    /// The files.
+    pub files: &'a [(&'a str, &'a [u8])],
+}
+
+impl Sources for Shelf<'_> {
+    ghost use Rattle.std.specs.Prelude.{map};
+    ghost use Rattle.dg_system.specs.Held.{held_among};
+
+    ghost held = { λ shelf. held_among (map (λ file. (file.0.now, file.1.now)) shelf.files.now) };
+
+    fn bytes<R: Files + AllocGlobal>(&self, rt: &R, name: &str) -> Result<Vec<u8>, SourceFault> {
+        match found(self.files, name) {
+            Some(bytes) => copied(rt.alloc(), bytes),
+            None => Err(SourceFault::Unreadable),
+        }
+    }
+
+    fn open<'s, R: Files>(
+        &'s self,
+        _rt: &R,
+        name: &str,
+    ) -> Result<Stream<'s, R::File>, SourceFault> {
+        match found(self.files, name) {
+            Some(bytes) => Ok(Stream::Kept(bytes)),
+            None => Err(SourceFault::Unreadable),
+        }
+    }
+}
+
+/// The bytes of the first of the files with that name.
+#[tactic(auto, unfolding(crate::specs::Held::held_among))]
+fn found<'a>(files: &[(&'a str, &'a [u8])], name: &str) -> Option<&'a [u8]>
+    ensures { held_among (map (λ file. (file.0.now, file.1.now)) files.now) name.now
+        ≡ held_by (option_copied result) }
+{
+    let (file, after) = files.split_first()?;
+    if file.0 == name {
+        Some(file.1)
+    } else {
+        found(after, name)
+    }
+}
+
+/// A copy of the bytes, where they are at most 1,048,576.
+fn copied(alloc: Global, bytes: &[u8]) -> Result<Vec<u8>, SourceFault>
+    ensures read { IfOk result (λ copy. (copy.items ≡ bytes.now) × (length bytes.now ≤ MAX_FILE)) }
+    ensures refused { IfErr result (λ fault. fault ≢ SourceFault.Unreadable) }
+    ensures long { result ≡ Err SourceFault.TooLong → MAX_FILE < length bytes.now }
+{
+    if MAX_FILE < bytes.len() {
+        return Err(SourceFault::TooLong);
+    }
+    let mut copy = Vec::new(alloc);
+    match copy.extend_from_slice(bytes) {
+        Ok(()) => Ok(copy),
+        Err(_) => Err(SourceFault::OutOfMemory),
+    }
+}
+
+/// All bytes that the reader has left, where they are at most 1,048,576. It takes at most one byte more.
+///
+/// Refused as `Sources::bytes` says.
+pub fn read_within<I: Read + Drop>(alloc: Global, reader: I) -> Result<Vec<u8>, SourceFault>
+    ensures few { IfOk result (λ bytes. vec_len bytes ≤ MAX_FILE) }
+    ensures all { IfOk result (λ bytes. IfSome (I.remaining reader) (λ left. bytes.items ≡ left)) }
+    ensures long { result ≡ Err SourceFault.TooLong
+        → IfSome (I.remaining reader) (λ left. MAX_FILE < length left) }
+{
+    let mut bytes = Vec::new(alloc);
+    reader.take(MAX_FILE as u64 + 1).read_to_end(&mut bytes)?;
+    if bytes.len() > MAX_FILE {
+        return Err(SourceFault::TooLong);
+    }
+    Ok(bytes)
+}

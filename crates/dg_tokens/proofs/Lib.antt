@@ -1,0 +1,7 @@
+-- The lemmas that the proofs cite.
+pub mod NamesLaws
+mod Writing
+mod Labelling
+mod Naming
+mod NoDecimals
+mod NoIntegers

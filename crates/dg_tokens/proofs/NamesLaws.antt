@@ -1,0 +1,127 @@
+-- Names of vertices.
+--   IsName-tested      bytes that pass the test are a name
+--   is_name-IsName     a name passes the test
+--   is_name-no_name    what is no name does not
+--   AreNames-nil       no names are names
+--   AreNames-push      a new name after names gives names
+--   is_new-named       of a name: it is new where it is not among the names
+--   is_new-no_name     what is no name is not new
+--   name_at-place_of   the vertex of a name has that name
+--   place_of-name_at   the name of a vertex has that vertex
+--   bytes_eq-swaps     comparing bytes is symmetric
+use Rattle.std.proofs.Common.{◌≡◌, ℕ, zero, suc, ◌<◌, Bool, true, false, not, ◌&&◌, List, [], ◌∷◌, ◌++◌, length, Some, IsTrue, refl, sym, ap, ◌||◌, ◌∙◌, arith}
+use Rattle.std.specs.Prelude.{All, bytes_eq}
+use Rattle.std.specs.List.{AllByRecursion, IsDistinct, list_all, prefix_len}
+use Rattle.std.proofs.lemmas.Bool.{false≢true, false_from_ne_true, and_parts, and_from, leb-true, le-leb, lt-ltb}
+use Rattle.std.proofs.lemmas.List.Elements.{All-nil, All-cons, All-head, All-tail, All-push}
+use Rattle.std.proofs.lemmas.List.Quantifiers.{position-Some}
+use Rattle.std.proofs.lemmas.Slice.Eq.{bytes_eq-Decides}
+use Rattle.dg_tokens.specs.Names.{IsName, AreNames, is_name, is_name_byte, has, is_new, place_of, name_at}
+
+all-tested : (p : ℕ → Bool) (xs : List ℕ) → list_all p xs ≡ true → All (λ x. IsTrue (p x)) xs
+all-tested p [] passes = All-nil (λ x. IsTrue (p x))
+all-tested p (x ∷ xs) passes =
+    let parts = and_parts (p x) (list_all p xs) passes in
+    All-cons (λ x. IsTrue (p x)) x xs parts.0 (all-tested p xs parts.1)
+
+list_all-All : (p : ℕ → Bool) (xs : List ℕ) → All (λ x. IsTrue (p x)) xs → list_all p xs ≡ true
+list_all-All p [] all = refl
+list_all-All p (x ∷ xs) all =
+    and_from (p x) (list_all p xs) (All-head (λ x. IsTrue (p x)) x xs all)
+    (list_all-All p xs (All-tail (λ x. IsTrue (p x)) x xs all))
+
+pub IsName-tested : (bytes : List ℕ) → is_name bytes ≡ true → IsName bytes
+IsName-tested bytes passes =
+    let parts = and_parts _ _ passes in
+    let sizes = and_parts _ _ parts.0 in
+    record {
+      not_empty = leb-true 1 (length bytes) sizes.0;
+      short = leb-true (length bytes) 16 sizes.1;
+      each = all-tested is_name_byte bytes parts.1;
+    }
+
+pub is_name-IsName : (bytes : List ℕ) → IsName bytes → is_name bytes ≡ true
+is_name-IsName bytes name =
+    and_from _ _ (and_from _ _ (le-leb 1 (length bytes) name.not_empty) (le-leb (length bytes) 16 name.short))
+    (list_all-All is_name_byte bytes name.each)
+
+pub is_name-no_name : (bytes : List ℕ) → ¬ IsName bytes → is_name bytes ≡ false
+is_name-no_name bytes bad = false_from_ne_true (is_name bytes) (λ passes. bad (IsName-tested bytes passes))
+
+pub AreNames-nil : AreNames []
+unfolding IsDistinct
+AreNames-nil = record { each = All-nil IsName; different = tt }
+
+bytes_eq-refl : (xs : List ℕ) → bytes_eq xs xs ≡ true
+bytes_eq-refl xs = (bytes_eq-Decides xs xs).1 refl
+
+pub bytes_eq-swap : (xs ys : List ℕ) → bytes_eq xs ys ≡ false → bytes_eq ys xs ≡ false
+bytes_eq-swap xs ys differ = false_from_ne_true (bytes_eq ys xs)
+    (λ same. let e : ys ≡ xs = (bytes_eq-Decides ys xs).0 same in
+    false≢true (sym differ ∙ (bytes_eq-Decides xs ys).1 (sym e)))
+
+pub bytes_eq-swaps : (xs ys : List ℕ) → bytes_eq xs ys ≡ bytes_eq ys xs
+bytes_eq-swaps xs ys = go (bytes_eq xs ys) refl
+  where
+    go : (t : Bool) → bytes_eq xs ys ≡ t → bytes_eq xs ys ≡ bytes_eq ys xs
+    go true e = e ∙ sym ((bytes_eq-Decides ys xs).1 (sym ((bytes_eq-Decides xs ys).0 e)))
+    go false e = e ∙ sym (bytes_eq-swap xs ys e)
+
+others-push : (x : List ℕ) (names : List (List ℕ)) (name : List ℕ)
+    → AllByRecursion (λ y. bytes_eq x y ≡ false) names → bytes_eq x name ≡ false
+    → AllByRecursion (λ y. bytes_eq x y ≡ false) (names ++ name ∷ [])
+others-push x [] name others differ = (differ, tt)
+others-push x (y ∷ names) name others differ = (others.0, others-push x names name others.1 differ)
+
+or-false : (a b : Bool) → (a || b) ≡ false → (a ≡ false) × (b ≡ false)
+or-false true b e = absurd (false≢true (sym e))
+or-false false b e = (refl, e)
+
+distinct-push : (names : List (List ℕ)) (name : List ℕ) → IsDistinct bytes_eq names → has names name ≡ false
+    → IsDistinct bytes_eq (names ++ name ∷ [])
+unfolding IsDistinct
+distinct-push [] name distinct new = (tt, tt)
+distinct-push (x ∷ names) name distinct new =
+    let parts = or-false (bytes_eq name x) (has names name) new in
+    (others-push x names name distinct.0 (bytes_eq-swap name x parts.0), distinct-push names name distinct.1 parts.1)
+
+pub AreNames-push : (names : List (List ℕ)) (name : List ℕ) → AreNames names → IsName name → has names name ≡ false
+    → AreNames (names ++ name ∷ [])
+AreNames-push names name are is new = record {
+  each = All-push IsName names name are.each is;
+  different = distinct-push names name are.different new;
+}
+
+pub is_new-named : (names : List (List ℕ)) (name : List ℕ) → IsName name → is_new names name ≡ not (has names name)
+is_new-named names name is = ap (λ named. named && not (has names name)) (is_name-IsName name is)
+
+pub is_new-no_name : (names : List (List ℕ)) (name : List ℕ) → ¬ IsName name → is_new names name ≡ false
+is_new-no_name names name bad = ap (λ named. named && not (has names name)) (is_name-no_name name bad)
+
+pub name_at-place_of : (names : List (List ℕ)) (name : List ℕ) (v : ℕ) → place_of names name ≡ Some v
+    → name_at names v ≡ name
+unfolding place_of
+name_at-place_of names name v placed =
+    (bytes_eq-Decides (name_at names v) name).0 (position-Some (λ own. bytes_eq own name) names v [] placed).1
+
+differ-at : (x : List ℕ) (names : List (List ℕ)) (v : ℕ) → AllByRecursion (λ y. bytes_eq x y ≡ false) names
+    → v < length names → bytes_eq x (name_at names v) ≡ false
+differ-at x [] v others below = absurd (omega arith)
+differ-at x (y ∷ names) zero others below = others.0
+differ-at x (y ∷ names) (suc v) others below = differ-at x names v others.1 (omega arith)
+
+first-at : (names : List (List ℕ)) (v : ℕ) → IsDistinct bytes_eq names → v < length names
+    → prefix_len (λ own. not (bytes_eq own (name_at names v))) names ≡ v
+unfolding IsDistinct
+first-at [] v distinct below = absurd (omega arith)
+first-at (x ∷ names) zero distinct below = rw (bytes_eq-refl x) refl
+first-at (x ∷ names) (suc v) distinct below =
+    let rest : prefix_len (λ own. not (bytes_eq own (name_at names v))) names ≡ v =
+    first-at names v distinct.1 (omega arith) in
+    rw (differ-at x names v distinct.0 (omega arith)) (omega arith)
+
+pub place_of-name_at : (names : List (List ℕ)) (v : ℕ) → AreNames names → v < length names
+    → place_of names (name_at names v) ≡ Some v
+unfolding place_of
+place_of-name_at names v are below =
+    rw (first-at names v are.different below, lt-ltb v (length names) below) refl

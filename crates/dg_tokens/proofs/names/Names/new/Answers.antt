@@ -1,0 +1,10 @@
+use Rattle.std.proofs.Common.{arith}
+use Rattle.dg_tokens.proofs.NamesLaws.{AreNames-nil}
+use Rattle.dg_tokens.proofs.names.Names.new.Goals as goal
+
+pub invariant_of-result : goal.invariant_of-result
+invariant_of-result c = (
+  omega arith,
+  rw c.new.ensures.items AreNames-nil,
+  rw c.new.ensures.items (λ v other below. absurd (omega arith)),
+)

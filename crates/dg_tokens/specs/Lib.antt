@@ -1,0 +1,3 @@
+-- The names of a table's vertices.
+pub mod Names
+pub mod Labels

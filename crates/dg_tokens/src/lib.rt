@@ -1,0 +1,10 @@
+//! The names and numbers that files and lines spell.
+#![tactic(auto)]
+
+mod decimals;
+mod label;
+mod names;
+
+pub use decimals::{integer, natural};
+pub use label::MAX_LABEL;
+pub use names::{MAX_NAME, Names, is_name};

@@ -1,0 +1,26 @@
+-- A `&` to a `Known` holds what it knows, which can be had twice. Assumes `Logic`.
+use base.Logic.{snd∗}
+use base.Before.{before}
+use types.Logic.{sem}
+use denote.RattleType.{RattleType}
+use denote.Param.Laws.{Laws}
+use denote.Param.Shared.{copy_shared}
+use denote.Struct.Laws.{field_copy}
+use denote.Struct.Lending.{of_Lends}
+use Rattle.std.specs.declared.option.Option.TheVariants.{Some}
+use Rattle.std.specs.contracts.marker.PhantomData as phantom
+use Rattle.once_cell.specs.Once.{noted, mark}
+use Rattle.dg_witness.specs.contracts.witness.Witness as witness
+use Rattle.dg_witness.proofs.Tokens.{lends_twice}
+use Rattle.dg_witness.proofs.witness.Witness.TheLaw.Statement.{statement}
+
+pub shares : (T : RattleType) (L : Laws T) → statement T L
+shares T L = of_Lends (witness.struct T) (witness.the_codes T.Denot T.coded (phantom.the_row T).coded) (witness.the_heap T)
+    (witness.the_lent T)
+    (λ k p. record {
+      contraction = λ M 𝓤 𝓛 κ. 𝓛.names.res_dup k.cell (mark T k.cell k.value);
+      mono = λ M 𝓤 𝓛 κ' κ. snd∗ 𝓤 (sem 𝓛 (before κ' κ)) (sem 𝓛 (noted T k.cell (Some k.value)));
+    })
+    (copy_shared (phantom.the_field T) (field_copy (phantom.the_type T) tt), tt)
+    (λ M 𝓤 𝓛 k p. lends_twice 𝓛 (noted T k.cell (Some k.value)) (𝓛.names.res_dup k.cell (mark T k.cell k.value))
+    (witness.the_row T).lives)

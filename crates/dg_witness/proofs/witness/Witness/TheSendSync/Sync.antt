@@ -1,0 +1,10 @@
+-- A `&` to a `Known` says the same in each thread.
+use denote.RattleType.{RattleType}
+use denote.Param.Send.{IsSync, sendable}
+use denote.Struct.Owning.{shape}
+use denote.Struct.Struct.{Struct}
+use Rattle.dg_witness.specs.contracts.witness.Witness as witness
+
+pub sync : (T : RattleType) → IsSync (witness.the_row T)
+sync T = let fields : IsSync (Struct (shape (witness.the_type T))) = search sendable depth 20 in
+    record { shared = λ k b o κ. (fields.shared (tt, tt) b o κ, tt) }

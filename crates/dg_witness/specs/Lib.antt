@@ -1,0 +1,2 @@
+-- What is known of cells that are set once.
+pub mod Witnesses
