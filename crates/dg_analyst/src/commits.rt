@@ -68,8 +68,8 @@ pub fn commit_stale<N: Name>(
     table.settle_stale(rt, alloc, seat, &look.receipt, &look.shown, asks)
 }
 
-/// Reckons the verdict on a look, by an inverse that is first made anew unless it may serve, and enters it, as `reckon_with_inverse` and
-/// `commit` do one after the other. The look stays the caller's.
+/// Computes the verdict on a look and enters it, as `reckon_with_inverse` and `commit` do one after the other. The inverse is
+/// first made anew unless it may serve. The look stays the caller's.
 ///
 /// It waits and is refused as `commit`; then the seat knows what it knew, and there is no entry.
 pub fn commit_look<N: Name>(

@@ -10,7 +10,7 @@ use crate::commands::{dollar, greedy, judge, party, rank, riemann_roch, serve};
 use crate::reading::{NumberArgument, Refusal, asked_by};
 use clap::Command;
 use clap::error::ErrorKind;
-use dg_invocation::{Invocation, ParseArgs, ArgsFault};
+use dg_invocation::{ArgsFault, Invocation, ParseArgs};
 use std::alloc::{AllocError, Global};
 use std::rt::Env;
 use std::{env, io};

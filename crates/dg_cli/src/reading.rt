@@ -26,7 +26,7 @@ ghost use Rattle.dg_cli.specs.Telling.{Tells, least, most, name_of, rows_in};
 
 use clap::ArgMatches;
 use dg_invocation::{
-    Invocation, GreedyTask, MAX_CAPACITY, MAX_SEATS, MAX_TURNS, MAX_WORKERS, PartyTask, Question,
+    GreedyTask, Invocation, MAX_CAPACITY, MAX_SEATS, MAX_TURNS, MAX_WORKERS, PartyTask, Question,
     RankTask, ServeTask, SweepTask, Task,
 };
 use dg_tokens::natural;

@@ -6,8 +6,8 @@ ghost use Rattle.dg_game.specs.declared.entry.Request.TheVariants.{Judge as Judg
 use crate::entry::Request;
 use crate::look::LookData;
 use dg_graph::Graph;
-use dg_verdict::{RankVerdict, Verdict, judge_with_inverse};
 use dg_reduce::InverseLaplacian;
+use dg_verdict::{RankVerdict, Verdict, judge_with_inverse};
 
 /// What is asked on a look, whatever is found.
 #[derive(Clone, Copy, PartialEq, Eq)]

@@ -429,7 +429,9 @@ impl Game {
         if dollars == 0 || !(-MAX_GIFT..=MAX_GIFT).contains(&dollars) {
             return Err(Refusal::Gift);
         }
-        self.amounts.checked_add_at(v, dollars).ok_or(Refusal::Range)
+        self.amounts
+            .checked_add_at(v, dollars)
+            .ok_or(Refusal::Range)
     }
 }
 

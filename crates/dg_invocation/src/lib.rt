@@ -4,11 +4,11 @@
 mod invocation;
 mod limits;
 mod numbered;
-mod question;
 mod parse_args;
+mod question;
 
 pub use invocation::{Invocation, PartyTask, ServeTask, Task};
 pub use limits::{MAX_CAPACITY, MAX_SEATS, MAX_TURNS, MAX_WORKERS};
 pub use numbered::{GreedyTask, RankTask};
+pub use parse_args::{ArgsFault, ParseArgs};
 pub use question::{Question, SweepTask};
-pub use parse_args::{ParseArgs, ArgsFault};

@@ -2,20 +2,20 @@
 //! `Row::new`.
 #![tactic(auto)]
 
-mod receipt_set;
 mod log;
 mod name;
-mod prefix;
 mod pen;
+mod prefix;
 mod receipt;
+mod receipt_set;
 mod row;
 mod seating;
 
-pub use receipt_set::ReceiptSet;
 pub use log::Log;
 pub use name::Name;
-pub use prefix::Prefix;
 pub use pen::Pen;
+pub use prefix::Prefix;
 pub use receipt::Receipt;
+pub use receipt_set::ReceiptSet;
 pub use row::{LogFault, Row};
 pub use seating::Seating;

@@ -10,7 +10,7 @@ use crate::receipt::Receipt;
 use crate::row::Row;
 use crate::seating::Seating;
 use dg_game::Entry;
-use dg_witness::{Witnesses, Witness};
+use dg_witness::{Witness, Witnesses};
 use once_cell::race::OnceBox;
 use std::marker::PhantomData;
 

@@ -5,13 +5,13 @@ ghost use Rattle.std.specs.declared.option.Option.TheVariants.{Some};
 ghost use Rattle.dg_game.specs.declared.game.TheConstants.{MAX_ENTRIES};
 ghost use Rattle.dg_log.specs.Numbered.{AreBelow, StandIn, IsBeginning};
 
-use crate::receipt_set::ReceiptSet;
 use crate::log::Log;
 use crate::name::Name;
 use crate::prefix::Prefix;
 use crate::receipt::Receipt;
+use crate::receipt_set::ReceiptSet;
 use dg_game::Entry;
-use dg_witness::{Witnesses, Witness};
+use dg_witness::{Witness, Witnesses};
 use std::marker::{Model, PhantomData};
 
 /// The one pen of the table N. A contract sees the history that it wrote, and whether the last entry was refused.

@@ -2,8 +2,8 @@
 ghost use Rattle.std.specs.Prelude.{◌≡◌, ◌⊎◌, [], length, map, take};
 ghost use Rattle.dg_log.specs.Numbered.{AreBelow, StandIn, IsBeginning, IsLonger};
 
-use crate::receipt_set::ReceiptSet;
 use crate::name::Name;
+use crate::receipt_set::ReceiptSet;
 use dg_game::Entry;
 use dg_witness::Witnesses;
 use std::marker::{Model, PhantomData};

@@ -9,8 +9,8 @@ use dg_game::{Command, Finding, Game, LookData, Plain, Reply, Step};
 use dg_graph::Graph;
 use dg_lines::{parse_line, parse_step};
 use dg_rank::rank_at_least;
-use dg_verdict::{RankVerdict, Verdict, check, judge, rebase};
 use dg_reduce::reduce;
+use dg_verdict::{RankVerdict, Verdict, check, judge, rebase};
 use std::process::Abort;
 use std::test::Fail;
 

@@ -1,6 +1,6 @@
 //! What a party comes to, and why there is none.
-use dg_system::Shortage;
 use dg_session::SessionEnd;
+use dg_system::Shortage;
 
 /// What a party came to.
 #[derive(Drop)]

@@ -7,12 +7,12 @@ ghost use Rattle.dg_party.specs.Parties.{IsParty, IsPartyRefused};
 
 use crate::ending::{PartyRefusal, Played};
 use crate::threads::sessions;
-use dg_system::Shortage;
 use dg_chips::Start;
 use dg_log::{LogFault, Name, Row};
-use dg_tokens::Names;
 use dg_rank::Gate;
+use dg_system::Shortage;
 use dg_table::{Table, TableFault};
+use dg_tokens::Names;
 use dg_transcript::closing_text;
 use std::alloc::Global;
 use std::marker::Brand;

@@ -2,12 +2,12 @@
 ghost use Rattle.std.specs.Prelude.{◌≡◌, ℕ, ◌∷◌, length, IfOk, IfErr};
 ghost use Rattle.dg_party.specs.Sessions.{IsSessionOver, AreSessions, RefusesSessions, contents};
 
-use dg_system::{Input, Shortage, beside};
 use dg_log::Name;
-use dg_tokens::Names;
 use dg_rank::Gate;
 use dg_session::{SessionEnd, serve_unheard};
+use dg_system::{Input, Shortage, beside};
 use dg_table::{Seat, Table};
+use dg_tokens::Names;
 use std::alloc::Global;
 use std::sync::Wait;
 use std::thread::Threads;

@@ -40,7 +40,12 @@ pub fn has_rank(graph: &Graph, q: usize, divisor: &Divisor, k: u32) -> Result<bo
 }
 
 /// What `has_rank` answers, whatever the inverse.
-pub(crate) fn passes(graph: &Graph, inverse: &InverseLaplacian, divisor: &Divisor, k: u32) -> Result<bool, RankFault>
+pub(crate) fn passes(
+    graph: &Graph,
+    inverse: &InverseLaplacian,
+    divisor: &Divisor,
+    k: u32,
+) -> Result<bool, RankFault>
     requires size { divisor.now.size ≡ graph.now.size }
     requires some { 0 < graph.now.size }
     ensures { MatchResult result

@@ -18,7 +18,7 @@ use crate::counting::count;
 use crate::enumeration::{Moved, Trial};
 use dg_chips::Wide;
 use dg_graph::Graph;
-use dg_reduce::{InverseLaplacian, EffectiveForm, reduce_certified};
+use dg_reduce::{EffectiveForm, InverseLaplacian, reduce_certified};
 
 /// The first trial of degree k, of those from one number up to another, whose loss leaves what can't be won; `None`
 /// where there is none. What is left of one trial is not far from what is left of the next, so each starts from it; and those
@@ -57,7 +57,12 @@ pub fn first_loss(
 }
 
 /// Amounts without debts that amounts without a trial's can be fired to; `None` where those can't be won.
-pub(crate) fn left_without(graph: &Graph, inverse: &InverseLaplacian, chips: &Wide, trial: &Trial) -> Option<EffectiveForm>
+pub(crate) fn left_without(
+    graph: &Graph,
+    inverse: &InverseLaplacian,
+    chips: &Wide,
+    trial: &Trial,
+) -> Option<EffectiveForm>
     requires graph { IsGraph graph.now }
     requires size { chips.now.size ≡ graph.now.size }
     requires range { AreSmall graph.now.size (at chips.now) }

@@ -16,8 +16,8 @@ use crate::enumeration::Trial;
 use crate::rank_fault::RankFault;
 use dg_chips::{Divisor, Wide};
 use dg_graph::Graph;
-use dg_verdict::RankVerdict;
 use dg_reduce::{InverseLaplacian, reduce_certified};
+use dg_verdict::RankVerdict;
 
 /// Tests whether the rank of a divisor is at least k: whether every effective divisor of degree k can be lost and the
 /// rest still won. If not, the answer names the first that can't, in the order of trials. Where the dual of the divisor has
@@ -52,7 +52,12 @@ pub fn rank_at_least(
 
 /// The amounts that are reduced for the first vertex and that a divisor can be fired to, where the degree does not settle its
 /// test: all of them are small.
-pub(crate) fn small_amounts(graph: &Graph, inverse: &InverseLaplacian, divisor: &Divisor, k: u32) -> Wide
+pub(crate) fn small_amounts(
+    graph: &Graph,
+    inverse: &InverseLaplacian,
+    divisor: &Divisor,
+    k: u32,
+) -> Wide
     requires size { divisor.now.size ≡ graph.now.size }
     requires limits { IsWithin graph.now.size k }
     requires unsettled { IsUnsettled graph.now (at divisor.now) k }

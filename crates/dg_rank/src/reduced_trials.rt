@@ -13,7 +13,7 @@ use crate::enumeration::Trial;
 use crate::first_loss::left_without;
 use dg_chips::Wide;
 use dg_graph::Graph;
-use dg_reduce::{InverseLaplacian, EffectiveForm};
+use dg_reduce::{EffectiveForm, InverseLaplacian};
 
 /// How many trials there are for each visit that those which are reduced may take: where these tell nothing, little is lost.
 const TRIALS_A_VISIT: u32 = 256;

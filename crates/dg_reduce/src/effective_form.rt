@@ -90,8 +90,8 @@ impl EffectiveForm {
         amounts[v] -= dollars as i32;
     }
 
-    /// Pays back what one vertex owes, where nobody else may be in debt: as long as it does, the vertices that burning from it leaves
-    /// lend. False where the amounts can't be won; then nothing is said of what is left.
+    /// Pays back what one vertex owes; nobody else may be in debt. As long as it owes, the vertices that burning from it leaves
+    /// lend. False if the amounts can't be won; then nothing is said of what is left.
     #[inline(always)]
     pub fn repay(&mut self, graph: &Graph, v: usize) -> bool
         requires size { self.old.size ≡ graph.now.size }

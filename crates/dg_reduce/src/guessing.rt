@@ -11,8 +11,8 @@ ghost use Rattle.dg_chips.specs.declared.limits.TheConstants.{MAX_ENTRY};
 ghost use Rattle.dg_fallback.specs.declared.limits.TheConstants.{MAX_START};
 ghost use Rattle.dg_reduce.specs.Burnings.{IsWhole};
 
-use crate::inverse_laplacian::{InverseLaplacian, Lending, lendings_once};
 use crate::certificate::Burning;
+use crate::inverse_laplacian::{InverseLaplacian, Lending, lendings_once};
 use dg_burn::burn_counted;
 use dg_chips::{Script, Wide};
 use dg_graph::{Graph, MAX_VERTICES, contains};
@@ -62,7 +62,13 @@ pub fn guess(graph: &Graph, inverse: &InverseLaplacian, q: usize, chips: &Wide) 
 {
     let _size = graph.size();
     let amounts = amounts_off(q, chips);
-    guess_near(graph, &inverse.lending, q, &amounts, &inverse.lendings(&amounts))
+    guess_near(
+        graph,
+        &inverse.lending,
+        q,
+        &amounts,
+        &inverse.lendings(&amounts),
+    )
 }
 
 /// The same where no other reduction on the graph is asked for: what is made for one alone costs less than an inverse.

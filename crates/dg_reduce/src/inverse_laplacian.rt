@@ -10,8 +10,8 @@ use dg_graph::{Graph, MAX_VERTICES};
 /// What is added to the lendings, so that those halfway between two numbers are rounded up, as they are reckoned here or there.
 const A_BIT_MORE: f64 = 0.001;
 
-/// What guesses for one graph and one vertex q need: made once, it serves each reduction there. For another graph or vertex
-/// it only makes the guesses bad.
+/// The inverse of a graph's Laplacian without the row and column of q, as far as fractions of 64 bits give it, with what else
+/// guesses need. Made once, it serves each reduction for this graph and q. For another graph or q it only makes the guesses bad.
 #[derive(Clone, Copy)]
 pub struct InverseLaplacian {
     /// The vertex q.

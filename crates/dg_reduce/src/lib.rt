@@ -2,15 +2,15 @@
 //! without debts, kept so while dollars are taken. No call takes memory.
 #![tactic(auto)]
 
-mod inverse_laplacian;
 mod certificate;
 mod effective_form;
 mod guessing;
+mod inverse_laplacian;
 mod reducing;
 
-pub use inverse_laplacian::InverseLaplacian;
 pub use certificate::{Burning, is_solvent_off, order_by, order_if_reduced};
 pub use dg_fallback::{MAX_START, Reduced};
 pub use effective_form::EffectiveForm;
 pub use guessing::{Guessed, guess, guess_once};
+pub use inverse_laplacian::InverseLaplacian;
 pub use reducing::{Certified, certified_by, reduce, reduce_certified, reduce_wide};

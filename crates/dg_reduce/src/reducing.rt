@@ -7,9 +7,9 @@ ghost use Rattle.dg_fallback.specs.Reductions.{IsReduction};
 ghost use Rattle.dg_reduce.specs.Certificates.{IsCertified};
 ghost use Rattle.dg_reduce.specs.Burnings.{IsWhole};
 
-use crate::inverse_laplacian::InverseLaplacian;
 use crate::certificate::{Burning, order_by};
 use crate::guessing::guess;
+use crate::inverse_laplacian::InverseLaplacian;
 use dg_burn::burn;
 use dg_chips::{Divisor, Script, Wide};
 use dg_fallback::{MAX_START, Reduced, reduce_after};
@@ -49,7 +49,12 @@ pub fn reduce_wide(graph: &Graph, q: usize, chips: &Wide) -> Reduced
 
 /// The amounts, within 2,000,000 before, that are reduced for q and can be reached by firing, with the script that leads to
 /// them and the order in which all vertices burn. The inverse changes how long that takes, and no answer.
-pub fn reduce_certified(graph: &Graph, inverse: &InverseLaplacian, q: usize, chips: &Wide) -> Certified
+pub fn reduce_certified(
+    graph: &Graph,
+    inverse: &InverseLaplacian,
+    q: usize,
+    chips: &Wide,
+) -> Certified
     requires size { chips.now.size ≡ graph.now.size }
     requires vertex { q < graph.now.size }
     requires range { (v : ℕ) → v < graph.now.size → unsigned_abs (at chips.now v) ≤ MAX_START }

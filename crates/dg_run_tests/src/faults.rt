@@ -1,10 +1,10 @@
 //! Faults that no row in tests/rows meets: the line of each, and the exit status.
 
-use dg_invocation::ArgsFault;
-use dg_system::{Shortage, SourceFault};
 use dg_file::FileFault;
+use dg_invocation::ArgsFault;
 use dg_server::{Fault, report, status_of};
 use dg_session::SessionEnd;
+use dg_system::{Shortage, SourceFault};
 use dg_table::Fault as TableFault;
 use dg_tasks::TaskFault;
 use std::alloc::Global;

@@ -1,8 +1,8 @@
 //! Sweeps over lines: what stands in no clause, that they end well, and laws before limits on tables reckoned by hand.
 
 use dg_invocation::Question;
-use dg_system::{Input, Output};
 use dg_sweep::{SweepEnd, sweep};
+use dg_system::{Input, Output};
 use std::alloc::Global;
 use std::io;
 use std::io::{ErrorKind, Read};

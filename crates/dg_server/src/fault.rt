@@ -2,11 +2,11 @@
 ghost use Rattle.std.specs.Prelude.{◌≡◌};
 ghost use Rattle.dg_server.specs.Status.{status};
 
-use dg_invocation::ArgsFault;
-use dg_system::{Shortage, SourceFault, WriteFailed};
 use dg_file::FileFault;
+use dg_invocation::ArgsFault;
 use dg_session::SessionEnd;
 use dg_sweep::SweepEnd;
+use dg_system::{Shortage, SourceFault, WriteFailed};
 use dg_tasks::{TaskFault, call_text};
 use std::io::{self, Write};
 use thiserror::Error;

@@ -8,13 +8,13 @@ ghost use Rattle.dg_server.specs.Parties.{early, PlaysParty, names_in, RefusesFi
 ghost use Rattle.dg_server.specs.Streams.{IsOfInput, IsOfOutput};
 
 use crate::fault::Fault;
-use dg_invocation::PartyTask;
-use dg_system::{Output, Shortage, Sources, read_all};
 use dg_file::{TableFile, read_table};
 use dg_game::MAX_SEATS;
+use dg_invocation::PartyTask;
 use dg_party::{PartyRefusal, Played, party};
 use dg_rank::OpenGate;
 use dg_session::SessionEnd;
+use dg_system::{Output, Shortage, Sources, read_all};
 use dg_tasks::TaskFault;
 use std::alloc::{AllocError, Global};
 use std::io::Write;

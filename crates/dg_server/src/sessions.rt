@@ -7,11 +7,11 @@ ghost use Rattle.dg_server.specs.Sessions.{how_of, Serves, EndsEarly, IsServed, 
 ghost use Rattle.dg_server.specs.Streams.{IsOfInput, IsOfOutput};
 
 use crate::fault::Fault;
-use dg_invocation::ServeTask;
-use dg_system::{Input, Output, Shortage, Sources};
 use dg_file::TableFile;
+use dg_invocation::ServeTask;
 use dg_log::{LogFault, Name, Row};
 use dg_session::{LineFormat, serve_seats};
+use dg_system::{Input, Output, Shortage, Sources};
 use dg_table::Table;
 use dg_tasks::table_in;
 use std::io::{Read, Write};

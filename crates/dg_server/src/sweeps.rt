@@ -5,8 +5,8 @@ ghost use Rattle.dg_server.specs.Streams.{IsOfInput, IsOfOutput};
 
 use crate::fault::Fault;
 use dg_invocation::SweepTask;
-use dg_system::{Input, Output, Sources};
 use dg_sweep::{sweep, sweep_divisors};
+use dg_system::{Input, Output, Sources};
 use dg_tasks::{TaskFault, table_in};
 use std::io::Write;
 use std::rt::Files;

@@ -6,16 +6,16 @@ ghost use Rattle.dg_lines.specs.Texts.{HasNames, entry_text};
 ghost use Rattle.dg_session.specs.Setup.{setup};
 ghost use Rattle.dg_session.specs.SoFar.{heard, speaker, Tells, Hears, Obeys};
 
-use crate::line_format::LineFormat;
 use crate::ends::SessionEnd;
+use crate::line_format::LineFormat;
 use dg_analyst::{Look, commit_look, commit_rank, commit_stale, look, try_rank};
 use dg_game::{Command, Plain, Question};
 use dg_lines::{parse_line, push_entry};
 use dg_log::{Name, Receipt};
-use dg_tokens::Names;
 use dg_rank::{OpenGate, RankFault, trials};
 use dg_reduce::InverseLaplacian;
 use dg_table::{Seat, Table};
+use dg_tokens::Names;
 use std::alloc::Global;
 use std::sync::Wait;
 use std::thread::Threads;

@@ -3,7 +3,7 @@ ghost use Rattle.std.specs.Prelude.{◌≡◌, ◌≤◌, ℕ, List, [], ◌++�
 ghost use Rattle.dg_game.specs.declared.entry.Entry.{Entry as EntryData};
 ghost use Rattle.dg_table.specs.Seats.{Meets};
 
-use dg_log::{ReceiptSet, Name, Prefix};
+use dg_log::{Name, Prefix, ReceiptSet};
 use dg_table::Seat;
 use std::marker::Model;
 

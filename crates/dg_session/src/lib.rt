@@ -1,16 +1,16 @@
 //! Sessions: lines come in on a stream, each is answered, and many sessions may share one table.
 #![tactic(auto)]
 
-mod line_format;
 mod answering;
 mod course;
 mod ends;
 mod laws;
+mod line_format;
 mod serving;
 mod speaking;
 mod taking;
 
-pub use line_format::LineFormat;
 pub use ends::{MAX_LINE, MAX_LINES, READ_SIZE, SessionEnd};
 pub use laws::streams_are_cut_in_one_way;
+pub use line_format::LineFormat;
 pub use serving::{serve, serve_seats, serve_unheard};

@@ -6,14 +6,14 @@ ghost use Rattle.dg_session.specs.Ends.{IsOver, IsSession, IsSessionOf};
 ghost use Rattle.dg_session.specs.Setup.{setup};
 ghost use Rattle.dg_session.specs.SoFar.{heard, IsSaid, IsCleared, IsWritten};
 
-use crate::line_format::LineFormat;
 use crate::answering::{Said, Shared};
 use crate::ends::{READ_SIZE, SessionEnd};
+use crate::line_format::LineFormat;
 use crate::taking::{Progress, take_bytes, take_end};
 use dg_log::Name;
-use dg_tokens::Names;
 use dg_system::{Input, Output};
 use dg_table::{Seat, Table};
+use dg_tokens::Names;
 use std::alloc::Global;
 use std::io::{self, Read, Write};
 use std::slice;

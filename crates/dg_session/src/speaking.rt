@@ -3,10 +3,10 @@ ghost use Rattle.std.specs.Prelude.{◌≡◌, ◌≤◌, length};
 ghost use Rattle.dg_session.specs.Setup.{setup};
 ghost use Rattle.dg_session.specs.SoFar.{talk, Handles};
 
-use crate::line_format::addressed;
 use crate::answering::{Said, Shared, answer_seat};
 use crate::course::Course;
 use crate::ends::SessionEnd;
+use crate::line_format::addressed;
 use dg_analyst::Look;
 use dg_lines::LineFault;
 use dg_log::Name;

@@ -32,8 +32,8 @@ pub(crate) struct Progress<N: Name> {
 }
 
 impl<N: Name> Progress<N> {
-    /// That of a session which has read nothing, of seats that keep no look, with this text to say it in, and this inverse for its
-    /// verdicts. `None` where memory is refused.
+    /// How far a session is that has read nothing, and whose seats keep no look. It writes its answers into this text, and uses
+    /// this inverse for its verdicts. `None` if memory is refused.
     pub(crate) fn new(
         alloc: Global,
         seats: &[Seat<N>],

@@ -10,13 +10,13 @@ use crate::ends::MAX_LINE;
 use crate::fault_words::push_fault;
 use crate::ranking::{push_rank, push_ranks};
 use crate::tables::Tables;
-use dg_invocation::Question;
 use dg_chips::Start;
 use dg_file::FileFault;
 use dg_game::Reply;
+use dg_invocation::Question;
 use dg_lines::push_reply;
-use dg_tokens::Names;
 use dg_reduce::InverseLaplacian;
+use dg_tokens::Names;
 use dg_verdict::{Verdict, judge, judge_with_inverse};
 use std::alloc::{AllocError, Global};
 
@@ -33,11 +33,11 @@ pub(crate) trait LineKind {
         ensures { OnOk result (answers self.now line.now answer.new.items) };
 }
 
-/// The answer to the line of a table, with its newline, in the place of what the buffer holds: that of the command for the table
-/// that the line describes; or `refused` and the text of the fault that it would have as a table file, also where it has more than
-/// 1,048,576 bytes.
+/// The answer to the line of a table, with its newline, in place of what the buffer holds: the command's answer for the table
+/// that the line describes; or `refused` and the text of the fault that the line would have as a table file. A line of more
+/// than 1,048,576 bytes has such a fault too.
 ///
-/// Refused at the growth that was refused; of what the buffer then holds nothing is said.
+/// Refused if a growth is refused; nothing is said of what the buffer then holds.
 pub fn answer_line(
     alloc: Global,
     question: Question,
@@ -76,8 +76,8 @@ pub(crate) fn push_refusal(fault: &FileFault, answer: &mut Vec<u8>) -> Result<()
     Ok(())
 }
 
-/// The answer for a start whose vertices have these names, into an empty buffer. An inverse that was made for its graph and q saves
-/// the time to make it anew.
+/// The answer for a start whose vertices have these names, into an empty buffer. An inverse that was made for its graph and q
+/// saves the time to make one.
 pub(crate) fn push_answer(
     question: Question,
     start: &Start,

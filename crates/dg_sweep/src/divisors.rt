@@ -5,13 +5,13 @@ ghost use Rattle.std.specs.Int.{w64};
 ghost use Rattle.dg_sweep.specs.Divisors.{HasAmountsOf, RefusesAmounts, SpellsAmounts, SpellsNone};
 
 use crate::answering::{LineKind, push_answer, push_refusal};
-use dg_invocation::Question;
 use dg_chips::{Divisor, Start};
 use dg_file::{FileFault, Shape, TableFile};
 use dg_graph::MAX_VERTICES;
+use dg_invocation::Question;
 use dg_lines::cut;
-use dg_tokens::integer;
 use dg_reduce::InverseLaplacian;
+use dg_tokens::integer;
 use std::alloc::{AllocError, Global};
 
 /// Lines each of which has amounts for the vertices of one table, and what is asked of that table with these amounts.

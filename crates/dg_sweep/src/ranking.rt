@@ -5,8 +5,8 @@ ghost use Rattle.dg_sweep.specs.Answers.{AnswersRank, AreRanks, AreUntested, num
 use crate::answering::push_line;
 use dg_chips::Start;
 use dg_game::Reply;
-use dg_tokens::Names;
 use dg_rank::{both_ranks, has_rank, rank_at_least};
+use dg_tokens::Names;
 use dg_verdict::RankVerdict;
 use itoa::Buffer;
 use std::alloc::AllocError;

@@ -2,8 +2,8 @@
 ghost use Rattle.std.specs.Prelude.{◌≡◌, OnOk};
 
 use crate::answering::{LineKind, push_answer, push_refusal};
-use dg_invocation::Question;
 use dg_file::{FileFault, read_table};
+use dg_invocation::Question;
 use std::alloc::{AllocError, Global};
 
 /// Lines each of which is a table, and what is asked of it.

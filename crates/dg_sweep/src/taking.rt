@@ -6,8 +6,8 @@ ghost use Rattle.dg_sweep.specs.declared.ends.SweepEnd.TheVariants.{Write as Wri
 use crate::answering::{LineKind, answer_of_kind};
 use crate::ends::{MAX_LINE, SweepEnd};
 use crate::workers::{Room, answer_batch};
-use dg_system::{Output, Shortage};
 use dg_lines::cut;
+use dg_system::{Output, Shortage};
 use std::alloc::{AllocError, Global};
 use std::io::Write;
 use std::sync::Wait;

@@ -5,8 +5,8 @@ ghost use Rattle.dg_sweep.specs.Pieces.{AnswersPiece, IsAnswered, Leads};
 
 use crate::answering::LineKind;
 use crate::taking::answer_lines;
-use dg_system::{Shortage, in_parallel};
 use dg_lines::cut;
+use dg_system::{Shortage, in_parallel};
 use std::alloc::{AllocError, Global};
 use std::sync::Wait;
 use std::sync::atomic::{AtomicUsize, Ordering};

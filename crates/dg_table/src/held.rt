@@ -78,7 +78,10 @@ impl<N: Name> Held<N> {
     {
         let count = self.counts[usize::from(seat.number - 1)];
         let len = self.pen.len();
-        if seat.mine.len() as u64 != count || seat.met.len() > len || !seat.told_receipt_set.below(len) {
+        if seat.mine.len() as u64 != count
+            || seat.met.len() > len
+            || !seat.told_receipt_set.below(len)
+        {
             return false;
         }
         self.pen.began(&seat.met);

@@ -8,7 +8,7 @@ ghost use Rattle.dg_table.specs.Opened.{MayHaveSeats, AreFresh};
 ghost use Rattle.dg_table.specs.Seats.{Keeps, Meets};
 
 use dg_game::{BLANK, Entry, LookData};
-use dg_log::{ReceiptSet, Log, Name, Prefix, Receipt, Seating};
+use dg_log::{Log, Name, Prefix, Receipt, ReceiptSet, Seating};
 use std::alloc::{AllocError, Global};
 use std::marker::{Model, PhantomData};
 

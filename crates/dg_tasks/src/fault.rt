@@ -2,10 +2,10 @@
 ghost use Rattle.std.specs.Prelude.{◌≡◌};
 ghost use Rattle.dg_tasks.specs.CallTexts.{said_of_call};
 
-use dg_system::{Shortage, SourceFault};
 use dg_chips::ChipFault;
 use dg_file::FileFault;
 use dg_lines::LineFault;
+use dg_system::{Shortage, SourceFault};
 use dg_table::Fault;
 use thiserror::Error;
 

@@ -4,14 +4,14 @@ ghost use Rattle.dg_game.specs.declared.game.TheConstants.{MAX_ENTRIES};
 ghost use Rattle.dg_tasks.specs.Games.{IsGreedyAnswer, RefusesTurns};
 
 use crate::fault::TaskFault;
-use dg_system::Shortage;
 use dg_chips::Start;
 use dg_file::TableFile;
 use dg_game::MAX_ENTRIES;
 use dg_log::{LogFault, Name, Row};
-use dg_tokens::Names;
 use dg_strategy::greedy_on;
+use dg_system::Shortage;
 use dg_table::Fault;
+use dg_tokens::Names;
 use dg_transcript::audit_lines;
 use std::alloc::Global;
 use std::marker::Brand;

@@ -4,10 +4,10 @@ ghost use Rattle.dg_tasks.specs.Judgements.{IsJudgement};
 ghost use Rattle.dg_lines.specs.Texts.{HasNames, text_of};
 
 use crate::fault::TaskFault;
-use dg_system::Shortage;
 use dg_file::TableFile;
 use dg_game::Reply;
 use dg_lines::reply_text;
+use dg_system::Shortage;
 use dg_tokens::Names;
 use dg_verdict::judge;
 use std::alloc::{AllocError, Global};

@@ -5,11 +5,11 @@ ghost use Rattle.dg_tasks.specs.RankTests.{IsRankAnswer, RefusesRank, number_lin
 
 use crate::fault::TaskFault;
 use crate::printed::reply_line;
-use dg_system::Shortage;
 use dg_chips::{Start, dual};
 use dg_file::TableFile;
 use dg_game::Reply;
 use dg_rank::{OpenGate, RankFault, both_ranks_in_limits, rank_with};
+use dg_system::Shortage;
 use itoa::Buffer;
 use std::alloc::{AllocError, Allocator, Global};
 use std::sync::Wait;

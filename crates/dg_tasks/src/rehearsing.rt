@@ -5,12 +5,12 @@ ghost use Rattle.dg_tasks.specs.Rehearsals.{IsPrinted, MayGoOn, GoesOn};
 ghost use Rattle.dg_tasks.specs.Refusals.{RefusesSchedule};
 
 use crate::fault::TaskFault;
-use dg_system::Shortage;
 use dg_file::TableFile;
 use dg_game::{BLANK, Entry, Step};
 use dg_lines::{Lines, parse_step, push_entry};
-use dg_tokens::Names;
 use dg_rehearsal::{Rehearsal, RehearseFault};
+use dg_system::Shortage;
+use dg_tokens::Names;
 use std::alloc::Global;
 
 /// The history of a schedule as text: a line for each entry, with its number, from 0 on, and the text of its reply. The

@@ -7,8 +7,8 @@ use dg_chips::Divisor;
 use dg_game::Entry;
 use dg_lines::{push_amounts, push_entry, push_reply};
 use dg_log::Name;
-use dg_tokens::Names;
 use dg_table::Audit;
+use dg_tokens::Names;
 use itoa::Buffer;
 use std::alloc::{AllocError, Global};
 

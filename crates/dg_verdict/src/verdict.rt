@@ -7,7 +7,7 @@ ghost use Rattle.dg_verdict.specs.Right.{IsVerdictOn};
 
 use dg_chips::{Divisor, Script, Wide};
 use dg_graph::Graph;
-use dg_reduce::{InverseLaplacian, Guessed, certified_by, guess, guess_once, order_by};
+use dg_reduce::{Guessed, InverseLaplacian, certified_by, guess, guess_once, order_by};
 
 /// Whether a divisor is winnable, with what shows it.
 #[derive(Clone, Copy, PartialEq, Eq)]
@@ -39,7 +39,12 @@ pub fn judge(graph: &Graph, q: usize, divisor: &Divisor) -> Verdict
 
 /// The verdict as `judge` gives it, whatever inverse it is given: one that was made for the graph and q saves the time to make
 /// it anew. One that was made before an edge was added is not used.
-pub fn judge_with_inverse(graph: &Graph, inverse: &InverseLaplacian, q: usize, divisor: &Divisor) -> Verdict
+pub fn judge_with_inverse(
+    graph: &Graph,
+    inverse: &InverseLaplacian,
+    q: usize,
+    divisor: &Divisor,
+) -> Verdict
     requires size { divisor.now.size ≡ graph.now.size }
     requires vertex { q < graph.now.size }
     ensures { IsVerdictOn graph.now q (at divisor.now) result }

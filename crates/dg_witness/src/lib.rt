@@ -3,8 +3,8 @@
 //! touches a cell.
 #![tactic(auto)]
 
-mod witnesses;
 mod witness;
+mod witnesses;
 
-pub use witnesses::Witnesses;
 pub use witness::Witness;
+pub use witnesses::Witnesses;

@@ -4,8 +4,8 @@ ghost use Rattle.std.specs.Prelude.{◌≡◌, ◌<◌, ◌^◌, IfOk};
 use dg_chips::{ChipFault, Divisor};
 use dg_graph::{Graph, GraphFault};
 use dg_rank::{has_rank, rank_at_least, trial, trials};
-use dg_verdict::RankVerdict;
 use dg_reduce::reduce;
+use dg_verdict::RankVerdict;
 use std::process::Abort;
 use std::test::Fail;
 

@@ -2,7 +2,7 @@
 ghost use Rattle.std.specs.Prelude.{◌≡◌};
 
 use dg_game::{Entry, Reply, Request};
-use dg_log::{ReceiptSet, Log, Name, Row};
+use dg_log::{Log, Name, ReceiptSet, Row};
 use std::alloc::Global;
 use std::process::Abort;
 use std::test::Fail;
