@@ -118,7 +118,14 @@ pub(crate) fn told_before(
 }
 
 /// What is told of all trials where those before a number win: by some more, and by those that are reduced for the last vertex.
-fn told_after(graph: &Graph, inverse: &InverseLaplacian, chips: &Wide, k: u32, from: u32, count: u32) -> Partial
+fn told_after(
+    graph: &Graph,
+    inverse: &InverseLaplacian,
+    chips: &Wide,
+    k: u32,
+    from: u32,
+    count: u32,
+) -> Partial
     requires size { chips.now.size ≡ graph.now.size }
     requires range { AreSmall graph.now.size (at chips.now) }
     requires limits { IsWithinLimits graph.now.size k count }
