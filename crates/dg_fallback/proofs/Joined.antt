@@ -1,8 +1,8 @@
 -- A reduction that begins with a script that was guessed.
---   reduced-off      whether amounts are reduced for q does not depend on that of q
+--   reduced-off      whether amounts are reduced for q does not depend on what q has
 --   IsContinued      the script s leads from C to N but for q's amount, and t leads from N to a reduced divisor
 --   continued        then firing C by the sum of both gives a reduced divisor
---   continued_near   and where both are 0 at q, the sum is within the limit of a script that leads to one
+--   continued_near   and if both are 0 at q, the sum is within the limit of a script that leads to one
 use Rattle.std.proofs.Common.{◌≡◌, ◌≢◌, ℕ, ◌+◌, ◌*◌, ◌<◌, ◌≤◌, true, false, arith, ap, sym, ◌∙◌, refl}
 use Rattle.std.proofs.lemmas.Int.{ints}
 use Rattle.std.proofs.Math.IntN.{ℤ, pos, ◌+ℤ◌, ◌-ℤ◌}

@@ -1,5 +1,5 @@
 -- The limits of amounts while the debts of one level after another are cleared.
---   limit_at-next    the limit of a level is 64 times that of the next farther one
+--   limit_at-next    the limit of a level is 64 times the limit of the next farther one
 --   limit_at-least   all are at least 2000000, which the amounts at the start are within
 --   limit_at-small   all are below 2 ^ 111
 use Rattle.std.proofs.Common.{◌≡◌, ℕ, ◌+◌, ◌-◌, ◌*◌, ◌^◌, ◌<◌, ◌≤◌, arith}

@@ -5,8 +5,8 @@
 --   debt_same        otherwise it stays the same
 --   debt_within      the largest debt is within the bound of the amounts
 --   debt_small       so as many firings are within their limit
---   cleared_free     where nobody of the next level is in debt, it is cleared
---   cleared_paid     and so it is once the nearer vertices have lent as often as its largest debt
+--   cleared_free     if nobody of the next level is in debt, it is cleared
+--   cleared_paid     and it is cleared once the nearer vertices have lent as often as its largest debt
 use Rattle.std.proofs.Common.{◌≡◌, ℕ, ◌+◌, ◌-◌, ◌*◌, ◌^◌, ◌<◌, ◌≤◌, Bool, arith, ap, sym, ◌∙◌, inl, inr, ⊎_elim}
 use Rattle.std.proofs.lemmas.Bool.{cases_eq}
 use Rattle.std.proofs.lemmas.Int.{ints}

@@ -2,7 +2,7 @@
 --   off_q           a set that fires freely does not hold q
 --   member_holds    its members hold a dollar for each edge that leaves the set
 --   IsLeast ..      m is the least of the numbers of firings for which the first n vertices have dollars
---   least_lower     where the next vertex has dollars for fewer, it holds of that number
+--   least_lower     if the next vertex has dollars for fewer, it holds of that number
 --   least_kept      otherwise it holds of the same
 --   some_leaves     a set without q that has a member has an edge that leaves it
 --   least_is_most   over all vertices, the least is how often the set can fire

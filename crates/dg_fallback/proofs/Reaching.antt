@@ -5,7 +5,7 @@
 --   by_spread         what follows in each of the three cases
 --   spread-lower      no level is raised
 --   spread-kept       a vertex that is lower than the level given was so before
---   reached-first     where q alone is at level 0 and all others are at the number of vertices, q alone is reached
+--   reached-first     if q alone is at level 0 and all others are at the number of vertices, q alone is reached
 --   reached-passed    a vertex of the level is passed once its neighbours are reached
 --   reached-other     a vertex of another level needs nothing
 --   reached-next      once all vertices of a level are passed, it is the turn of the next

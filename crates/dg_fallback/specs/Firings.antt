@@ -6,8 +6,8 @@
 --   largest                == the largest number of 128 bits
 --   Lacks g D S v m        == v is in S and has no dollars for m firings of S
 --   SendsNothing g S v     == v sends no dollar out of S
---   LastsAt g D S v m      == v has dollars for m firings of S, and lacks some for one more; where
---                             it sends nothing, m may be the largest number
+--   LastsAt g D S v m      == v has dollars for m firings of S, and lacks some for one more; if it
+--                             sends nothing, m may be the largest number
 use Rattle.std.specs.Prelude.{◌≡◌, ℕ, ◌^◌, ◌<◌, ◌≤◌, Bool, true, ℤ, pos, ◌+ℤ◌, ◌*ℤ◌, ◌≤ℤ◌, ◌<ℤ◌, ◌⊎◌}
 use Rattle.std.specs.Int.RustNames.{unsigned_abs}
 use Rattle.dg_theory.specs.Multigraph.{Multigraph}

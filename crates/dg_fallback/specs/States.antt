@@ -8,7 +8,7 @@
 --                                  amounts and script are within the limit of level j - 1, which is
 --                                  the next to be cleared
 --   IsLargestDebt n level j D m == m is the largest debt of the vertices of level j, of n vertices;
---                                  0 where none owes
+--                                  0 if none owes
 --   IsClearedOff g q x          == in the walk x nobody off q is in debt, and its amounts and
 --                                  script are within the limit of level 0
 use Rattle.std.specs.Prelude.{◌≡◌, ℕ, ◌-◌, ◌*◌, ◌^◌, ◌<◌, ◌≤◌, Bool, ℤ, pos, ◌+ℤ◌, ◌≤ℤ◌, ◌⊎◌}

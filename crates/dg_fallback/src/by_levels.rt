@@ -17,8 +17,8 @@ use dg_graph::Graph;
 /// The reduction of amounts within 2,000,000 that begins with a script, any that is 0 at q. What the script leaves is reduced,
 /// if it is within the range of a reduction, and the sum of both scripts leads from the amounts to the reduced ones.
 ///
-/// Whether amounts are reduced for q does not depend on that of q, which may leave the range when the others send their
-/// dollars there. So it is taken for 0 in between, and of the inner reduction only the script is used.
+/// Whether amounts are reduced for q does not depend on what q has, which may leave the range when the others send their
+/// dollars there. So q counts as 0 in between, and only the script of the inner reduction is used.
 #[cold]
 #[inline(never)]
 pub fn reduce_after(graph: &Graph, q: usize, chips: &Wide, script: &Script) -> Reduced

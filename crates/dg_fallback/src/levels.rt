@@ -58,7 +58,7 @@ fn with_neighbours(graph: &Graph, v: usize, levels: &[usize; 16], level: usize) 
     reached
 }
 
-/// The largest debt of a vertex of the level, 0 where there is none.
+/// The largest debt of a vertex of the level, 0 if there is none.
 pub fn largest_debt(levels: &[usize; 16], level: usize, chips: &Wide) -> i128
     requires { (v : ℕ) → v < chips.now.size → unsigned_abs (at chips.now v) ≤ 2 ^ 120 }
     ensures { IsLargestDebt chips.now.size (slice_index levels.now) level (at chips.now) result }

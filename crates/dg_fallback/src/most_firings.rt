@@ -30,7 +30,7 @@ pub fn most_firings(graph: &Graph, chips: &Wide, set: u16) -> i128
     most
 }
 
-/// For how many firings of the set a vertex has dollars; `i128::MAX` where it sends none.
+/// For how many firings of the set a vertex has dollars; `i128::MAX` if it sends none.
 fn firings_at(graph: &Graph, chips: &Wide, set: u16, v: usize) -> i128
     requires size { chips.now.size ≡ graph.now.size }
     requires vertex { v < graph.now.size }

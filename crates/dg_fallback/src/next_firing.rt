@@ -1,4 +1,4 @@
-//! Which vertices lend next where nobody off q is in debt, and how often.
+//! Which vertices lend next if nobody off q is in debt, and how often.
 
 ghost use Rattle.std.specs.Prelude.{◌≡◌, ℕ, ◌<◌, ◌≤◌, ◌^◌, true, MatchOption};
 ghost use Rattle.std.specs.Int.RustNames.{unsigned_abs};
@@ -15,7 +15,7 @@ use dg_chips::Wide;
 use dg_graph::Graph;
 
 /// The set that burning from q leaves, and how often it can fire at once so that nobody off q comes into debt; `None`
-/// where all vertices burn. The number is within 2^120, as the amounts are.
+/// if all vertices burn. The number is within 2^120, as the amounts are.
 pub fn next_firing(graph: &Graph, q: usize, chips: &Wide) -> Option<(u16, i128)>
     requires size { chips.now.size ≡ graph.now.size }
     requires vertex { q < graph.now.size }

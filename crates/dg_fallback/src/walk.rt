@@ -21,7 +21,7 @@ pub struct Walk {
 }
 
 impl Walk {
-    /// The walk at its start, where nobody has lent.
+    /// The walk at its start: nobody has lent.
     pub fn new(graph: &Graph, chips: &Wide) -> Walk
         requires { chips.now.size ≡ graph.now.size }
         ensures tied { IsTied graph.now result }

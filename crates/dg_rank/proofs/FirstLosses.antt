@@ -2,18 +2,18 @@
 --   effective_held    a divisor that holds a trial is effective
 --   degree-held       a divisor that holds a trial has the degree of the trial
 --   listed_before     an effective divisor before one that holds a trial is a list that comes before the trial
---   wins_listed       where all trials win, a divisor can lose each effective divisor of their degree
---   found_rank        where all trials win, the rank is at least their degree
+--   wins_listed       if all trials win, a divisor can lose each effective divisor of their degree
+--   found_rank        if all trials win, the rank is at least their degree
 --   all_trials_win    and the other way round
---   lost_rank         where one loses, the rank is less
+--   lost_rank         if one loses, the rank is less
 --   found_decides     so what is found among all trials tells whether the rank is at least their degree
---   nth-trial         each number below that of all trials has a trial
+--   nth-trial         each number below the number of all trials has a trial
 --   loss-trial        the first of all trials to lose is a trial
 --   found_trial       what was found among all trials, if it is one, is a trial
 --   wins_before       a divisor can lose each effective divisor before its first loss
 --   found_loss        the first of all trials to lose is the first loss
 --   some_number       there is a trial with the number 0
---   poor_loses        where the degree is too low, each trial loses
+--   poor_loses        if the degree is too low, each trial loses
 --   poor_loss         so trial number 0 is the first loss
 use Rattle.std.proofs.Common.{◌≡◌, ℕ, ◌<◌, List, length, arith, refl, sym, subst, ◌∙◌}
 use Rattle.std.specs.Prelude.{◌≤ℤ◌, ◌<ℤ◌, Bool, true, false, not, Option, Some, None, is_some, MatchBool, MatchOption, ⊤}
@@ -93,7 +93,8 @@ lost_rank g D k c E within loss rank =
 
 pub found_decides : (g : Multigraph) (D : Amounts) (k c : ℕ) (found : Option (List ℕ)) (b : Bool) →
     IsWithinLimits g.size k c →
-    MatchOption found (AllWin g D k 0 c) (IsFirstLossIn g D k 0 c) → is_some found ≡ not b → MatchBool b (HasRankAtLeast g D k) (¬ HasRankAtLeast g D k)
+    MatchOption found (AllWin g D k 0 c) (IsFirstLossIn g D k 0 c) → is_some found ≡ not b →
+    MatchBool b (HasRankAtLeast g D k) (¬ HasRankAtLeast g D k)
 found_decides g D k c (Some E) true within loss none = absurd (both_ways true none refl)
 found_decides g D k c (Some E) false within loss none = lost_rank g D k c E within loss
 found_decides g D k c None true within wins none = found_rank g D k c within wins

@@ -3,7 +3,7 @@
 --   wins_among       trials that differ from one from such a place on alone win, as it does
 --   landed           what is left without the last of them
 --   leaps            so a leap goes over trials that win
---   stays            where there is no leap, the trial itself wins
+--   stays            if there is no leap, the trial itself wins
 use Rattle.std.proofs.Common.{◌≡◌, ◌≢◌, ℕ, suc, ◌+◌, ◌-◌, ◌<◌, ◌≤◌, List, [], ◌++◌, length, set, take, drop, arith, sym, ap, ◌∙◌, ⊎_elim, min}
 use Rattle.std.proofs.Common.{length-set, get_or-set_same, get_or-set_other}
 use Rattle.std.specs.Prelude.{slice_index, ◌≤ℤ◌}

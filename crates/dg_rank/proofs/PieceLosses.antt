@@ -2,10 +2,10 @@
 --   piece_within   no piece starts past all trials
 --   piece_ends     a piece ends where the next one starts, and not before its own start
 --   wins_both      trials that follow one another and all win
---   loss_before    the first loss of trials is that of them and later ones
---   loss_after     after trials that all win, the first loss of later ones is that of all
---   found_after    so it is with what is found in later ones
---   partial_after  so it is with what is known of later ones
+--   loss_before    the first loss of trials is the first loss of them and later ones
+--   loss_after     after trials that all win, the first loss of later ones is the first loss of all
+--   found_after    after trials that all win, what is found in later ones is found in all
+--   partial_after  after trials that all win, what is known of later ones is known of all
 use Rattle.std.proofs.Common.{ℕ, ◌+◌, ◌*◌, ◌/◌, ◌<◌, ◌≤◌, List, arith, ⊎_elim, mul-le-mul_right}
 use Rattle.std.specs.Prelude.{Option, Some, None, MatchOption}
 use Rattle.std.proofs.lemmas.Bool.{cases_lt}
@@ -60,7 +60,8 @@ loss_after g D k i m j E start wins loss = record {
 }
 
 pub found_after : (g : Multigraph) (D : Amounts) (k i m j : ℕ) (found : Option (List ℕ)) → i ≤ m → AllWin g D k i m →
-    MatchOption found (AllWin g D k m j) (IsFirstLossIn g D k m j) → MatchOption found (AllWin g D k i j) (IsFirstLossIn g D k i j)
+    MatchOption found (AllWin g D k m j) (IsFirstLossIn g D k m j) →
+    MatchOption found (AllWin g D k i j) (IsFirstLossIn g D k i j)
 found_after g D k i m j (Some E) start wins loss = loss_after g D k i m j E start wins loss
 found_after g D k i m j None start wins later = wins_both g D k i m j wins later
 

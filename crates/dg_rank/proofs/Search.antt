@@ -1,5 +1,5 @@
 -- The search through a piece of the trials.
---   win_next   where a piece wins and the next trial wins, the piece that is longer by that trial wins
+--   win_next   if a piece wins and the next trial wins, the piece that is longer by that trial wins
 --   IsReached g D k i j E x   == the trials from number i to number j win, and x is what is left without the last, E
 --   reached    a leap from the next trial reaches one further on
 use Rattle.std.proofs.Common.{◌≡◌, ℕ, ◌+◌, ◌<◌, ◌≤◌, List, arith, sym, subst, ⊎_elim}

@@ -1,18 +1,18 @@
 -- A piece of the trials, from one number up to another, for the divisor D.
---   AreSmall n D            == each of n amounts is within 1,999,000
---   AddUpToFew n D          == n amounts add up to at most 32,000,000
---   WinsWithout g D E       == D less the trial E is winnable
---   AllWin g D k i j        == D less each trial from number i up to, but not including, number j
---                              is winnable
+--   AreSmall n D              == each of n amounts is within 1,999,000
+--   AddUpToFew n D            == n amounts add up to at most 32,000,000
+--   WinsWithout g D E         == D less the trial E is winnable
+--   AllWin g D k i j          == D less each trial from number i up to, but not including, number j
+--                                is winnable
 --   IsFirstLossIn g D k i j E == E is the first trial of the piece from i up to j whose loss leaves
---                              D unwinnable
---   IsPartial g D k i j x   == what x tells of the piece is so: its first loss, or that all win, or
---                              that those before some number win
---   IsLeft g D k i E x      == E is the trial with number i, and x is what is left of D without it,
---                              fired to where there are no debts
---   ReducedWin g D k d E    == D less each effective divisor of degree k is winnable that is reduced
---                              for the last vertex, holds before place d what E holds, and there
---                              as much or more, unless it is the last
+--                                D unwinnable
+--   IsPartial g D k i j x     == what x tells of the piece is true: its first loss, or that all
+--                                win, or that those before some number win
+--   IsLeft g D k i E x        == E is the trial with number i, and x is what is left of D without
+--                                it, fired until there are no debts
+--   ReducedWin g D k d E      == D less each effective divisor of degree k is winnable that is
+--                                reduced for the last vertex, holds before place d what E holds,
+--                                and there as much or more, unless it is the last
 use Rattle.std.specs.Prelude.{◌≡◌, ℕ, ◌+◌, ◌-◌, ◌<◌, ◌≤◌, pos, ◌≤ℤ◌, List}
 use Rattle.std.specs.Int.RustNames.{unsigned_abs}
 use Rattle.dg_theory.specs.Multigraph.{Multigraph}

@@ -1,8 +1,8 @@
 -- Pieces of the trials of a rank test. A search is what all of them have in common.
---   piece_start s j   == the number of the first trial of piece j; past the last piece it is the
---                        number of all trials
---   CanSearch s       == the trials of the search are within the limits, and so are its amounts
---   Tells s i j x     == what x tells of the trials from number i up to j is so
+--   piece_start s j == the number of the first trial of piece j; past the last piece it is the
+--                      number of all trials
+--   CanSearch s     == the trials of the search and its amounts are within the limits
+--   Tells s i j x   == what x tells of the trials from number i up to j is true
 use Rattle.std.specs.Prelude.{◌≡◌, ℕ, ◌*◌, ◌/◌, ◌≤◌}
 use Rattle.dg_chips.specs.Vector.{at}
 use Rattle.dg_rank.specs.Limits.{IsWithinLimits}

@@ -1,5 +1,5 @@
 //! Rank tests by the dual of a divisor, which is the canonical divisor less it. By the theorem of Riemann and Roch a divisor
-//! passes a test exactly where its dual passes another, and one of the two may have far fewer trials.
+//! passes a test exactly if its dual passes another, and one of the two may have far fewer trials.
 ghost use Rattle.std.specs.Prelude.{◌≡◌, ℕ, ◌<◌, ◌≤◌, pos, ◌+ℤ◌, ◌-ℤ◌, MatchBool, MatchOption, MatchResult};
 ghost use Rattle.std.specs.Int.RustNames.{unsigned_abs};
 ghost use Rattle.dg_theory.specs.Multigraph.{genus};
@@ -24,9 +24,9 @@ use dg_graph::Graph;
 use dg_reduce::{InverseLaplacian, reduce_certified};
 
 /// Whether the rank of a divisor is at least k: whether every effective divisor of degree k can be lost and the rest still
-/// won. The test is made of the divisor or of its dual, where that has fewer trials.
+/// won. The test is made of the divisor or of its dual, if that has fewer trials.
 ///
-/// Refused with `TooMany` alone, and only where the tests of both are past the limits.
+/// Refused with `TooMany` alone, and only if the tests of both are past the limits.
 pub fn has_rank(graph: &Graph, q: usize, divisor: &Divisor, k: u32) -> Result<bool, RankFault>
     requires size { divisor.now.size ≡ graph.now.size }
     requires vertex { q < graph.now.size }
@@ -39,7 +39,7 @@ pub fn has_rank(graph: &Graph, q: usize, divisor: &Divisor, k: u32) -> Result<bo
     passes(graph, &InverseLaplacian::new(graph, 0), divisor, k)
 }
 
-/// What `has_rank` answers, whatever the inverse.
+/// What `has_rank` answers, with any inverse.
 pub(crate) fn passes(
     graph: &Graph,
     inverse: &InverseLaplacian,
@@ -90,8 +90,8 @@ const FIRST_TRIALS: u32 = 256;
 /// From so many trials on they are asked.
 const MANY: u32 = 8192;
 
-/// What is told of the trials before all are made: by some of them, by those of the dual, and by those that are reduced for the
-/// last vertex. The amounts are what the divisor can be fired to.
+/// What is known of the trials before all are made: by some of them, by the trials of the dual, and by the trials that are
+/// reduced for the last vertex. The amounts are what the divisor can be fired to.
 pub(crate) fn told_before(
     graph: &Graph,
     inverse: &InverseLaplacian,
@@ -117,7 +117,7 @@ pub(crate) fn told_before(
     }
 }
 
-/// What is told of all trials where those before a number win: by some more, and by those that are reduced for the last vertex.
+/// What is known of all trials if those before a number win: by some more, and by those that are reduced for the last vertex.
 fn told_after(
     graph: &Graph,
     inverse: &InverseLaplacian,
@@ -146,8 +146,8 @@ fn told_after(
     }
 }
 
-/// What is told of the trials by as many of them as the dual has in all, and then by those of the dual; nothing where the
-/// dual has more than `most`, and where the degree of the test is too high for it to pass. The amounts are what the divisor
+/// What is known of the trials by as many of them as the dual has in all, and then by the trials of the dual; nothing if the
+/// dual has more than `most`, and if the degree of the test is too high for it to pass. The amounts are what the divisor
 /// can be fired to.
 fn told_by_dual(
     graph: &Graph,
@@ -187,7 +187,7 @@ fn told_by_dual(
     Partial::Open(fewer)
 }
 
-/// The first loss of all trials, of which so much is told; `None` where there is none.
+/// The first loss of all trials, of which so much is known; `None` if there is none.
 pub(crate) fn loss_after(
     graph: &Graph,
     inverse: &InverseLaplacian,
@@ -211,7 +211,7 @@ pub(crate) fn loss_after(
     }
 }
 
-/// The degree at which the dual passes its test exactly where the divisor passes that of degree k.
+/// The degree at which the dual passes its test exactly if the divisor passes the test of degree k.
 fn degree_of_dual(graph: &Graph, divisor: &Divisor, k: u32) -> u32
     requires size { divisor.now.size ≡ graph.now.size }
     requires unsettled { IsUnsettled graph.now (at divisor.now) k }
@@ -222,7 +222,7 @@ fn degree_of_dual(graph: &Graph, divisor: &Divisor, k: u32) -> u32
     (i64::from(k) - ranks_apart(graph, divisor)) as u32
 }
 
-/// By how much the rank of a divisor is above that of its dual.
+/// By how much the rank of a divisor is above the rank of its dual.
 pub(crate) fn ranks_apart(graph: &Graph, divisor: &Divisor) -> i64
     requires { divisor.now.size ≡ graph.now.size }
     ensures apart { result ≡ (degree graph.now.size (at divisor.now) +ℤ pos 1) -ℤ genus graph.now }

@@ -20,8 +20,8 @@ use std::sync::Wait;
 use std::sync::atomic::{AtomicU32, Ordering};
 use std::thread::Threads;
 
-/// How many trials a piece makes at first before it looks whether an earlier piece has lost; then it makes as many as it has made.
-/// So many begin with a reduction, which costs as much as some hundreds of them.
+/// How many trials a piece makes at first before it looks whether an earlier piece has lost; then it makes as many as it has
+/// made. So many begin with a reduction, which costs as much as some hundreds of them.
 const FIRST_LOOK: u32 = 1024;
 
 /// What is searched for a first loss: the trials below a number, in so many pieces. Piece j of w holds those from the
@@ -142,8 +142,8 @@ fn enter<G: Gate>(gate: &G, piece: u32) -> u32
     piece
 }
 
-/// What is known of a piece, where `lost` is the number of the first piece that has lost so far. If that is an earlier one, nobody
-/// asks for the rest of this one.
+/// What is known of a piece, if `lost` is the number of the first piece that has lost so far. Once that is an earlier one,
+/// nobody asks for the rest of this one.
 fn search_trials(search: &Search, lost: &AtomicU32, piece: u32) -> Partial
     requires search { CanSearch search.now }
     requires workers { MayHaveWorkers search.now.workers }

@@ -36,13 +36,13 @@ impl Gate for OpenGate {
     fn enter(&self, _piece: u32) {}
 }
 
-/// The rank test among workers: the answer is that of `rank_at_least`, whatever their number and the gate. The trials
+/// The rank test among workers: the answer is what `rank_at_least` answers, for any number of them and any gate. The trials
 /// are shared in as many pieces as there are workers. Each piece has a thread of its own, which enters the gate with the
-/// piece's number, from 0 on, before its first trial, also where it has none to make: the degree, or a few trials and those
+/// piece's number, from 0 on, before its first trial, also if it has none to make: the degree, or a few trials and those
 /// of the dual, made before any thread starts, may have told the answer.
 ///
-/// Refused with `TooMany` as there, then with `Workers` where their number is not 1 to 16; then no gate is entered. Refused
-/// with `Spawn` where a thread could not be started; those that were have ended then. `OutOfMemory` never comes: only threads
+/// Refused with `TooMany` as there, then with `Workers` if their number is not 1 to 16; then no gate is entered. Refused
+/// with `Spawn` if a thread could not be started; those that were have ended then. `OutOfMemory` never comes: only threads
 /// take memory.
 pub fn rank_with<R: Threads + Wait, G: Gate>(
     rt: &R,

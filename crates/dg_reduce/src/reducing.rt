@@ -64,7 +64,7 @@ pub fn reduce_certified(
     certified_by(graph, q, chips, &guess.script, &guess.burning)
 }
 
-/// The reduction of amounts within 2,000,000 that begins with a script, any that is 0 at q: where the script leads to
+/// The reduction of amounts within 2,000,000 that begins with a script, any that is 0 at q: if the script leads to
 /// amounts from which all vertices burn, these are the reduced ones. A burning of these amounts may be known before; one of
 /// others changes no answer.
 pub fn certified_by(
