@@ -4,9 +4,10 @@
 --   rest_is_free    it is the greatest that fires freely
 --   none_reduced    if it is empty, the divisor is reduced
 --   reduced_none    if the divisor is reduced, it is empty
+--   unburnt_member  if it is not empty, some vertex is in it
 --   none_unreached  if no vertex is unreached, each is reached
 --   none_whole      it is empty exactly where as many vertices burn as there are
-use Rattle.std.proofs.Common.{◌≡◌, ℕ, zero, suc, ◌<◌, ◌≤◌, Bool, true, not, ◌&&◌, List, arith, refl, sym, ap, subst, ◌∙◌, ⊎_elim}
+use Rattle.std.proofs.Common.{◌≡◌, ◌≢◌, ℕ, zero, suc, ◌<◌, ◌≤◌, Bool, true, false, not, ◌&&◌, List, arith, refl, sym, ap, subst, ◌∙◌, ⊎_elim}
 use Rattle.std.specs.Prelude.{nat_lt, ◌↔◌}
 use Rattle.std.proofs.lemmas.Bool.{cases_lt, lt-ltb, le-ltb, and_left, and_right, not-false, not_from_true, true_from_ne_false}
 use Rattle.dg_theory.specs.Multigraph.{Multigraph, IsMultigraph}
@@ -14,7 +15,8 @@ use Rattle.dg_theory.specs.Firing.{Amounts, HasNoDebtOff}
 use Rattle.dg_theory.specs.Reduced.{edges_out, IsReduced}
 use Rattle.dg_theory.specs.Burning.{among, edges_into, BurnsInOrder, IsGreatestFree}
 use Rattle.dg_theory.specs.BurningLaws.{unburnt_by}
-use Rattle.dg_theory.proofs.BurningLaws.{unburnt_by-below, rest-out, unburnt_fires, burnt_reduced, reduced_burnt}
+use Rattle.dg_theory.proofs.BurningLaws.{unburnt_by-below, rest-out, rest_fires, unburnt_fires, burnt_reduced, reduced_burnt}
+use Rattle.dg_theory.proofs.Counting.{member_or_none}
 use Rattle.dg_theory.proofs.TotalLaws.{total_below-term}
 use Rattle.dg_graph.specs.Sets.{in_set}
 use Rattle.dg_graph.proofs.SetLaws.{in_set-none, no_set}
@@ -52,6 +54,17 @@ reduced_none g q D l m order rest reduced = no_set m (λ v. rest v ∙ ⊎_elim
     (λ (below : v < g.size). and_right _ _ (not_from_true _ (reduced_burnt g q D l order reduced v below)))
     (λ (above : g.size ≤ v). and_left _ _ (le-ltb v g.size above))
     (cases_lt v g.size))
+
+pub unburnt_member : (g : Multigraph) (q : ℕ) (D : Amounts) (l : List ℕ) (m : ℕ) → HasNoDebtOff g q D →
+    BurnsInOrder g q D l →
+    IsGreatestFree g q D (in_set m) → ((m ≡ 0) ↔ IsReduced g q D) → m ≢ 0 → (v : ℕ) × (in_set m v ≡ true)
+unburnt_member g q D l m solvent order rest reduced some = ⊎_elim
+    (λ (found : (v : ℕ) × (v < g.size) × (unburnt_by g l v ≡ true)).
+    (found.0, rest.greatest (unburnt_by g l) (rest_fires g q D l solvent order) found.0 found.2))
+    (λ (none : (v : ℕ) → v < g.size → unburnt_by g l v ≡ false).
+    absurd (some (reduced.1 (burnt_reduced g q D l solvent order
+    (λ v below. not-false _ (sym (unburnt_by-below g l v below) ∙ none v below))))))
+    (member_or_none g.size (unburnt_by g l))
 
 -- if each of n vertices is reached, none is unreached
 all_reached : (n : ℕ) (S : ℕ → Bool) → ((v : ℕ) → v < n → S v ≡ true) → unreached n S ≡ 0

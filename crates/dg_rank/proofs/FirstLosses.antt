@@ -2,18 +2,18 @@
 --   effective_held    a divisor that holds a trial is effective
 --   degree-held       a divisor that holds a trial has the degree of the trial
 --   listed_before     an effective divisor before one that holds a trial is a list that comes before the trial
---   wins_listed       where all trials win, a divisor can lose each effective divisor of their degree
---   found_rank        where all trials win, the rank is at least their degree
+--   wins_listed       if all trials win, a divisor can lose each effective divisor of their degree
+--   found_rank        if all trials win, the rank is at least their degree
 --   all_trials_win    and the other way round
---   lost_rank         where one loses, the rank is less
+--   lost_rank         if one loses, the rank is less
 --   found_decides     so what is found among all trials tells whether the rank is at least their degree
---   nth-trial         each number below that of all trials has a trial
+--   nth-trial         each number below the number of all trials has a trial
 --   loss-trial        the first of all trials to lose is a trial
 --   found_trial       what was found among all trials, if it is one, is a trial
 --   wins_before       a divisor can lose each effective divisor before its first loss
 --   found_loss        the first of all trials to lose is the first loss
 --   some_number       there is a trial with the number 0
---   poor_loses        where the degree is too low, each trial loses
+--   poor_loses        if the degree is too low, each trial loses
 --   poor_loss         so trial number 0 is the first loss
 use Rattle.std.proofs.Common.{◌≡◌, ℕ, ◌<◌, List, length, arith, refl, sym, subst, ◌∙◌}
 use Rattle.std.specs.Prelude.{◌≤ℤ◌, ◌<ℤ◌, Bool, true, false, not, Option, Some, None, is_some, MatchBool, MatchOption, ⊤}
@@ -31,7 +31,7 @@ use Rattle.dg_rank.specs.Trials.{IsTrial, ComesBefore, IsNumbering, AnyTrial}
 use Rattle.dg_rank.specs.Limits.{IsWithinLimits}
 use Rattle.dg_rank.specs.Numbering.{trial_count, nth_trial}
 use Rattle.dg_rank.specs.Divisors.{amounts_of, HoldsTrial}
-use Rattle.dg_rank.specs.Losses.{WinsWithout, AllWin, IsLossIn, IsFound}
+use Rattle.dg_rank.specs.Losses.{WinsWithout, AllWin, IsFirstLossIn}
 use Rattle.dg_rank.proofs.Numbering.{numbered}
 use Rattle.dg_rank.proofs.Counts.{limits_count, some_trial}
 use Rattle.dg_rank.proofs.CountedOnce.{lower_number}
@@ -85,7 +85,7 @@ all_trials_win g D k c within rank i from below =
     (degree-trial g.size k (nth_trial g.size k i) trial)
 
 pub lost_rank : (g : Multigraph) (D : Amounts) (k c : ℕ) (E : List ℕ) → IsWithinLimits g.size k c →
-    IsLossIn g D k 0 c E →
+    IsFirstLossIn g D k 0 c E →
     ¬ HasRankAtLeast g D k
 lost_rank g D k c E within loss rank =
     loss.loses (subst (λ (L : List ℕ). WinsWithout g D L) (sym loss.trial)
@@ -93,27 +93,28 @@ lost_rank g D k c E within loss rank =
 
 pub found_decides : (g : Multigraph) (D : Amounts) (k c : ℕ) (found : Option (List ℕ)) (b : Bool) →
     IsWithinLimits g.size k c →
-    IsFound g D k 0 c found → is_some found ≡ not b → MatchBool b (HasRankAtLeast g D k) (¬ HasRankAtLeast g D k)
+    MatchOption found (AllWin g D k 0 c) (IsFirstLossIn g D k 0 c) → is_some found ≡ not b →
+    MatchBool b (HasRankAtLeast g D k) (¬ HasRankAtLeast g D k)
 found_decides g D k c (Some E) true within loss none = absurd (both_ways true none refl)
 found_decides g D k c (Some E) false within loss none = lost_rank g D k c E within loss
 found_decides g D k c None true within wins none = found_rank g D k c within wins
 found_decides g D k c None false within wins none = absurd (both_ways false refl none)
 
 pub loss-trial : (g : Multigraph) (D : Amounts) (k c : ℕ) (E : List ℕ) → IsWithinLimits g.size k c →
-    IsLossIn g D k 0 c E →
+    IsFirstLossIn g D k 0 c E →
     IsTrial g.size k E
 loss-trial g D k c E within loss =
     subst (λ (L : List ℕ). IsTrial g.size k L) (sym loss.trial) (nth-trial g.size k c loss.number within loss.to)
 
 pub found_trial : (g : Multigraph) (D : Amounts) (k c : ℕ) (found : Option (List ℕ)) → IsWithinLimits g.size k c →
-    IsFound g D k 0 c found →
+    MatchOption found (AllWin g D k 0 c) (IsFirstLossIn g D k 0 c) →
     MatchOption found ⊤ (λ (E : List ℕ). (n : ℕ) × (m : ℕ) × IsWithinLimits n k m × IsTrial n k E)
 found_trial g D k c (Some E) within loss = (g.size, c, within, loss-trial g D k c E within loss)
 found_trial g D k c None within wins = tt
 
 wins_before : (g : Multigraph) (D : Amounts) (k c : ℕ) (E : List ℕ) (d : Vector) (F : Amounts) →
     IsWithinLimits g.size k c →
-    IsLossIn g D k 0 c E → HoldsTrial g.size E d → IsEffective g.size F → degree g.size F ≡ pos k →
+    IsFirstLossIn g D k 0 c E → HoldsTrial g.size E d → IsEffective g.size F → degree g.size F ≡ pos k →
     IsBefore g.size F (at d) → IsWinnable g (less D F)
 wins_before g D k c E d F within loss held effective of_degree before =
     let numbering : IsNumbering g.size k AnyTrial (trial_count g.size k) (nth_trial g.size k) = numbered g.size k in
@@ -127,7 +128,7 @@ wins_before g D k c E d F within loss held effective of_degree before =
     wins_listed g D k i F effective here (loss.first i (omega arith) lower)
 
 pub found_loss : (g : Multigraph) (D : Amounts) (k c : ℕ) (E : List ℕ) (d : Vector) → IsWithinLimits g.size k c →
-    IsLossIn g D k 0 c E → HoldsTrial (length E) E d → (d.size ≡ g.size) × IsFirstLoss g D k (at d)
+    IsFirstLossIn g D k 0 c E → HoldsTrial (length E) E d → (d.size ≡ g.size) × IsFirstLoss g D k (at d)
 found_loss g D k c E d within loss holds =
     let trial : IsTrial g.size k E = loss-trial g D k c E within loss in
     let held : HoldsTrial g.size E d = subst (λ (n : ℕ). HoldsTrial n E d) trial.places holds in (
@@ -152,7 +153,7 @@ poor_loses g D k E graph poor trial win =
     none
 
 pub poor_loss : (g : Multigraph) (D : Amounts) (k c : ℕ) → IsMultigraph g → degree g.size D <ℤ pos k →
-    IsWithinLimits g.size k c → IsLossIn g D k 0 c (nth_trial g.size k 0)
+    IsWithinLimits g.size k c → IsFirstLossIn g D k 0 c (nth_trial g.size k 0)
 poor_loss g D k c graph poor within =
     let some : 0 < c = some_number g.size k c within in
     record {

@@ -1,5 +1,5 @@
 -- Verdicts that are known before the workers pass the gate.
---   known_verdict   where the answer is a verdict that is right, or that no thread was started, it is that of a rank
+--   known_verdict   if the answer is a verdict that is right, or that no thread was started, it is the answer of a rank
 --                   test with workers
 use Rattle.std.proofs.Common.{◌≡◌, ℕ, sym, subst}
 use Rattle.std.specs.Prelude.{Result, MatchResult}

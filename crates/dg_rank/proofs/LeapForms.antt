@@ -3,7 +3,7 @@
 --   wins_among       trials that differ from one from such a place on alone win, as it does
 --   landed           what is left without the last of them
 --   leaps            so a leap goes over trials that win
---   stays            where there is no leap, the trial itself wins
+--   stays            if there is no leap, the trial itself wins
 use Rattle.std.proofs.Common.{◌≡◌, ◌≢◌, ℕ, suc, ◌+◌, ◌-◌, ◌<◌, ◌≤◌, List, [], ◌++◌, length, set, take, drop, arith, sym, ap, ◌∙◌, ⊎_elim, min}
 use Rattle.std.proofs.Common.{length-set, get_or-set_same, get_or-set_other}
 use Rattle.std.specs.Prelude.{slice_index, ◌≤ℤ◌}
@@ -25,7 +25,7 @@ use Rattle.dg_rank.specs.declared.counting.TheConstants.{MAX_TRIALS}
 use Rattle.dg_rank.specs.Divisors.{amounts_of}
 use Rattle.dg_rank.specs.Trials.{IsTrial}
 use Rattle.dg_rank.specs.Limits.{IsWithinLimits}
-use Rattle.dg_rank.specs.Losses.{WinsWithout, IsLeap}
+use Rattle.dg_rank.specs.Losses.{WinsWithout, AllWin, IsLeft}
 use Rattle.dg_rank.specs.Numbering.{trial_count, nth_trial}
 use Rattle.dg_rank.proofs.Numbering.{numbered}
 use Rattle.dg_rank.proofs.Counts.{some_trial, limits_trial}
@@ -206,30 +206,31 @@ landed g D k c i d r E x y o rich form size given =
 pub leaps : (g : Multigraph) (D : Amounts) (k c i d r m : ℕ) (E : List ℕ) (x y : Vector) → IsOver g.size k c i d r E →
     IsRich g.size d r x → IsEffectiveForm g (less D (amounts_of E)) x → y.size ≡ x.size →
     ((w : ℕ) → at y w ≡ (at x w +ℤ only_at (g.size - 1) (pos r) w) -ℤ only_at d (pos r) w) →
-    m ≡ min (MAX_TRIALS + 1) (trial_count (g.size - d) r) → IsLeap g D k c i (m - 1) (landing g.size d r E) y
+    m ≡ min (MAX_TRIALS + 1) (trial_count (g.size - d) r) →
+    (i + (m - 1) < c) × AllWin g D k i (i + (m - 1) + 1) × IsLeft g D k (i + (m - 1)) (landing g.size d r E) y
 unfolding IsGiven
 leaps g D k c i d r m E x y o rich form size given counted =
     let some : 0 < trial_count (g.size - d) r = some_trial (g.size - d) r (omega (arith, o.over)) in
     let last : IsAmong g.size k c i d r (trial_count (g.size - d) r - 1) E =
     among g.size k c i d r E o.split (trial_count (g.size - d) r - 1) (omega arith) in
-    let all : m ≡ trial_count (g.size - d) r = omega (arith, counted, last.within, o.split.limits.limit) in
-    record {
-      within = omega (arith, last.within);
-      wins = λ j from to.
+    let all : m ≡ trial_count (g.size - d) r = omega (arith, counted, last.within, o.split.limits.limit) in (
+      omega (arith, last.within),
+      λ j from to.
           let number : i + (j - i) ≡ j = omega arith in
-          rw (← number) (wins_among g D k c i d r (j - i) E x o.split rich form (omega arith));
-      trial = landing_number g.size k c i d r E o ∙ ap (λ (w : ℕ). nth_trial g.size k (i + (w - 1))) (sym all);
-      form = landed g D k c i d r E x y o rich form size given;
-    }
+          rw (← number) (wins_among g D k c i d r (j - i) E x o.split rich form (omega arith)),
+      record {
+        trial = landing_number g.size k c i d r E o ∙ ap (λ (w : ℕ). nth_trial g.size k (i + (w - 1))) (sym all);
+        form = landed g D k c i d r E x y o rich form size given;
+      },
+    )
 
 pub stays : (g : Multigraph) (D : Amounts) (k c i : ℕ) (E : List ℕ) (x : Vector) → IsWithinLimits g.size k c → i < c →
-    E ≡ nth_trial g.size k i → IsEffectiveForm g (less D (amounts_of E)) x → IsLeap g D k c i 0 E x
-stays g D k c i E x limits low is form =
+    IsLeft g D k i E x → (i + 0 < c) × AllWin g D k i (i + 0 + 1) × IsLeft g D k (i + 0) E x
+stays g D k c i E x limits low left =
     let none : i + 0 ≡ i = omega arith in
-    record {
-      within = omega arith;
-      wins = win_next g D k i (i + 0) E (is ∙ ap (nth_trial g.size k) (sym none)) (λ m from to. absurd (omega arith))
-          (form_wins g (less D (amounts_of E)) x form);
-      trial = is ∙ ap (nth_trial g.size k) (sym none);
-      form = form;
-    }
+    let is : E ≡ nth_trial g.size k (i + 0) = left.trial ∙ ap (nth_trial g.size k) (sym none) in (
+      omega arith,
+      win_next g D k i (i + 0) E is (λ m from to. absurd (omega arith))
+          (form_wins g (less D (amounts_of E)) x left.form),
+      record { trial = is; form = left.form },
+    )

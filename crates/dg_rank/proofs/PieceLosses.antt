@@ -2,33 +2,32 @@
 --   piece_within   no piece starts past all trials
 --   piece_ends     a piece ends where the next one starts, and not before its own start
 --   wins_both      trials that follow one another and all win
---   loss_before    the first loss of trials is that of them and later ones
---   loss_after     after trials that all win, the first loss of later ones is that of all
---   found_after    so it is with what is found in later ones
---   outcome_after  so it is with what later ones come to
+--   loss_before    the first loss of trials is the first loss of them and later ones
+--   loss_after     after trials that all win, the first loss of later ones is the first loss of all
+--   found_after    after trials that all win, what is found in later ones is found in all
+--   partial_after  after trials that all win, what is known of later ones is known of all
 use Rattle.std.proofs.Common.{ℕ, ◌+◌, ◌*◌, ◌/◌, ◌<◌, ◌≤◌, List, arith, ⊎_elim, mul-le-mul_right}
-use Rattle.std.specs.Prelude.{Option, Some, None}
+use Rattle.std.specs.Prelude.{Option, Some, None, MatchOption}
 use Rattle.std.proofs.lemmas.Bool.{cases_lt}
 use Rattle.std.proofs.lemmas.Nat.{le-div}
 use Rattle.std.proofs.Math.Nat.{div-mul-le_self, div-le_of_le-mul}
 use Rattle.dg_theory.specs.Multigraph.{Multigraph}
 use Rattle.dg_theory.specs.Firing.{Amounts}
-use Rattle.dg_chips.specs.Vector.{at}
-use Rattle.dg_rank.specs.Losses.{AllWin, IsLossIn, IsFound}
-use Rattle.dg_rank.specs.Pieces.{piece_start, IsOutcome}
+use Rattle.dg_rank.specs.Losses.{AllWin, IsFirstLossIn, IsPartial}
+use Rattle.dg_rank.specs.Pieces.{piece_start}
 use Rattle.dg_rank.specs.declared.pieces.Search.{Search}
-use Rattle.dg_rank.specs.declared.pieces.Outcome.{Outcome}
-use Rattle.dg_rank.specs.declared.pieces.Outcome.TheVariants.{Lost, Won, GaveUp}
+use Rattle.dg_rank.specs.declared.partial.Partial.{Partial}
+use Rattle.dg_rank.specs.declared.partial.Partial.TheVariants.{Lost, Won, Open}
 
-pub piece_within : (c w j : ℕ) → j ≤ w → piece_start c w j ≤ c
-piece_within c w j few =
-    let most : j * c ≤ w * c = mul-le-mul_right c few in
-    div-le_of_le-mul w most
+pub piece_within : (s : Search) (j : ℕ) → j ≤ s.workers → piece_start s j ≤ s.count
+piece_within s j few =
+    let most : j * s.count ≤ s.workers * s.count = mul-le-mul_right s.count few in
+    div-le_of_le-mul s.workers most
 
-pub piece_ends : (c w j : ℕ) → 0 < w → piece_start c w j ≤ piece_start c w (j + 1)
-piece_ends c w j some =
-    let low : j * c / w * w ≤ j * c = div-mul-le_self (j * c) w in
-    le-div (j * c / w) ((j + 1) * c) w some (omega arith)
+pub piece_ends : (s : Search) (j : ℕ) → 0 < s.workers → piece_start s j ≤ piece_start s (j + 1)
+piece_ends s j some =
+    let low : j * s.count / s.workers * s.workers ≤ j * s.count = div-mul-le_self (j * s.count) s.workers in
+    le-div (j * s.count / s.workers) ((j + 1) * s.count) s.workers some (omega arith)
 
 pub wins_both : (g : Multigraph) (D : Amounts) (k i m j : ℕ) → AllWin g D k i m → AllWin g D k m j → AllWin g D k i j
 wins_both g D k i m j first second l from to =
@@ -37,8 +36,8 @@ wins_both g D k i m j first second l from to =
     (λ (after : m ≤ l). second l after to)
     (cases_lt l m)
 
-pub loss_before : (g : Multigraph) (D : Amounts) (k i m j : ℕ) (E : List ℕ) → m ≤ j → IsLossIn g D k i m E →
-    IsLossIn g D k i j E
+pub loss_before : (g : Multigraph) (D : Amounts) (k i m j : ℕ) (E : List ℕ) → m ≤ j → IsFirstLossIn g D k i m E →
+    IsFirstLossIn g D k i j E
 loss_before g D k i m j E end loss = record {
   number = loss.number;
   from = loss.from;
@@ -49,8 +48,8 @@ loss_before g D k i m j E end loss = record {
 }
 
 pub loss_after : (g : Multigraph) (D : Amounts) (k i m j : ℕ) (E : List ℕ) → i ≤ m → AllWin g D k i m →
-    IsLossIn g D k m j E →
-    IsLossIn g D k i j E
+    IsFirstLossIn g D k m j E →
+    IsFirstLossIn g D k i j E
 loss_after g D k i m j E start wins loss = record {
   number = loss.number;
   from = omega arith;
@@ -61,13 +60,13 @@ loss_after g D k i m j E start wins loss = record {
 }
 
 pub found_after : (g : Multigraph) (D : Amounts) (k i m j : ℕ) (found : Option (List ℕ)) → i ≤ m → AllWin g D k i m →
-    IsFound g D k m j found → IsFound g D k i j found
+    MatchOption found (AllWin g D k m j) (IsFirstLossIn g D k m j) →
+    MatchOption found (AllWin g D k i j) (IsFirstLossIn g D k i j)
 found_after g D k i m j (Some E) start wins loss = loss_after g D k i m j E start wins loss
 found_after g D k i m j None start wins later = wins_both g D k i m j wins later
 
-pub outcome_after : (s : Search) (i m j : ℕ) (end : Outcome) → i ≤ m → AllWin s.graph (at s.chips) s.k i m →
-    IsOutcome s m j end →
-    IsOutcome s i j end
-outcome_after s i m j (Lost E) start wins loss = loss_after s.graph (at s.chips) s.k i m j E start wins loss
-outcome_after s i m j Won start wins later = wins_both s.graph (at s.chips) s.k i m j wins later
-outcome_after s i m j GaveUp start wins later = tt
+pub partial_after : (g : Multigraph) (D : Amounts) (k i m j : ℕ) (later : Partial) → i ≤ m → AllWin g D k i m →
+    IsPartial g D k m j later → IsPartial g D k i j later
+partial_after g D k i m j (Lost E) start wins loss = loss_after g D k i m j E start wins loss
+partial_after g D k i m j Won start wins all = wins_both g D k i m j wins all
+partial_after g D k i m j (Open l) start wins some = (some.0, wins_both g D k i m l wins some.1)

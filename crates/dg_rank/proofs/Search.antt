@@ -1,19 +1,15 @@
 -- The search through a piece of the trials.
---   win_next   where a piece wins and the next trial wins, the piece that is longer by that trial wins
---   IsReached g D k i j E x   == the trials from number i to number j win, and E is the last of them; x is what is left
---                                of D without it, fired to where there are no debts
+--   win_next   if a piece wins and the next trial wins, the piece that is longer by that trial wins
+--   IsReached g D k i j E x   == the trials from number i to number j win, and x is what is left without the last, E
 --   reached    a leap from the next trial reaches one further on
 use Rattle.std.proofs.Common.{◌≡◌, ℕ, ◌+◌, ◌<◌, ◌≤◌, List, arith, sym, subst, ⊎_elim}
 use Rattle.std.proofs.lemmas.Bool.{cases_eq, cases_lt}
 use Rattle.dg_theory.specs.Multigraph.{Multigraph}
 use Rattle.dg_theory.specs.Firing.{Amounts}
-use Rattle.dg_theory.specs.Rank.{less}
 use Rattle.dg_chips.specs.Vector.{Vector}
-use Rattle.dg_reduce.specs.Effective.{IsEffectiveForm}
-use Rattle.dg_rank.specs.Divisors.{amounts_of}
 use Rattle.dg_rank.specs.Limits.{IsWithinLimits}
 use Rattle.dg_rank.specs.Numbering.{trial_count, nth_trial}
-use Rattle.dg_rank.specs.Losses.{WinsWithout, AllWin, IsLeap}
+use Rattle.dg_rank.specs.Losses.{WinsWithout, AllWin, IsLeft}
 use Rattle.dg_rank.proofs.Counts.{limits_count}
 
 pub win_next : (g : Multigraph) (D : Amounts) (k i j : ℕ) (E : List ℕ) → E ≡ nth_trial g.size k j → AllWin g D k i j →
@@ -30,19 +26,17 @@ pub record IsReached (g : Multigraph) (D : Amounts) (k i j : ℕ) (E : List ℕ)
   pub from : i ≤ j
   pub numbered : j < trial_count g.size k
   pub wins : AllWin g D k i (j + 1)
-  pub trial : E ≡ nth_trial g.size k j
-  pub form : IsEffectiveForm g (less D (amounts_of E)) x
+  pub left : IsLeft g D k j E x
 
 pub reached : (g : Multigraph) (D : Amounts) (k c i j m : ℕ) (E : List ℕ) (x : Vector) → IsWithinLimits g.size k c →
-    i ≤ j →
-    AllWin g D k i j → IsLeap g D k c j m E x → IsReached g D k i (j + m) E x
-reached g D k c i j m E x limits past wins leap = record {
+    i ≤ j → AllWin g D k i j → (j + m < c) × AllWin g D k j (j + m + 1) × IsLeft g D k (j + m) E x →
+    IsReached g D k i (j + m) E x
+reached g D k c i j m E x limits past wins (within, more, left) = record {
   from = omega arith;
-  numbered = omega (arith, leap.within, limits_count g.size k c limits);
+  numbered = omega (arith, limits_count g.size k c limits);
   wins = λ l from to. ⊎_elim
       (λ (low : l < j). wins l from low)
-      (λ (high : j ≤ l). leap.wins l high to)
+      (λ (high : j ≤ l). more l high to)
       (cases_lt l j);
-  trial = leap.trial;
-  form = leap.form;
+  left = left;
 }

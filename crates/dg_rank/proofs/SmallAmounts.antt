@@ -22,7 +22,7 @@ use Rattle.dg_theory.proofs.SumSwap.{sum_below-sub}
 use Rattle.dg_theory.proofs.Range.{sum_below-one}
 use Rattle.dg_theory.proofs.Equivalence.{equivalent-degree}
 use Rattle.dg_graph.specs.Graph.{IsGraph}
-use Rattle.dg_reduce.proofs.Outcome.{reduced_few}
+use Rattle.dg_fallback.proofs.Outcome.{reduced_few}
 use Rattle.dg_rank.specs.Ranks.{IsUnsettled}
 
 -- the edges to lower vertices are some of the edges

@@ -1,21 +1,22 @@
 //! Rank tests by the dual of a divisor, which is the canonical divisor less it. By the theorem of Riemann and Roch a divisor
-//! passes a test exactly where its dual passes another, and one of the two may have far fewer trials.
-ghost use Rattle.std.specs.Prelude.{◌≡◌, ℕ, ◌<◌, ◌≤◌, pos, ◌+ℤ◌, ◌-ℤ◌, MatchBool, MatchResult};
+//! passes a test exactly if its dual passes another, and one of the two may have far fewer trials.
+ghost use Rattle.std.specs.Prelude.{◌≡◌, ℕ, ◌<◌, ◌≤◌, pos, ◌+ℤ◌, ◌-ℤ◌, MatchBool, MatchOption, MatchResult};
 ghost use Rattle.std.specs.Int.RustNames.{unsigned_abs};
 ghost use Rattle.dg_theory.specs.Multigraph.{genus};
 ghost use Rattle.dg_theory.specs.Firing.{degree, AreEquivalent};
 ghost use Rattle.dg_theory.specs.Rank.{less, canonical, HasRankAtLeast};
-ghost use Rattle.dg_reduce.specs.declared.limits.TheConstants.{MAX_START};
+ghost use Rattle.dg_fallback.specs.declared.limits.TheConstants.{MAX_START};
 ghost use Rattle.dg_graph.specs.Graph.{IsGraph};
 ghost use Rattle.dg_chips.specs.Vector.{at};
 ghost use Rattle.dg_rank.specs.Limits.{IsWithinLimits};
-ghost use Rattle.dg_rank.specs.Losses.{AreSmall, AllWin, IsFound, IsTold};
+ghost use Rattle.dg_rank.specs.Losses.{AreSmall, AllWin, IsFirstLossIn, IsPartial};
 ghost use Rattle.dg_rank.specs.Ranks.{IsUnsettled, BothArePast};
 ghost use Rattle.dg_rank.specs.declared.rank_fault.RankFault.TheVariants.{TooMany};
 
 use crate::counting::trials;
 use crate::enumeration::Trial;
 use crate::first_loss::first_loss;
+use crate::partial::Partial;
 use crate::rank_fault::RankFault;
 use crate::reduced_trials::{few_visits, most_visits, told_by_reduced};
 use dg_chips::{Divisor, Wide};
@@ -23,9 +24,9 @@ use dg_graph::Graph;
 use dg_reduce::{InverseLaplacian, reduce_certified};
 
 /// Whether the rank of a divisor is at least k: whether every effective divisor of degree k can be lost and the rest still
-/// won. The test is made of the divisor or of its dual, where that has fewer trials.
+/// won. The test is made of the divisor or of its dual, if that has fewer trials.
 ///
-/// Refused with `TooMany` alone, and only where the tests of both are past the limits.
+/// Refused with `TooMany` alone, and only if the tests of both are past the limits.
 pub fn has_rank(graph: &Graph, q: usize, divisor: &Divisor, k: u32) -> Result<bool, RankFault>
     requires size { divisor.now.size ≡ graph.now.size }
     requires vertex { q < graph.now.size }
@@ -38,7 +39,7 @@ pub fn has_rank(graph: &Graph, q: usize, divisor: &Divisor, k: u32) -> Result<bo
     passes(graph, &InverseLaplacian::new(graph, 0), divisor, k)
 }
 
-/// What `has_rank` answers, whatever the inverse.
+/// What `has_rank` answers, with any inverse.
 pub(crate) fn passes(
     graph: &Graph,
     inverse: &InverseLaplacian,
@@ -83,25 +84,14 @@ pub(crate) fn degree_left(divisor: &Divisor, k: u32) -> i64
     divisor.degree() - i64::from(k)
 }
 
-/// What some of the trials of degree k tell of all, with the help of the dual.
-#[derive(Drop)]
-pub(crate) enum Told {
-    /// The first of all to lose.
-    Lost(Trial),
-    /// All of them win.
-    Won,
-    /// Those before the one with this number win.
-    Open(u32),
-}
-
 /// How many trials are made before those that are reduced for the last vertex are asked.
 const FIRST_TRIALS: u32 = 256;
 
 /// From so many trials on they are asked.
 const MANY: u32 = 8192;
 
-/// What is told of the trials before all are made: by some of them, by those of the dual, and by those that are reduced for the
-/// last vertex. The amounts are what the divisor can be fired to.
+/// What is known of the trials before all are made: by some of them, by the trials of the dual, and by the trials that are
+/// reduced for the last vertex. The amounts are what the divisor can be fired to.
 pub(crate) fn told_before(
     graph: &Graph,
     inverse: &InverseLaplacian,
@@ -110,7 +100,7 @@ pub(crate) fn told_before(
     k: u32,
     count: u32,
     most: u32,
-) -> Told
+) -> Partial
     requires size { divisor.now.size ≡ graph.now.size }
     requires unsettled { IsUnsettled graph.now (at divisor.now) k }
     requires chips { chips.now.size ≡ graph.now.size }
@@ -118,16 +108,16 @@ pub(crate) fn told_before(
     requires range { AreSmall graph.now.size (at chips.now) }
     requires limits { IsWithinLimits graph.now.size k count }
     requires most { most ≤ count }
-    ensures { IsTold graph.now (at chips.now) k count result }
+    ensures { IsPartial graph.now (at chips.now) k 0 count result }
 {
     match told_by_dual(graph, inverse, divisor, chips, k, most) {
-        Told::Lost(trial) => Told::Lost(trial),
-        Told::Won => Told::Won,
-        Told::Open(from) => told_after(graph, inverse, chips, k, from, count),
+        Partial::Lost(trial) => Partial::Lost(trial),
+        Partial::Won => Partial::Won,
+        Partial::Open(from) => told_after(graph, inverse, chips, k, from, count),
     }
 }
 
-/// What is told of all trials where those before a number win: by some more, and by those that are reduced for the last vertex.
+/// What is known of all trials if those before a number win: by some more, and by those that are reduced for the last vertex.
 fn told_after(
     graph: &Graph,
     inverse: &InverseLaplacian,
@@ -135,29 +125,29 @@ fn told_after(
     k: u32,
     from: u32,
     count: u32,
-) -> Told
+) -> Partial
     requires size { chips.now.size ≡ graph.now.size }
     requires range { AreSmall graph.now.size (at chips.now) }
     requires limits { IsWithinLimits graph.now.size k count }
     requires from { from ≤ count }
     requires before { AllWin graph.now (at chips.now) k 0 from }
-    ensures { IsTold graph.now (at chips.now) k count result }
+    ensures { IsPartial graph.now (at chips.now) k 0 count result }
 {
     if count < MANY {
-        return Told::Open(from);
+        return Partial::Open(from);
     }
     let to = count.min(from + FIRST_TRIALS);
     if let Some(trial) = first_loss(graph, inverse, chips, k, from, to) {
-        return Told::Lost(trial);
+        return Partial::Lost(trial);
     }
     match told_by_reduced(graph, inverse, chips, k, few_visits(count)) {
-        Some(true) => Told::Won,
-        _ => Told::Open(to),
+        Some(true) => Partial::Won,
+        _ => Partial::Open(to),
     }
 }
 
-/// What is told of the trials by as many of them as the dual has in all, and then by those of the dual; nothing where the
-/// dual has more than `most`, and where the degree of the test is too high for it to pass. The amounts are what the divisor
+/// What is known of the trials by as many of them as the dual has in all, and then by the trials of the dual; nothing if the
+/// dual has more than `most`, and if the degree of the test is too high for it to pass. The amounts are what the divisor
 /// can be fired to.
 fn told_by_dual(
     graph: &Graph,
@@ -166,7 +156,7 @@ fn told_by_dual(
     chips: &Wide,
     k: u32,
     most: u32,
-) -> Told
+) -> Partial
     requires size { divisor.now.size ≡ graph.now.size }
     requires some { 0 < graph.now.size }
     requires unsettled { IsUnsettled graph.now (at divisor.now) k }
@@ -175,51 +165,53 @@ fn told_by_dual(
     requires range { AreSmall graph.now.size (at chips.now) }
     requires limits { (c : ℕ) × IsWithinLimits graph.now.size k c × (most ≤ c) }
     ensures { (c : ℕ) → IsWithinLimits graph.now.size k c →
-        IsTold graph.now (at chips.now) k c result }
+        IsPartial graph.now (at chips.now) k 0 c result }
 {
     let size = graph.size();
     if i64::from(k) >= i64::from(graph.genus()) {
-        return Told::Open(0);
+        return Partial::Open(0);
     }
     let other = degree_of_dual(graph, divisor, k);
     let Some(fewer) = trials(size, other) else {
-        return Told::Open(0);
+        return Partial::Open(0);
     };
     if fewer > most {
-        return Told::Open(0);
+        return Partial::Open(0);
     }
     if let Some(trial) = first_loss(graph, inverse, chips, k, 0, fewer) {
-        return Told::Lost(trial);
+        return Partial::Lost(trial);
     }
     if all_win(graph, inverse, &dual_of(graph, divisor), other, fewer) {
-        return Told::Won;
+        return Partial::Won;
     }
-    Told::Open(fewer)
+    Partial::Open(fewer)
 }
 
-/// The first loss of all trials, of which so much is told; `None` where there is none.
+/// The first loss of all trials, of which so much is known; `None` if there is none.
 pub(crate) fn loss_after(
     graph: &Graph,
     inverse: &InverseLaplacian,
     chips: &Wide,
     k: u32,
     count: u32,
-    told: Told,
+    told: Partial,
 ) -> Option<Trial>
     requires size { chips.now.size ≡ graph.now.size }
     requires range { AreSmall graph.now.size (at chips.now) }
     requires limits { IsWithinLimits graph.now.size k count }
-    requires told { IsTold graph.now (at chips.now) k count told }
-    ensures { IsFound graph.now (at chips.now) k 0 count result }
+    requires told { IsPartial graph.now (at chips.now) k 0 count told }
+    ensures { MatchOption result
+        (AllWin graph.now (at chips.now) k 0 count)
+        (IsFirstLossIn graph.now (at chips.now) k 0 count) }
 {
     match told {
-        Told::Lost(trial) => Some(trial),
-        Told::Won => None,
-        Told::Open(from) => first_loss(graph, inverse, chips, k, from, count),
+        Partial::Lost(trial) => Some(trial),
+        Partial::Won => None,
+        Partial::Open(from) => first_loss(graph, inverse, chips, k, from, count),
     }
 }
 
-/// The degree at which the dual passes its test exactly where the divisor passes that of degree k.
+/// The degree at which the dual passes its test exactly if the divisor passes the test of degree k.
 fn degree_of_dual(graph: &Graph, divisor: &Divisor, k: u32) -> u32
     requires size { divisor.now.size ≡ graph.now.size }
     requires unsettled { IsUnsettled graph.now (at divisor.now) k }
@@ -230,7 +222,7 @@ fn degree_of_dual(graph: &Graph, divisor: &Divisor, k: u32) -> u32
     (i64::from(k) - ranks_apart(graph, divisor)) as u32
 }
 
-/// By how much the rank of a divisor is above that of its dual.
+/// By how much the rank of a divisor is above the rank of its dual.
 pub(crate) fn ranks_apart(graph: &Graph, divisor: &Divisor) -> i64
     requires { divisor.now.size ≡ graph.now.size }
     ensures apart { result ≡ (degree graph.now.size (at divisor.now) +ℤ pos 1) -ℤ genus graph.now }

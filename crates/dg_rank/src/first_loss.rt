@@ -12,7 +12,7 @@ ghost use Rattle.dg_rank.specs.Limits.{IsWithinLimits};
 ghost use Rattle.dg_rank.specs.Trials.{IsTrial};
 ghost use Rattle.dg_rank.specs.Numbering.{nth_trial};
 ghost use Rattle.dg_rank.specs.Moves.{after_move};
-ghost use Rattle.dg_rank.specs.Losses.{AreSmall, AddUpToFew, WinsWithout, IsFound, IsLeap};
+ghost use Rattle.dg_rank.specs.Losses.{AreSmall, AddUpToFew, WinsWithout, AllWin, IsFirstLossIn, IsLeft};
 
 use crate::counting::count;
 use crate::enumeration::{Moved, Trial};
@@ -21,7 +21,7 @@ use dg_graph::Graph;
 use dg_reduce::{EffectiveForm, InverseLaplacian, reduce_certified};
 
 /// The first trial of degree k, of those from one number up to another, whose loss leaves what can't be won; `None`
-/// where there is none. What is left of one trial is not far from what is left of the next, so each starts from it; and those
+/// if there is none. What is left of one trial is not far from what is left of the next, so each starts from it; and those
 /// that are seen to win by what is left of one before them are passed over.
 pub fn first_loss(
     graph: &Graph,
@@ -34,7 +34,9 @@ pub fn first_loss(
     requires size { chips.now.size ≡ graph.now.size }
     requires range { AreSmall graph.now.size (at chips.now) }
     requires limits { (c : ℕ) × IsWithinLimits graph.now.size k c × (to ≤ c) }
-    ensures { IsFound graph.now (at chips.now) k from to result }
+    ensures { MatchOption result
+        (AllWin graph.now (at chips.now) k from to)
+        (IsFirstLossIn graph.now (at chips.now) k from to) }
 {
     if from >= to {
         return None;
@@ -54,7 +56,7 @@ pub fn first_loss(
     None
 }
 
-/// Amounts without debts that amounts without a trial's can be fired to; `None` where those can't be won.
+/// Amounts without debts that amounts without a trial's can be fired to; `None` if those can't be won.
 pub(crate) fn left_without(
     graph: &Graph,
     inverse: &InverseLaplacian,
@@ -81,7 +83,7 @@ pub(crate) fn left_without(
 }
 
 /// From what is left without a trial to what is left without the next one: the dollars of the place that is left come back, one is
-/// taken at the place before it and the others at the last place, each as far as there are too few by firing. False where that
+/// taken at the place before it and the others at the last place, each as far as there are too few by firing. False if that
 /// can't be won.
 fn lose_elsewhere(graph: &Graph, left: &mut EffectiveForm, moved: &Moved) -> bool
     requires size { left.old.size ≡ graph.now.size }
@@ -106,7 +108,7 @@ fn lose_elsewhere(graph: &Graph, left: &mut EffectiveForm, moved: &Moved) -> boo
 }
 
 /// Goes on to the last of the trials that are seen to win at once: those that hold the dollars of the last place anywhere after the
-/// other places that hold some, where each vertex has as many left. Returns how many trials further that is.
+/// other places that hold some, if each vertex there has as many left. Returns how many trials further that is.
 fn leap(trial: &mut Trial, left: &mut EffectiveForm) -> u32
     requires size { left.old.size ≡ length trial.old }
     requires trial { (k : ℕ) × (c : ℕ) × (i : ℕ) × IsWithinLimits left.old.size k c × (i < c) ×
@@ -114,8 +116,9 @@ fn leap(trial: &mut Trial, left: &mut EffectiveForm) -> u32
     requires effective { IsEffective left.old.size (at left.old) }
     requires degree { AddUpToFew left.old.size (at left.old) }
     ensures { (g : Multigraph) (D : Amounts) (k c i : ℕ) → IsWithinLimits g.size k c → i < c →
-        trial.old ≡ nth_trial g.size k i → IsEffectiveForm g (less D (amounts_of trial.old)) left.old →
-        IsLeap g D k c i result trial.new left.new }
+        IsLeft g D k i trial.old left.old →
+        (i + result < c) × AllWin g D k i (i + result + 1)
+        × IsLeft g D k (i + result) trial.new left.new }
 {
     let last = trial.size() - 1;
     let dollars = trial.get(last);

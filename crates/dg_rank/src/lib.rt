@@ -7,6 +7,7 @@ mod duals;
 mod enumeration;
 mod first_loss;
 mod numbers;
+mod partial;
 mod pieces;
 mod rank_fault;
 mod ranks;

@@ -1,26 +1,27 @@
 //! Pieces of the trials of a rank test, each with a thread of its own.
-ghost use Rattle.std.specs.Prelude.{◌≡◌, ℕ, ◌<◌, ◌≤◌, MatchResult};
+ghost use Rattle.std.specs.Prelude.{◌≡◌, ℕ, ◌+◌, ◌<◌, ◌≤◌, MatchOption, MatchResult};
 ghost use Rattle.dg_chips.specs.Vector.{at};
-ghost use Rattle.dg_rank.specs.Losses.{IsFound};
-ghost use Rattle.dg_rank.specs.Pieces.{piece_start, CanSearch, IsOutcome, IsOutcomeOf, IsOutcomeFrom};
+ghost use Rattle.dg_rank.specs.Losses.{AllWin, IsFirstLossIn};
+ghost use Rattle.dg_rank.specs.Pieces.{piece_start, CanSearch, Tells};
 ghost use Rattle.dg_rank.specs.declared.pieces.Search.{Search};
 ghost use Rattle.dg_rank.specs.Ranks.{MayHaveWorkers};
 ghost use Rattle.dg_rank.specs.declared.rank_fault.RankFault.TheVariants.{Spawn};
 
 use crate::enumeration::Trial;
 use crate::first_loss::first_loss;
+use crate::partial::Partial;
 use crate::rank_fault::RankFault;
 use crate::workers::Gate;
 use dg_chips::Wide;
 use dg_graph::Graph;
 use dg_reduce::InverseLaplacian;
+use dg_system::in_parallel;
 use std::sync::Wait;
 use std::sync::atomic::{AtomicU32, Ordering};
-use std::thread;
-use std::thread::{Promise, Scope, Threads};
+use std::thread::Threads;
 
-/// How many trials a piece makes at first before it looks whether an earlier piece has lost; then it makes as many as it has made.
-/// So many begin with a reduction, which costs as much as some hundreds of them.
+/// How many trials a piece makes at first before it looks whether an earlier piece has lost; then it makes as many as it has
+/// made. So many begin with a reduction, which costs as much as some hundreds of them.
 const FIRST_LOOK: u32 = 1024;
 
 /// What is searched for a first loss: the trials below a number, in so many pieces. Piece j of w holds those from the
@@ -37,7 +38,7 @@ pub(crate) struct Search {
 /// The first loss of those that the pieces find, each in a thread of its own: every thread enters the gate with the number of its
 /// piece, and then makes the trials of the piece, if there are any. The first is meant in the order of trials, not in time.
 ///
-/// Refused with `Spawn` where a thread could not be started; those that were have ended then.
+/// Refused with `Spawn` if a thread could not be started; those that were have ended then.
 pub(crate) fn first_loss_among<R: Threads + Wait, G: Gate>(
     rt: &R,
     search: &Search,
@@ -46,133 +47,91 @@ pub(crate) fn first_loss_among<R: Threads + Wait, G: Gate>(
     requires search { CanSearch search.now }
     requires workers { MayHaveWorkers search.now.workers }
     ensures { MatchResult result
-        (IsFound search.now.graph (at search.now.chips) search.now.k 0 search.now.count)
+        (λ loss. MatchOption loss
+        (AllWin search.now.graph (at search.now.chips) search.now.k 0 search.now.count)
+        (IsFirstLossIn search.now.graph (at search.now.chips) search.now.k 0 search.now.count))
         (λ e. e ≡ Spawn) }
 {
-    match search_pieces(rt, search, gate) {
-        Ok(Outcome::Lost(trial)) => Ok(Some(trial)),
-        Ok(Outcome::Won) => Ok(None),
-        // This never comes: a piece gives up only where an earlier one has lost.
-        Ok(Outcome::GaveUp) => Ok(first_loss(
+    let lost = AtomicU32::new(search.workers);
+    match search_from(rt, search, &lost, gate, 0) {
+        Ok(Partial::Lost(trial)) => Ok(Some(trial)),
+        Ok(Partial::Won) => Ok(None),
+        // This never comes: a piece leaves trials open only if an earlier one has lost.
+        Ok(Partial::Open(from)) => Ok(first_loss(
             &search.graph,
             &InverseLaplacian::new(&search.graph, 0),
             &search.chips,
             search.k,
-            0,
+            from,
             search.count,
         )),
         Err(fault) => Err(fault),
     }
 }
 
-/// What all pieces come to, in threads of their own.
-fn search_pieces<R: Threads + Wait, G: Gate>(
+/// What is known of the pieces from one on, once all have ended. The thread of this piece is started first, and joined last.
+fn search_from<R: Threads + Wait, G: Gate>(
     rt: &R,
     search: &Search,
+    lost: &AtomicU32,
     gate: &G,
-) -> Result<Outcome, RankFault>
-    requires search { CanSearch search.now }
-    requires workers { MayHaveWorkers search.now.workers }
-    ensures { MatchResult result (IsOutcomeFrom search.now 0) (λ e. e ≡ Spawn) }
-{
-    let first = AtomicU32::new(search.workers);
-    let lost = &first;
-    thread::scope(
-        thread::scope_env(),
-        rt,
-        |scope| -> Result<Outcome, RankFault>
-            requires { CanSearch search.now × MayHaveWorkers search.now.workers }
-            ensures { MatchResult result (IsOutcomeFrom search.entry.now 0) (λ e. e ≡ Spawn) }
-        { search_from(rt, scope, search, lost, gate, 0) },
-    )
-}
-
-/// What the pieces from one on come to. The thread of this piece is started first, and joined last.
-fn search_from<'s, E, R: Threads, G: Gate>(
-    rt: &R,
-    scope: &Scope<'s, E>,
-    search: &'s Search,
-    lost: &'s AtomicU32,
-    gate: &'s G,
     piece: u32,
-) -> Result<Outcome, RankFault>
+) -> Result<Partial, RankFault>
     requires search { CanSearch search.now }
     requires workers { MayHaveWorkers search.now.workers }
     requires piece { piece ≤ search.now.workers }
-    ensures { MatchResult result (IsOutcomeFrom search.now piece) (λ e. e ≡ Spawn) }
+    ensures { MatchResult result
+        (Tells search.now (piece_start search.now piece) search.now.count)
+        (λ e. e ≡ Spawn) }
 {
     if piece == search.workers {
-        return Ok(Outcome::Won);
+        return Ok(Partial::Won);
     }
-    let work = move || -> PieceEnd
+    let next = piece + 1;
+    let mut here = || -> Partial
         requires { CanSearch search.now × MayHaveWorkers search.now.workers ×
             (piece < search.now.workers) }
-        ensures { (result.piece ≡ piece) × IsOutcomeOf search.entry.now piece result.outcome }
+        ensures { Tells search.entry.now (piece_start search.entry.now piece)
+            (piece_start search.entry.now (piece + 1)) result }
     { search_piece(search, lost, gate, piece) };
-    let Ok(thread) = scope.spawn_with(EndOf { search, piece }, work) else {
-        return Err(RankFault::Spawn);
+    let mut later = || -> Result<Partial, RankFault>
+        requires { CanSearch search.now × MayHaveWorkers search.now.workers ×
+            (next ≤ search.now.workers) × (0 < next) }
+        ensures { MatchResult result
+            (Tells search.entry.now (piece_start search.entry.now next) search.entry.now.count)
+            (λ e. e ≡ Spawn) }
+    { search_from(rt, search, lost, gate, next) };
+    let (here, later) = match in_parallel(rt, &mut here, &mut later) {
+        Ok(both) => both,
+        Err(_) => return Err(RankFault::Spawn),
     };
-    let rest = search_from(rt, scope, search, lost, gate, piece + 1);
-    let PieceEnd { piece: _, outcome } = thread.join(rt);
-    match rest {
-        Ok(rest) => Ok(first_of(outcome, rest)),
+    match later {
+        Ok(later) => Ok(first_of(here, later)),
         Err(fault) => Err(fault),
     }
 }
 
-/// What trials come to.
-#[derive(Drop)]
-enum Outcome {
-    /// The first of them to lose.
-    Lost(Trial),
-    /// All of them win.
-    Won,
-    /// An earlier piece has lost, so nobody asks for the rest.
-    GaveUp,
-}
-
-/// What a piece comes to.
-#[derive(Drop)]
-struct PieceEnd {
-    piece: u32,
-    outcome: Outcome,
-}
-
-/// What is promised of it.
-#[derive(Drop)]
-struct EndOf<'a> {
-    search: &'a Search,
-    piece: u32,
-}
-
-impl<'a> Promise<PieceEnd> for EndOf<'a> {
-    ghost kept_by = { λ p r. (r.piece ≡ p.piece) × IsOutcomeOf p.search.now p.piece r.outcome };
-}
-
-/// What trials come to, and others after them.
-fn first_of(here: Outcome, rest: Outcome) -> Outcome
-    ensures { (s : Search) (i m j : ℕ) → i ≤ m → m ≤ j → IsOutcome s i m here →
-        IsOutcome s m j rest →
-        IsOutcome s i j result }
+/// What is known of trials, and of others after them.
+fn first_of(here: Partial, later: Partial) -> Partial
+    ensures { (s : Search) (i m j : ℕ) → i ≤ m → m ≤ j → Tells s i m here → Tells s m j later →
+        Tells s i j result }
 {
     match here {
-        Outcome::Lost(trial) => Outcome::Lost(trial),
-        Outcome::Won => rest,
-        Outcome::GaveUp => Outcome::GaveUp,
+        Partial::Lost(trial) => Partial::Lost(trial),
+        Partial::Won => later,
+        Partial::Open(from) => Partial::Open(from),
     }
 }
 
-/// What a piece comes to, after the gate.
-fn search_piece<G: Gate>(search: &Search, lost: &AtomicU32, gate: &G, piece: u32) -> PieceEnd
+/// What is known of a piece, after the gate.
+fn search_piece<G: Gate>(search: &Search, lost: &AtomicU32, gate: &G, piece: u32) -> Partial
     requires search { CanSearch search.now }
     requires workers { MayHaveWorkers search.now.workers }
     requires piece { piece < search.now.workers }
-    ensures piece { result.piece ≡ piece }
-    ensures outcome { IsOutcomeOf search.now piece result.outcome }
+    ensures { Tells search.now (piece_start search.now piece) (piece_start search.now (piece + 1)) result }
 {
     let piece = enter(gate, piece);
-    let outcome = outcome_of(search, lost, piece);
-    PieceEnd { piece, outcome }
+    search_trials(search, lost, piece)
 }
 
 /// Lets a piece through the gate, and says which one went through.
@@ -183,33 +142,34 @@ fn enter<G: Gate>(gate: &G, piece: u32) -> u32
     piece
 }
 
-/// What a piece comes to, where `lost` is the number of the first piece that has lost so far.
-fn outcome_of(search: &Search, lost: &AtomicU32, piece: u32) -> Outcome
+/// What is known of a piece, if `lost` is the number of the first piece that has lost so far. Once that is an earlier one,
+/// nobody asks for the rest of this one.
+fn search_trials(search: &Search, lost: &AtomicU32, piece: u32) -> Partial
     requires search { CanSearch search.now }
     requires workers { MayHaveWorkers search.now.workers }
     requires piece { piece < search.now.workers }
-    ensures { IsOutcomeOf search.now piece result }
+    ensures { Tells search.now (piece_start search.now piece) (piece_start search.now (piece + 1)) result }
 {
     let end = start_of(search, piece + 1);
     let start = start_of(search, piece);
     if start >= end {
-        return Outcome::Won;
+        return Partial::Won;
     }
     let inverse = InverseLaplacian::new(&search.graph, 0);
     let mut from = start;
     while from < end {
         if lost.load(Ordering::SeqCst) < piece {
-            return Outcome::GaveUp;
+            return Partial::Open(from);
         }
         let to = end.min(from + FIRST_LOOK.max(from - start));
         let loss = first_loss(&search.graph, &inverse, &search.chips, search.k, from, to);
         if let Some(trial) = loss {
             lost.fetch_min(piece, Ordering::SeqCst);
-            return Outcome::Lost(trial);
+            return Partial::Lost(trial);
         }
         from = to;
     }
-    Outcome::Won
+    Partial::Won
 }
 
 /// The number of the first trial of a piece, and of the one past all trials for the number past all pieces.
@@ -217,7 +177,7 @@ fn start_of(search: &Search, piece: u32) -> u32
     requires search { CanSearch search.now }
     requires workers { MayHaveWorkers search.now.workers }
     requires piece { piece ≤ search.now.workers }
-    ensures { result ≡ piece_start search.now.count search.now.workers piece }
+    ensures { result ≡ piece_start search.now piece }
 {
     piece * search.count / search.workers
 }

@@ -5,7 +5,7 @@ ghost use Rattle.dg_theory.specs.Firing.{Amounts, AreEquivalent};
 ghost use Rattle.dg_chips.specs.Vector.{at};
 ghost use Rattle.dg_rank.specs.Limits.{IsPastLimits, IsWithinLimits};
 ghost use Rattle.dg_rank.specs.Trials.{IsTrial};
-ghost use Rattle.dg_rank.specs.Losses.{AreSmall, IsFound};
+ghost use Rattle.dg_rank.specs.Losses.{AreSmall, AllWin, IsFirstLossIn};
 ghost use Rattle.dg_verdict.specs.RankTests.{IsRankTest};
 ghost use Rattle.dg_rank.specs.Ranks.{IsWithin, IsUnsettled};
 ghost use Rattle.dg_rank.specs.declared.rank_fault.RankFault.TheVariants.{TooMany};
@@ -23,7 +23,7 @@ use dg_verdict::RankVerdict;
 /// rest still won. If not, the answer names the first that can't, in the order of trials. Where the dual of the divisor has
 /// fewer trials, those may tell that none can't. It takes no memory.
 ///
-/// Refused with `TooMany` alone, where k is above 1,000 or there are more than 200,000 trials.
+/// Refused with `TooMany` alone, if k is above 1,000 or there are more than 200,000 trials.
 pub fn rank_at_least(
     graph: &Graph,
     q: usize,
@@ -50,7 +50,7 @@ pub fn rank_at_least(
     Ok(verdict_on(k, loss))
 }
 
-/// The amounts that are reduced for the first vertex and that a divisor can be fired to, where the degree does not settle its
+/// The amounts that are reduced for the first vertex and that a divisor can be fired to, if the degree does not settle its
 /// test: all of them are small.
 pub(crate) fn small_amounts(
     graph: &Graph,
@@ -73,7 +73,7 @@ pub(crate) fn small_amounts(
         .divisor
 }
 
-/// The answer of a rank test that the degree alone settles. `None` where trials must be made.
+/// The answer of a rank test that the degree alone settles. `None` if trials must be made.
 pub(crate) fn settled(graph: &Graph, divisor: &Divisor, k: u32) -> Option<RankVerdict>
     requires size { divisor.now.size ≡ graph.now.size }
     requires limits { IsWithin graph.now.size k }
@@ -93,12 +93,13 @@ pub(crate) fn settled(graph: &Graph, divisor: &Divisor, k: u32) -> Option<RankVe
     None
 }
 
-/// The answer where this is the first loss of all trials, or where none was found. The condition is that it is a trial.
+/// The answer if this is the first loss of all trials, or if none was found. The condition is that it is a trial.
 pub(crate) fn verdict_on(k: u32, loss: Option<Trial>) -> RankVerdict
     requires { MatchOption loss ⊤ (λ E. (n : ℕ) × (c : ℕ) × IsWithinLimits n k c × IsTrial n k E) }
     ensures { (g : Multigraph) (D x : Amounts) (c : ℕ) → IsWithinLimits g.size k c →
         AreEquivalent g D x →
-        IsFound g x k 0 c loss → IsRankTest g D k result }
+        MatchOption loss (AllWin g x k 0 c) (IsFirstLossIn g x k 0 c) →
+        IsRankTest g D k result }
 {
     match loss {
         Some(trial) => RankVerdict::Below(k, trial.to_divisor()),

@@ -6,7 +6,8 @@ ghost use Rattle.dg_rank.specs.Ranks.{IsWithin, IsRankFault, MayHaveWorkers};
 ghost use Rattle.dg_rank.specs.declared.rank_fault.RankFault.TheVariants.{Spawn};
 
 use crate::counting::trials;
-use crate::duals::{Told, told_before};
+use crate::duals::told_before;
+use crate::partial::Partial;
 use crate::pieces::{Search, first_loss_among};
 use crate::rank_fault::RankFault;
 use crate::ranks::{settled, small_amounts, verdict_on};
@@ -35,13 +36,13 @@ impl Gate for OpenGate {
     fn enter(&self, _piece: u32) {}
 }
 
-/// The rank test among workers: the answer is that of `rank_at_least`, whatever their number and the gate. The trials
+/// The rank test among workers: the answer is what `rank_at_least` answers, for any number of them and any gate. The trials
 /// are shared in as many pieces as there are workers. Each piece has a thread of its own, which enters the gate with the
-/// piece's number, from 0 on, before its first trial, also where it has none to make: the degree, or a few trials and those
+/// piece's number, from 0 on, before its first trial, also if it has none to make: the degree, or a few trials and those
 /// of the dual, made before any thread starts, may have told the answer.
 ///
-/// Refused with `TooMany` as there, then with `Workers` where their number is not 1 to 16; then no gate is entered. Refused
-/// with `Spawn` where a thread could not be started; those that were have ended then. `OutOfMemory` never comes: only threads
+/// Refused with `TooMany` as there, then with `Workers` if their number is not 1 to 16; then no gate is entered. Refused
+/// with `Spawn` if a thread could not be started; those that were have ended then. `OutOfMemory` never comes: only threads
 /// take memory.
 pub fn rank_with<R: Threads + Wait, G: Gate>(
     rt: &R,
@@ -74,12 +75,12 @@ pub fn rank_with<R: Threads + Wait, G: Gate>(
     // The first trials and the dual's are made before there are threads to share the rest.
     let most = count / (2 * workers);
     match told_before(graph, &inverse, divisor, &chips, k, count, most) {
-        Told::Lost(trial) => {
+        Partial::Lost(trial) => {
             let verdict = verdict_on(k, Some(trial));
             after_the_gate(rt, graph, k, workers, gate, verdict)
         }
-        Told::Won => after_the_gate(rt, graph, k, workers, gate, RankVerdict::AtLeast(k)),
-        Told::Open(_) => {
+        Partial::Won => after_the_gate(rt, graph, k, workers, gate, RankVerdict::AtLeast(k)),
+        Partial::Open(_) => {
             let search = Search {
                 graph: *graph,
                 chips,

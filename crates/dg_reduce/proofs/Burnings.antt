@@ -13,7 +13,7 @@ use Rattle.dg_theory.specs.Reduced.{IsReduced}
 use Rattle.dg_theory.proofs.BurningOrder.{among_first, q_burns}
 use Rattle.dg_burn.specs.Fires.{dollars}
 use Rattle.dg_reduce.specs.declared.certificate.Burning.{Burning}
-use Rattle.dg_reduce.specs.Reductions.{IsBurningOrder}
+use Rattle.dg_reduce.specs.Certificates.{IsBurningOrder}
 use Rattle.dg_reduce.specs.Burnings.{IsWhole, IsHeldOff}
 
 pub held-may : (g : Multigraph) (q : ℕ) (D : Amounts) (held : List ℕ) (B : ℕ → Bool) (v : ℕ) →

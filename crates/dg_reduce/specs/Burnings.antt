@@ -7,7 +7,7 @@ use Rattle.dg_theory.specs.Firing.{Amounts}
 use Rattle.dg_theory.specs.Reduced.{IsReduced}
 use Rattle.dg_burn.specs.Fires.{dollars}
 use Rattle.dg_reduce.specs.declared.certificate.Burning.{Burning}
-use Rattle.dg_reduce.specs.Reductions.{IsBurningOrder}
+use Rattle.dg_reduce.specs.Certificates.{IsBurningOrder}
 
 pub record IsWhole (g : Multigraph) (q : ℕ) (x : Burning) : Type 0 where
   pub reduced : IsReduced g q (dollars x.held)

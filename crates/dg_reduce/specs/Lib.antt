@@ -1,11 +1,7 @@
--- What a reader of the contracts has to believe: what a reduction gives, what amounts without debts
--- are, and a burning that is kept.
-pub mod Reductions
+-- What a reader of the contracts has to believe: what a reduction is shown by, what amounts without
+-- debts are, and a burning that is kept.
+pub mod Certificates
 pub mod Effective
 pub mod Burnings
--- What serves the steps of a reduction alone: the search for the distances from a vertex, how often
--- a set can fire, and the states on the way.
-pub mod Reaching
-pub mod Firings
+-- What serves the steps alone: what burning leaves.
 pub mod Rests
-pub mod States

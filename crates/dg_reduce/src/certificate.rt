@@ -5,7 +5,7 @@ ghost use Rattle.std.specs.Bool.{OnTrue};
 ghost use Rattle.dg_theory.specs.Firing.{HasNoDebtOff};
 ghost use Rattle.dg_theory.specs.Reduced.{IsReduced};
 ghost use Rattle.dg_chips.specs.Vector.{at};
-ghost use Rattle.dg_reduce.specs.Reductions.{IsBurningOrder};
+ghost use Rattle.dg_reduce.specs.Certificates.{IsBurningOrder};
 ghost use Rattle.dg_reduce.specs.Burnings.{IsWhole, IsHeldOff};
 
 use dg_burn::burn;
@@ -21,7 +21,7 @@ pub struct Burning {
     pub order: [u8; 16],
 }
 
-/// What `order_if_reduced` answers, where a burning is at hand: one of the same amounts serves for another.
+/// What `order_if_reduced` answers, if a burning is at hand: one of the same amounts serves for another.
 pub fn order_by(graph: &Graph, q: usize, chips: &Wide, known: &Option<Burning>) -> Option<[u8; 16]>
     requires size { chips.now.size ≡ graph.now.size }
     requires vertex { q < graph.now.size }
@@ -52,7 +52,7 @@ fn is_held_off(q: usize, chips: &Wide, held: &[u8; 16]) -> bool
     true
 }
 
-/// The order in which all vertices burn from q, the least first, which shows that the amounts are reduced; `None` where
+/// The order in which all vertices burn from q, the least first, which shows that the amounts are reduced; `None` if
 /// they are not.
 pub fn order_if_reduced(graph: &Graph, q: usize, chips: &Wide) -> Option<[u8; 16]>
     requires size { chips.now.size ≡ graph.now.size }

@@ -3,26 +3,17 @@
 ghost use Rattle.std.specs.Prelude.{◌≡◌, ℕ, ◌<◌, ◌≤◌, pos, IfSome};
 ghost use Rattle.std.specs.Int.RustNames.{unsigned_abs};
 ghost use Rattle.dg_chips.specs.Vector.{at};
-ghost use Rattle.dg_reduce.specs.Reductions.{IsReduction, IsCertified};
+ghost use Rattle.dg_fallback.specs.Reductions.{IsReduction};
+ghost use Rattle.dg_reduce.specs.Certificates.{IsCertified};
 ghost use Rattle.dg_reduce.specs.Burnings.{IsWhole};
 
 use crate::certificate::{Burning, order_by};
-use crate::fallback::reduce_after;
 use crate::guessing::guess;
 use crate::inverse_laplacian::InverseLaplacian;
-use crate::limits::MAX_START;
 use dg_burn::burn;
 use dg_chips::{Divisor, Script, Wide};
+use dg_fallback::{MAX_START, Reduced, reduce_after};
 use dg_graph::Graph;
-
-/// A reduced divisor, and the script that leads to it.
-#[derive(Clone, Copy, PartialEq, Eq)]
-pub struct Reduced {
-    /// The amounts after the firing.
-    pub divisor: Wide,
-    /// How often each vertex lends: 0 at q.
-    pub script: Script,
-}
 
 /// A reduced divisor, the script that leads to it, and what shows that it is reduced.
 #[derive(Clone, Copy)]
@@ -73,7 +64,7 @@ pub fn reduce_certified(
     certified_by(graph, q, chips, &guess.script, &guess.burning)
 }
 
-/// The reduction of amounts within 2,000,000 that begins with a script, any that is 0 at q: where the script leads to
+/// The reduction of amounts within 2,000,000 that begins with a script, any that is 0 at q: if the script leads to
 /// amounts from which all vertices burn, these are the reduced ones. A burning of these amounts may be known before; one of
 /// others changes no answer.
 pub fn certified_by(
@@ -106,8 +97,6 @@ pub fn certified_by(
 }
 
 /// The reduction that begins with a script, and then goes by the fallback.
-#[cold]
-#[inline(never)]
 fn certified_after(graph: &Graph, q: usize, chips: &Wide, script: &Script) -> Certified
     requires size { chips.now.size ≡ graph.now.size }
     requires vertex { q < graph.now.size }

@@ -15,7 +15,7 @@ use Rattle.std.proofs.Math.IntN.{pos, ◌+ℤ◌}
 use Rattle.dg_theory.specs.Multigraph.{Multigraph, IsMultigraph, edges_between, edge_count}
 use Rattle.dg_theory.specs.Firing.{Amounts, degree}
 use Rattle.dg_theory.specs.Reduced.{edges_out, IsReduced}
-use Rattle.dg_theory.specs.GenusLaws.{ReducedBelowGenus}
+use Rattle.dg_theory.specs.ReducedLaws.{ReducedBelowGenus}
 use Rattle.dg_theory.proofs.SumLaws.{sum_below-zero}
 use Rattle.dg_theory.proofs.Counting.{count_of, count_of-some, count_of-more, member_or_none}
 use Rattle.dg_theory.proofs.Leaving.{removed, removed-here, removed-of, burnt_edges, burnt_weight, burnt_edges-removed, burnt_weight-removed, burnt_edges-all, burnt_weight-all}

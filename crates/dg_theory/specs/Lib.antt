@@ -13,7 +13,6 @@ pub mod EquivalenceLaws
 pub mod WinningLaws
 pub mod ReducedLaws
 pub mod BurningLaws
-pub mod GenusLaws
 pub mod ExistenceLaws
 pub mod RankLaws
 pub mod JoinLaws

@@ -3,9 +3,8 @@
 ghost use Rattle.dg_theory.specs.FiringLaws.{FiringAddsUp, ConstantScriptsDoNothing, SameByConstant, FiringKeepsDegree};
 ghost use Rattle.dg_theory.specs.EquivalenceLaws.{EquivalenceIsReflexive, EquivalenceIsSymmetric, EquivalenceIsTransitive, EquivalentByPlays, EquivalentDegrees};
 ghost use Rattle.dg_theory.specs.WinningLaws.{WinnableByScript, WinnableByClass, EquivalentWinnable};
-ghost use Rattle.dg_theory.specs.ReducedLaws.{ReducedDecides, ReducedOnce};
+ghost use Rattle.dg_theory.specs.ReducedLaws.{ReducedDecides, ReducedOnce, ReducedBelowGenus};
 ghost use Rattle.dg_theory.specs.BurningLaws.{UnburntFires, GreatestIsOne, BurntIsReduced, BurnsToReduced};
-ghost use Rattle.dg_theory.specs.GenusLaws.{ReducedBelowGenus};
 ghost use Rattle.dg_theory.specs.ExistenceLaws.{ReducedExists, RichIsWinnable};
 ghost use Rattle.dg_theory.specs.JoinLaws.{EdgeIsAdded, JoinedIsMultigraph, ValenceGrows, SizeStays};
 ghost use Rattle.dg_theory.specs.RankLaws.{EquivalentRank, EquivalentLoss, RankBelow, RankZero, RichRank, PoorRank, LossOnce, LossBoundsRank};

@@ -13,7 +13,7 @@ use Rattle.dg_theory.proofs.Scripts.{fired-shifted}
 use Rattle.dg_theory.proofs.Equivalence.{equivalent-fired}
 use Rattle.dg_theory.proofs.Winning.{equivalent-winnable}
 use Rattle.dg_chips.specs.Vector.{Vector, at}
-use Rattle.dg_reduce.proofs.Outcome.{script_near}
+use Rattle.dg_fallback.proofs.Outcome.{script_near}
 use Rattle.dg_verdict.specs.declared.verdict.Verdict.{Verdict}
 use Rattle.dg_verdict.specs.Right.{IsRight}
 use Rattle.dg_verdict.specs.Rebasing.{IsRebasable}

@@ -12,7 +12,7 @@ use Rattle.dg_theory.specs.Play.{IsWinnable}
 use Rattle.dg_theory.specs.Reduced.{IsReduced}
 use Rattle.dg_theory.specs.Burning.{BurnsAll}
 use Rattle.dg_chips.specs.Vector.{at}
-use Rattle.dg_reduce.specs.Reductions.{IsBurningOrder}
+use Rattle.dg_reduce.specs.Certificates.{IsBurningOrder}
 use Rattle.dg_verdict.specs.declared.verdict.Verdict.{Verdict}
 
 pub record IsRight (g : Multigraph) (q : ℕ) (D : Amounts) (x : Verdict) : Type 0 where

@@ -1,6 +1,6 @@
 use Rattle.std.proofs.Common.{arith}
 use Rattle.dg_chips.specs.Vector.{at}
-use Rattle.dg_rank.specs.Losses.{IsLossIn}
+use Rattle.dg_rank.specs.Losses.{IsFirstLossIn}
 use Rattle.dg_rank.proofs.FirstLosses.{all_trials_win}
 use Rattle.dg_rank.proofs.PieceLosses.{wins_both, loss_before, loss_after}
 use Rattle.dg_rank.proofs.duals.told_after.Goals as goal
@@ -8,7 +8,7 @@ use Rattle.dg_rank.proofs.duals.told_after.Goals as goal
 pub returns-in-Some : goal.returns-in-Some
 returns-in-Some c =
     let g = c.args.graph.now in
-    let loss : IsLossIn g (at c.args.chips.now) c.args.k 0 c.min-to.result c.in-Some.trial =
+    let loss : IsFirstLossIn g (at c.args.chips.now) c.args.k 0 c.min-to.result c.in-Some.trial =
     loss_after g (at c.args.chips.now) c.args.k 0 c.args.from c.min-to.result c.in-Some.trial (omega arith)
     c.requires.before c.in-Some.ensures in
     loss_before g (at c.args.chips.now) c.args.k 0 c.min-to.result c.args.count c.in-Some.trial (omega arith) loss

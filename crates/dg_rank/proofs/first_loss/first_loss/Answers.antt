@@ -81,7 +81,7 @@ begun c =
     (at c.args.chips.now) c.args.k count c.args.from c.args.from c.leap.result c.leap.new.trial c.leap.new.left
     within (omega arith) (λ m from to. absurd (omega arith))
     (c.leap.ensures c.args.graph.now (at c.args.chips.now) c.args.k count c.args.from within (omega arith)
-    (first (goal.at.After-leap c).After-with_number-trial) c.in-Some.ensures)
+    (record { trial = first (goal.at.After-leap c).After-with_number-trial; form = c.in-Some.ensures }))
 
 pub overflow_add-number : goal.overflow_add-number
 overflow_add-number c =
@@ -99,27 +99,27 @@ overflow_add-number-in-trials c =
 pub advance-moved-requires : goal.advance-moved-requires
 advance-moved-requires c =
     let (count, within, few) = c.requires.limits in
-    (c.args.graph.now.size, c.args.k, count, c.trials.number, within, omega arith, c.trials.invariant.trial)
+    (c.args.graph.now.size, c.args.k, count, c.trials.number, within, omega arith, c.trials.invariant.left.trial)
 
 pub lose_elsewhere-requires-clause-degree : goal.lose_elsewhere-requires-clause-degree
 lose_elsewhere-requires-clause-degree c =
     left_degree c.args.graph.now
     (at c.args.chips.now) c.trials.trial c.trials.left c.size.ensures.graph c.requires.range
-    c.trials.invariant.form
+    c.trials.invariant.left.form
 
 -- the trial after the one that was reached
 places : (c : After-advance-moved) → length c.trials.trial ≡ c.args.graph.now.size
 places c =
     let (count, within, few) = c.requires.limits in
     trial_places c.args.graph.now.size c.args.k count c.trials.number c.trials.trial within
-    (omega arith) c.trials.invariant.trial
+    (omega arith) c.trials.invariant.left.trial
 
 next : (c : After-advance-moved) →
     c.advance-moved.new.self ≡ nth_trial c.args.graph.now.size c.args.k (c.trials.number + 1)
 next c =
     let (count, within, few) = c.requires.limits in
     c.advance-moved.ensures.next c.args.graph.now.size c.args.k count c.trials.number within
-    (omega arith) c.trials.invariant.trial
+    (omega arith) c.trials.invariant.left.trial
 
 pub lose_elsewhere-requires-clause-place : goal.lose_elsewhere-requires-clause-place
 lose_elsewhere-requires-clause-place c =
@@ -141,7 +141,7 @@ returns-then-not-lose_elsewhere c =
           next_told false c.args.graph.now
           (at c.args.chips.now) c.trials.trial c.advance-moved.new.self c.advance-moved.result
           c.trials.left c.trials.left
-          (places d) c.advance-moved.ensures.moved c.trials.invariant.form c.if-not-lose_elsewhere.ensures;
+          (places d) c.advance-moved.ensures.moved c.trials.invariant.left.form c.if-not-lose_elsewhere.ensures;
       first = c.trials.invariant.wins;
     }
 
@@ -151,7 +151,7 @@ form : (c : Else-not-lose_elsewhere) →
 form c =
     next_told true c.args.graph.now (at c.args.chips.now) c.trials.trial c.advance-moved.new.self c.advance-moved.result
     c.trials.left c.lose_elsewhere.new.left (places (goal.at.Else-not-lose_elsewhere c).After-advance-moved)
-    c.advance-moved.ensures.moved c.trials.invariant.form c.if-not-lose_elsewhere.ensures
+    c.advance-moved.ensures.moved c.trials.invariant.left.form c.if-not-lose_elsewhere.ensures
 
 pub leap-requires-in-trials-clause-size : goal.leap-requires-in-trials-clause-size
 leap-requires-in-trials-clause-size c =
@@ -196,9 +196,10 @@ leapt c =
     c.leap-in-trials.new.trial c.leap-in-trials.new.left within
     (omega (arith, c.trials.invariant.from)) c.trials.invariant.wins
     (c.leap-in-trials.ensures c.args.graph.now (at c.args.chips.now) c.args.k count (c.trials.number + 1) within
-    (omega arith)
-    (next (goal.at.After-leap-in-trials c).After-advance-moved)
-    (form (goal.at.After-leap-in-trials c).Else-not-lose_elsewhere))
+    (omega arith) (record {
+      trial = next (goal.at.After-leap-in-trials c).After-advance-moved;
+      form = form (goal.at.After-leap-in-trials c).Else-not-lose_elsewhere;
+    }))
 
 pub overflow_add-number-in-trials-2 : goal.overflow_add-number-in-trials-2
 overflow_add-number-in-trials-2 c =

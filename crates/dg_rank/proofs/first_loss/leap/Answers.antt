@@ -27,16 +27,16 @@ few c =
     omega (arith, c.get-dollars.ensures, trial.amount, limits.small)
 
 pub returns-then-dollars-eq0 : goal.returns-then-dollars-eq0
-returns-then-dollars-eq0 c g D k count i limits low is form =
-    stays g D k count i c.args.trial.now c.args.left.now limits low is form
+returns-then-dollars-eq0 c g D k count i limits low left =
+    stays g D k count i c.args.trial.now c.args.left.now limits low left
 
 pub first_rich-place-requires-clause-few : goal.first_rich-place-requires-clause-few
 first_rich-place-requires-clause-few c =
     few (goal.at.first_rich-place-requires-clause-few c).After-get-dollars
 
 pub returns-then-place-last : goal.returns-then-place-last
-returns-then-place-last c g D k count i limits low is form =
-    stays g D k count i c.args.trial.now c.args.left.now limits low is form
+returns-then-place-last c g D k count i limits low left =
+    stays g D k count i c.args.trial.now c.args.left.now limits low left
 
 small : (c : After-get-dollars) → (v : ℕ) → v < c.args.left.now.size → unsigned_abs (at c.args.left.now v) ≤ 32000000
 small c v inside = rich_small c.args.left.now.size
@@ -84,7 +84,9 @@ overflow_sub-result c =
     omega (arith, c.count.ensures)
 
 pub returns : goal.returns
-returns c g D k count i limits low is form =
+returns c g D k count i limits low left =
+    let is = left.trial in
+    let form = left.form in
     let d = (goal.at.returns c).After-get-dollars in
     let places : c.size-last.result ≡ g.size = (last_inside d).1 ∙ form.size in
     let end : c.size-last.result - 1 ≡ g.size - 1 = omega (arith, places) in

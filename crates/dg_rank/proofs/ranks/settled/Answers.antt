@@ -8,7 +8,7 @@ use Rattle.dg_theory.proofs.RankLaws.{rich_rank}
 use Rattle.dg_chips.specs.Vector.{at}
 use Rattle.dg_rank.specs.Limits.{IsWithinLimits}
 use Rattle.dg_rank.specs.Numbering.{nth_trial}
-use Rattle.dg_rank.specs.Losses.{IsLossIn}
+use Rattle.dg_rank.specs.Losses.{IsFirstLossIn}
 use Rattle.dg_rank.proofs.FirstLosses.{nth-trial, found_loss, some_number, poor_loss}
 use Rattle.dg_rank.proofs.ranks.settled.Goals as goal
 
@@ -50,7 +50,7 @@ returns-then-rest-lt0 c =
     let rest : c.degree_left-rest.result ≡ degree c.args.graph.now.size (at c.args.divisor.now) -ℤ pos c.args.k =
     rw c.requires.size at c.degree_left-rest.ensures in
     let poor : degree c.args.graph.now.size (at c.args.divisor.now) <ℤ pos c.args.k = omega (arith, ints) in
-    let loss : IsLossIn c.args.graph.now (at c.args.divisor.now) c.args.k 0 count c.with_number.result =
+    let loss : IsFirstLossIn c.args.graph.now (at c.args.divisor.now) c.args.k 0 count c.with_number.result =
     rw first (poor_loss c.args.graph.now
     (at c.args.divisor.now) c.args.k count c.size-size.ensures.graph.multigraph poor within) in
     let (size, found) = found_loss c.args.graph.now (at c.args.divisor.now) c.args.k count c.with_number.result

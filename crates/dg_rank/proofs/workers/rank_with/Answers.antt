@@ -3,7 +3,7 @@ use Rattle.dg_theory.specs.Rank.{HasRankAtLeast}
 use Rattle.dg_theory.proofs.RankLaws.{equivalent-rank}
 use Rattle.dg_chips.specs.Vector.{at}
 use Rattle.dg_rank.specs.Limits.{IsWithinLimits}
-use Rattle.dg_rank.specs.Losses.{IsLossIn}
+use Rattle.dg_rank.specs.Losses.{IsFirstLossIn}
 use Rattle.dg_verdict.specs.declared.rank_verdict.RankVerdict.TheVariants.{AtLeast}
 use Rattle.dg_rank.proofs.FirstLosses.{found_trial, loss-trial, found_rank}
 use Rattle.dg_rank.proofs.Gated.{known_verdict}
@@ -17,7 +17,7 @@ pub verdict_on-verdict-requires : goal.verdict_on-verdict-requires
 verdict_on-verdict-requires g c =
     let limits : IsWithinLimits c.args.graph.now.size c.args.k c.in-Some.count =
     rw c.size-size.ensures.size at c.in-Some.ensures in
-    let loss : IsLossIn c.args.graph.now (at c.small_amounts-chips.result) c.args.k 0 c.in-Some.count c.in-Lost.trial =
+    let loss : IsFirstLossIn c.args.graph.now (at c.small_amounts-chips.result) c.args.k 0 c.in-Some.count c.in-Lost.trial =
     rw c.in-Lost.is at c.told_before.ensures in (
       c.args.graph.now.size,
       c.in-Some.count,
@@ -30,7 +30,7 @@ pub returns-in-Lost : goal.returns-in-Lost
 returns-in-Lost g c =
     let limits : IsWithinLimits c.args.graph.now.size c.args.k c.in-Some.count =
     rw c.size-size.ensures.size at c.in-Some.ensures in
-    let loss : IsLossIn c.args.graph.now (at c.small_amounts-chips.result) c.args.k 0 c.in-Some.count c.in-Lost.trial =
+    let loss : IsFirstLossIn c.args.graph.now (at c.small_amounts-chips.result) c.args.k 0 c.in-Some.count c.in-Lost.trial =
     rw c.in-Lost.is at c.told_before.ensures in
     known_verdict c.args.graph.now (at c.args.divisor.now) c.args.k c.args.workers c.verdict_on-verdict.result
     c.after_the_gate-in-Lost.result (c.in-Some.count, limits) (omega arith, c.if-workers-gt-MAX_WORKERS.false)

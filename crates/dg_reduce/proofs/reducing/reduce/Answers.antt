@@ -2,7 +2,7 @@ use Rattle.std.proofs.Common.{arith, ap, ◌∙◌}
 use Rattle.std.proofs.Math.IntN.{ℤ, ◌+ℤ◌}
 use Rattle.dg_theory.specs.Firing.{gain}
 use Rattle.dg_chips.specs.Vector.{at}
-use Rattle.dg_reduce.proofs.Outcome.{reduction_within}
+use Rattle.dg_fallback.proofs.Outcome.{reduction_within}
 use Rattle.dg_reduce.proofs.reducing.reduce.Goals as goal
 
 pub returns : goal.returns

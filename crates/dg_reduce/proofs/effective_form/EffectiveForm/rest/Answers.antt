@@ -4,8 +4,7 @@ use Rattle.dg_graph.specs.Sets.{in_set}
 use Rattle.dg_chips.specs.Vector.{at}
 use Rattle.dg_burn.specs.Fires.{IsHeld}
 use Rattle.dg_burn.proofs.Capped.{same-order}
-use Rattle.dg_burn.proofs.Told.{rest_is_free, none_reduced, reduced_none}
-use Rattle.dg_reduce.proofs.BurningSteps.{unburnt_member}
+use Rattle.dg_burn.proofs.Told.{rest_is_free, none_reduced, reduced_none, unburnt_member}
 use Rattle.dg_reduce.proofs.effective_form.EffectiveForm.rest.Goals as goal
 use Rattle.dg_reduce.proofs.effective_form.EffectiveForm.rest.Goals.{After-burn_counted-counted}
 

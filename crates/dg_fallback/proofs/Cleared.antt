@@ -1,0 +1,34 @@
+-- That nobody off q is in debt any more, by the levels and without them.
+--   levels_cleared   once level 1 and those farther are cleared, nobody off q is in debt
+--   cleared_levels   and then they are cleared, for the distances from q
+use Rattle.std.proofs.Common.{ℕ, ◌<◌}
+use Rattle.dg_theory.specs.Multigraph.{Multigraph}
+use Rattle.dg_theory.specs.Distances.{IsDistance}
+use Rattle.dg_theory.proofs.Distances.{not_q}
+use Rattle.dg_theory.proofs.Range.{clear_all}
+use Rattle.dg_theory.proofs.Reach.{distance_from, distance_from-is}
+use Rattle.dg_graph.specs.Graph.{IsGraph}
+use Rattle.dg_chips.specs.Vector.{at}
+use Rattle.dg_fallback.specs.declared.walk.Walk.{Walk}
+use Rattle.dg_fallback.specs.States.{IsCleared, IsClearedOff}
+
+pub levels_cleared : (g : Multigraph) (q : ℕ) (level : ℕ → ℕ) (x : Walk) → IsDistance g q level →
+    IsCleared g level 1 x →
+    IsClearedOff g q x
+levels_cleared g q level x distance cleared = record {
+  tied = cleared.tied;
+  no_debt = clear_all g q level (at x.chips) distance cleared.clear;
+  chips = cleared.chips;
+  script = cleared.script;
+}
+
+pub cleared_levels : (g : Multigraph) (q : ℕ) (x : Walk) → IsGraph g → q < g.size → IsClearedOff g q x →
+    IsCleared g (distance_from g q) 1 x
+cleared_levels g q x graph vertex cleared = record {
+  tied = cleared.tied;
+  clear = λ v inside far.
+      cleared.no_debt v inside
+      (not_q g q (distance_from g q) v (distance_from-is g q graph.multigraph vertex) far);
+  chips = cleared.chips;
+  script = cleared.script;
+}

@@ -1,0 +1,12 @@
+use Rattle.dg_theory.proofs.Potential.{weights}
+use Rattle.dg_theory.proofs.Reach.{distance_from}
+use Rattle.dg_theory.proofs.Weights.{weight_of}
+use Rattle.dg_chips.specs.Vector.{at}
+use Rattle.dg_fallback.proofs.BurningSteps.{IsBurningDown}
+use Rattle.dg_fallback.proofs.burning_down.burn_down.Given as goal
+
+abbrev pub invariant-burning : goal.invariant-burning
+invariant-burning l = IsBurningDown l.graph l.q l.walk l.now
+
+abbrev pub decreases-burning : goal.decreases-burning
+decreases-burning l = weight_of l.graph (weights (distance_from l.graph l.q)) (at l.now.chips)

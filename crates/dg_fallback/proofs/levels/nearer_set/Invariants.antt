@@ -1,0 +1,10 @@
+use Rattle.std.proofs.Common.{◌≡◌, ℕ, ◌<◌, ◌≤◌, false}
+use Rattle.std.specs.Prelude.{nat_lt, slice_index}
+use Rattle.dg_graph.specs.Sets.{in_set}
+use Rattle.dg_fallback.proofs.levels.nearer_set.Given as goal
+
+abbrev pub invariant-loop-v : goal.invariant-loop-v
+invariant-loop-v l = record {
+  same : (u : ℕ) → u < l.v → in_set l.set u ≡ nat_lt (slice_index l.levels u) l.level;
+  rest : (u : ℕ) → l.v ≤ u → in_set l.set u ≡ false;
+}

@@ -1,0 +1,7 @@
+use Rattle.dg_graph.specs.Sets.{in_set}
+use Rattle.dg_chips.specs.Vector.{at}
+use Rattle.dg_fallback.proofs.Most.{IsLeast}
+use Rattle.dg_fallback.proofs.most_firings.most_firings.Given as goal
+
+abbrev pub invariant-loop-v : goal.invariant-loop-v
+invariant-loop-v l = IsLeast l.graph (at l.chips) (in_set l.set) l.v l.most

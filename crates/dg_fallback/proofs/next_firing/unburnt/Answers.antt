@@ -1,0 +1,13 @@
+use Rattle.std.proofs.Common.{take, arith}
+use Rattle.dg_burn.proofs.Told.{unburnt_member}
+use Rattle.dg_chips.specs.Vector.{at}
+use Rattle.dg_fallback.proofs.next_firing.unburnt.Goals as goal
+
+pub returns : goal.returns
+returns c =
+    let burnt = c.burn-burnt in (
+      burnt.ensures.unburnt.free,
+      unburnt_member c.args.graph.now c.args.q (at c.args.chips.now)
+          (take burnt.result.burnt burnt.result.order) burnt.result.unburnt
+          c.requires.no_debt burnt.ensures.order burnt.ensures.unburnt burnt.ensures.reduced (omega arith),
+    )

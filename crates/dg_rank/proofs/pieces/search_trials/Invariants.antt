@@ -1,0 +1,16 @@
+use Rattle.std.proofs.Common.{◌-◌, ◌≤◌}
+use Rattle.dg_chips.specs.Vector.{at}
+use Rattle.dg_rank.specs.Losses.{AllWin}
+use Rattle.dg_rank.specs.Pieces.{piece_start}
+use Rattle.dg_rank.proofs.pieces.search_trials.Given as goal
+
+abbrev pub invariant-loop-from : goal.invariant-loop-from
+invariant-loop-from l = record {
+  start : piece_start l.search l.piece ≤ l.from;
+  end : l.from ≤ l.end;
+  wins : AllWin l.search.graph (at l.search.chips) l.search.k
+      (piece_start l.search l.piece) l.from;
+}
+
+abbrev pub decreases-loop-from : goal.decreases-loop-from
+decreases-loop-from l = l.end - l.from

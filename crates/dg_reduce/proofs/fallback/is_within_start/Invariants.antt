@@ -1,7 +1,0 @@
-use Rattle.std.proofs.Common.{ℕ, ◌<◌, ◌≤◌}
-use Rattle.std.specs.Int.RustNames.{unsigned_abs}
-use Rattle.dg_chips.specs.Vector.{at}
-use Rattle.dg_reduce.proofs.fallback.is_within_start.Given as goal
-
-abbrev pub invariant-loop-v : goal.invariant-loop-v
-invariant-loop-v l = (u : ℕ) → u < l.v → unsigned_abs (at l.chips u) ≤ 2000000

@@ -1,6 +1,0 @@
-use Rattle.std.proofs.Common.{slice_index}
-use Rattle.dg_reduce.specs.Reaching.{IsReached}
-use Rattle.dg_reduce.proofs.fallback.levels.levels_from.Given as goal
-
-abbrev pub invariant-loop-level : goal.invariant-loop-level
-invariant-loop-level l = IsReached l.graph l.q l.level 0 (slice_index l.levels)

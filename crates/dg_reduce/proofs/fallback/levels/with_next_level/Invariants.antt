@@ -1,7 +1,0 @@
-use Rattle.std.proofs.Common.{ℕ, ◌<◌, slice_index}
-use Rattle.dg_reduce.specs.Reaching.{IsReached}
-use Rattle.dg_reduce.proofs.fallback.levels.with_next_level.Given as goal
-
-abbrev pub invariant-loop-v : goal.invariant-loop-v
-invariant-loop-v l = (q : ℕ) → q < l.graph.size → IsReached l.graph q l.level 0 (slice_index l.levels) →
-    IsReached l.graph q l.level l.v (slice_index l.reached)
