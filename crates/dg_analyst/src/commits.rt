@@ -16,12 +16,12 @@ use dg_verdict::judge_with_inverse;
 use std::alloc::Global;
 use std::sync::Wait;
 
-/// Enters a verdict that was reckoned on a look: as stale just where gifts, levies or joins were accepted since the look;
+/// Enters a verdict that was reckoned on a look: as stale just if gifts, levies or joins were accepted since the look;
 /// otherwise as a verdict that is right for the position at its place in the one history, with the reduced divisor and the
 /// burning order that were found. The seat is told of the look, and need not be the one that looked.
 ///
 /// It waits for the lock, but nothing is reckoned under it that was found before. Refused with `OutOfMemory`, before it
-/// waits; with `Full`; and with `Log`, also where the history has no entry of the look's number. What was reckoned
+/// waits; with `Full`; and with `Log`, also if the history has no entry of the look's number. What was reckoned
 /// comes back, the seat knows what it knew, and there is no entry.
 pub fn commit<N: Name>(
     table: &Table<N>,
@@ -48,7 +48,7 @@ pub fn commit<N: Name>(
 /// were accepted since the look; so nothing need be reckoned on a look that is stale. `None`, and no entry, if none was. The
 /// look stays the caller's; the seat is told of it, and need not be the one that looked.
 ///
-/// It waits for the lock, twice where it makes an entry. Refused as `commit`; then the seat knows what it knew, and there is no
+/// It waits for the lock, twice if it makes an entry. Refused as `commit`; then the seat knows what it knew, and there is no
 /// entry.
 pub fn commit_stale<N: Name>(
     table: &Table<N>,
@@ -94,7 +94,7 @@ pub fn commit_look<N: Name>(
     table.settle(rt, alloc, seat, &look.receipt, shown, &finding)
 }
 
-/// Enters the answer of a rank test on a look: as stale just where gifts, levies or joins were accepted since the look;
+/// Enters the answer of a rank test on a look: as stale just if gifts, levies or joins were accepted since the look;
 /// otherwise as it was found, and it is right for the position at its place in the one history. The seat is told of the
 /// look, and need not be the one that looked.
 ///

@@ -99,7 +99,7 @@ pub fn reckon<N: Name>(look: Look<N>) -> Reckoned<N>
 }
 
 /// The verdict as `reckon` gives it, whatever inverse it is given: that of the look's table saves the time to make one anew,
-/// where no edge was added before the look.
+/// if no edge was added before the look.
 pub fn reckon_with_inverse<N: Name>(look: Look<N>, inverse: &InverseLaplacian) -> Reckoned<N>
     ensures look { result.look ≡ look }
     ensures judged { IsJudged N.table.start.q look result.verdict }
@@ -112,8 +112,8 @@ pub fn reckon_with_inverse<N: Name>(look: Look<N>, inverse: &InverseLaplacian) -
 /// The rank test of degree k for the amounts that a look showed, on its graph, as `rank_with` makes it from the vertex of
 /// the start, with so many workers and this gate. It takes no lock of a table.
 ///
-/// Refused with `TooMany` where the degree is above 1,000 or there are more than 200,000 trials; then with `Workers`
-/// where their number is not 1 to 16; and with `Spawn` where a thread could not be started. The look comes back.
+/// Refused with `TooMany` if the degree is above 1,000 or there are more than 200,000 trials; then with `Workers`
+/// if their number is not 1 to 16; and with `Spawn` if a thread could not be started. The look comes back.
 pub fn try_rank<N: Name, R: Threads + Wait, G: Gate>(
     rt: &R,
     look: Look<N>,

@@ -1,9 +1,9 @@
 -- A fire on a graph: which vertices burn, and the heat of each: how many dollars it lacks to 127,
 -- and how many edges join it to those that burn. No vertex has more than 63 edges, so who holds
 -- more than 127 dollars burns as who holds 127.
---   dollars held v    == what v holds, where a list tells it
+--   dollars held v    == what v holds, if a list tells it
 --   capped z          == the amount z, but 0 for a debt and 64 for more than 64: as no vertex has
---                        more than 63 edges, it burns with one exactly where it burns with the
+--                        more than 63 edges, it burns with one exactly if it burns with the
 --                        other
 --   IsHeld n D l      == l are the amounts D of n vertices, capped
 --   heat x v          == the heat of v
@@ -16,7 +16,7 @@
 --   IsLeastIn S v     == v is the least vertex of S
 --   IsWithout S v T   == T is the set S without v
 --   IsFire g l x      == those that do not burn are vertices of the graph, and the heat of each
---                        vertex is what it lacks to 127 dollars, where it holds what l tells, and
+--                        vertex is what it lacks to 127 dollars, if it holds what l tells, and
 --                        its edges to those that burn
 use Rattle.std.specs.Prelude.{◌≡◌, ◌≢◌, ℕ, ◌+◌, ◌-◌, ◌<◌, ◌≤◌, ◌&&◌, min, nat_lt, not, Bool, true, false, List, ℤ, pos, negsuc, slice_index}
 use Rattle.dg_theory.specs.Multigraph.{Multigraph}

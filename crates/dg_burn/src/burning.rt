@@ -54,7 +54,7 @@ pub fn burn(graph: &Graph, q: usize, chips: &Wide) -> Burnt
     burn_counted(graph, q, &capped_at(chips)).burnt
 }
 
-/// Burns the graph from q, where each vertex holds so many dollars: as `burn` does, and with the counts kept. Amounts above
+/// Burns the graph from q, if each vertex holds so many dollars: as `burn` does, and with the counts kept. Amounts above
 /// 64 burn as 64 does, for no vertex has more than 63 edges.
 #[inline(always)]
 pub fn burn_counted(graph: &Graph, q: usize, held: &[u8; 16]) -> Counted

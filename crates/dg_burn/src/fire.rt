@@ -56,7 +56,7 @@ impl Fire {
     }
 }
 
-/// What each holds less than enough, 0 where that is more.
+/// What each holds less than enough, 0 if that is more.
 fn lack_of(held: u8x16) -> u8x16
     ensures { (v : ℕ) → v < MAX_VERTICES → slice_index result v ≡ 127 - slice_index held v }
 {

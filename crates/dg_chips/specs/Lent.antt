@@ -1,4 +1,4 @@
--- What it leaves where one vertex lends, and why it is refused.
+-- What it leaves if one vertex lends, and why it is refused.
 --   IsLent g D v x d                == d holds the amounts after v has lent x times, all of them in
 --                                      range
 --   IsLendingRefusal g D v x fault  == the lending is refused for this cause

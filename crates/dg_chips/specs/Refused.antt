@@ -1,5 +1,5 @@
 -- Why a move is refused. For each move at most one of the four causes stands: a set that names a
--- number that is no vertex is not empty, and a result is judged only where the move can be played.
+-- number that is no vertex is not empty, and a result is judged only if the move can be played.
 --   IsMisfit n m fault      == the move can't be played on n vertices, whatever they hold, for this
 --                              cause
 --   IsRefusal g D m fault   == the move is refused at the amounts D for this cause

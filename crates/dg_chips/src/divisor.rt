@@ -48,7 +48,7 @@ impl Model for Divisor {
 impl Divisor {
     /// The divisor with these amounts, in vertex order.
     ///
-    /// Refused with `Length` where there are not as many as vertices, then with `Range` for the first vertex whose
+    /// Refused with `Length` if there are not as many as vertices, then with `Range` for the first vertex whose
     /// amount is not within 1,000,000.
     pub fn new(graph: &Graph, amounts: &[i64]) -> Result<Divisor, ChipFault>
         ensures { MatchResult result
@@ -100,7 +100,7 @@ impl Divisor {
 
     /// The divisor less another one: at each vertex the difference of the amounts.
     ///
-    /// Refused with `Length` where the other has another number of vertices, then with `Range` for the first vertex at
+    /// Refused with `Length` if the other has another number of vertices, then with `Range` for the first vertex at
     /// which the difference is not within 1,000,000.
     pub fn minus(&self, other: &Divisor) -> Result<Divisor, ChipFault>
         ensures { MatchResult result
@@ -165,7 +165,7 @@ impl Divisor {
         i64::from(amounts[v])
     }
 
-    /// The divisor with so many dollars more at one vertex, at most 1,000,000 more or less; `None` where the vertex
+    /// The divisor with so many dollars more at one vertex, at most 1,000,000 more or less; `None` if the vertex
     /// would not hold an amount within 1,000,000.
     pub fn checked_add_at(&self, v: usize, dollars: i64) -> Option<Divisor>
         requires vertex { v < self.now.size }
@@ -185,7 +185,7 @@ impl Divisor {
         Some(Divisor { size, amounts })
     }
 
-    /// The divisor after a vertex has lent once, or borrowed once where `times` is -1; `None` where an amount is then not within
+    /// The divisor after a vertex has lent once, or borrowed once if `times` is -1; `None` if an amount is then not within
     /// 1,000,000.
     pub(crate) fn after_lending(&self, graph: &Graph, v: usize, times: i32) -> Option<Divisor>
         requires size { self.now.size ≡ graph.now.size }

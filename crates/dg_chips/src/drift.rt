@@ -86,7 +86,7 @@ impl Drift {
         }
     }
 
-    /// The drift with one lending more, or one borrowing where `times` is -1.
+    /// The drift with one lending more, or one borrowing if `times` is -1.
     fn plus_at(&self, v: usize, times: i64) -> Drift
         requires vertex { v < self.now.size }
         requires times { unsigned_abs times ≤ 1 }
@@ -119,7 +119,7 @@ impl Drift {
         Drift { size, entries }
     }
 
-    /// What this drift lends more than an earlier one; `None` where some difference is not within 100,000,000,000,000.
+    /// What this drift lends more than an earlier one; `None` if some difference is not within 100,000,000,000,000.
     pub fn since(&self, earlier: &Drift) -> Option<Drift>
         requires { earlier.now.size ≡ self.now.size }
         ensures { MatchOption result

@@ -21,8 +21,8 @@ use dg_graph::Graph;
 
 /// The divisor after a move; the one that is handed in stays as it is.
 ///
-/// Refused in this order: `NoVertex` where the move names a vertex that is not there, `Empty` where it fires the empty
-/// set, `Script` where its script has another size, `Range` where an amount of the result is not within 1,000,000.
+/// Refused in this order: `NoVertex` if the move names a vertex that is not there, `Empty` if it fires the empty
+/// set, `Script` if its script has another size, `Range` if an amount of the result is not within 1,000,000.
 /// What lies between the single lendings of a move is not tested.
 pub fn apply(graph: &Graph, divisor: &Divisor, chip_move: &Move) -> Result<Divisor, MoveFault>
     requires { divisor.now.size ≡ graph.now.size }
@@ -37,7 +37,7 @@ pub fn apply(graph: &Graph, divisor: &Divisor, chip_move: &Move) -> Result<Divis
     }
 }
 
-/// The divisor after a vertex has lent once, or borrowed once where `times` is -1.
+/// The divisor after a vertex has lent once, or borrowed once if `times` is -1.
 fn lent(graph: &Graph, divisor: &Divisor, v: usize, times: i32) -> Result<Divisor, MoveFault>
     requires divisor { divisor.now.size ≡ graph.now.size }
     requires times { unsigned_abs times ≤ 1 }
@@ -103,7 +103,7 @@ pub(crate) fn leads(graph: &Graph, lendings: &[i64; 16], from: &Divisor, to: &Wi
     true
 }
 
-/// What a vertex gets where each vertex lends so often.
+/// What a vertex gets if each vertex lends so often.
 pub(crate) fn gained(graph: &Graph, lendings: &[i64; 16], v: usize) -> i64
     requires vertex { v < graph.now.size }
     requires lendings { (w : ℕ) → unsigned_abs (slice_index_or lendings.now w (pos 0)) ≤ MAX_DRIFT }

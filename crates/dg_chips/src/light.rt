@@ -13,7 +13,7 @@ use dg_graph::{Graph, MAX_VERTICES};
 /// More than a vertex may get from all others together, or lose to them, so that both together fit into 32 bits.
 const MOST: u64 = 1 << 30;
 
-/// Whether no vertex gets or loses more than sums of 32 bits tell, where each vertex lends so often.
+/// Whether no vertex gets or loses more than sums of 32 bits tell, if each vertex lends so often.
 pub fn is_light(graph: &Graph, lendings: &[i32; 16]) -> bool
     ensures { OnTrue result (IsLight graph.now (λ w. slice_index_or lendings.now w (pos 0))) }
 {
@@ -42,7 +42,7 @@ fn most_lendings(lendings: &[i32; 16]) -> u32
     most
 }
 
-/// What a vertex gets where each vertex lends so often, if that is light.
+/// What a vertex gets if each vertex lends so often, if that is light.
 pub fn gained_lightly(graph: &Graph, lendings: &[i32; 16], v: usize) -> i32
     requires vertex { v < graph.now.size }
     requires small { (w : ℕ) → unsigned_abs (slice_index_or lendings.now w (pos 0)) ≤ MAX_ENTRY }

@@ -48,7 +48,7 @@ impl Model for Script {
 impl Script {
     /// The script with these entries, in vertex order.
     ///
-    /// Refused with `Length` where there are not as many as vertices, then with `Limit` for the first vertex whose
+    /// Refused with `Length` if there are not as many as vertices, then with `Limit` for the first vertex whose
     /// entry is not within 1,000,000,000.
     pub fn new(graph: &Graph, entries: &[i64]) -> Result<Script, ScriptFault>
         ensures { MatchResult result

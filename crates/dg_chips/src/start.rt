@@ -40,7 +40,7 @@ impl Model for Start {
 impl Start {
     /// The start with these three parts.
     ///
-    /// Refused with `Length` where the divisor has another number of vertices than the graph, then with `Vertex` where
+    /// Refused with `Length` if the divisor has another number of vertices than the graph, then with `Vertex` if
     /// q is none of the graph's.
     pub fn new(graph: Graph, divisor: Divisor, q: u8) -> Result<Start, StartFault>
         ensures { MatchResult result

@@ -1,4 +1,4 @@
-//! What divisors, scripts and wide amounts share: numbers in an array of 16 places, of 32 bits where they are small.
+//! What divisors, scripts and wide amounts share: numbers in an array of 16 places, of 32 bits if they are small.
 
 ghost use Rattle.std.specs.Prelude.{◌≡◌, ℕ, ◌<◌, ◌≤◌, ℤ, pos, length, MatchOption};
 ghost use Rattle.std.specs.List.{slice_index_or};

@@ -36,7 +36,7 @@ impl Model for Wide {
 }
 
 impl Wide {
-    /// The amounts, in vertex order; refused with `Length` where there are not as many as vertices.
+    /// The amounts, in vertex order; refused with `Length` if there are not as many as vertices.
     pub fn new(graph: &Graph, amounts: &[i128]) -> Result<Wide, ChipFault>
         ensures { MatchResult result
             (λ x. (x.size ≡ graph.now.size) × HoldsNumbers amounts.now x × IsWide x)

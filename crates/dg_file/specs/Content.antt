@@ -9,14 +9,14 @@
 --   member_count members     == how many members there are
 --   HasParts value parts     == the value is an object of just four members, with the names of the
 --                               parts
---   put_first a rest         == the list of the first and the rest, where both are there
---   each read items          == what the items are read as, where each can be read
---   listed read value        == what the items of an array are read as, where it is one and each
+--   put_first a rest         == the list of the first and the rest, if both are there
+--   each read items          == what the items are read as, if each can be read
+--   listed read value        == what the items of an array are read as, if it is one and each
 --                               can be read
 --   whole value              == a whole number that 64 bits hold
---   as_count z               == z as a number of edges, where it is from 0 to 255
+--   as_count z               == z as a number of edges, if it is from 0 to 255
 --   count_in value           == a whole number from 0 to 255
---   edge_from one other n    == the edge of the three, where all are there
+--   edge_from one other n    == the edge of the three, if all are there
 --   edge_of items            == the edge of just three items: two texts and a number of edges
 --   edge_in value            == the edge that an array of three is
 --   texts_in value           == an array of texts

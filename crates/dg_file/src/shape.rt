@@ -57,7 +57,7 @@ impl<'v> Model for Edge<'v> {
     ghost view = { λ e. record { one = e.one.now; other = e.other.now; count = e.count } };
 }
 
-/// The JSON value of the bytes, where they have one.
+/// The JSON value of the bytes, if they have one.
 pub fn value_of(alloc: Global, bytes: &[u8]) -> Result<Option<Value>, AllocError>
     ensures { IfOk result (λ value. MatchOption value (IsNotJson bytes.now)
         (λ value. Reads bytes.now (view value))) }

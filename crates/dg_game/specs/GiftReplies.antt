@@ -1,4 +1,4 @@
--- What may be replied to a gift of x dollars to v at the position p, where the gift count is g. A
+-- What may be replied to a gift of x dollars to v at the position p, if the gift count is g. A
 -- gift of less than 0 dollars is a levy: it takes dollars from v, and may leave v in debt. It is
 -- answered and counted as any other gift.
 --   IsGift x                      == a gift may be so large: it is not 0, and within the limit at

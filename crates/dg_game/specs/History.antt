@@ -15,7 +15,7 @@
 --   scripts_since R            == the sum of the scripts of all moves accepted since the last
 --                                 change
 --   after_change o R           == the position right after the last change, and that of the opening
---                                 o where there is none
+--                                 o if there is none
 -- So:
 --   position_after o H         == the position after the history H from the start o: that after
 --                                 the last change, fired on the graph there by the sum of the

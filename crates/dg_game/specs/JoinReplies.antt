@@ -1,5 +1,5 @@
 -- What may be replied to a join, which asks for one more edge between u and v, at the position p,
--- where the gift count is g. A join is counted as a gift is.
+-- if the gift count is g. A join is counted as a gift is.
 --   IsJoinedTo p g u v count d      == the count after the join, and the amounts, which are as
 --                                      before
 --   RefusesToJoin p u v refusal     == the join is refused for this cause, and for no earlier one

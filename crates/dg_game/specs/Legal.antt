@@ -3,7 +3,7 @@
 --   IsLookIn H i          == entry i of H is a look
 --   LooksBack H request   == a request for a verdict or for a rank test names an entry of H that is
 --                            a look
---   IsLegal o H           == each entry is a seat's, looks back to an earlier look where it asks
+--   IsLegal o H           == each entry is a seat's, looks back to an earlier look if it asks
 --                            for a verdict or for a rank test, and is answered rightly after the
 --                            entries before it
 use Rattle.std.specs.Prelude.{◌≡◌, ℕ, ◌≤◌, List, take, slice_get, Some, ⊤}

@@ -1,7 +1,7 @@
 -- The laws of legal histories.
 --   EmptyIsLegal          == a history with no entry is legal
 --   OneMoreIsLegal        == a legal history stays legal by an entry that is a seat's, looks back
---                            to a look where it asks for a verdict or for a rank test, and is
+--                            to a look if it asks for a verdict or for a rank test, and is
 --                            answered rightly
 --   BeginningsAreLegal    == the first entries of a legal history are a legal history, however many
 --                            they are

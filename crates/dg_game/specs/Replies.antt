@@ -1,14 +1,14 @@
 -- What may be replied.
 --   RepliesToLook p g reply        == the gift count, the amounts and the graph, as they are
---   RepliesToClaim p reply         == won where nobody is in debt, and not won where somebody is
---   RepliesToJudge p q h g reply   == the gift count was h before the look: where it is so now, a
+--   RepliesToClaim p reply         == won if nobody is in debt, and not won if somebody is
+--   RepliesToJudge p q h g reply   == the gift count was h before the look: if it is so now, a
 --                                     verdict that is right for the position; else stale, with the
 --                                     gift count now
---   RepliesToRank p h g k reply    == the gift count was h before the look: where it is so now, the
+--   RepliesToRank p h g k reply    == the gift count was h before the look: if it is so now, the
 --                                     verdict of a rank test of degree k that is right for the
 --                                     position; else stale, with the gift count now
 --   RepliesAt p q before g request reply == the reply is right at the position p, for the vertex q,
---                                     where the gift count is g, and was `before i` at entry i
+--                                     if the gift count is g, and was `before i` at entry i
 --   Replies o H request reply      == the reply is right after the history H from the start o
 use Rattle.std.specs.Prelude.{◌≡◌, ◌≢◌, ℕ, List, take}
 use Rattle.dg_theory.specs.Firing.{IsEffective}

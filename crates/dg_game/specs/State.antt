@@ -6,7 +6,7 @@
 --   IsState s                 == the parts of the state s fit together and are within their limits
 --   LeadsTo o H s             == the history H leads from the start o to the state s
 --   IsRightIn s request reply == the reply is right in the state s, for some gift counts at the looks
---   amounts_after d reply     == the amounts after the reply, where they were d before
+--   amounts_after d reply     == the amounts after the reply, if they were d before
 --   gifts_after n reply       == the gift count after the reply, where it was n before
 --   graph_after g request reply == the graph after the request was so answered, where it was g
 --                                  before

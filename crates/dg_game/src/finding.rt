@@ -81,7 +81,7 @@ pub fn renew_inverse(inverse: &mut InverseLaplacian, q: usize, look: &LookData) 
     }
 }
 
-/// Makes an inverse anew. It stands apart, so that no room for an inverse is cleared where the one that is kept serves.
+/// Makes an inverse anew. It stands apart, so that no room for an inverse is cleared if the one that is kept serves.
 #[cold]
 #[inline(never)]
 fn make_anew(inverse: &mut InverseLaplacian, q: usize, graph: &Graph) {

@@ -145,7 +145,7 @@ impl Game {
         }
     }
 
-    /// Answers a call as the game answers it after its history, and takes it into the history, which stays legal where
+    /// Answers a call as the game answers it after its history, and takes it into the history, which stays legal if
     /// a seat of 1 to 64 calls. It takes no memory. The condition is that there are fewer than 65,536 entries.
     pub fn act(&mut self, plain: Plain) -> Reply
         requires { self.old.entries < MAX_ENTRIES }
@@ -177,7 +177,7 @@ impl Game {
         self.answer_now(plain, reply);
     }
 
-    /// Writes the reply to a call that is right as the game stands. Where the caller knows that the game and the reply lie apart,
+    /// Writes the reply to a call that is right as the game stands. If the caller knows that the game and the reply lie apart,
     /// what a look shows is copied once.
     #[inline(always)]
     fn answer_now(&self, plain: &Plain, reply: &mut Reply)
@@ -287,9 +287,9 @@ impl Game {
         }
     }
 
-    /// Enters what was reckoned on a look: `Stale` where gifts, levies or joins were accepted since; otherwise a verdict
+    /// Enters what was reckoned on a look: `Stale` if gifts, levies or joins were accepted since; otherwise a verdict
     /// that is right for the position now, with the reduced divisor and the burning order that were found, or the answer
-    /// of the rank test as it was found. A legal history stays legal where a seat of 1 to 64 enters it. It takes no memory.
+    /// of the rank test as it was found. A legal history stays legal if a seat of 1 to 64 enters it. It takes no memory.
     /// The conditions are that there are fewer than 65,536 entries, that the look is one of the history, whatever its drift,
     /// and that the finding is right for the amounts of the look, on its graph.
     pub fn settle(&mut self, look: &LookData, finding: &Finding) -> Reply
@@ -352,7 +352,7 @@ impl Game {
         }
     }
 
-    /// Writes the reply to whatever was asked on a look, where gifts, levies or joins were accepted since: `Stale`, as `settle`
+    /// Writes the reply to whatever was asked on a look, if gifts, levies or joins were accepted since: `Stale`, as `settle`
     /// gives it for each finding, so nothing has to be reckoned. The game stays as it is: `follow` takes the entry into the
     /// history. The condition is that their number is another than that before the look.
     pub fn answer_stale(&self, look: &LookData, reply: &mut Reply)
@@ -404,7 +404,7 @@ impl Game {
         Drift::between(&before.script, &now.script)
     }
 
-    /// What the moves have lent since an earlier drift, where both have one size and the difference is within the limit.
+    /// What the moves have lent since an earlier drift, if both have one size and the difference is within the limit.
     fn drift_since(&self, drift: &Drift) -> Option<Drift>
         ensures { MatchOption result ⊤ (λ d. d.size ≡ self.now.graph.size) }
     {
@@ -435,7 +435,7 @@ impl Game {
     }
 }
 
-/// Writes a refusal. It stands apart, so that no room for it is cleared where another reply is written.
+/// Writes a refusal. It stands apart, so that no room for it is cleared if another reply is written.
 #[cold]
 #[inline(never)]
 fn refuse(reply: &mut Reply, refusal: Refusal)

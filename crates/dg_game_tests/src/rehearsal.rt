@@ -72,7 +72,7 @@ fn no_seat_looks(rt: &impl Abort, start: &Start, seat: u8) {
     assert!(rt; came == Err(RehearseFault::Seat(0)));
 }
 
-// Where a history is full, the seat of the next step is judged first.
+// If a history is full, the seat of the next step is judged first.
 #[test]
 fn seats_come_before_the_length(rt: HostRuntime) -> Result<(), Fail> {
     let start = start(triangle()?, &[2, -1, -1], 0)?;

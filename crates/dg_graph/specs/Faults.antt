@@ -9,7 +9,7 @@
 --                                      of edges between them
 --   IsFirstGraphFault n items fault == the fault is the first that stands in the items for n
 --                                      vertices: that of an item stands where all items before it
---                                      are right, and that of the whole list where all items are
+--                                      are right, and that of the whole list if all items are
 use Rattle.std.specs.Prelude.{◌≡◌, ◌≢◌, ℕ, ◌<◌, ◌≤◌, List, ◌⊎◌}
 use Rattle.dg_theory.specs.Multigraph.{JoinedIn}
 use Rattle.dg_graph.specs.Items.{Item, IsItems, IsRightBefore, HasItem, edges_listed, valence_listed}

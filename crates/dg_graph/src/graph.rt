@@ -74,7 +74,7 @@ impl Graph {
 
     /// The graph with one more edge between two vertices.
     ///
-    /// The first fault is reported: `NoVertex`; then `Loop`, where the two are the same; then `Valence`, where 63 edges
+    /// The first fault is reported: `NoVertex`; then `Loop`, if the two are the same; then `Valence`, if 63 edges
     /// meet at one of them already.
     pub fn join(&self, u: u8, v: u8) -> Result<Graph, JoinFault>
         ensures { MatchResult result

@@ -78,7 +78,7 @@ pub fn first_high(size: usize, table: &Table) -> Option<usize>
     None
 }
 
-/// The table with one more edge in row u and column v, where there are fewer than 255.
+/// The table with one more edge in row u and column v, if there are fewer than 255.
 #[tactic(auto, unfolding(dg_theory::specs::Multigraph::entry))]
 pub fn with_one_more(mut table: Table, u: usize, v: usize) -> Table
     requires u { u < MAX_VERTICES }
@@ -90,7 +90,7 @@ pub fn with_one_more(mut table: Table, u: usize, v: usize) -> Table
     table
 }
 
-/// The row with one more edge at v, where there are fewer than 255.
+/// The row with one more edge at v, if there are fewer than 255.
 fn row_with_one_more(mut row: [u8; MAX_VERTICES], v: usize) -> [u8; MAX_VERTICES]
     requires v { v < MAX_VERTICES }
     requires few { slice_index row v < 255 }

@@ -54,7 +54,7 @@ impl Task<'_> {
 pub struct ServeTask<'a> {
     /// The name of the table file.
     pub file: &'a str,
-    /// How many seats there are, 1 to 64, where each line names the seat that it is for; `None` for one seat, which no line
+    /// How many seats there are, 1 to 64, if each line names the seat that it is for; `None` for one seat, which no line
     /// names.
     pub seats: Option<u8>,
     /// How many entries the history may have, 1 to 65,536.

@@ -16,7 +16,7 @@ pub enum Question {
 /// A sweep over lines, each of which is a table, or has amounts for the vertices of one table.
 #[derive(Drop)]
 pub struct SweepTask<'a> {
-    /// The name of the file of lines that are tables; or, where there are lines of amounts, of the table file.
+    /// The name of the file of lines that are tables; or, if there are lines of amounts, of the table file.
     pub file: &'a str,
     /// The name of the file of lines of amounts, if there is one.
     pub divisors: Option<&'a str>,

@@ -1,13 +1,13 @@
 -- Cutting a list of bytes at a byte. 32 is the space, 44 the comma and 10 the newline.
---   before b bytes      == what stands before the first b, or all where there is none
---   after b bytes       == what stands after the first b, where there is one
+--   before b bytes      == what stands before the first b, or all if there is none
+--   after b bytes       == what stands after the first b, if there is one
 --   onto_first x lists  == the byte x put in front of the first of the lists
 --   pieces b bytes      == the pieces that all the bytes b cut it into: one more than there are
 --                          bytes b
 --   words bytes         == the pieces between single spaces
 --   items bytes         == the pieces between commas
---   pieces_after b rest == the pieces of what stands after a b, and none where there is no b
---   words_after rest    == the words of what stands after a space, and none where there is no space
+--   pieces_after b rest == the pieces of what stands after a b, and none if there is no b
+--   words_after rest    == the words of what stands after a space, and none if there is no space
 --   lines bytes         == the pieces before each newline, and what stands after the last newline
 --                          if that is not empty
 use Rattle.std.specs.Prelude.{ℕ, ◌==◌, cond, List, [], ◌∷◌, Option, Some, None}

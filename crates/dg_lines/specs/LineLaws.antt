@@ -1,5 +1,5 @@
 -- Laws of lines and of the numbers in them.
---   AreAlike c d                == the commands are the same; scripts are where they have the same
+--   AreAlike c d                == the commands are the same; scripts are if they have the same
 --                                  numbers
 --   LinesHaveOneMeaning         == each line spells a command or has a fault, and not both; all
 --                                  commands that it spells are alike, and it has no two faults

@@ -51,7 +51,7 @@ impl fmt::Display for LineFault {
     }
 }
 
-/// The seat, from 1 to 64, that stands before the first space of a line, and the text after that space. `None` where there is
+/// The seat, from 1 to 64, that stands before the first space of a line, and the text after that space. `None` if there is
 /// no space, or another text before it. It takes no memory.
 #[tactic(auto, using(crate::proofs::Stepping::no_space_after))]
 pub fn split_seat(line: &[u8]) -> Option<(u8, &[u8])>

@@ -25,7 +25,7 @@ pub enum StepsFault {
 
 /// The steps that the lines of the bytes spell, in their order.
 ///
-/// Refused with `Line` at the first line that is refused, or with `OutOfMemory` where memory is refused before it.
+/// Refused with `Line` at the first line that is refused, or with `OutOfMemory` if memory is refused before it.
 pub fn parse_steps<A: Allocator + Drop>(
     alloc: A,
     bytes: &[u8],

@@ -50,7 +50,7 @@ impl<N: Name> Pen<N> {
         }
     }
 
-    /// Sets the next cell to the entry in the box, and answers its receipt. Hands the box back, and is stuck, where the cell
+    /// Sets the next cell to the entry in the box, and answers its receipt. Hands the box back, and is stuck, if the cell
     /// refuses it. It takes no memory, but uses the box. The condition is that a cell is left.
     pub fn put(&mut self, log: &Log<N>, entry: Box<Entry>) -> Result<Receipt<N>, Box<Entry>>
         requires { length self.old.entries < N.table.capacity }

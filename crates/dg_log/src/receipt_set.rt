@@ -51,7 +51,7 @@ impl<N: Name> ReceiptSet<N> {
         }
     }
 
-    /// Whether all numbers are less than the given one. They are where that is the number of cells, or greater.
+    /// Whether all numbers are less than the given one. They are if that is the number of cells, or greater.
     pub fn below(&self, count: u32) -> bool
         ensures below { IsTrue result ↔ AreBelow count self.now }
         ensures cells { length N.cells ≤ count → IsTrue result }

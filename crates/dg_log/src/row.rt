@@ -36,7 +36,7 @@ impl Model for Row {
 impl Row {
     /// A row of this many cells, 1 to 65,536.
     ///
-    /// Refused with `Capacity` where the number is another, and with `OutOfMemory`.
+    /// Refused with `Capacity` if the number is another, and with `OutOfMemory`.
     pub fn new(alloc: Global, capacity: u32) -> Result<Row, LogFault>
         ensures { MatchResult result (λ r. (length r ≡ capacity) × IsCapacity capacity)
             (RefusesRow capacity) }

@@ -1,4 +1,4 @@
-//! Calls that need no table to be opened, where memory may be refused.
+//! Calls that need no table to be opened, if memory may be refused.
 
 use crate::acts::of_rank;
 use crate::outcomes::{Outcome, done_if, tell};

@@ -6,7 +6,7 @@ use std::test::Fail;
 // What came of a call.
 #[derive(Clone, Copy, PartialEq, Eq)]
 pub(crate) enum Outcome {
-    // The answer that comes where there is memory.
+    // The answer that comes if there is memory.
     Done,
     // Want of memory.
     Memory,

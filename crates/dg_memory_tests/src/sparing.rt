@@ -43,7 +43,7 @@ fn parses<R: Abort + Print>(rt: &R, names: &Names) -> Result<(), Fail> {
     tell_spared(rt, "parse_step")
 }
 
-// The triangle with 2, -1 and -1 dollars is won where b and c borrow once each.
+// The triangle with 2, -1 and -1 dollars is won if b and c borrow once each.
 fn judges<R: Abort + Print>(rt: &R, start: &Start) -> Result<(), Fail> {
     let (graph, owing) = (start.graph(), start.divisor());
     let verdict = judge(graph, 0, owing);
@@ -95,7 +95,7 @@ fn tests_ranks<R: Abort + Print>(rt: &R, graph: &Graph) -> Result<(), Fail> {
 }
 
 // The reply to a verdict on the start that is entered after a look and a call, with this drift in the look's data; or
-// `None` where the verdict is not right.
+// `None` if the verdict is not right.
 fn settled(start: &Start, call: Plain, drift: &Drift, verdict: &Verdict) -> Option<Reply> {
     let mut game = Game::new(start);
     let look = LookData {

@@ -1,4 +1,4 @@
-//! Tables that are opened, played on and closed, where memory may be refused.
+//! Tables that are opened, played on and closed, if memory may be refused.
 ghost use Rattle.std.specs.Prelude.{◌≡◌, length};
 ghost use Rattle.dg_log.specs.Tables.{table_of};
 
@@ -66,7 +66,7 @@ fn tables_answer_or_refuse(rt: HostRuntime) -> Result<(), Fail> {
     Ok(())
 }
 
-// The table of the triangle, which is read once more where memory was refused.
+// The table of the triangle, which is read once more if memory was refused.
 pub(crate) fn triangle<R: Abort + Print>(rt: &R, alloc: Global) -> Result<TableFile, Fail> {
     match read_table(alloc, TRIANGLE.as_bytes()) {
         Ok(file) => {
@@ -101,7 +101,7 @@ fn on_a_table<R: Threads + Wait + Abort + Print>(
     opened::<Brand, R>(rt, alloc, row, file, 2, scene)
 }
 
-// The same where N names the row, the start and the number of seats. A row that comes back is used again.
+// The same if N names the row, the start and the number of seats. A row that comes back is used again.
 fn opened<N: Name, R: Threads + Wait + Abort + Print>(
     rt: &R,
     alloc: Global,
@@ -186,7 +186,7 @@ fn writes<N: Name, R: Abort + Print>(rt: &R, alloc: Global, row: Row) -> Result<
     Ok(Outcome::Done)
 }
 
-// An observer reads the seven entries, of which one is a gift. Where memory was refused, it goes on from what it has read.
+// An observer reads the seven entries, of which one is a gift. If memory was refused, it goes on from what it has read.
 fn watches<N: Name, R: Abort + Print>(rt: &R, alloc: Global, table: &Table<N>) -> Result<(), Fail> {
     let mut observer = Observer::<N, Gifts>::new(alloc, Gifts, 0);
     match observer.catch_up(table.log()) {
@@ -227,7 +227,7 @@ fn is_audited<N: Name, R: Abort + Print>(
     Ok(Outcome::Done)
 }
 
-// The history, which is read once more where memory was refused.
+// The history, which is read once more if memory was refused.
 fn read<N: Name, R: Abort + Print>(
     rt: &R,
     alloc: Global,

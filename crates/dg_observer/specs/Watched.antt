@@ -1,14 +1,14 @@
 -- What three observers keep.
 --   counted n                 == one more than n, as far as 64 bits go
---   gifts_after_entry n e     == that where the reply of the entry e is a change, and n where it is
+--   gifts_after_entry n e     == that if the reply of the entry e is a change, and n if it is
 --                                none
 --   is_move request           == whether the request is a move
 --   is_refused reply          == whether the reply is a refusal
 --   is_refused_move e         == whether the entry is a move that was refused
 --   counted_at counts seat    == the counts of the seats 1 to 64 with one more for the seat, as far
 --                                as 32 bits go
---   refusal_counted counts e  == that for the entry's seat where the entry is a refused move, and
---                                the counts where it is not
+--   refusal_counted counts e  == that for the entry's seat if the entry is a refused move, and
+--                                the counts if it is not
 --   GiftsAreCounted           == a count that is kept so from 0 on, over all entries of a history
 --                                that has less than 2^64, is its gift count
 --   PositionsAreShown         == amounts that are kept so from the start on, over all entries of a

@@ -79,7 +79,7 @@ impl<N: Name, W: Watch + Drop> Observer<N, W> {
 
     /// Reads on until an entry is not found, and gives how many were read. It takes no lock.
     ///
-    /// Refused with `OutOfMemory` where memory for a receipt is, or where the step answers so; what was read before
+    /// Refused with `OutOfMemory` if memory for a receipt is, or if the step answers so; what was read before
     /// stands.
     pub fn catch_up(&mut self, log: &Log<N>) -> Result<u32, ObserverFault>
         ensures more { (es : List EntryData) × (self.new.entries ≡ self.old.entries ++ es)
@@ -96,7 +96,7 @@ impl<N: Name, W: Watch + Drop> Observer<N, W> {
         Ok(self.count() - before)
     }
 
-    /// Goes on with one entry; where memory is refused, everything stays.
+    /// Goes on with one entry; if memory is refused, everything stays.
     fn fold(&mut self, receipt: Receipt<N>, entry: &Entry) -> Result<(), AllocError>
         requires number { receipt.0 ≡ length self.old.entries }
         requires entry { receipt.1 ≡ entry.now }

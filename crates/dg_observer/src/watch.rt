@@ -18,7 +18,7 @@ pub trait Watch {
 
     /// The state after the entry.
     ///
-    /// Refused where memory is.
+    /// Refused if memory is.
     fn step(&self, state: &Self::State, entry: &Entry) -> Result<Self::State, AllocError>
         ensures { IfOk result (λ next. goes_on state.now entry.now next) };
 }

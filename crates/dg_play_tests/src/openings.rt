@@ -47,7 +47,7 @@ pub(crate) enum Scene<'a> {
     Watched,
     // Strategies are played.
     Strategies,
-    // Seats play in threads. In a box: where no scene owns anything, the toolchain finds no proof.
+    // Seats play in threads. In a box: if no scene owns anything, the toolchain finds no proof.
     Meeting(Box<Meeting<'a>>),
 }
 
@@ -63,7 +63,7 @@ pub(crate) fn on_a_table<R: Threads + Wait + Abort + Sync>(
     opened::<Brand, R>(rt, alloc, Row::new(alloc, cells)?, start, seats, scene)
 }
 
-// The same where N names the row, the start and the number of seats.
+// The same if N names the row, the start and the number of seats.
 fn opened<N: Name + Send + Sync, R: Threads + Wait + Abort + Sync>(
     rt: &R,
     alloc: Global,

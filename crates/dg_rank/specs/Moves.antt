@@ -1,6 +1,6 @@
 -- From a trial to the next one.
 --   change n m v       == what a trial on n vertices holds less at v after the move m, below 0
---                         where it holds more: at a place it loses one dollar, which goes to the
+--                         if it holds more: at a place it loses one dollar, which goes to the
 --                         place before it, and others, which go to the last place
 --   after_move n m D   == the amounts D with that more at each vertex
 --   IsMoved E F m      == F is the trial E after the move m

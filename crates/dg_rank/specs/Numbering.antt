@@ -3,7 +3,7 @@
 --   one_place_more c k    == with one place more: the sum of c 0, c 1, .. up to c k
 --   trial_count n k       == how many trials of degree k there are on n places
 --   raised E              == the trial E with one dollar more at its first place
---   with_place c nth k i  == the trial number i of degree k on one place more, where c and nth
+--   with_place c nth k i  == the trial number i of degree k on one place more, if c and nth
 --                            number those without it
 --   nth_trial n k i       == the trial number i of degree k on n places
 use Rattle.std.specs.Prelude.{ℕ, zero, suc, ◌+◌, ◌-◌, nat_lt, if◌then◌else◌, List, [], ◌∷◌}

@@ -9,7 +9,7 @@
 --   DualNeedsTooMany g D   == the dual of D is in range, and D or the dual needs too many rank
 --                             tests
 --   BothArePast g D k      == the rank test of degree k is past the limits, and so is that of the
---                             dual which passes where it passes
+--                             dual which passes if it passes
 --   NeedsPastTests g D     == D passes all rank tests before one that is past the limits, as is
 --                             that of the dual
 --   FailsFirstAt g D k     == k is the least degree of the rank tests that D fails

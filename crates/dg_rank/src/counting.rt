@@ -14,8 +14,8 @@ pub const MAX_DEGREE: u32 = 1_000;
 /// The most trials of a rank test.
 pub const MAX_TRIALS: u32 = 200_000;
 
-/// How many trials of degree k there are on n vertices: effective divisors of that degree. `None` where n is not 1 to
-/// 16, where k is above 1,000, and where there are more than 200,000.
+/// How many trials of degree k there are on n vertices: effective divisors of that degree. `None` if n is not 1 to
+/// 16, if k is above 1,000, and where there are more than 200,000.
 pub fn trials(n: usize, k: u32) -> Option<u32>
     ensures { MatchOption result (IsPastLimits n k) (IsWithinLimits n k) }
 {
@@ -29,7 +29,7 @@ pub fn trials(n: usize, k: u32) -> Option<u32>
     Some(count)
 }
 
-/// The trial of degree k on n vertices that has exactly i trials before it; one is before another where it holds less
+/// The trial of degree k on n vertices that has exactly i trials before it; one is before another if it holds less
 /// at the first vertex at which they differ. The condition is that i is below the number of trials.
 pub fn trial(n: usize, k: u32, i: u32) -> Divisor
     requires { (c : ℕ) × IsWithinLimits n k c × (i < c) }
@@ -38,7 +38,7 @@ pub fn trial(n: usize, k: u32, i: u32) -> Divisor
     Trial::with_number(n, k, i).to_divisor()
 }
 
-/// How many trials of degree k there are on n places, or 200,001 where there are more than 200,000. The conditions are
+/// How many trials of degree k there are on n places, or 200,001 if there are more than 200,000. The conditions are
 /// that n is 1 to 16, and that k is at most 1,000.
 pub(crate) fn count(n: usize, k: u32) -> u32
     requires some { 0 < n }

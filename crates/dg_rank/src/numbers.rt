@@ -13,7 +13,7 @@ use dg_chips::Divisor;
 use dg_graph::Graph;
 use dg_reduce::InverseLaplacian;
 
-/// The rank of a divisor: the greatest k of which its rank is at least k, and -1 where it is not winnable. `None` where a
+/// The rank of a divisor: the greatest k of which its rank is at least k, and -1 if it is not winnable. `None` if a
 /// test past the limits would be needed.
 pub fn rank(graph: &Graph, q: usize, divisor: &Divisor) -> Option<i64>
     requires size { divisor.now.size ≡ graph.now.size }
@@ -27,7 +27,7 @@ pub fn rank(graph: &Graph, q: usize, divisor: &Divisor) -> Option<i64>
     Some(i64::from(fails) - 1)
 }
 
-/// The rank of a divisor and that of its dual, which is the canonical divisor less it. `None` where tests of both are needed
+/// The rank of a divisor and that of its dual, which is the canonical divisor less it. `None` if tests of both are needed
 /// that are past the limits.
 pub fn both_ranks(graph: &Graph, q: usize, divisor: &Divisor) -> Option<(i64, i64)>
     requires size { divisor.now.size ≡ graph.now.size }
@@ -43,7 +43,7 @@ pub fn both_ranks(graph: &Graph, q: usize, divisor: &Divisor) -> Option<(i64, i6
     Some((rank, rank - ranks_apart(graph, divisor)))
 }
 
-/// The rank of a divisor and that of its dual. `None` where a test past the limits would be needed, of the one or of the
+/// The rank of a divisor and that of its dual. `None` if a test past the limits would be needed, of the one or of the
 /// other, were each found by tests of its own.
 pub fn both_ranks_in_limits(graph: &Graph, q: usize, divisor: &Divisor) -> Option<(i64, i64)>
     requires size { divisor.now.size ≡ graph.now.size }
@@ -61,7 +61,7 @@ pub fn both_ranks_in_limits(graph: &Graph, q: usize, divisor: &Divisor) -> Optio
     Some((i64::from(fails) - 1, i64::from(dual_fails) - 1))
 }
 
-/// The least degree at which the rank test of a divisor fails. `None` where a test is needed that is past the limits, as is
+/// The least degree at which the rank test of a divisor fails. `None` if a test is needed that is past the limits, as is
 /// that of the dual.
 fn first_failing(graph: &Graph, divisor: &Divisor) -> Option<u32>
     requires size { divisor.now.size ≡ graph.now.size }
@@ -85,7 +85,7 @@ fn first_failing(graph: &Graph, divisor: &Divisor) -> Option<u32>
     unreachable!()
 }
 
-/// The least degree at which the rank test of the dual fails, where this is that of the divisor.
+/// The least degree at which the rank test of the dual fails, if this is that of the divisor.
 fn first_failing_of_dual(graph: &Graph, divisor: &Divisor, fails: u32) -> u32
     requires size { divisor.now.size ≡ graph.now.size }
     requires some { 0 < graph.now.size }

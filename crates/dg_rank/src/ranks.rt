@@ -20,7 +20,7 @@ use dg_reduce::{InverseLaplacian, reduce_certified};
 use dg_verdict::RankVerdict;
 
 /// Tests whether the rank of a divisor is at least k: whether every effective divisor of degree k can be lost and the
-/// rest still won. If not, the answer names the first that can't, in the order of trials. Where the dual of the divisor has
+/// rest still won. If not, the answer names the first that can't, in the order of trials. If the dual of the divisor has
 /// fewer trials, those may tell that none can't. It takes no memory.
 ///
 /// Refused with `TooMany` alone, if k is above 1,000 or there are more than 200,000 trials.

@@ -1,5 +1,5 @@
 //! Whether all trials win, by those that are reduced for the last vertex: each trial is equivalent to one of these, and what is
-//! left without it can be won exactly where what is left without the other can.
+//! left without it can be won exactly if what is left without the other can.
 ghost use Rattle.std.specs.Prelude.{◌≡◌, ℕ, ⊤, ◌+◌, ◌-◌, ◌<◌, ◌≤◌, pos, ◌+ℤ◌, ◌-ℤ◌, ◌≤ℤ◌, ◌<ℤ◌, MatchBool, MatchOption};
 ghost use Rattle.dg_theory.specs.Firing.{Amounts, degree, only_at, IsEffective};
 ghost use Rattle.dg_theory.specs.Play.{IsWinnable};
@@ -15,21 +15,21 @@ use dg_chips::Wide;
 use dg_graph::Graph;
 use dg_reduce::{EffectiveForm, InverseLaplacian};
 
-/// How many trials there are for each visit that those which are reduced may take: where these tell nothing, little is lost.
+/// How many trials there are for each visit that those which are reduced may take: if these tell nothing, little is lost.
 const TRIALS_A_VISIT: u32 = 256;
 
-/// The same on a thin graph, where no first loss is wanted: those that are reduced are mostly few there.
+/// The same on a thin graph, if no first loss is wanted: those that are reduced are mostly few there.
 const TRIALS_A_THIN_VISIT: u32 = 16;
 
-/// How many visits they may take where there are few trials.
+/// How many visits they may take if there are few trials.
 const LEAST_VISITS: u32 = 64;
 
-/// So many visits of those that are reduced that little is lost where they tell nothing.
+/// So many visits of those that are reduced that little is lost if they tell nothing.
 pub(crate) fn few_visits(count: u32) -> u32 {
     LEAST_VISITS + count / TRIALS_A_VISIT
 }
 
-/// How many visits of those that are reduced are worth it where no first loss is wanted.
+/// How many visits of those that are reduced are worth it if no first loss is wanted.
 pub(crate) fn most_visits(graph: &Graph, count: u32) -> u32 {
     if is_thin(graph) {
         LEAST_VISITS + count / TRIALS_A_THIN_VISIT
@@ -57,7 +57,7 @@ fn neighbours(row: &[u8; 16]) -> usize {
     count
 }
 
-/// Whether all trials of degree k can be lost. `None` where so many visits do not tell.
+/// Whether all trials of degree k can be lost. `None` if so many visits do not tell.
 pub(crate) fn told_by_reduced(
     graph: &Graph,
     inverse: &InverseLaplacian,
@@ -82,8 +82,8 @@ pub(crate) fn told_by_reduced(
 }
 
 /// Whether all trials can be lost that are reduced for the last vertex, hold the same as this one before a place, and there as
-/// much or more; `left` is what is left without this one, which holds nothing between the place and the last. Where they can,
-/// that is so afterwards too. False also where another trial is found that can't be lost. `None` where so many visits do not
+/// much or more; `left` is what is left without this one, which holds nothing between the place and the last. If they can,
+/// that is so afterwards too. False also if another trial is found that can't be lost. `None` if so many visits do not
 /// tell.
 fn reduced_win(
     graph: &Graph,
@@ -149,7 +149,7 @@ fn with_more(lost: &EffectiveForm, place: usize, last: usize) -> EffectiveForm
     more
 }
 
-/// Gives a dollar to one vertex, and takes one from another, as far as there are too few by firing. False where that can't be
+/// Gives a dollar to one vertex, and takes one from another, as far as there are too few by firing. False if that can't be
 /// won.
 fn carry(graph: &Graph, left: &mut EffectiveForm, from: usize, to: usize) -> bool
     requires size { left.old.size ≡ graph.now.size }

@@ -1,5 +1,5 @@
 -- A burning that is kept for amounts which may be those that burnt.
---   IsWhole g q x     == all vertices burn from q, in the order of x, where they hold what x tells
+--   IsWhole g q x     == all vertices burn from q, in the order of x, if they hold what x tells
 --   IsHeldOff n q D l == each of n vertices but q has as many dollars in D as l tells
 use Rattle.std.specs.Prelude.{◌≡◌, ◌≢◌, ℕ, ◌<◌, List}
 use Rattle.dg_theory.specs.Multigraph.{Multigraph}

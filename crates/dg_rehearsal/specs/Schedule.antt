@@ -4,7 +4,7 @@
 --   UsesLook command              == the command takes a look, or uses one up
 --   IsKept steps seat j i         == before step j, step i is the last look that the seat has taken
 --                                    and not used up
---   IsAsked steps seat j c r      == r is the request of the command c, where the seat gives it as
+--   IsAsked steps seat j c r      == r is the request of the command c, if the seat gives it as
 --                                    step j
 --   IsEntryOf steps j step e      == the entry has the seat of step j, and the request of its
 --                                    command

@@ -12,7 +12,7 @@ use dg_rank::{RankFault, rank_at_least};
 /// The rank test of degree k for the amounts that a look showed. The conditions are those of `judge_look` of
 /// `dg_game`.
 ///
-/// Refused with `TooMany` alone, where k is above 1,000 or there are more than 200,000 trials.
+/// Refused with `TooMany` alone, if k is above 1,000 or there are more than 200,000 trials.
 pub(crate) fn rank_look(q: usize, look: &LookData, k: u32) -> Result<Finding, RankFault>
     requires size { look.now.position.size ≡ look.now.graph.size }
     requires vertex { q < look.now.graph.size }

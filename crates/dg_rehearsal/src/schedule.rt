@@ -52,8 +52,8 @@ pub struct Rehearsal {
 /// Plays the steps one after another from the start, and gives the history: entry j has the seat and the request of
 /// step j. A commit enters the verdict on the last look of its seat, and uses the look up; so does a rank test.
 ///
-/// Refused with `OutOfMemory`, and then step by step with `Seat` where a seat is not 1 to 64, with `Full` for the step
-/// of number 65,536, with `NoLook` where the seat of a commit or of a rank test keeps no look, and with `TooMany` where
+/// Refused with `OutOfMemory`, and then step by step with `Seat` if a seat is not 1 to 64, with `Full` for the step
+/// of number 65,536, with `NoLook` if the seat of a commit or of a rank test keeps no look, and with `TooMany` if
 /// a rank test is past the limits: a degree of 1,000, and 200,000 trials. A refusal gives no history.
 pub fn rehearse<A: Allocator + Drop>(
     alloc: A,

@@ -29,7 +29,7 @@ fn push_repeated(bytes: &mut Vec<u8>, part: &str) -> Result<()> {
     push_plain(bytes, after, 0)
 }
 
-/// Appends what a text without repetitions stands for, where the number counts.
+/// Appends what a text without repetitions stands for, if the number counts.
 fn push_plain(bytes: &mut Vec<u8>, text: &str, number: u32) -> Result<()> {
     let mut parts = text.split(r"\");
     if let Some(literal) = parts.next() {

@@ -2,7 +2,7 @@
 
 use std::str;
 
-/// Whether a text is the one that is wanted, where a line `..` stands for any lines, up to the first that is like the line after
+/// Whether a text is the one that is wanted, if a line `..` stands for any lines, up to the first that is like the line after
 /// it.
 pub(crate) fn is_wanted(wanted: &[u8], text: &[u8]) -> bool {
     if wanted == text {

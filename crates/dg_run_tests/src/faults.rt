@@ -81,7 +81,7 @@ fn ends_of_sessions_are_told(rt: HostRuntime) -> Result<(), Fail> {
     Ok(())
 }
 
-// The 64th session ends where it can't read.
+// The 64th session ends if it can't read.
 fn is_told_beside(
     rt: &impl Abort,
     alloc: Global,

@@ -36,7 +36,7 @@ pub(crate) fn on_a_table<R: Threads + Wait + Abort + Sync>(
     opened::<Brand, R>(rt, alloc, Row::new(alloc, cells)?, start, seats, scene)
 }
 
-// The same where N names the row, the start and the number of seats.
+// The same if N names the row, the start and the number of seats.
 fn opened<N: Name + Send + Sync, R: Threads + Wait + Abort + Sync>(
     rt: &R,
     alloc: Global,

@@ -19,7 +19,7 @@ fn an_output_that_is_refused_is_a_fault(rt: HostRuntime) {
     }
 }
 
-// Whether the answer is printed where there is room for 26 bytes, and a fault of writing comes where there is less.
+// Whether the answer is printed if there is room for 26 bytes, and a fault of writing comes if there is less.
 fn has_room<R>(rt: &R, size: usize)
 where
     R: Files + AllocGlobal + Threads + Wait + Abort + Sync,

@@ -7,8 +7,8 @@
 --   IsLeastInDebt d v    == v is the least vertex in debt
 --   BorrowsInDebt d m    == the move m is a borrowing by a vertex in debt
 --   SettlesDebts A       == each move that A has is a borrowing by a vertex in debt, and A has no
---                           move only where nobody is in debt
---   BorrowsAtLeast d m   == m is the borrowing by the least vertex in debt, and no move where
+--                           move only if nobody is in debt
+--   BorrowsAtLeast d m   == m is the borrowing by the least vertex in debt, and no move if
 --                           nobody is in debt
 use Rattle.std.specs.Prelude.{◌≡◌, ℕ, ◌<◌, pos, ◌≤ℤ◌, ◌<ℤ◌, Option, Some, None}
 use Rattle.dg_theory.specs.Multigraph.{Multigraph}

@@ -38,7 +38,7 @@ impl<N: Name> Ended<N> {
 }
 
 /// Plays so many turns as the strategy says, or until it claims. Each turn asks at the position found, and is an entry of the
-/// seat; its moves are made, or refused where an amount would leave the range, and never change the gift count. Other seats
+/// seat; its moves are made, or refused if an amount would leave the range, and never change the gift count. Other seats
 /// may add edges meanwhile: the choice is asked at the graph found, too.
 ///
 /// It waits for the lock. Refused as a turn is; the entries made before stay.

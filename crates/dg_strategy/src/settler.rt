@@ -5,7 +5,7 @@ ghost use Rattle.dg_strategy.specs.Choices.{SettlesDebts};
 use crate::choice::Choose;
 use std::marker::Model;
 
-/// A choice that is kept with what is known of it: it lets a vertex in debt borrow, and claims only where nobody is in debt. A
+/// A choice that is kept with what is known of it: it lets a vertex in debt borrow, and claims only if nobody is in debt. A
 /// contract sees the choice.
 #[derive(Drop)]
 pub struct Settler<C: Choose + Drop> {
@@ -24,7 +24,7 @@ impl<C: Choose + Drop> Model for Settler<C> {
 
 impl<C: Choose + Drop> Settler<C> {
     /// The settler that plays as the choice says. The condition is that each move that it may answer, at any position, is a
-    /// borrowing by a vertex in debt, and that it answers none only where nobody is in debt.
+    /// borrowing by a vertex in debt, and that it answers none only if nobody is in debt.
     pub fn new(choice: C) -> Settler<C>
         requires { SettlesDebts (C.may_answer choice) }
         ensures { result ≡ choice }

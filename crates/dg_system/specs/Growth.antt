@@ -1,7 +1,7 @@
 -- What is known of streams.
---   Reading                  == a reader: the bytes that it has yet to give, where they are known,
+--   Reading                  == a reader: the bytes that it has yet to give, if they are known,
 --                         and whether a read of it has failed
---   Writing                  == a writer: the bytes that it holds, where they are known, and
+--   Writing                  == a writer: the bytes that it holds, if they are known, and
 --                         whether a write to it has failed
 --   AppendsFront old new told text == known bytes have grown by what was told, and by a front of
 --                         the text

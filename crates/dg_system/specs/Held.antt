@@ -1,14 +1,14 @@
 -- What is known of the files of a source.
 --   Held                 == what is known of the file of a name: nothing; that there is none; or
 --                         its bytes
---   MayHold h bytes       == these may be the bytes of the file, and a file may have so many: where
+--   MayHold h bytes       == these may be the bytes of the file, and a file may have so many: if
 --                           its bytes are known, they are just those
---   RefusesHeld h fault  == the file may be refused so: as unreadable where it is not known that it
---                           is there, as too long where it is not known that it has no more bytes
+--   RefusesHeld h fault  == the file may be refused so: as unreadable if it is not known that it
+--                           is there, as too long if it is not known that it has no more bytes
 --                           than a file may have; of want of memory nothing is said
 --   held_by read         == these bytes, or that there is no file
 --   held_among files name == the bytes of the first of the files with that name, and that there is
---                         none where no file has it
+--                         none if no file has it
 use Rattle.std.specs.Prelude.{◌≡◌, ℕ, ◌<◌, ◌≤◌, List, [], ◌∷◌, length, Option, Some, None, cond, bytes_eq, ⊤}
 use Rattle.dg_system.specs.declared.sources.TheConstants.{MAX_FILE}
 use Rattle.dg_system.specs.declared.sources.SourceFault.{SourceFault}

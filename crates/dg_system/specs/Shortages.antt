@@ -1,4 +1,4 @@
--- What is said where something is wanting.
+-- What is said if something is wanting.
 --   shortage_text shortage == the words for it
 use Rattle.std.specs.Prelude.{ℕ, List, codes}
 use Rattle.dg_system.specs.declared.shortage.Shortage.{Shortage}

@@ -1,9 +1,9 @@
 -- What is known of a file that is read as it comes.
---   stream_remaining known s == the bytes that it has yet to give, where they are known: those in
+--   stream_remaining known s == the bytes that it has yet to give, if they are known: those in
 --                               memory, or what is known of the file that was opened
---   MayGive h left        == these may be all bytes of the file, of any number: where it is known
+--   MayGive h left        == these may be all bytes of the file, of any number: if it is known
 --                            to have other bytes, or to be missing, they are not
---   RefusesStream h fault == the file may be refused so: as unreadable where it is not known to be
+--   RefusesStream h fault == the file may be refused so: as unreadable if it is not known to be
 --                            in memory; of want of memory nothing is said
 use Rattle.std.specs.Prelude.{◌≡◌, ℕ, List, Option, Some, ⊤}
 use Rattle.dg_system.specs.Held.{Held, unknown, missing, bytes}

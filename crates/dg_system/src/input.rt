@@ -61,7 +61,7 @@ impl<I: Read> Input<I> {
         }
     }
 
-    /// Reads into the buffer, and says how many bytes came; `None` where the reader failed.
+    /// Reads into the buffer, and says how many bytes came; `None` if the reader failed.
     pub fn read_some(&mut self, buffer: &mut Vec<u8>) -> Option<usize>
         ensures bytes { IfSome result (λ size. Consumes self.old.remaining self.new.remaining
             (take size buffer.new.items)) }

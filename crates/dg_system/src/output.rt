@@ -55,7 +55,7 @@ impl<O: Write> Output<O> {
 
     /// Writes and flushes the whole text. A write or a flush is asked for again as long as it is interrupted.
     ///
-    /// Refused with `WriteFailed` where the writer fails otherwise, or takes no byte; it has then taken a front of the text.
+    /// Refused with `WriteFailed` if the writer fails otherwise, or takes no byte; it has then taken a front of the text.
     pub fn write_whole(&mut self, text: &[u8]) -> Result<(), WriteFailed>
         ensures written { OnOk result (Appends self.old.contents self.new.contents text.now) }
         ensures front { OnErr result

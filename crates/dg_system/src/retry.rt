@@ -1,4 +1,4 @@
-//! Reads, writes and flushes that are asked for again where they are interrupted.
+//! Reads, writes and flushes that are asked for again if they are interrupted.
 ghost use Rattle.std.specs.Prelude.{◌≢◌, OnErr, IfErr};
 ghost use Rattle.std.specs.IoError.{error_kind};
 ghost use Rattle.std.specs.Io.{ReadsAtMost, WritesAtMost};

@@ -48,7 +48,7 @@ pub trait Sources {
 
     /// The bytes of the file with this name, at most 1,048,576.
     ///
-    /// Refused with `Unreadable` where there is no such file or a read fails, with `TooLong` where one more byte can be
+    /// Refused with `Unreadable` if there is no such file or a read fails, with `TooLong` if one more byte can be
     /// read, and with `OutOfMemory` at the growth that was refused.
     fn bytes<R: Files + AllocGlobal>(&self, rt: &R, name: &str) -> Result<Vec<u8>, SourceFault>
         ensures read { IfOk result (λ bytes. MayHold (held self.now name.now) bytes.items) }
@@ -56,7 +56,7 @@ pub trait Sources {
 
     /// The file with this name, to be read as it comes; it may have any number of bytes, and need have no end.
     ///
-    /// Refused with `Unreadable` where there is no such file, and with `OutOfMemory`.
+    /// Refused with `Unreadable` if there is no such file, and with `OutOfMemory`.
     fn open<'s, R: Files>(&'s self, rt: &R, name: &str) -> Result<Stream<'s, R::File>, SourceFault>
         ensures opened { IfOk result
             (λ s. MayGive (held self.now name.now) (stream_remaining R.File.remaining s)) }
@@ -131,7 +131,7 @@ fn found<'a>(files: &[(&'a str, &'a [u8])], name: &str) -> Option<&'a [u8]>
     }
 }
 
-/// A copy of the bytes, where they are at most 1,048,576.
+/// A copy of the bytes, if they are at most 1,048,576.
 fn copied(alloc: Global, bytes: &[u8]) -> Result<Vec<u8>, SourceFault>
     ensures read { IfOk result (λ copy. (copy.items ≡ bytes.now) × (length bytes.now ≤ MAX_FILE)) }
     ensures refused { IfErr result (λ fault. fault ≢ SourceFault.Unreadable) }
@@ -147,7 +147,7 @@ fn copied(alloc: Global, bytes: &[u8]) -> Result<Vec<u8>, SourceFault>
     }
 }
 
-/// All bytes that the reader has left, where they are at most 1,048,576. It takes at most one byte more.
+/// All bytes that the reader has left, if they are at most 1,048,576. It takes at most one byte more.
 ///
 /// Refused as `Sources::bytes` says.
 pub fn read_within<I: Read + Drop>(alloc: Global, reader: I) -> Result<Vec<u8>, SourceFault>

@@ -10,7 +10,7 @@ use std::thread::{Promise, Threads};
 
 /// Calls f in a new thread and g in this one, and returns once both did.
 ///
-/// Refused with `Spawn` where no thread could be started, and with nothing else; then neither was called.
+/// Refused with `Spawn` if no thread could be started, and with nothing else; then neither was called.
 pub fn in_parallel<R: Threads + Wait, F: FnMut() -> A + Send, G: FnMut() -> B, A: Send + Drop, B>(
     rt: &R,
     f: &mut F,
@@ -78,7 +78,7 @@ impl<A, S: Task<Output = A>> Promise<Result<A, S>> for Given<S> {
     ghost kept_by = { λ p r. MatchResult r (λ a. S.run_gives p.task.value a) (λ s. s ≡ p.task.value) };
 }
 
-/// Runs s in a new thread and t in this one. Where no thread could be started, both come back. A closure that was not started
+/// Runs s in a new thread and t in this one. If no thread could be started, both come back. A closure that was not started
 /// can be called all the same: once `stop` is set it gives back its task.
 fn run_both<
     R: Threads + Wait,

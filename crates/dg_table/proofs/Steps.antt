@@ -57,7 +57,8 @@ holds_more H e x y holds own number mine told prefix met = record {
   told = rw told (stand_longer H (e ∷ []) x.told holds.told);
 }
 
-pub history_more : (table : TableData) (H : List Entry) (e : Entry) → AreSeated table.seats H → 1 ≤ e.seat → e.seat ≤ table.seats →
+pub history_more : (table : TableData) (H : List Entry) (e : Entry) → AreSeated table.seats H → 1 ≤ e.seat →
+    e.seat ≤ table.seats →
     length H < table.capacity → IsLegal table.start (H ++ e ∷ []) → IsHistoryOf table (H ++ e ∷ [])
 history_more table H e seated least most room legal = record {
   legal = legal;

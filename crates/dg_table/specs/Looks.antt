@@ -6,7 +6,7 @@
 --                           amounts and the graph that it showed; any drift
 --   HasVertices n x      == the graph of the look x has n vertices, and x holds an amount for each
 --   IsLastLook ps look   == what is kept is that of the last look among the entries ps; nothing
---                           where there is none
+--                           if there is none
 --   LastLook             == after a look there is a last look, and it is that look
 use Rattle.std.specs.Prelude.{◌≡◌, ℕ, List, [], ◌∷◌, ◌++◌, Option, Some, None, Bool, true, false, MatchOption}
 use Rattle.std.specs.List.{filter, last_or}

@@ -3,8 +3,8 @@
 --   MayBeAsked c f                == f may be asked at every graph and amounts of as many vertices
 --   IsAsked c f g d m f'          == asked once, at the graph g and the amounts d, f answers m, and
 --                                    is then f'
---   request_for m                 == what is asked of the game where the answer is m: that move,
---                                    and a claim where it is none
+--   request_for m                 == what is asked of the game if the answer is m: that move,
+--                                    and a claim if it is none
 --   IsAskedAfter c table H f m f' == f is so asked at the table's position after the history H
 --   IsTurnAfter c table H f f' r x y        == f is so asked, once, and its answer is the call of
 --                                              the seat x that is entered with the receipt r after

@@ -123,7 +123,7 @@ impl<N: Name> Held<N> {
     /// Answers a call of a seat, enters it as the last of the history, and gives the seat its receipt. The condition is
     /// that the seat has the space; the box is used for the entry.
     ///
-    /// Refused with `Full` where the history has as many entries as it may have; then with `Log` where the seat is not
+    /// Refused with `Full` if the history has as many entries as it may have; then with `Log` if the seat is not
     /// admitted, and where the cell refuses the entry. Then the seat has met the history.
     pub fn call(
         &mut self,
@@ -160,7 +160,7 @@ impl<N: Name> Held<N> {
     /// history, and gives the seat its receipt. The conditions are that the seat has the space, and that the choice may be
     /// asked at every position; the box is used for the entry.
     ///
-    /// Refused as `call`; only where the cell refuses the entry was the choice asked.
+    /// Refused as `call`; only if the cell refuses the entry was the choice asked.
     pub fn turn<F: FnMut(&Graph, &Divisor) -> Option<Move>>(
         &mut self,
         log: &Log<N>,
@@ -198,7 +198,7 @@ impl<N: Name> Held<N> {
     /// look. The conditions are that the seat has the space, that the data is that of the look, whatever its drift, and
     /// that the finding is right for the look's amounts on the look's graph; the box is used for the entry.
     ///
-    /// Refused as `call`; with `Log`, before the cell is tried, where the history has no entry of the look's number.
+    /// Refused as `call`; with `Log`, before the cell is tried, if the history has no entry of the look's number.
     pub fn settle(
         &mut self,
         log: &Log<N>,
@@ -241,9 +241,9 @@ impl<N: Name> Held<N> {
         self.game.gifts() != shown.gifts
     }
 
-    /// Enters a question on a look as stale, as `settle` enters each finding on it, where gifts, levies or joins were accepted
+    /// Enters a question on a look as stale, as `settle` enters each finding on it, if gifts, levies or joins were accepted
     /// since. The conditions are that the seat has the space, and that the data is that of the look, whatever its drift; the box
-    /// is used for the entry. `None`, and nothing is done, where none was accepted.
+    /// is used for the entry. `None`, and nothing is done, if none was accepted.
     ///
     /// Refused as `settle`.
     pub fn settle_stale(
@@ -343,8 +343,8 @@ impl<N: Name> Held<N> {
         Ok(receipt)
     }
 
-    /// `None` where these are all the table's seats, and each is admitted; otherwise the least seat that is missing, or
-    /// 0 where none is missing.
+    /// `None` if these are all the table's seats, and each is admitted; otherwise the least seat that is missing, or
+    /// 0 if none is missing.
     pub fn missing(&self, seats: &[Seat<N>]) -> Option<u8>
         ensures missing { MatchOption result
             (IsComplete N.table.seats seats.now × AllHeld self.now.entries seats.now)
@@ -401,7 +401,7 @@ impl<N: Name> Held<N> {
     }
 }
 
-/// Keeps the look that an entry after the game's history takes, where it takes one, in place of an older look.
+/// Keeps the look that an entry after the game's history takes, if it takes one, in place of an older look.
 fn keep_look(look: &mut Option<LookData>, game: &Game, entry: &Entry)
     ensures { (o : StartData) (H : List EntryData) (ps : List (ℕ × EntryData)) →
         LeadsTo o H game.now → Replies o H entry.now.request entry.now.reply →
@@ -428,7 +428,7 @@ fn keep_look(look: &mut Option<LookData>, game: &Game, entry: &Entry)
     }
 }
 
-/// The call that is chosen by an answer: the move, or a claim where there is none.
+/// The call that is chosen by an answer: the move, or a claim if there is none.
 fn call_for(answer: Option<Move>) -> Plain
     ensures { asked result ≡ request_for answer }
 {

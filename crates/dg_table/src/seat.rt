@@ -158,7 +158,7 @@ impl<N: Name> Seat<N> {
         self.mine.last()
     }
 
-    /// What the seat keeps of the last look that it took; `None` where it took none. Its graph has the
+    /// What the seat keeps of the last look that it took; `None` if it took none. Its graph has the
     /// vertices of the start, and there is an amount for each.
     pub fn look_data(&self) -> Option<LookData>
         ensures look { IsLastLook self.now.mine result }
@@ -177,7 +177,7 @@ impl<N: Name> Seat<N> {
 
     /// Tells the seat of an entry; each later call then comes after it in the history.
     ///
-    /// Refused where there is not enough memory, and then it knows what it knew.
+    /// Refused if there is not enough memory, and then it knows what it knew.
     pub fn learn(&mut self, receipt: &Receipt<N>) -> Result<(), AllocError>
         ensures number { self.new.number ≡ self.old.number }
         ensures mine { self.new.mine ≡ self.old.mine }
@@ -207,7 +207,7 @@ impl<N: Name> Seat<N> {
 
     /// Makes space for one more call, and a box for its entry; what is in the box means nothing.
     ///
-    /// Refused where there is not enough memory.
+    /// Refused if there is not enough memory.
     pub fn room(&mut self, alloc: Global) -> Result<Box<Entry>, AllocError>
         ensures kept { Keeps self.old self.new }
         ensures met { self.new.met ≡ self.old.met }

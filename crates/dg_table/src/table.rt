@@ -38,7 +38,7 @@ pub struct Table<N: Name> {
 /// Why a table is not closed. It goes on, and all comes back.
 #[derive(Drop)]
 pub struct CloseFault<N: Name> {
-    /// The least seat that was not handed in, or 0 where all were. Then one of them is not admitted by the history under the
+    /// The least seat that was not handed in, or 0 if all were. Then one of them is not admitted by the history under the
     /// lock, which only `Held::missing` can say, since that history has no name here.
     pub missing: u8,
     /// The table.
@@ -51,7 +51,7 @@ impl<N: Name> Table<N> {
     /// A table with this many seats, 1 to 64, whose history may have as many entries as the row has cells. The seats come
     /// in order, and know of no entry. The condition is that N names the row and this table.
     ///
-    /// Refused with `Seats` where there may not be so many, and with `OutOfMemory`; the row comes back.
+    /// Refused with `Seats` if there may not be so many, and with `OutOfMemory`; the row comes back.
     pub fn open(
         alloc: Global,
         row: Row,
@@ -104,8 +104,8 @@ impl<N: Name> Table<N> {
     /// Every call that a seat makes is answered as the one-player dollar game answers it at the call's place in one
     /// legal history, which holds each of the seat's calls once, in order, and every entry it was told of.
     ///
-    /// It waits for the lock. Refused with `OutOfMemory`, before it waits; with `Full` where the history has as many
-    /// entries as it may have, which the seat has met then; and with `Log`, where it has room, if the seat keeps more than the
+    /// It waits for the lock. Refused with `OutOfMemory`, before it waits; with `Full` if the history has as many
+    /// entries as it may have, which the seat has met then; and with `Log`, if it has room, if the seat keeps more than the
     /// history holds, or less of its own, or the cell refuses the entry. A refused call is no entry, and the seat knows what it
     /// knew, and what history it met.
     pub fn call(
@@ -128,7 +128,7 @@ impl<N: Name> Table<N> {
     /// for none, which claims. It is answered as `call` answers it. The condition is that `choose` may be asked at every
     /// position.
     ///
-    /// It waits for the lock. Refused as `call`; only where the cell refuses the entry was `choose` asked.
+    /// It waits for the lock. Refused as `call`; only if the cell refuses the entry was `choose` asked.
     pub fn turn<F: FnMut(&Graph, &Divisor) -> Option<Move>>(
         &self,
         rt: &impl Wait,
@@ -152,7 +152,7 @@ impl<N: Name> Table<N> {
     /// that the data is that of the look, whatever its drift, and that the finding is right for the look's amounts on the
     /// look's graph.
     ///
-    /// It waits for the lock. Refused as `call`, and with `Log` where the history has no entry of the look's number.
+    /// It waits for the lock. Refused as `call`, and with `Log` if the history has no entry of the look's number.
     pub fn settle(
         &self,
         rt: &impl Wait,
@@ -177,9 +177,9 @@ impl<N: Name> Table<N> {
 
     /// Enters a question on the look of a receipt as stale, as `settle` enters each finding on it, if gifts, levies or joins were
     /// accepted since; so nothing need be reckoned on a look that is stale. The seat is told of the look. The condition is that
-    /// the data is that of the look, whatever its drift. `None`, and no entry, where none was accepted before it had the lock.
+    /// the data is that of the look, whatever its drift. `None`, and no entry, if none was accepted before it had the lock.
     ///
-    /// It waits for the lock, twice where it makes an entry. Refused as `settle`.
+    /// It waits for the lock, twice if it makes an entry. Refused as `settle`.
     pub fn settle_stale(
         &self,
         rt: &impl Wait,
@@ -222,10 +222,10 @@ impl<N: Name> Table<N> {
         &self.log
     }
 
-    /// Ends the game, where all its seats are handed in: each seat's calls are just its entries of the one history. It takes
+    /// Ends the game, if all its seats are handed in: each seat's calls are just its entries of the one history. It takes
     /// no memory.
     ///
-    /// Refused where a seat is missing, or one is not admitted: it knows what the history does not hold, or the history has
+    /// Refused if a seat is missing, or one is not admitted: it knows what the history does not hold, or the history has
     /// calls of it that it did not make.
     pub fn close(self, seats: Vec<Seat<N>>) -> Result<Audit<N>, CloseFault<N>>
         ensures { MatchResult result

@@ -1,4 +1,4 @@
--- What is said where a call of a table is refused.
+-- What is said if a call of a table is refused.
 --   said_of_call fault == the words for it
 use Rattle.std.specs.Prelude.{ℕ, List, codes}
 use Rattle.dg_table.specs.declared.fault.Fault.{Fault}

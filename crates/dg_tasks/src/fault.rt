@@ -46,7 +46,7 @@ pub enum TaskFault {
     Shortage(Shortage),
 }
 
-/// What is said where a call of a table is refused so.
+/// What is said if a call of a table is refused so.
 pub fn call_text(fault: Fault) -> &'static str
     ensures { result.now ≡ said_of_call fault }
 {

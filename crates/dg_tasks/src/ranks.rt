@@ -17,8 +17,8 @@ use std::thread::Threads;
 
 /// Whether the rank of a table's amounts is at least k, as text: the text of a reply, and a newline.
 ///
-/// The trials are shared among so many workers; the condition is 1 to 16. Refused with `TooMany` where the test is past the
-/// limits, and with `Shortage` where a thread could not be started, or at the growth that was refused.
+/// The trials are shared among so many workers; the condition is 1 to 16. Refused with `TooMany` if the test is past the
+/// limits, and with `Shortage` if a thread could not be started, or at the growth that was refused.
 pub fn rank_answer<R: Threads + Wait>(
     rt: &R,
     alloc: Global,
@@ -48,9 +48,9 @@ pub fn rank_answer<R: Threads + Wait>(
 }
 
 /// Both sides of Riemann-Roch for a table's amounts, as text: the degree, the genus of the graph, the rank, and the rank
-/// of the canonical divisor less these amounts, each on a line. The rank is -1 where the amounts can't be won.
+/// of the canonical divisor less these amounts, each on a line. The rank is -1 if the amounts can't be won.
 ///
-/// Refused with `Chip` where the canonical divisor less these amounts is out of range, then with `TooMany` where one of
+/// Refused with `Chip` if the canonical divisor less these amounts is out of range, then with `TooMany` if one of
 /// the two ranks needs a test past the limits. `Shortage` comes at the growth that was refused.
 pub fn riemann_roch(alloc: Global, table: &TableFile) -> Result<Vec<u8>, TaskFault>
     ensures told { IfOk result (λ text. IsRiemannRoch table.now.start text.items) }

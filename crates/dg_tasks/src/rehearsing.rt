@@ -16,9 +16,9 @@ use std::alloc::Global;
 /// The history of a schedule as text: a line for each entry, with its number, from 0 on, and the text of its reply. The
 /// history is the legal one that the steps make from the table's start.
 ///
-/// Refused with `Line` for the first line that spells no step; then for the first step that is refused, with `Full` where
-/// it is the step after 65,536 others, with `NoLook` where it wants a look while its seat keeps none, or with `StepTrials`
-/// where it asks for a rank test past the limits. `Shortage` comes in the place of a step whose line did not fit.
+/// Refused with `Line` for the first line that spells no step; then for the first step that is refused, with `Full` if
+/// it is the step after 65,536 others, with `NoLook` if it wants a look while its seat keeps none, or with `StepTrials`
+/// if it asks for a rank test past the limits. `Shortage` comes in the place of a step whose line did not fit.
 pub fn rehearsal(alloc: Global, table: &TableFile, steps: &[u8]) -> Result<Vec<u8>, TaskFault>
     ensures printed { IfOk result
         (λ text. IsPrinted table.now.start table.now.names (lines steps.now) text.items) }
@@ -56,7 +56,7 @@ pub fn rehearsal(alloc: Global, table: &TableFile, steps: &[u8]) -> Result<Vec<u
     }
 }
 
-/// Plays the next step, and writes the line of its entry; or why it can't be played. The entry is written where it is lent.
+/// Plays the next step, and writes the line of its entry; or why it can't be played. The entry is written if it is lent.
 fn play_on(
     rehearsal: &mut Rehearsal,
     entry: &mut Entry,

@@ -9,7 +9,7 @@ use std::rt::Files;
 
 /// The table of the file with that name.
 ///
-/// Refused with `Source` where the file is not read, and then with `File` where it is no table file.
+/// Refused with `Source` if the file is not read, and then with `File` if it is no table file.
 pub fn table_in<R, S>(rt: &R, sources: &S, file: &str) -> Result<TableFile, TaskFault>
 where
     R: Files + AllocGlobal,

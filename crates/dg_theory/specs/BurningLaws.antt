@@ -2,7 +2,7 @@
 --   unburnt_by g l  == the vertices that are not in the list l
 --   UnburntFires    == what burning leaves is the greatest set that fires freely
 --   GreatestIsOne   == there is only one greatest set that fires freely
---   BurntIsReduced  == burning leaves nothing exactly where the divisor is reduced
+--   BurntIsReduced  == burning leaves nothing exactly if the divisor is reduced
 --   BurnsToReduced  == a divisor from which all vertices burn, in any order, is reduced
 use Rattle.std.specs.Prelude.{◌≡◌, ℕ, ◌<◌, ◌↔◌, Bool, true, not, ◌&&◌, nat_lt, List}
 use Rattle.dg_theory.specs.Multigraph.{Multigraph, IsMultigraph}

@@ -4,17 +4,17 @@
 --   RiemannRoch  == the rank of a divisor D less that of its dual is the degree of D, plus 1, less
 --                   the genus
 --   RankOfDual   == so the rank of D tells that of the dual, and -1 is no exception
---   DualTests    == the same of rank tests: where k less l is the degree of D, plus 1, less the
---                   genus, D has a rank of at least k exactly where the dual has one of at least l
+--   DualTests    == the same of rank tests: if k less l is the degree of D, plus 1, less the
+--                   genus, D has a rank of at least k exactly if the dual has one of at least l
 --   LossOfDual   == and where the dual can't bear the loss of some effective divisor of degree l, D
 --                   can't bear that of some effective divisor of degree k
---   HighRank     == where k is at least the genus, a divisor with a rank of at least k has a degree
+--   HighRank     == if k is at least the genus, a divisor with a rank of at least k has a degree
 --                   of at least the genus and k more
 --   RankExists   == every divisor has a rank
 --   RankOnce     == a divisor has at most one rank
---   RankOfSum    == the rank of a sum is at least the sum of the ranks, where neither is -1 (lemma
+--   RankOfSum    == the rank of a sum is at least the sum of the ranks, if neither is -1 (lemma
 --                   2.1)
---   Clifford     == where the rank of the dual is at least 0, that of D is at most half of its
+--   Clifford     == if the rank of the dual is at least 0, that of D is at most half of its
 --                   degree (Clifford's theorem, corollary 3.5)
 use Rattle.std.specs.Prelude.{◌≡◌, ℕ, ◌+◌, ◌<◌, ◌↔◌, ℤ, pos, ◌+ℤ◌, ◌-ℤ◌, ◌≤ℤ◌}
 use Rattle.dg_theory.specs.Multigraph.{Multigraph, IsMultigraph, genus}

@@ -3,7 +3,7 @@
 --   EquivalenceIsReflexive  == divisors that agree on the vertices are equivalent
 --   EquivalenceIsSymmetric  == if D is equivalent to E, then E is equivalent to D
 --   EquivalenceIsTransitive == if D is equivalent to E, and E to F, then D is equivalent to F
---   EquivalentByPlays       == two divisors are equivalent exactly where some list of lendings and
+--   EquivalentByPlays       == two divisors are equivalent exactly if some list of lendings and
 --                              borrowings leads from one to the other
 --   EquivalentDegrees       == equivalent divisors have the same degree
 use Rattle.std.specs.Prelude.{◌≡◌, ◌↔◌, List}

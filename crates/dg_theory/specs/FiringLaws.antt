@@ -2,7 +2,7 @@
 -- src/laws.rt promise them.
 --   FiringAddsUp             == to fire by s and then by t is to fire by their sum
 --   ConstantScriptsDoNothing == a script that is the same at every vertex changes no amount
---   SameByConstant           == two scripts give the same amounts exactly where they differ by a
+--   SameByConstant           == two scripts give the same amounts exactly if they differ by a
 --                               constant
 --   FiringKeepsDegree        == firing keeps the degree
 use Rattle.std.specs.Prelude.{◌≡◌, ℕ, ◌↔◌, ℤ, ◌+ℤ◌}

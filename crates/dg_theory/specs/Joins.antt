@@ -3,8 +3,8 @@
 --   one_more row v        == the row with its number at v one higher
 --   entry_more table u v  == the table with its number in row u and column v one higher
 --   with_edge g u v       == the multigraph g with one more edge between u and v
---   on_pair u v a b       == 1 where a and b are u and v, in either order, and 0 elsewhere
---   at_either u v w       == 1 where w is u or v, and 0 elsewhere
+--   on_pair u v a b       == 1 if a and b are u and v, in either order, and 0 elsewhere
+--   at_either u v w       == 1 if w is u or v, and 0 elsewhere
 use Rattle.std.specs.Prelude.{ℕ, zero, suc, ◌+◌, ◌==◌, ◌&&◌, ◌||◌, if◌then◌else◌, List, [], ◌∷◌}
 use Rattle.dg_theory.specs.Multigraph.{Multigraph}
 

@@ -4,7 +4,7 @@
 --   Multigraph          == a number of vertices, and a table
 --   entry table u v     == the number in row u and column v, and 0 outside the table
 --   edges_between g u v == how many edges join u and v
---   JoinedIn n e u v    == a chain of edges leads from u to v, where e tells the edges and n the
+--   JoinedIn n e u v    == a chain of edges leads from u to v, if e tells the edges and n the
 --                          number of vertices
 --   IsMultigraph g      == symmetric, without loops, and connected
 --   valence g v         == how many edges meet at v

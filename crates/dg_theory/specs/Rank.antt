@@ -6,7 +6,7 @@
 --                           amounts
 --   HasRankAtLeast g D k == D less E is winnable for every effective divisor E of degree k
 --   IsRank g D r         == r is the rank of D: the greatest k of which it has a rank of at least
---                           k, and -1 where there is none
+--                           k, and -1 if there is none
 --   canonical g          == the canonical divisor: at each vertex two dollars less than it has
 --                           edges
 --   IsBefore n E F       == E holds less than F at the first of n vertices at which they differ

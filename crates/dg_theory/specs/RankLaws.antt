@@ -4,12 +4,12 @@
 --   EquivalentLoss  == the first loss of a divisor is the first loss of each that is equivalent to
 --                      it
 --   RankBelow       == a divisor whose rank is at least k + 1 has a rank of at least k
---   RankZero        == the rank is at least 0 exactly where the divisor is winnable
+--   RankZero        == the rank is at least 0 exactly if the divisor is winnable
 --   RichRank        == a divisor whose degree is at least the genus and k more has a rank of at
 --                      least k
 --   PoorRank        == a divisor whose degree is less than k has no rank of at least k
 --   LossOnce        == two first losses of degree k of one divisor agree on the vertices
---   LossBoundsRank  == where there is a first loss of degree k, the rank is not at least k
+--   LossBoundsRank  == if there is a first loss of degree k, the rank is not at least k
 use Rattle.std.specs.Prelude.{ℕ, ◌+◌, ◌<◌, ◌↔◌, pos, ◌+ℤ◌, ◌≤ℤ◌, ◌<ℤ◌}
 use Rattle.dg_theory.specs.Multigraph.{Multigraph, IsMultigraph, genus}
 use Rattle.dg_theory.specs.Firing.{Amounts, degree, AgreeOn, AreEquivalent}

@@ -1,7 +1,7 @@
 -- The laws of reduced divisors, for every multigraph and divisor (Baker and Norine 2007, section
 -- 3.1; Corry and Perkinson, chapter 3). The functions of src/laws.rt promise them.
 --   ReducedOnce       == equivalent divisors that are both reduced for q agree on the vertices
---   ReducedDecides    == a divisor is winnable exactly where the reduced divisor that it is equivalent
+--   ReducedDecides    == a divisor is winnable exactly if the reduced divisor that it is equivalent
 --                        to is not in debt at q
 --   ReducedBelowGenus == a divisor that is reduced for q and in debt at q has a degree below the
 --                        genus (section 3; chapter 5)

@@ -1,7 +1,7 @@
 -- The laws of winning, for every multigraph and divisor (Baker and Norine 2007, section 1; Corry
 -- and Perkinson, chapters 1 and 2). The functions of src/laws.rt promise them.
---   WinnableByScript   == a divisor is winnable exactly where some script makes it effective
---   WinnableByClass    == a divisor is winnable exactly where it is equivalent to an effective
+--   WinnableByScript   == a divisor is winnable exactly if some script makes it effective
+--   WinnableByClass    == a divisor is winnable exactly if it is equivalent to an effective
 --                         divisor
 --   EquivalentWinnable == of equivalent divisors either both are winnable or neither is
 use Rattle.std.specs.Prelude.{◌↔◌}

@@ -11,7 +11,7 @@ ghost use Rattle.dg_theory.specs.RankLaws.{EquivalentRank, EquivalentLoss, RankB
 ghost use Rattle.dg_theory.specs.DualityLaws.{RiemannRoch, RankOfDual, DualTests, LossOfDual, HighRank, RankExists, RankOnce, RankOfSum, Clifford};
 
 /// Firing by one script and then by another is firing by their sum, and keeps the degree. A constant script changes
-/// nothing; two scripts do the same exactly where they differ by a constant.
+/// nothing; two scripts do the same exactly if they differ by a constant.
 pub fn laws_of_firing()
     ensures adds_up { FiringAddsUp }
     ensures constant { ConstantScriptsDoNothing }
@@ -19,7 +19,7 @@ pub fn laws_of_firing()
     ensures degree { FiringKeepsDegree }
 {}
 
-/// Linear equivalence is an equivalence of divisors on the vertices; two divisors are equivalent exactly where some list
+/// Linear equivalence is an equivalence of divisors on the vertices; two divisors are equivalent exactly if some list
 /// of lendings and borrowings leads from one to the other, and then they have the same degree.
 pub fn laws_of_equivalence()
     ensures reflexive { EquivalenceIsReflexive }
@@ -29,7 +29,7 @@ pub fn laws_of_equivalence()
     ensures degree { EquivalentDegrees }
 {}
 
-/// A divisor is winnable exactly where some script clears all debts, and exactly where it is equivalent to an effective
+/// A divisor is winnable exactly if some script clears all debts, and exactly if it is equivalent to an effective
 /// divisor. So of equivalent divisors either both are winnable or neither is.
 pub fn laws_of_winning()
     ensures by_script { WinnableByScript }
@@ -37,7 +37,7 @@ pub fn laws_of_winning()
     ensures equivalent { EquivalentWinnable }
 {}
 
-/// A divisor is equivalent to at most one that is reduced for q, and it is winnable exactly where that one is not in
+/// A divisor is equivalent to at most one that is reduced for q, and it is winnable exactly if that one is not in
 /// debt at q.
 pub fn laws_of_reduced_divisors()
     ensures once { ReducedOnce }
@@ -45,7 +45,7 @@ pub fn laws_of_reduced_divisors()
 {}
 
 /// What burning tells: what it leaves is the greatest set that fires without debt off q, of which there is only one; it
-/// leaves nothing exactly where the divisor is reduced; and a divisor from which all vertices burn in any order is
+/// leaves nothing exactly if the divisor is reduced; and a divisor from which all vertices burn in any order is
 /// reduced.
 pub fn laws_of_burning()
     ensures unburnt { UnburntFires }
@@ -66,7 +66,7 @@ pub fn laws_of_existence()
     ensures rich { RichIsWinnable }
 {}
 
-/// What rank tests tell: a rank of at least k + 1 is one of at least k, and the rank is at least 0 exactly where the
+/// What rank tests tell: a rank of at least k + 1 is one of at least k, and the rank is at least 0 exactly if the
 /// divisor is winnable; a degree of at least the genus and k more gives a rank of at least k, and one below k gives
 /// none. A first loss, of which there is at most one, shows that the rank is less. Equivalent divisors have the same
 /// rank and the same first loss.
@@ -91,10 +91,10 @@ pub fn laws_of_joining()
 {}
 
 /// The theorem of Riemann and Roch: the rank of a divisor less that of its dual, which is the canonical divisor less it, is
-/// the degree, plus 1, less the genus. So one rank tells the other; a rank test of one passes exactly where that of the
+/// the degree, plus 1, less the genus. So one rank tells the other; a rank test of one passes exactly if that of the
 /// other does, at degrees that differ by as much; and a loss that one can't bear shows that the other can't bear all. From
 /// the genus on, only rich divisors pass. Every divisor has a rank, and just one; that of a sum is at least the sum of the
-/// ranks, where neither is -1; and by Clifford's theorem it is at most half of the degree, where the dual is winnable.
+/// ranks, if neither is -1; and by Clifford's theorem it is at most half of the degree, if the dual is winnable.
 pub fn laws_of_duality()
     ensures ranks { RiemannRoch }
     ensures dual { RankOfDual }

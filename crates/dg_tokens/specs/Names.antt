@@ -5,9 +5,9 @@
 --   has names name      == whether the name is among the names
 --   is_name bytes       == whether the bytes are a name
 --   is_new names name   == whether the bytes are a name that is not among the names
---   added names name    == the names with the name put last where it is new, and otherwise as they
+--   added names name    == the names with the name put last if it is new, and otherwise as they
 --                          are
---   place_of names name == the first vertex of that name, where there is one
+--   place_of names name == the first vertex of that name, if there is one
 --   name_at names v     == the name of the vertex v
 --   AreNames names      == each is a name, and no two are the same
 --   label name          == what stands before the amount of a vertex of that name: a space, the

@@ -6,7 +6,7 @@ ghost use Rattle.std.specs.Int.{w64};
 use itoa::Buffer;
 use std::str;
 
-/// The number whose decimal the text is, where it is below 2^64. A decimal has no sign and no leading zero.
+/// The number whose decimal the text is, if it is below 2^64. A decimal has no sign and no leading zero.
 pub fn natural(text: &[u8]) -> Option<u64>
     ensures { MatchOption result ((n : ℕ) → n < 2 ^ 64 → text.now ≢ decimal n) (λ n. text.now ≡ decimal n) }
 {

@@ -111,7 +111,7 @@ impl Names {
         Ok(())
     }
 
-    /// The vertex of that name, where there is one.
+    /// The vertex of that name, if there is one.
     pub fn place(&self, name: &[u8]) -> Option<u8>
         ensures place { result ≡ place_of self.now name.now }
         ensures vertex { IfSome result (λ v. v < length self.now) }

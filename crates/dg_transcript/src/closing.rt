@@ -16,7 +16,7 @@ use std::alloc::{AllocError, Global};
 /// conditions are that the history's replies and the amounts after it have as many vertices as there are names, and at most 64
 /// seats.
 ///
-/// Refused where there is not enough memory.
+/// Refused if there is not enough memory.
 pub fn closing_text<N: Name>(
     alloc: Global,
     names: &Names,

@@ -2,7 +2,7 @@
 -- reduced divisor to which the script leads, and an order in which all vertices burn.
 --   IsRight g q D x     == the script is 0 at q and leads from D to a divisor that is reduced for
 --                          q; the first vertices of the order show that it is; and the verdict
---                          says winnable exactly where D is
+--                          says winnable exactly if D is
 --   IsVerdictOn g q D x == x is the verdict that is reckoned on D: it is right, and its order is
 --                          that in which the least vertex burns first
 use Rattle.std.specs.Prelude.{◌≡◌, ℕ, ◌↔◌, true, take, pos}

@@ -60,7 +60,7 @@ pub fn judge_with_inverse(
     judge_by(graph, q, divisor, &chips, &guess)
 }
 
-/// The verdict where a script was guessed.
+/// The verdict if a script was guessed.
 fn judge_by(graph: &Graph, q: usize, divisor: &Divisor, chips: &Wide, guess: &Guessed) -> Verdict
     requires size { divisor.now.size ≡ graph.now.size }
     requires vertex { q < graph.now.size }
@@ -84,7 +84,7 @@ fn judge_by(graph: &Graph, q: usize, divisor: &Divisor, chips: &Wide, guess: &Gu
     }
 }
 
-/// The verdict where a script does not lead to amounts that are reduced.
+/// The verdict if a script does not lead to amounts that are reduced.
 #[cold]
 #[inline(never)]
 fn judge_after(graph: &Graph, q: usize, divisor: &Divisor, script: &Script) -> Verdict

@@ -63,7 +63,7 @@ const CASES: [Carried; 5] = [
 ];
 
 // The reply to a verdict on the start after a look and a call, with this drift in the look's data: as it is answered, and
-// as it is entered. `None` where the verdict is not right.
+// as it is entered. `None` if the verdict is not right.
 fn settled(start: &Start, call: Plain, drift: &Drift, verdict: &Verdict) -> Option<[Reply; 2]> {
     let mut game = Game::new(start);
     let look = LookData {

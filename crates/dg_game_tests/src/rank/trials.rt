@@ -47,7 +47,7 @@ fn trials_on_few_vertices_and_on_many(rt: HostRuntime) {
     assert!(rt; is_trial(2, 1_000, 1_000, &[1_000, 0]));
 }
 
-/// Whether the trial with this number holds these amounts; not where there are not as many trials.
+/// Whether the trial with this number holds these amounts; not if there are not as many trials.
 fn is_trial(n: usize, k: u32, i: u32, amounts: &[i64]) -> bool {
     let Some(count) = trials(n, k) else {
         return false;

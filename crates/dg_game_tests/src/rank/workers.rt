@@ -44,7 +44,7 @@ impl<'a, R: Clock + Sync> Gate for Meeting<'a, R> {
     }
 }
 
-// What a rank test answers where as many pieces meet at the gate as there are workers, if each enters it once and none
+// What a rank test answers if as many pieces meet at the gate as there are workers, if each enters it once and none
 // waits in vain.
 fn meets<R: Threads + Wait + Clock + Sync>(
     rt: &R,
@@ -82,10 +82,10 @@ fn each_once(workers: u32) -> u64 {
     counts
 }
 
-/// Edges, amounts on their vertices, a degree, and the first loss; no loss where the rank is at least the degree.
+/// Edges, amounts on their vertices, a degree, and the first loss; no loss if the rank is at least the degree.
 type FirstLoss = (&'static [(u8, u8, u8)], &'static [i64], u32, &'static [i64]);
 
-// By hand: on the triangle a divisor of degree 0 is winnable where the amounts of the last two vertices agree but for a
+// By hand: on the triangle a divisor of degree 0 is winnable if the amounts of the last two vertices agree but for a
 // multiple of 3, and all are won with a degree of at least 1. On the complete graph of four the canonical divisor has the
 // rank 3 - 1.
 static FIRST_LOSSES: [FirstLoss; 8] = [

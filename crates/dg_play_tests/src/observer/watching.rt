@@ -152,7 +152,7 @@ fn counts_refused_moves<N: Name>(rt: &impl Abort, alloc: Global, log: &Log<N>) -
     Ok(())
 }
 
-// Where there is no memory for the third entry, what was read before stands.
+// If there is no memory for the third entry, what was read before stands.
 fn has_no_memory<N: Name>(rt: &impl Abort, alloc: Global, log: &Log<N>) {
     let mut two = Observer::<N, FirstTwo>::new(alloc, FirstTwo, 0);
     for _ in 0..2 {

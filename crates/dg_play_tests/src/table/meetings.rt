@@ -44,7 +44,7 @@ enum Player {
 enum End {
     // So many gifts, and these amounts.
     At(u32, Divisor),
-    // One join, between a and c, and at the end k 0 -k, where a has lent k times more before it than it has borrowed.
+    // One join, between a and c, and at the end k 0 -k, if a has lent k times more before it than it has borrowed.
     Joined,
     // So many claims, all won, and nobody in debt.
     Settled(u32),
@@ -53,7 +53,7 @@ enum End {
 }
 
 // The players, in the order of their seats and from the first on again: how often each plays, and how many entries it
-// has, or 0 where nobody can tell.
+// has, or 0 if nobody can tell.
 #[derive(Drop)]
 pub(crate) struct Meeting<'a> {
     seats: u8,
@@ -254,7 +254,7 @@ fn read_a_hundred_times<N: Name>(
     Ok(observer)
 }
 
-// What the player at a place does; it stops where a call is refused.
+// What the player at a place does; it stops if a call is refused.
 fn take_part<N: Name>(
     rt: &impl Wait,
     alloc: Global,
@@ -392,7 +392,7 @@ fn claims_of(history: &[Entry]) -> (u32, u32) {
     claims
 }
 
-// Whether a finding on a look is stale just where a gift or a join was accepted since, and otherwise right where it is entered.
+// Whether a finding on a look is stale just if a gift or a join was accepted since, and otherwise right if it is entered.
 fn is_right(game: &Game, history: &[Entry], look: usize, reply: &Reply) -> bool {
     let Some(entry) = history.get(look) else {
         return false;

@@ -55,7 +55,7 @@ pub(crate) fn look_at<N: Name>(
     Ok((look, shown))
 }
 
-// The same look, where the second vertex has lent once more by its drift.
+// The same look, if the second vertex has lent once more by its drift.
 fn with_lending(shown: &LookData) -> Result<LookData, Fail>
     ensures { IfOk result (λ x. (x.number ≡ shown.now.number) × (x.gifts ≡ shown.now.gifts) ×
         (x.graph ≡ shown.now.graph) × (x.position ≡ shown.now.position)) }

@@ -11,7 +11,7 @@ use std::process::Abort;
 use std::sync::Wait;
 use std::test::Fail;
 
-// Where b and c are in debt the seat lends at a, and claims where they are not; then it lends once more, and the table is full.
+// If b and c are in debt the seat lends at a, and claims if they are not; then it lends once more, and the table is full.
 pub(crate) fn turns<N: Name, R: Wait + Abort>(
     rt: &R,
     alloc: Global,

@@ -124,7 +124,7 @@ fn how_far_drifts_go(rt: HostRuntime) -> Result<(), Fail> {
     Ok(())
 }
 
-// An earlier script, and the greatest drift of the test less it, where that is within the limit.
+// An earlier script, and the greatest drift of the test less it, if that is within the limit.
 static EARLIER: [([i64; 3], Option<[i64; 3]>); 5] = [
     (
         [0, 0, 0],

@@ -58,7 +58,7 @@ fn are_joined(shape: Shape, size: u8, u: u8, v: u8) -> bool
     }
 }
 
-/// The graph of this shape with so many vertices; none where some vertex has got too many edges.
+/// The graph of this shape with so many vertices; none if some vertex has got too many edges.
 fn graph_of(shape: Shape, edges: u8, size: u8) -> Option<Graph>
     requires few { size ≤ 16 }
 {
@@ -75,7 +75,7 @@ fn graph_of(shape: Shape, edges: u8, size: u8) -> Option<Graph>
     Graph::new(usize::from(size), &items[..count.min(120)]).ok()
 }
 
-/// The limit at each vertex, which owes it where its bit is 0: the six bits in turn, again and again.
+/// The limit at each vertex, which owes it if its bit is 0: the six bits in turn, again and again.
 fn amounts_of(signs: u8) -> [i128; 16] {
     let mut amounts = [1_000_000; 16];
     for v in 0..16 {

@@ -141,7 +141,7 @@ static CASES: [Case; 5] = [
     ),
 ];
 
-/// The reduction that begins with a script, where it may be asked for.
+/// The reduction that begins with a script, if it may be asked for.
 fn certified_after(graph: &Graph, q: usize, chips: &Wide, script: &Script) -> Option<Certified>
     requires size { chips.now.size ≡ graph.now.size }
     requires script { script.now.size ≡ graph.now.size }
@@ -152,7 +152,7 @@ fn certified_after(graph: &Graph, q: usize, chips: &Wide, script: &Script) -> Op
     Some(certified_by(graph, q, chips, script, &None))
 }
 
-/// The same, where the burning that a guess for other amounts ends with is at hand.
+/// The same, if the burning that a guess for other amounts ends with is at hand.
 fn certified_beside(
     graph: &Graph,
     q: usize,

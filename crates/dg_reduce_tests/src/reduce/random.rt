@@ -115,7 +115,7 @@ impl Items {
     }
 }
 
-/// A random connected graph; none where some vertex has got too many edges.
+/// A random connected graph; none if some vertex has got too many edges.
 fn graph_of(dice: &mut Dice, shape: Shape, size: u8) -> Option<Graph>
     requires some { 1 ≤ size }
     requires few { size ≤ 16 }
@@ -186,7 +186,7 @@ fn amounts_of(dice: &mut Dice, size: usize, most: u64) -> [i128; 16]
     amounts
 }
 
-/// The reduction by levels of amounts that are within the range, which begins with a blunt script where they are large.
+/// The reduction by levels of amounts that are within the range, which begins with a blunt script if they are large.
 fn by_levels(graph: &Graph, q: usize, chips: &Wide, most: u64, script: &Script) -> Option<Reduced>
     requires size { chips.now.size ≡ graph.now.size }
     requires vertex { q < graph.now.size }
@@ -214,7 +214,7 @@ fn is_right(graph: &Graph, q: usize, left: &Wide, burning: &Option<Burning>) -> 
     known && order_if_reduced(graph, q, left).is_some()
 }
 
-/// Whether a random reduction is the same with a guess and by levels, which are left out where they take too long; and
+/// Whether a random reduction is the same with a guess and by levels, which are left out if they take too long; and
 /// whether the guess was right.
 fn agrees(
     dice: &mut Dice,

@@ -22,7 +22,7 @@ const TEXT: &[u8] = b"look\nlend a\ncommit\ncommit\nlend z\ngift a 0\nclaim\n";
 const ANSWER: &[u8] =
     b"0 looked 0 a=2 b=-1 c=-1\n1 moved a=0 b=0 c=0\n2 winnable by a=0 b=0 c=0 to a=0 b=0 c=0\nbad look\nbad name\n3 refused gift\n4 won\n";
 
-// Gives the text, so many bytes a read at most; then it fails so, or ends. Each other read is interrupted. It fails as well where
+// Gives the text, so many bytes a read at most; then it fails so, or ends. Each other read is interrupted. It fails as well if
 // something was written that is not flushed.
 #[derive(Drop)]
 pub(crate) struct Flow<'a> {
@@ -53,7 +53,7 @@ impl<'a> Read for Flow<'a> {
     }
 }
 
-// Takes so many bytes a write, and fails where it holds so many; or takes none from there on. Each other write is
+// Takes so many bytes a write, and fails if it holds so many; or takes none from there on. Each other write is
 // interrupted, and the first flush after one that is not. It notes whether something was written that is not flushed.
 #[derive(Drop)]
 pub(crate) struct Sip<'a> {
@@ -234,7 +234,7 @@ pub(crate) fn serves<N: Name, R: Threads + Wait + Abort>(
     Ok(())
 }
 
-// The reader and the writer have failed where the end tells of it.
+// The reader and the writer have failed if the end tells of it.
 fn ends_so<N: Name, R: Threads + Wait + Abort>(
     rt: &R,
     alloc: Global,
