@@ -108,7 +108,7 @@ impl EffectiveForm {
         self.pay(graph, v)
     }
 
-    /// The same, where the vertex is in debt at first.
+    /// The same, if the vertex is in debt at first.
     #[inline(never)]
     fn pay(&mut self, graph: &Graph, v: usize) -> bool
         requires size { self.old.size ≡ graph.now.size }
@@ -193,7 +193,7 @@ impl EffectiveForm {
     }
 }
 
-/// What each vertex gains where each vertex that burning left lends once.
+/// What each vertex gains if each vertex that burning left lends once.
 fn gains_of(graph: &Graph, rest: &Counted) -> [i8; 16]
     requires { (v : ℕ) →
         slice_index rest.now.joined v ≡ edges_out graph.now (in_set rest.now.burnt.unburnt) v }
@@ -211,7 +211,7 @@ fn gains_of(graph: &Graph, rest: &Counted) -> [i8; 16]
     gains
 }
 
-/// What a vertex gains where each vertex that burning left lends once, and a dollar comes along each of so many edges.
+/// What a vertex gains if each vertex that burning left lends once, and a dollar comes along each of so many edges.
 fn gained(graph: &Graph, rest: &Counted, edges: u8, v: usize) -> i8
     requires vertex { v < MAX_VERTICES }
     requires rest { slice_index rest.now.joined v

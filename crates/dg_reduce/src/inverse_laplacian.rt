@@ -64,7 +64,7 @@ impl InverseLaplacian {
         self.q == q && self.lending.valences == valences_of(graph)
     }
 
-    /// How often each vertex lends, fractions too, so that all off q keep as much as they are aimed at, where they hold so
+    /// How often each vertex lends, fractions too, so that all off q keep as much as they are aimed at, if they hold so
     /// much.
     pub(crate) fn lendings(&self, chips: &[i32; 16]) -> [f64; 16] {
         let mut sum = self.shift;
@@ -174,7 +174,7 @@ fn take_pivot(size: usize, rows: &mut [[f64; 16]; 16], pivot: usize)
     rows[pivot] = row;
 }
 
-/// How often each vertex lends, fractions too, as an inverse has it, where there is none: one solution of the equations in place
+/// How often each vertex lends, fractions too, as an inverse has it, if there is none: one solution of the equations in place
 /// of the inverse.
 pub(crate) fn lendings_once(graph: &Graph, q: usize, chips: &[i32; 16]) -> [f64; 16] {
     let mut rows = equations(graph, q);
@@ -236,7 +236,7 @@ fn product(row: &[f64; 16], other: &[f64; 16]) -> f64 {
     sum
 }
 
-/// The lendings that leave what is aimed at, where nobody holds anything before: a vertex of valence 3 or more is to keep
+/// The lendings that leave what is aimed at, if nobody holds anything before: a vertex of valence 3 or more is to keep
 /// half of one dollar less than its valence less 1, so that it burns before long.
 fn shift_of(graph: &Graph, q: usize, inverse: &[[f64; 16]; 16]) -> [f64; 16] {
     let mut shift = [A_BIT_MORE; 16];
