@@ -96,7 +96,7 @@ fn search_from<R: Threads + Wait, G: Gate>(
     { search_piece(search, lost, gate, piece) };
     let mut later = || -> Result<Partial, RankFault>
         requires { CanSearch search.now × MayHaveWorkers search.now.workers ×
-            (next ≤ search.now.workers) × (0 < next) }
+            (next ≤ search.now.workers) }
         ensures { MatchResult result
             (Tells search.entry.now (piece_start search.entry.now next) search.entry.now.count)
             (λ e. e ≡ Spawn) }

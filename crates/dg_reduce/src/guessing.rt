@@ -1,7 +1,7 @@
 //! The guess of the script of a reduction.
 //!
-//! Nothing is promised of where a guess leads: whoever fires by it tests that. So its numbers are small, and its sums may
-//! wrap if they are not.
+//! No clause says where a guess leads: the function that fires by it tests that. So its numbers are small, and if they are
+//! not, its sums may wrap.
 
 ghost use Rattle.std.specs.Prelude.{◌≡◌, ℕ, ◌<◌, ◌≤◌, pos, length, IfSome};
 ghost use Rattle.std.specs.List.{slice_index_or};
@@ -27,8 +27,8 @@ const PAYINGS: usize = 1000;
 /// How many times those who do not burn lend together: more than was ever seen to be needed.
 const BURNING_ROUNDS: usize = 200;
 
-/// How many of these times they lend but once. Mostly all burn by then, and to reckon how often they can lend costs more than
-/// it saves; if a heavy part hangs on few edges it saves hundreds of rounds.
+/// How many of these times they lend but once. Mostly all burn by then, and to compute how often they can lend costs more than
+/// it saves; if a heavy part hangs on few edges, it saves hundreds of rounds.
 const SINGLE_ROUNDS: usize = 4;
 
 /// The most lendings of a round.
@@ -163,8 +163,8 @@ fn lend(chips: &mut [i32; 16], row: &[i32; 16], times: i32) {
     }
 }
 
-/// Lets the least who owes borrow until it owes no more, again and again. In whatever turn they borrow, each does so as often
-/// in the end.
+/// Lets the least who owes borrow until it owes no more, again and again. In any order of turns, each borrows as often in
+/// the end.
 fn pay(lending: &Lending, near: &mut Near) {
     for _ in 0..PAYINGS {
         let Some(v) = first_owing(&near.chips) else {
