@@ -92,7 +92,12 @@ fn error_of(
     match refusal {
         Refusal::Memory => Ok(clap::Error::from(AllocError)),
         Refusal::Command => {
-            told_with(alloc, "", ErrorKind::MissingSubcommand, "a command is missing")
+            told_with(
+                alloc,
+                "",
+                ErrorKind::MissingSubcommand,
+                "a command is missing",
+            )
         }
         Refusal::Lines => told_with(
             alloc,
@@ -114,11 +119,7 @@ fn error_of(
 }
 
 /// The text for a word that is no number of its argument.
-fn range_text(
-    alloc: Global,
-    argument: NumberArgument,
-    word: &str,
-) -> Result<String, AllocError> {
+fn range_text(alloc: Global, argument: NumberArgument, word: &str) -> Result<String, AllocError> {
     let shown = argument.shown();
     let (least, most) = argument.range();
     format!(in alloc; "invalid value '{word}' for '{shown}': a whole number from {least} to {most}")

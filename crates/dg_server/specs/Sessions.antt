@@ -85,4 +85,4 @@ RefusesServing held input task fault old new =
     (IsOfTask (RefusesItsTable (held task.file.now)) fault × Keeps old new)
     ⊎ IsOnTable (held task.file.now) (λ o names.
     EndsEarly (how_of task.seats) (table_of o (count_of task.seats) task.capacity) names input fault
-        old new)
+    old new)

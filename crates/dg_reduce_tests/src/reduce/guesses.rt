@@ -7,7 +7,7 @@ use dg_chips::{Script, Wide};
 use dg_fallback::is_within_start;
 use dg_graph::{Graph, GraphFault};
 use dg_reduce::{
-    InverseLaplacian, Certified, Reduced, certified_by, guess, is_solvent_off, order_if_reduced,
+    Certified, InverseLaplacian, Reduced, certified_by, guess, is_solvent_off, order_if_reduced,
     reduce_certified, reduce_wide,
 };
 use std::process::Abort;

@@ -9,7 +9,7 @@ use dg_burn::capped_at;
 use dg_chips::{Script, Wide};
 use dg_fallback::{is_within_start, reduce_after, reduce_by_levels};
 use dg_graph::Graph;
-use dg_reduce::{InverseLaplacian, Burning, Reduced, guess, order_if_reduced, reduce_certified};
+use dg_reduce::{Burning, InverseLaplacian, Reduced, guess, order_if_reduced, reduce_certified};
 use std::process::Abort;
 use std::test::Fail;
 
