@@ -130,7 +130,7 @@ entered_all {t} {rest = rest} {xs = xs} {ys} {result} {H} over fresh same closed
 
 pub full_at_close : {t : Setup} {input rest old new : Option (List ℕ)} {xs ys : List SeatView}
     {result : Result ℕ SessionEnd} {H : List Entry} (over : IsOver t input rest old new xs ys result)
-    → IsClosed t.opening t.seats t.cap ys H → result ≡ Err (Table Full) → length H ≡ t.cap
+    → IsClosed t.table ys H → result ≡ Err (Table Full) → length H ≡ t.table.capacity
 full_at_close {t} {rest = rest} {ys = ys} {H = H} over closed is =
     let ends = subst (λ r. EndsBy t (IsAtEnd rest) over.stream (over.told ++ over.last) over.after over.end r) is over.ends in
     elim ends.2 [

@@ -159,7 +159,7 @@ named {r = r} names size stands = subst (λ n. HasSize n r.1.reply) (sym size) s
 
 -- the entry stands, and its line is said, or is not for want of memory
 pub entered : {B : Type 0} {t : Setup} {command : Command} {request : Request} {r : ℕ × Entry} {old new : Speaker}
-    {result : Result B SessionEnd} → Stands t.opening request r old.seat new.seat
+    {result : Result B SessionEnd} → Stands t.table.start request r old.seat new.seat
     → ((made : List (ℕ × Entry)) (after : Option ℕ) (text : List ℕ) → Enters t.names old.kept request made after text
     → AnswersCommand t old.kept command made after text)
     → OnOk result (new.kept ≡ look_after old.kept r.0 request)
@@ -214,8 +214,8 @@ words_said {t = t} {command} {x} {kept} {result = Err end} words answers told = 
 -- nothing is made, since the table refuses the call
 pub call_refused : {B : Type 0} {t : Setup} {command : Command} {x y : SeatView} {kept after : Option ℕ}
     {said : Option (List ℕ)} {fault : Fault}
-    {result : Result B SessionEnd} → CallsTable t.opening.graph.size kept command → Keeps x y
-    → RefusesCall t.opening t.seats t.cap y fault → result ≡ Err (Table fault)
+    {result : Result B SessionEnd} → CallsTable t.table.start.graph.size kept command → Keeps x y
+    → RefusesCall t.table y fault → result ≡ Err (Table fault)
     → Obeys t command (record { seat = x; kept = kept; said = said }) (record { seat = y; kept = after; said = said })
     result
 call_refused {t = t} {command} {x} {y} {kept} {after} {said} calls keeps refused is =

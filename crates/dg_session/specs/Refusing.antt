@@ -41,10 +41,10 @@ pub record MadeAtMost (A : List (ℕ × Entry) → Option ℕ → List ℕ → T
 
 abbrev pub RefusesCommand : Setup → Option ℕ → Command → SeatView → SeatView → SessionEnd → Type 0
 RefusesCommand t kept command x y (Table fault) =
-    CallsTable t.opening.graph.size kept command × RefusesCall t.opening t.seats t.cap y fault
+    CallsTable t.table.start.graph.size kept command × RefusesCall t.table y fault
     × Gains x y []
 RefusesCommand t kept command x y Spawn =
-    TriesRank t.opening.graph.size kept command × Gains x y []
+    TriesRank t.table.start.graph.size kept command × Gains x y []
 RefusesCommand t kept command x y Memory = MadeAtMost (AnswersCommand t kept command) x y
 RefusesCommand t kept command x y end = ⊥
 

@@ -60,8 +60,8 @@ AnswersCommand t None Commit made after text = Says None (codes "bad look\n") ma
 AnswersCommand t (Some i) Commit made after text = Enters t.names (Some i) (Judge i) made after text
 AnswersCommand t None (Rank k) made after text = Says None (codes "bad look\n") made after text
 AnswersCommand t (Some i) (Rank k) made after text =
-    ((¬ IsWithin t.opening.graph.size k) × Says (Some i) (codes "bad trials\n") made after text)
-    ⊎ (IsWithin t.opening.graph.size k
+    ((¬ IsWithin t.table.start.graph.size k) × Says (Some i) (codes "bad trials\n") made after text)
+    ⊎ (IsWithin t.table.start.graph.size k
     × Enters t.names (Some i) (RankRequest i k) made after text)
 
 abbrev pub AnswersLine : Setup → Option ℕ → List ℕ → List (ℕ × Entry) → Option ℕ → List ℕ → Type 0
