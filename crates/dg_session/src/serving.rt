@@ -130,7 +130,7 @@ fn have_prefixes<N: Name>(seats: &[Seat<N>])
     ensures { All (HasPast N.start N.seats (length N.cells)) seats.now }
 {
     for seat in seats {
-        let _past = seat.prefix();
+        let _prefix = seat.prefix();
     }
 }
 
