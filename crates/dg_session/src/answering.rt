@@ -36,16 +36,16 @@ pub(crate) struct Shared<'a, N: Name, R: Threads + Wait> {
 /// What was said and is not written yet, always whole lines; and what serves to find what is said.
 #[derive(Drop)]
 pub(crate) struct Said {
-    /// `None` where nobody hears it.
+    /// `None` if nobody hears it.
     pub(crate) text: Option<Vec<u8>>,
-    /// Where the line of an entry is made.
+    /// The buffer in which the line of an entry is made.
     pub(crate) line: Vec<u8>,
     /// What serves the verdicts, made anew after an edge was added; no answer depends on it.
     pub(crate) inverse: InverseLaplacian,
 }
 
 impl Said {
-    /// Says the words. Where memory is refused, nothing more is said.
+    /// Says the words. If memory is refused, nothing more is said.
     pub(crate) fn say(&mut self, words: &[u8]) -> Result<(), SessionEnd>
         ensures { Tells words.now (heard self.old.text) (heard self.new.text) result }
     {
@@ -58,7 +58,7 @@ impl Said {
         }
     }
 
-    /// Says the line of the entry of the receipt. Where memory is refused, nothing more is said.
+    /// Says the line of the entry that the receipt is for. If memory is refused, nothing more is said.
     fn say_entry<N: Name>(
         &mut self,
         table: &Table<N>,
@@ -89,7 +89,7 @@ impl Said {
     }
 }
 
-/// Answers a line of a seat: by what is wrong with it, or as its command.
+/// Answers a line of a seat: says what is wrong with it, or carries out its command.
 #[inline(always)]
 pub(crate) fn answer_seat<N: Name, R: Threads + Wait>(
     shared: &Shared<N, R>,
@@ -107,7 +107,7 @@ pub(crate) fn answer_seat<N: Name, R: Threads + Wait>(
     }
 }
 
-/// Does what a command says, and says the line of its entry, or why there is none.
+/// Carries out a command, and says the line of its entry, or why there is none.
 #[inline(never)]
 fn obey<N: Name, R: Threads + Wait>(
     shared: &Shared<N, R>,
@@ -131,7 +131,7 @@ fn obey<N: Name, R: Threads + Wait>(
     }
 }
 
-/// Takes a look, which is kept in place of an older one.
+/// Takes a look, and keeps it in place of an older one.
 fn take_look<N: Name, R: Threads + Wait>(
     shared: &Shared<N, R>,
     kept: &mut Option<Look<N>>,
@@ -154,7 +154,7 @@ fn take_look<N: Name, R: Threads + Wait>(
     }
 }
 
-/// Makes a call that is no look.
+/// Makes a call other than a look.
 fn call<N: Name, R: Threads + Wait>(
     shared: &Shared<N, R>,
     kept: &mut Option<Look<N>>,
@@ -173,7 +173,7 @@ fn call<N: Name, R: Threads + Wait>(
     }
 }
 
-/// Enters the verdict on the look that is kept, and uses it up; nothing is reckoned where the look is stale.
+/// Enters the verdict on the look that is kept, and uses the look up. If the look is stale, nothing is computed.
 fn enter_verdict<N: Name, R: Threads + Wait>(
     shared: &Shared<N, R>,
     kept: &mut Option<Look<N>>,
@@ -204,7 +204,7 @@ fn enter_verdict<N: Name, R: Threads + Wait>(
     reckon_verdict(shared, kept, said, seat)
 }
 
-/// Reckons the verdict on the look that is kept, enters it, and uses the look up.
+/// Computes the verdict on the look that is kept, enters it, and uses the look up.
 fn reckon_verdict<N: Name, R: Threads + Wait>(
     shared: &Shared<N, R>,
     kept: &mut Option<Look<N>>,
@@ -234,8 +234,8 @@ fn reckon_verdict<N: Name, R: Threads + Wait>(
     }
 }
 
-/// Enters the rank test of degree k on the look that is kept, and uses it up; nothing is tried where the look is stale. It stays
-/// where there would be too many trials.
+/// Enters the rank test of degree k on the look that is kept, and uses the look up. If the look is stale, nothing is tried. If
+/// there would be too many trials, the look stays.
 fn enter_rank<N: Name, R: Threads + Wait>(
     shared: &Shared<N, R>,
     kept: &mut Option<Look<N>>,
@@ -269,7 +269,7 @@ fn enter_rank<N: Name, R: Threads + Wait>(
     try_kept(shared, kept, said, seat, k)
 }
 
-/// Tries a rank on the look that is kept, enters the answer, and uses the look up. It stays where there would be too many trials.
+/// Tries a rank on the look that is kept, enters the answer, and uses the look up. If there would be too many trials, it stays.
 fn try_kept<N: Name, R: Threads + Wait>(
     shared: &Shared<N, R>,
     kept: &mut Option<Look<N>>,

@@ -27,7 +27,7 @@ impl<N: Name> Model for Course<N> {
 }
 
 impl<N: Name> Course<N> {
-    /// That of no line.
+    /// What no lines have come to.
     pub(crate) fn new() -> Course<N>
         ensures latest { result.latest ≡ [] }
         ensures entered { result.entered ≡ [] }
@@ -45,7 +45,7 @@ impl<N: Name> Course<N> {
         seat.meet(&self.latest);
     }
 
-    /// Follows one line more: of the seat, which had made so many calls before it.
+    /// Follows one more line, of the seat, which had made so many calls before it.
     pub(crate) fn follow(&mut self, seat: &Seat<N>, calls: u64)
         ensures latest { self.new.latest ≡ seat.now.met }
         ensures entered { (before made : List (ℕ × EntryData)) → length before ≡ calls →

@@ -13,7 +13,7 @@ pub enum LineFormat {
     BySeat,
 }
 
-/// The place of the seat that a line is for, from 0, and the command line that it is to make. `None` where it is for no seat.
+/// The place of the seat that a line is for, from 0, and the command line for it. `None` if the line is for no seat.
 pub(crate) fn addressed(how: LineFormat, count: usize, line: &[u8]) -> Option<(usize, &[u8])>
     requires { 1 ≤ count }
     ensures one { IfSome result (λ p. IsFor how count line.now p.0 p.1.now) }

@@ -20,14 +20,14 @@ use std::slice;
 use std::sync::Wait;
 use std::thread::Threads;
 
-/// Answers the lines that the reader gives, each in order, by the calls that they make for the seat, until there are no more;
-/// and says how many they were. What there is to say is written and flushed before more is read. The conditions are one
-/// name per vertex, and 1 to 16 workers.
+/// Answers the lines that the reader gives, one after another, by the calls that they make for the seat, until there are no
+/// more; and returns how many there were. The answers are written and flushed before more is read. The conditions are one name
+/// per vertex, and 1 to 16 workers.
 ///
-/// It waits for the table's lock. It ends before the input does with `Turns` where a byte follows the millionth line,
-/// `LongLine` where a line has more than 1,024 bytes, `Read` where the reader fails, `Write` where the writer fails or takes
-/// no byte, `Table` where the table refuses a call, `Memory`, and `Spawn` where a thread of a rank test could not be started.
-/// What was entered before stays.
+/// It waits for the table's lock. It ends before the input does with `Turns` if a byte follows the millionth line, `LongLine`
+/// if a line has more than 1,024 bytes, `Read` if the reader fails, `Write` if the writer fails or takes no byte, `Table` if
+/// the table refuses a call, `Memory` if memory is refused, and `Spawn` if a thread of a rank test could not be started. What
+/// was entered before stays.
 pub fn serve<N: Name, R: Threads + Wait, I: Read, O: Write>(
     rt: &R,
     alloc: Global,
@@ -58,8 +58,9 @@ pub fn serve<N: Name, R: Threads + Wait, I: Read, O: Write>(
     )
 }
 
-/// The same for some seats: where the lines name seats, each line is that of the seat at its place, from 1, and each seat keeps
-/// a look of its own. A line for no seat is answered by `bad seat`. There is a seat or more.
+/// The same for one or more seats. If the lines name seats, by their places from 1, each line makes a call of the seat that
+/// it names. Each seat keeps a look of its own. A line for no seat is answered with `bad seat`. The conditions are the same,
+/// and at least one seat.
 pub fn serve_seats<N: Name, R: Threads + Wait, I: Read, O: Write>(
     rt: &R,
     alloc: Global,
@@ -93,7 +94,7 @@ pub fn serve_seats<N: Name, R: Threads + Wait, I: Read, O: Write>(
     ended
 }
 
-/// The same for one seat, where nobody hears what is said: no text is made of it. So it does not end with `Write`.
+/// The same for one seat if nobody hears the answers: no text is made of them. So it does not end with `Write`.
 pub fn serve_unheard<N: Name, R: Threads + Wait, I: Read>(
     rt: &R,
     alloc: Global,
@@ -134,7 +135,7 @@ fn have_prefixes<N: Name>(seats: &[Seat<N>])
     }
 }
 
-/// Answers the lines, of which it is not said that the histories which the seats find are those of the table.
+/// Answers the lines. Its clauses do not say that the histories which the seats find are those of the table.
 fn serve_lines<N: Name, R: Threads + Wait, I: Read, O: Write>(
     shared: &Shared<N, R>,
     seats: &mut [Seat<N>],
@@ -178,7 +179,7 @@ fn serve_lines<N: Name, R: Threads + Wait, I: Read, O: Write>(
     }
 }
 
-/// Writes what was said, if it is heard, after which nothing is; and ends as what was taken did, if it did.
+/// Writes what was said, if anybody hears it, and clears it. Then it ends as the taking did, if that ended.
 fn write_said<O: Write>(
     writer: &mut Output<O>,
     said: &mut Said,

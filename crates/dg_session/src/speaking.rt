@@ -14,8 +14,8 @@ use dg_table::Seat;
 use std::sync::Wait;
 use std::thread::Threads;
 
-/// Answers a line: as that of the seat that it is for, which is first told of the history as the last line left it; or by saying
-/// that there is none.
+/// Answers a line: as a line of the seat that it is for, which first learns the history as the last line left it; or by saying
+/// that there is no such seat.
 #[inline(always)]
 pub(crate) fn answer_line<N: Name, R: Threads + Wait>(
     shared: &Shared<N, R>,

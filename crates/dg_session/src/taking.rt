@@ -66,7 +66,7 @@ impl<N: Name> Progress<N> {
     }
 }
 
-/// Room for the look of each seat; none is there.
+/// A place for the look of each seat, all empty. `None` if memory is refused.
 fn no_looks<N: Name>(alloc: Global, seats: &[Seat<N>]) -> Option<Vec<Option<Look<N>>>>
     ensures { IfSome result (λ looks. map kept_number looks.items ≡ map (λ x. None) seats.now) }
 {
@@ -96,7 +96,7 @@ fn may_take(pending: &[u8], count: u32, part: &[u8]) -> Result<(), SessionEnd>
     Ok(())
 }
 
-/// Answers the line that is pending, with the part that ends it. Where nothing is pending, it is answered where it lies.
+/// Answers the line that is pending, with the part that ends it. If nothing is pending, the part is answered without a copy.
 #[inline(always)]
 fn answer_pending<N: Name, R: Threads + Wait>(
     shared: &Shared<N, R>,
@@ -135,7 +135,7 @@ fn answer_pending<N: Name, R: Threads + Wait>(
     }
 }
 
-/// The same, and the line is no longer pending but counted.
+/// The same; and the line is then counted, and no longer pending.
 #[inline(always)]
 fn end_line<N: Name, R: Threads + Wait>(
     shared: &Shared<N, R>,

@@ -27,7 +27,7 @@ pub(crate) trait LineKind {
 
     /// The answer to such a line, with its newline, into an empty buffer.
     ///
-    /// Refused at the growth that was refused; of what the buffer then holds nothing is said.
+    /// Refused if a growth is refused; nothing is said of what the buffer then holds.
     fn answer(&self, alloc: Global, line: &[u8], answer: &mut Vec<u8>) -> Result<(), AllocError>
         requires { answer.old.items ≡ [] }
         ensures { OnOk result (answers self.now line.now answer.new.items) };
@@ -49,7 +49,7 @@ pub fn answer_line(
     answer_of_kind(alloc, &Tables { question }, line, answer)
 }
 
-/// The answer to a line of a kind, with its newline, in the place of what the buffer holds.
+/// The answer to a line of a kind, with its newline, in place of what the buffer holds.
 pub(crate) fn answer_of_kind<K: LineKind>(
     alloc: Global,
     kind: &K,

@@ -56,10 +56,10 @@ impl LineKind for Divisors<'_> {
     }
 }
 
-/// The start with the amounts that a line spells in the place of its own.
+/// The start with the amounts that a line spells in place of its own.
 ///
-/// Refused with `Shape(Amounts)` where a word is no whole number within 64 bits, and then with `Chip`. `OutOfMemory` comes at the
-/// growth that was refused.
+/// Refused with `Shape(Amounts)` if a word is no whole number within 64 bits, and then with `Chip`. `OutOfMemory` comes if a
+/// growth is refused.
 fn start_of(alloc: Global, start: &Start, line: &[u8]) -> Result<Start, FileFault>
     ensures start { IfOk result (HasAmountsOf start.now line.now) }
     ensures refused { IfErr result (RefusesAmounts start.now.graph.size line.now) }
@@ -75,7 +75,7 @@ fn start_of(alloc: Global, start: &Start, line: &[u8]) -> Result<Start, FileFaul
     }
 }
 
-/// The whole numbers that the words of a line are, with one space between two; `None` where a word is none within 64 bits.
+/// The whole numbers that the words of a line are, with one space between two; `None` if a word is none within 64 bits.
 fn amounts_of(alloc: Global, line: &[u8]) -> Result<Option<Vec<i64>>, AllocError>
     ensures { IfOk result (λ amounts. MatchOption amounts (SpellsNone line.now)
         (λ amounts. SpellsAmounts line.now amounts.items)) }
@@ -93,7 +93,7 @@ fn amounts_of(alloc: Global, line: &[u8]) -> Result<Option<Vec<i64>>, AllocError
     Ok(Some(amounts))
 }
 
-/// The whole number whose decimal the word is, where 64 bits hold it. Words of one digit are read at once.
+/// The whole number whose decimal the word is, if 64 bits hold it. Words of one digit are read at once.
 #[inline(always)]
 fn number_of(word: &[u8]) -> Option<i64>
     ensures { MatchOption result

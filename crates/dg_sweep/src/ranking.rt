@@ -11,7 +11,7 @@ use dg_verdict::RankVerdict;
 use itoa::Buffer;
 use std::alloc::AllocError;
 
-/// Whether the rank of a start's amounts is at least k, into an empty buffer. Where there are too many trials to name the first
+/// Whether the rank of a start's amounts is at least k, into an empty buffer. If there are too many trials to name the first
 /// loss, a law or the trials of the dual may still tell.
 pub(crate) fn push_rank(
     start: &Start,
@@ -42,7 +42,7 @@ pub(crate) fn push_rank(
     Ok(())
 }
 
-/// That the rank is below k, with a mark in the place of the first loss.
+/// That the rank is below k, with a mark in place of the first loss.
 fn push_below(k: u32, answer: &mut Vec<u8>) -> Result<(), AllocError>
     requires { answer.old.items ≡ [] }
     ensures { OnOk result (answer.new.items ≡ codes "rank below " ++ decimal k ++ codes " at ?\n") }
@@ -53,7 +53,7 @@ fn push_below(k: u32, answer: &mut Vec<u8>) -> Result<(), AllocError>
     Ok(())
 }
 
-/// The degree, the genus and the two ranks of a start, into an empty buffer; with marks in the place of ranks that no test
+/// The degree, the genus and the two ranks of a start, into an empty buffer; with marks in place of ranks that no test
 /// within the limits tells.
 pub(crate) fn push_ranks(start: &Start, answer: &mut Vec<u8>) -> Result<(), AllocError>
     requires { answer.old.items ≡ [] }
@@ -89,7 +89,7 @@ fn push_told(
     Ok(())
 }
 
-/// The line of a start with marks in the place of the two ranks, into an empty buffer.
+/// The line of a start with marks in place of the two ranks, into an empty buffer.
 fn push_untold(start: &Start, answer: &mut Vec<u8>) -> Result<(), AllocError>
     requires { answer.old.items ≡ [] }
     ensures { OnOk result (answer.new.items ≡ numbers_text start.now ++ codes " rank ? dual ?\n") }

@@ -19,13 +19,12 @@ use std::sync::Wait;
 use std::thread::Threads;
 
 /// Answers the lines that the reader gives, each as `answer_line` does, in order, until there are no more: all whole lines that
-/// were read are answered, and the answers written and flushed, before more is read. There may be any number of lines; what is
-/// kept in memory does not grow with it. The lines of a read are shared among so many workers at most, each with a thread; their
-/// number, of which 0 is as 1, changes no answer.
+/// were read are answered, and the answers written and flushed, before more is read. There may be any number of lines; the
+/// memory does not grow with it. At most so many workers, each with a thread, share the lines of a read. Their number changes
+/// no answer; 0 means 1.
 ///
-/// It ends before the input does with `Read` where the reader fails, `Write` where the writer fails or takes no byte, and with
-/// `Shortage` where memory was refused or a thread could not be started, which leaves the answers to lines of the last read
-/// unwritten.
+/// It ends before the input does with `Read` if the reader fails, `Write` if the writer fails or takes no byte, and with
+/// `Shortage` if memory is refused or a thread can't be started; then the answers to lines of the last read stay unwritten.
 pub fn sweep<R: Threads + Wait + Sync, I: Read, O: Write>(
     rt: &R,
     alloc: Global,
@@ -47,7 +46,7 @@ pub fn sweep<R: Threads + Wait + Sync, I: Read, O: Write>(
 
 /// Answers the lines that the reader gives, each of which has amounts for the vertices of a table, as numbers with one space
 /// between two, in the order of its vertices. The answer to a line is that for the table with these amounts; a line that has none
-/// is answered by the fault that such amounts have in a table file. Nothing else is otherwise than `sweep` has it.
+/// is answered with the fault that such amounts have in a table file. All else is as in `sweep`.
 pub fn sweep_divisors<R: Threads + Wait + Sync, I: Read, O: Write>(
     rt: &R,
     alloc: Global,

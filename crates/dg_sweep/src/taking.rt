@@ -20,12 +20,12 @@ pub(crate) struct Progress {
     pub(crate) pending: Vec<u8>,
     /// The answers to what was taken last.
     text: Vec<u8>,
-    /// Where the answer to a line is made.
+    /// The buffer in which the answer to a line is made.
     answer: Vec<u8>,
 }
 
 impl Progress {
-    /// That of a sweep which has read nothing.
+    /// How far a sweep is that has read nothing.
     pub(crate) fn new(alloc: Global) -> Progress
         ensures pending { result.pending.items ≡ [] }
     {

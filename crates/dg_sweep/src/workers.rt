@@ -12,7 +12,7 @@ use std::sync::Wait;
 use std::sync::atomic::{AtomicUsize, Ordering};
 use std::thread::Threads;
 
-/// The fewest bytes for which one more worker is asked.
+/// The fewest bytes for which one more worker is used.
 const SHARE_SIZE: usize = 1_024;
 
 /// The bytes of a piece, after which it goes on to the end of a line.
@@ -46,7 +46,7 @@ struct Answered {
 }
 
 /// Puts the answers to the lines of the bytes after the text, and gives what follows the last newline. The lines are shared
-/// among the workers, where there are enough of them.
+/// among the workers, if there are enough lines.
 pub(crate) fn answer_batch<'a, R: Threads + Wait + Sync, K: LineKind + Sync>(
     room: &Room<'_, R, K>,
     bytes: &'a [u8],
@@ -216,7 +216,7 @@ fn cut_pieces(alloc: Global, bytes: &[u8]) -> Result<(Vec<&[u8]>, &[u8]), AllocE
     Ok((pieces, rest))
 }
 
-/// The first piece, up to a newline, and what follows it; `None` where no newline is there to end it. Near the end a piece is
+/// The first piece, up to a newline, and what follows it; `None` if there is no newline to end it. Near the end a piece is
 /// half of what is left, and then the rest of a line.
 fn first_piece(bytes: &[u8]) -> Option<(&[u8], &[u8])>
     ensures { IfSome result (λ r. EndsLine r.0.now × (bytes.now ≡ r.0.now ++ r.1.now)) }
