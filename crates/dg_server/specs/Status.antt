@@ -68,7 +68,6 @@ status_of_task (task.NoLook _) = 3
 status_of_task (task.StepTrials _) = 3
 status_of_task task.TooMany = 3
 status_of_task (task.Chip _) = 3
-status_of_task (task.Turn fault) = status_of_table fault
 status_of_task (task.Shortage lack) = 4
 
 abbrev pub status : Fault → ℕ

@@ -16,13 +16,13 @@ use thiserror::Error;
 pub enum Fault {
     /// The words of the command line ask for nothing.
     #[error(transparent)]
-    Words(#[from] ArgsFault),
+    Words(ArgsFault),
     /// A file is not read, a table file is refused, or a task is not done.
     #[error(transparent)]
-    Task(#[from] TaskFault),
+    Task(TaskFault),
     /// There is not enough memory, or a thread could not be started.
     #[error(transparent)]
-    Shortage(#[from] Shortage),
+    Shortage(Shortage),
     /// The session ended before its input did.
     #[error("{}", end_text(*.0))]
     Session(SessionEnd),
@@ -91,7 +91,6 @@ fn status_of_task(fault: &TaskFault) -> u8
         | TaskFault::NoLook(_)
         | TaskFault::StepTrials(_) => 3,
         TaskFault::TooMany | TaskFault::Chip(_) => 3,
-        TaskFault::Turn(fault) => status_of_table(*fault),
         TaskFault::Shortage(_) => 4,
     }
 }

@@ -59,7 +59,7 @@ moves_more [] r moves move = (move, tt)
 moves_more (p ∷ es) r moves move = (moves.0, moves_more es r moves.1 move)
 
 keeps_itself : (x : SeatView) → Keeps x x
-keeps_itself x = record { number = refl; mine = refl; told = refl; past = refl; met = ([], sym (append-nil x.met)) }
+keeps_itself x = record { number = refl; mine = refl; told = refl; prefix = refl; met = ([], sym (append-nil x.met)) }
 
 module _ (A : Choosing) (o : StartData) (seats cap : ℕ) where
   pub a_move : (x : SeatView) (r : ℕ × Entry) (y : SeatView) → IsTurnBy A o seats cap x r y → ¬ (r.1.request ≡ Claim) →

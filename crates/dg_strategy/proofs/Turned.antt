@@ -1,4 +1,5 @@
 -- What a move or a claim of a strategy comes to.
+--   claim_won        a claim where nobody is in debt is won
 --   settler_moves    a settler's moves can be made
 --   strategy_turn    a turn by a choice whose moves can be made
 --   settler_turn     a turn by a choice that settles debts
@@ -55,7 +56,7 @@ claim_answered p NotWon replies = refl
 claim_answered p reply replies = absurd replies
 
 -- a claim where nobody is in debt is won
-claim_won : (p : Position) (reply : Reply) → IsEffective p.graph.size p.amounts → RepliesToClaim p reply → reply ≡ Won
+pub claim_won : (p : Position) (reply : Reply) → IsEffective p.graph.size p.amounts → RepliesToClaim p reply → reply ≡ Won
 claim_won p Won effective replies = refl
 claim_won p NotWon effective replies = absurd (replies effective)
 claim_won p reply effective replies = absurd replies

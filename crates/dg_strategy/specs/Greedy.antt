@@ -1,13 +1,16 @@
 -- The greedy strategy (Corry and Perkinson, chapter 3: a vertex in debt borrows, until nobody is in
--- debt), where it is always the least vertex in debt that borrows.
+-- debt): here the least vertex in debt always borrows.
 --   IsGreedyCall p request     == the request is for the borrowing by the least vertex in debt at
---                                 the position p; it is a claim where nobody is in debt there
+--                                 the position p; it is a claim if nobody is in debt there
 --   AreGreedy o K H            == each of the entries H is of seat 1, and is so asked for, after
 --                                 the history K and those before it
 --   AllMoves H                 == each of the entries H is a move
---   EndsSo n H settled         == there are n entries, all moves; or, where it is settled, fewer
+--   EndsSo n H settled         == there are n entries, all moves; or, if it is settled, fewer
 --                                 moves than n, and then a claim that is won
 --   IsGreedyGame o n H settled == the history H from the opening o is legal and greedy, and ends so
+--   EndsTurn settled e         == the entry is a move; or, if it is settled, a claim that is won
+--   IsGreedyTurn o H e settled == after the history H the entry e of seat 1 is so asked for and
+--                                 answered rightly, and ends so
 use Rattle.std.specs.Prelude.{◌≡◌, ℕ, ◌<◌, Bool, true, false, List, [], ◌∷◌, ◌++◌, length, Option, ⊤}
 use Rattle.dg_chips.specs.Starts.{StartData}
 use Rattle.dg_chips.specs.Vector.{Vector}
@@ -15,6 +18,7 @@ use Rattle.dg_chips.specs.declared.moves.Move.{Move}
 use Rattle.dg_game.specs.Position.{Position, Shows}
 use Rattle.dg_game.specs.History.{position_after}
 use Rattle.dg_game.specs.Legal.{IsLegal}
+use Rattle.dg_game.specs.Replies.{Replies}
 use Rattle.dg_game.specs.declared.entry.Entry.{Entry}
 use Rattle.dg_game.specs.declared.entry.Request.{Request}
 use Rattle.dg_game.specs.declared.entry.Request.TheVariants.{Claim}
@@ -49,3 +53,13 @@ pub record IsGreedyGame (o : StartData) (n : ℕ) (H : List Entry) (settled : Bo
   pub legal : IsLegal o H
   pub greedy : AreGreedy o [] H
   pub ends : EndsSo n H settled
+
+abbrev pub EndsTurn : Bool → Entry → Type 0
+EndsTurn false e = IsMove e.request
+EndsTurn true e = (e.request ≡ Claim) × (e.reply ≡ Won)
+
+pub record IsGreedyTurn (o : StartData) (H : List Entry) (e : Entry) (settled : Bool) : Type 0 where
+  pub seat : e.seat ≡ 1
+  pub call : IsGreedyCall (position_after o H) e.request
+  pub right : Replies o H e.request e.reply
+  pub ends : EndsTurn settled e

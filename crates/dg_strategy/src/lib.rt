@@ -9,7 +9,7 @@ mod settler;
 mod strategy;
 
 pub use choice::Choose;
-pub use games::{GreedyGame, GreedyTable, greedy, greedy_on};
+pub use games::greedy_turn;
 pub use least_debtor::{LeastDebtor, greedy_settler};
 pub use playing::{Ended, play, settle_out};
 pub use settler::Settler;

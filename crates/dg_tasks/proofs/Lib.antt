@@ -1,2 +1,3 @@
 -- The lemmas that the proofs cite, over plain variables.
 pub mod UnderWay
+pub mod GreedyTurns

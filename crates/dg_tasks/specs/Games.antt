@@ -1,19 +1,16 @@
 -- Greedy games that are printed.
---   turns_text settled         == the line `turns` where the turns were used up, and nothing where
---                                 the game is settled
+--   turns_text settled         == the line `turns` if the turns were used up, and nothing if the
+--                                 game is settled
 --   IsGreedyAnswer o n names text == the text is that of the history of a greedy game of at most n
---                                    turns from the opening o, and of
---                                 how it ended
---   RefusesTurns fault         == memory was refused, or the table refused an entry, or it is not
---                                 closed; the history is never full
-use Rattle.std.specs.Prelude.{◌≡◌, ◌≢◌, ℕ, Bool, true, false, List, [], ◌++◌, codes, ⊤}
+--                                    turns from the opening o, and of how it ended
+--   RefusesTurns fault         == memory was refused
+use Rattle.std.specs.Prelude.{◌≡◌, ℕ, Bool, true, false, List, [], ◌++◌, codes, ⊤}
 use Rattle.dg_chips.specs.Starts.{StartData}
 use Rattle.dg_game.specs.declared.entry.Entry.{Entry}
 use Rattle.dg_strategy.specs.Greedy.{IsGreedyGame}
 use Rattle.dg_lines.specs.Texts.{history_text}
-use Rattle.dg_table.specs.declared.fault.Fault.TheVariants.{Full}
 use Rattle.dg_tasks.specs.declared.fault.TaskFault.{TaskFault}
-use Rattle.dg_tasks.specs.declared.fault.TaskFault.TheVariants.{Turn, Shortage}
+use Rattle.dg_tasks.specs.declared.fault.TaskFault.TheVariants.{Shortage}
 use Rattle.dg_system.specs.declared.shortage.Shortage.TheVariants.{OutOfMemory}
 
 abbrev pub turns_text : Bool → List ℕ
@@ -28,6 +25,5 @@ pub record IsGreedyAnswer (o : StartData) (n : ℕ) (names : List (List ℕ))
   pub printed : text ≡ history_text names 0 history ++ turns_text settled
 
 abbrev pub RefusesTurns : TaskFault → Type 0
-RefusesTurns (Turn fault) = fault ≢ Full
 RefusesTurns (Shortage OutOfMemory) = ⊤
 RefusesTurns fault = ⊥

@@ -13,9 +13,9 @@
 --                                       with that fault
 --   RefusesItsTable h fault       == the table file h is not read, or it is refused
 --   RefusesOn held o names task fault == the task is refused so on the table o with these names:
---                                        STEPS is not read, or it is
---                                    refused; or the test is past the limits, or the dual is no
---                                    divisor; or a turn is refused
+--                                        STEPS is not read, or it is refused; or the test is past
+--                                        the limits, or the dual is no divisor; or memory is
+--                                        refused
 --   RefusesTask held task fault   == the table file is refused so, or it is good, and the task is
 --                                    refused so on its table
 use Rattle.std.specs.Prelude.{◌≡◌, ◌⊎◌, ℕ, List}

@@ -14,10 +14,10 @@ use thiserror::Error;
 pub enum TaskFault {
     /// A file is not read.
     #[error(transparent)]
-    Source(#[from] SourceFault),
+    Source(SourceFault),
     /// The table file is refused.
     #[error(transparent)]
-    File(#[from] FileFault),
+    File(FileFault),
     /// A line of the steps, counted from 1, is refused.
     #[error("line {line}: {fault}")]
     Line {
@@ -40,13 +40,10 @@ pub enum TaskFault {
     TooMany,
     /// The canonical divisor less that of the table is none.
     #[error(transparent)]
-    Chip(#[from] ChipFault),
-    /// A turn is refused by the table, or the table is not closed.
-    #[error("{}", call_text(*.0))]
-    Turn(Fault),
+    Chip(ChipFault),
     /// There is not enough memory, or a thread could not be started.
     #[error(transparent)]
-    Shortage(#[from] Shortage),
+    Shortage(Shortage),
 }
 
 /// What is said where a call of a table is refused so.

@@ -18,7 +18,8 @@ use std::thread::Threads;
 /// The answer to a task, as text.
 ///
 /// Refused with `Source` or `File` where its table is not read or is refused, and then as the function is that does the task:
-/// `rehearsal`, which comes after `Source` for the steps, `judgement`, `rank_answer`, `riemann_roch`, or the greedy game with `Turn`.
+/// `rehearsal`, which comes after `Source` for the steps, `judgement`, `rank_answer`, `riemann_roch`, or the greedy game with
+/// `Shortage`.
 pub fn answer<R, S>(rt: &R, task: &Task<'_>, sources: &S) -> Result<Vec<u8>, TaskFault>
 where
     R: Files + AllocGlobal + Threads + Wait,
@@ -62,6 +63,6 @@ where
         Task::Judge { file: _ } => judgement(rt.alloc(), table),
         Task::Rank(test) => rank_answer(rt, rt.alloc(), table, test.degree, test.workers),
         Task::RiemannRoch { file: _ } => riemann_roch(rt.alloc(), table),
-        Task::Greedy(play) => greedy_history(rt, rt.alloc(), table, play.turns),
+        Task::Greedy(play) => greedy_history(rt.alloc(), table, play.turns),
     }
 }

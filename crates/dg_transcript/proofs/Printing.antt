@@ -1,14 +1,11 @@
 -- What is printed, one line more at the end.
 --   entries_more     the text of one entry more ends with its line
 --   entries_step     so do texts that go on with these lines
---   history_step     so do texts of entries with no seats
 --   calls_more       the text of one seat more ends with its line
 --   calls_step       so do texts that go on with these lines
 use Rattle.std.proofs.Common.{◌≡◌, ℕ, ◌+◌, ◌<◌, List, [], ◌∷◌, ◌++◌, length, take, arith, sym, ap, ◌∙◌, append_assoc, append-nil}
 use Rattle.std.proofs.lemmas.List.{length-take-le}
 use Rattle.dg_game.specs.declared.entry.Entry.{Entry}
-use Rattle.dg_lines.specs.Texts.{entry_text, history_text}
-use Rattle.dg_lines.proofs.Printing.{history_more}
 use Rattle.dg_transcript.specs.Printed.{seat_entry_text, entries_text, seat_text, calls_text}
 
 pub entries_more : (names : List (List ℕ)) (n : ℕ) (H : List Entry) (e : Entry) →
@@ -35,15 +32,6 @@ entries_step names H n e start text next within longer before written =
     ∙ ap (λ (t : List ℕ). start ++ t)
     (ap (λ (k : ℕ). entries_text names 0 (take n H) ++ seat_entry_text names k e) (sym number)
     ∙ sym (entries_more names 0 (take n H) e) ∙ ap (entries_text names 0) (sym longer))
-
-pub history_step : (names : List (List ℕ)) (H : List Entry) (n : ℕ) (e : Entry) (text next : List ℕ) → n < length H
-    → take (n + 1) H ≡ take n H ++ e ∷ [] → text ≡ history_text names 0 (take n H)
-    → next ≡ text ++ entry_text names n e.reply → next ≡ history_text names 0 (take (n + 1) H)
-history_step names H n e text next within longer before written =
-    let number : 0 + length (take n H) ≡ n = omega (arith, length-take-le n H) in
-    written ∙ ap (λ (t : List ℕ). t ++ entry_text names n e.reply) before
-    ∙ ap (λ (k : ℕ). history_text names 0 (take n H) ++ entry_text names k e.reply) (sym number)
-    ∙ sym (history_more names 0 (take n H) e) ∙ ap (history_text names 0) (sym longer)
 
 pub calls_more : (s : ℕ) (calls : List ℕ) (count : ℕ) →
     calls_text s (calls ++ count ∷ []) ≡ calls_text s calls ++ seat_text (s + length calls) count

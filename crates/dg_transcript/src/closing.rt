@@ -1,11 +1,11 @@
 //! What is printed of a table that was closed.
 ghost use Rattle.std.specs.Prelude.{◌≡◌, ◌≤◌, ◌++◌, length, take, IfOk, OnOk};
-ghost use Rattle.dg_lines.specs.Texts.{HasNames, AllHaveNames, history_text};
+ghost use Rattle.dg_lines.specs.Texts.{HasNames, AllHaveNames};
 ghost use Rattle.dg_transcript.specs.Printed.{seat_entry_text, entries_text, seat_text, calls_text, totals_text};
 
 use dg_chips::Divisor;
 use dg_game::Entry;
-use dg_lines::{push_amounts, push_entry, push_reply};
+use dg_lines::{push_amounts, push_reply};
 use dg_log::Name;
 use dg_table::Audit;
 use dg_tokens::Names;
@@ -40,30 +40,6 @@ pub fn closing_text<N: Name>(
         &audit.position,
         &audit.calls[..seats],
     )?;
-    Ok(text)
-}
-
-/// The lines of the entries of a table that was closed, numbered from 0 on, with no seats. The condition is that the history's
-/// replies have as many vertices as there are names.
-///
-/// Refused where there is not enough memory.
-pub fn audit_lines<N: Name>(
-    alloc: Global,
-    names: &Names,
-    audit: &Audit<N>,
-) -> Result<Vec<u8>, AllocError>
-    requires { AllHaveNames names.now audit.now.pen.entries }
-    ensures { IfOk result (λ text. text.items ≡ history_text names.now 0 audit.now.pen.entries) }
-{
-    let mut text = Vec::new(alloc);
-    'entries: for number in 0..audit.len() {
-        push_entry(
-            &mut text,
-            number as usize,
-            &audit.entry(number).reply,
-            names,
-        )?;
-    }
     Ok(text)
 }
 

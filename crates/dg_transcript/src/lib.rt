@@ -3,4 +3,4 @@
 
 mod closing;
 
-pub use closing::{audit_lines, closing_text};
+pub use closing::closing_text;
