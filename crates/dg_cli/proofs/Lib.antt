@@ -1,6 +1,3 @@
 mod Telling
-mod Arguments
 mod Adding
-mod Parsing
-mod Nothing
-mod CommandLines
+pub mod Parsing

@@ -28,8 +28,8 @@ pub entered : (program : App) (words : List Text) (rows : Option (Text × List R
     → (is_simple program ≡ true → X × (rows ≡ subcommand_of program words)) → rows ≡ subcommand_of dollar words
 entered program words rows X is told = (told (ap is_simple is ∙ simple)).1 ∙ ap (λ a. subcommand_of a words) is
 
-pub why : (program : App) (words : List Text) (e : Error) → program ≡ dollar → (is_simple_and_free program ≡ true → HasKind
-    (fault_of program words) e) → IsWhy words (kind_of e)
+pub why : (program : App) (words : List Text) (e : Error) → program ≡ dollar → (is_simple_and_free program ≡ true →
+    HasKind (fault_of program words) e) → IsWhy words (kind_of e)
 why program words e is told = elim (subst (λ a. HasKind (fault_of a words) e) is (told (ap is_simple_and_free is ∙ free))) [
   | inl m ↦ inl m
   | inr k ↦ inr (inl k)
@@ -50,8 +50,8 @@ asks words (asked.Text text) none h = absurd (no_text (subcommand_of dollar word
 no_kind : (k : ErrorKind) (kinds : Kinds) → kinds ≡ [] → IsAmong k kinds → ⊥
 no_kind k kinds none h = subst (λ ks. IsAmong k ks) none h
 
-pub ask_nothing : (words : List Text) → fault_of dollar words ≡ [] → ((it : Invocation) → IsSomeAnd (subcommand_of dollar words)
-    (λ p. AsksFor p.0 p.1 it) → ⊥) → AskNothing words
+pub ask_nothing : (words : List Text) → fault_of dollar words ≡ [] →
+    ((it : Invocation) → IsSomeAnd (subcommand_of dollar words) (λ p. AsksFor p.0 p.1 it) → ⊥) → AskNothing words
 ask_nothing words none h = record { faultless = none; nothing = nothing }
   where
     nothing : (it : Invocation) → Asks words it → ⊥
@@ -64,8 +64,8 @@ ask_nothing words none h = record { faultless = none; nothing = nothing }
       | inr version ↦ no_kind _ _ none version
     ]
 
-pub refuses : (words : List Text) (kind : ErrorKind) (r : Result Invocation ArgsFault) → IsWhy words kind → IsSaid kind r → IfErr r
-    (λ fault. Refuses words fault)
+pub refuses : (words : List Text) (kind : ErrorKind) (r : Result Invocation ArgsFault) → IsWhy words kind →
+    IsSaid kind r → IfErr r (λ fault. Refuses words fault)
 refuses words kind (Ok it) why said = tt
 refuses words kind (Err OutOfMemory) why said = tt
 refuses words kind (Err NotText) why said = said

@@ -1,17 +1,17 @@
 -- What words ask for: those of a command line, of which the first is the program's name. The library
 -- of command lines tells which command they name, and the rows of that command: which word stands
 -- for which of its arguments. It also tells which faults the words have.
---   word_of name rows                == the word of the argument of that name, where there is one
+--   word_of name rows                == the word of the argument of that name, if there is one
 --   words_of name rows               == all its words
 --   HasFile rows file                == the file is the word for `file`
 --   HasLines rows                    == the flag `--lines` is there
---   divisors_of rows                 == the name of the file of amounts, where there is one
---   LinesAre rows divisors           == there are lines, of one kind: the flag is there where no file of
---                                       amounts is named, and nowhere else
+--   divisors_of rows                 == the name of the file of amounts, if there is one
+--   LinesAre rows divisors           == there are lines, of one kind: the flag is there exactly if no
+--                                       file of amounts is named
 --   HasOneTable rows                 == there are no lines
 --   HasNumber name low high rows n   == the word of that argument is there, and is n, from low to high
 --   HasDegree rows n                 == so many dollars are lost, from 0 to 2^32 - 1
---   HasWorkers rows n                == so many workers are given, from 1 to 16; or 1, where none are
+--   HasWorkers rows n                == so many workers are given, from 1 to 16; or 1, if none are
 --   HasCapacity rows n               == so many entries are given, from 1 to 65,536; or the most
 --   AsksRank, AsksGreedy, AsksSweep, AsksServe, AsksParty
 --                                    == the rows have the file and the numbers of the task, and what
@@ -21,7 +21,7 @@
 --   AsksTask name rows task          == the command of that name asks for the task
 --   AsksFor name rows asked          == the command of that name asks for this
 --   CallsForHelp faults              == the words call for help, or for the version
---   Asks words asked                 == the words ask for this: for a text where they call for help
+--   Asks words asked                 == the words ask for this: for a text if they call for help
 --                                       or the version, and else for what their command asks for,
 --                                       if the library finds no fault
 use Rattle.std.specs.Prelude.{◌≡◌, ◌-◌, ◌^◌, ◌⊎◌, ℕ, List, [], Option, None, Some, IsSomeAnd, codes, map, option_map}

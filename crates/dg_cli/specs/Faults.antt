@@ -1,7 +1,7 @@
 -- Why words ask for nothing, by the kind of the library's error.
 --   IsWhy words kind   == memory was refused; or the library finds a fault of that kind; or the words
 --                         ask for nothing, and the kind is none of help or the version
---   IsSaid kind result == what is said of an error of that kind: its text, where it is one of help or
+--   IsSaid kind result == what is said of an error of that kind: its text, if it is one of help or
 --                         the version, and else a fault; for want of memory the fault says so
 use Rattle.std.specs.Prelude.{◌≡◌, ◌≢◌, ◌⊎◌, List, Result, Ok, Err, ⊤}
 use Rattle.clap.specs.Words.{IsAmong, Text, fault_of}

@@ -6,4 +6,3 @@ pub mod Refusals
 pub mod Faults
 pub mod Building
 pub mod Telling
-pub mod CommandLines

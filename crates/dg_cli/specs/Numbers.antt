@@ -1,8 +1,8 @@
 -- The numbers of a command line.
 --   IsNumber low high text n          == the text is the decimal of n, which is from low to high
---   IsGiven low high text n           == n is the number of the text where there is a text, and none
---                                        where there is none
---   IsGivenOr default low high text n == the same, with a default where there is no text
+--   IsGiven low high text n           == n is the number of the text if there is a text, and none if
+--                                        there is none
+--   IsGivenOr default low high text n == the same, with a default if there is no text
 use Rattle.std.specs.Prelude.{◌≡◌, ◌≤◌, ℕ, Option, None, Some, decimal, ⊤}
 use Rattle.clap.specs.Words.{Text}
 

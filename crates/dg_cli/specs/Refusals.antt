@@ -1,7 +1,7 @@
 -- Why words are refused.
 --   HasFault words      == the library of command lines finds a fault, which is no call for help or
 --                          the version
---   AskNothing words    == it finds none, and yet there is nothing that the words ask for, as where a
+--   AskNothing words    == it finds none, and yet there is nothing that the words ask for, as if a
 --                          number is not in its range, or `--workers` stands without `--lines`
 --   Refuses words fault == the words may be refused so: for want of memory, or else because they
 --                          have a fault or ask for nothing

@@ -1,4 +1,4 @@
-//! The command line: what its words ask for, and what is said of them.
+//! The command line: what its words ask for, and what the program says of them.
 ghost use Rattle.std.specs.Prelude.{◌≡◌, ◌≢◌, ◌⊎◌, IfErr, IfOk, map, string_bytes};
 ghost use Rattle.clap.specs.Words.{IsAmong, fault_of, kind_of};
 ghost use Rattle.dg_cli.specs.Asks.{Asks};
@@ -6,7 +6,7 @@ ghost use Rattle.dg_cli.specs.Commands.{dollar};
 ghost use Rattle.dg_cli.specs.Refusals.{AskNothing, Refuses};
 ghost use Rattle.dg_cli.specs.Faults.{IsNoCall, IsSaid, IsWhy};
 
-use crate::commands::{dollar, greedy, judge, party, rank, riemann_roch, serve};
+use crate::commands::{SUBCOMMANDS, dollar};
 use crate::reading::{NumberArgument, Refusal, asked_by};
 use clap::Command;
 use clap::error::ErrorKind;
@@ -17,7 +17,7 @@ use std::{env, io};
 
 /// The words of the process's own command line, the program's name first.
 ///
-/// Refused with `NotText` where one of them is no text, and with `OutOfMemory`.
+/// Refused with `NotText` if one of them is no text, and with `OutOfMemory`.
 pub fn words_of<R: Env + AllocGlobal>(rt: &R) -> Result<Vec<String>, ArgsFault> {
     match env::args(rt) {
         Ok(words) => match words.collect(rt.alloc()) {
@@ -29,7 +29,7 @@ pub fn words_of<R: Env + AllocGlobal>(rt: &R) -> Result<Vec<String>, ArgsFault> 
     }
 }
 
-/// The command line of the program, as `dollar --help` says it.
+/// The command line of the program, as `dollar --help` describes it.
 #[derive(Clone, Copy)]
 pub struct CommandLine;
 
@@ -49,7 +49,7 @@ impl ParseArgs for CommandLine {
     }
 }
 
-/// What is said of words that ask for no command: on the standard output after a call for help, else as a fault.
+/// The answer to words that ask for no command: a text for the standard output after a call for help, else a fault.
 fn said_of<'a>(alloc: Global, error: &clap::Error) -> Result<Invocation<'a>, ArgsFault>
     ensures { IsSaid (kind_of error.now) result }
 {
@@ -78,7 +78,7 @@ fn command_of<'a>(alloc: Global, words: &'a [String]) -> Result<Invocation<'a>, 
     }
 }
 
-/// What is said of a refusal, of the arguments of that command where it names one.
+/// The error of a refusal, for the arguments of that command if it names one.
 fn error_of(
     alloc: Global,
     name: Option<&str>,
@@ -88,66 +88,62 @@ fn error_of(
         (refusal.entry ≡ Refusal.Memory → kind_of error ≡ ErrorKind.OutOfMemory)
         × IsNoCall (kind_of error)) }
 {
+    let name = name.unwrap_or("");
     match refusal {
-        Refusal::Command => {
-            dollar(alloc)?.error(ErrorKind::MissingSubcommand, "a command is missing")
-        }
         Refusal::Memory => Ok(clap::Error::from(AllocError)),
-        Refusal::Lines => {
-            let mut command = shown_command(alloc, name.unwrap_or(""))?;
-            command.error(
-                ErrorKind::MissingRequiredArgument,
-                "the following required arguments were not provided:\n  --lines",
+        Refusal::Command => {
+            told_with(
+                alloc,
+                "",
+                ErrorKind::MissingSubcommand,
+                "a command is missing",
             )
         }
-        Refusal::Both => {
-            let mut command = shown_command(alloc, name.unwrap_or(""))?;
-            command.error(
-                ErrorKind::ArgumentConflict,
-                "the argument '--lines' cannot be used with '--divisors <LINES>'",
-            )
-        }
+        Refusal::Lines => told_with(
+            alloc,
+            name,
+            ErrorKind::MissingRequiredArgument,
+            "the following required arguments were not provided:\n  --lines",
+        ),
+        Refusal::Both => told_with(
+            alloc,
+            name,
+            ErrorKind::ArgumentConflict,
+            "the argument '--lines' cannot be used with '--divisors <LINES>'",
+        ),
         Refusal::Number(argument, word) => {
-            number_refused(alloc, name.unwrap_or(""), argument, word)
+            let text = range_text(alloc, argument, word)?;
+            told_with(alloc, name, ErrorKind::ValueValidation, text.as_str())
         }
     }
 }
 
-/// What is said of a word that is no number of its argument, with the usage of its command.
-fn number_refused(
-    alloc: Global,
-    name: &str,
-    argument: NumberArgument,
-    word: &str,
-) -> Result<clap::Error, AllocError>
-    ensures { IfOk result (λ error. kind_of error ≡ ErrorKind.ValueValidation) }
-{
+/// The text for a word that is no number of its argument.
+fn range_text(alloc: Global, argument: NumberArgument, word: &str) -> Result<String, AllocError> {
     let shown = argument.shown();
     let (least, most) = argument.range();
-    let text = format!(in alloc;
-        "invalid value '{word}' for '{shown}': a whole number from {least} to {most}"
-    )?;
+    format!(in alloc; "invalid value '{word}' for '{shown}': a whole number from {least} to {most}")
+}
+
+/// The error of that kind and text, with the usage of the command of that name; any other name stands for the whole program.
+fn told_with(
+    alloc: Global,
+    name: &str,
+    kind: ErrorKind,
+    text: &str,
+) -> Result<clap::Error, AllocError>
+    ensures { IfOk result (λ error. kind_of error ≡ kind) }
+{
     let mut command = shown_command(alloc, name)?;
-    command.error(ErrorKind::ValueValidation, text.as_str())
+    command.error(kind, text)
 }
 
-/// The command that takes a number, as its usage shows it; any other name stands for the whole program.
+/// The command of that name, as its usage shows it; any other name stands for the whole program.
 fn shown_command<'a>(alloc: Global, name: &str) -> Result<Command<'a>, AllocError> {
-    match name {
-        "judge" => shown_as("dollar judge", judge(alloc)),
-        "rank" => shown_as("dollar rank", rank(alloc)),
-        "rr" => shown_as("dollar rr", riemann_roch(alloc)),
-        "greedy" => shown_as("dollar greedy", greedy(alloc)),
-        "serve" => shown_as("dollar serve", serve(alloc)),
-        "party" => shown_as("dollar party", party(alloc)),
-        _ => dollar(alloc),
+    for subcommand in SUBCOMMANDS {
+        if subcommand.name() == name {
+            return subcommand.told(alloc)?.bin_name(subcommand.usage());
+        }
     }
-}
-
-/// The command as its usage shows it, where it could be made.
-fn shown_as<'a>(
-    name: &'static str,
-    command: Result<Command<'a>, AllocError>,
-) -> Result<Command<'a>, AllocError> {
-    command?.bin_name(name)
+    dollar(alloc)
 }

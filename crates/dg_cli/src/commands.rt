@@ -1,45 +1,60 @@
-//! The commands of the program and their arguments, as the library of command lines is told of them.
-ghost use Rattle.std.specs.Prelude.{◌≡◌, IfOk, codes};
-ghost use Rattle.clap.specs.Words.{Shape, app_of, with_subcommand};
-ghost use Rattle.dg_cli.specs.Commands.{
-  bare_program,
-  dollar,
-  flag,
-  greedy,
-  judge,
-  option,
-  party,
-  rank,
-  rehearse,
-  riemann_roch,
-  serve,
-  word,
-  words,
-};
-ghost use Rattle.dg_cli.specs.Building.{IsArgument, IsCommand};
+//! The commands of the program, as the library of command lines is told of them.
+ghost use Rattle.std.specs.Prelude.{◌≡◌, IfOk, map};
+ghost use Rattle.clap.specs.Words.{app_of};
+ghost use Rattle.dg_cli.specs.Building.{IsCommand, rule_for, shape_for};
+ghost use Rattle.dg_cli.specs.Commands.{bare_program, dollar};
 
+use crate::arguments::Argument;
 use crate::help_texts::{
-    CAPACITY_HELP, DEGREE_HELP, DIVISORS_HELP, FILE_HELP, GREEDY_MORE, JUDGE_MORE,
-    LINE_WORKERS_HELP, LINES_HELP, MORE, PARTY_MORE, RANK_MORE, RANK_WORKERS_HELP, REHEARSE_MORE,
-    RIEMANN_ROCH_MORE, SCRIPT_HELP, SEATS_HELP, SERVE_MORE, STEPS_HELP, TURNS_HELP, VERSION,
-    WORKERS_HELP,
+    GREEDY_MORE, JUDGE_MORE, MORE, PARTY_MORE, RANK_MORE, REHEARSE_MORE, RIEMANN_ROCH_MORE,
+    SERVE_MORE, VERSION,
 };
-use clap::{Arg, ArgAction, Command};
+use clap::Command;
 use std::alloc::{AllocError, Global};
 
+/// A command of the program.
+#[derive(Clone, Copy)]
+pub(crate) enum Subcommand {
+    /// Judge a table, or each of some.
+    Judge,
+    /// Test the rank of a table, or of each of some.
+    Rank,
+    /// Print the numbers of Riemann-Roch for a table, or for each of some.
+    RiemannRoch,
+    /// Play the greedy strategy.
+    Greedy,
+    /// Play a list of steps.
+    Rehearse,
+    /// Answer the lines of the input.
+    Serve,
+    /// Play scripts side by side.
+    Party,
+}
+
+/// The commands, in the order of the help.
+pub(crate) const SUBCOMMANDS: &[Subcommand] = &[
+    Subcommand::Judge,
+    Subcommand::Rank,
+    Subcommand::RiemannRoch,
+    Subcommand::Greedy,
+    Subcommand::Rehearse,
+    Subcommand::Serve,
+    Subcommand::Party,
+];
+
+/// The program with its commands.
 pub(crate) fn dollar<'a>(alloc: Global) -> Result<Command<'a>, AllocError>
     ensures { IfOk result (λ program. app_of program ≡ dollar) }
 {
-    let program = with(bare_program(alloc), judge(alloc))?;
-    let program = with(program, rank(alloc))?;
-    let program = with(program, riemann_roch(alloc))?;
-    let program = with(program, greedy(alloc))?;
-    let program = with(program, rehearse(alloc))?;
-    let program = with(program, serve(alloc))?;
-    with(program, party(alloc))
+    let mut program = bare_program(alloc);
+    'commands: for subcommand in SUBCOMMANDS {
+        let command = subcommand.told(alloc)?;
+        program = program.subcommand(command)?;
+    }
+    Ok(program)
 }
 
-/// The program, without its commands.
+/// The program without its commands.
 fn bare_program<'a>(alloc: Global) -> Command<'a>
     ensures { app_of result ≡ bare_program }
 {
@@ -51,199 +66,115 @@ fn bare_program<'a>(alloc: Global) -> Command<'a>
         .arg_required_else_help(true)
 }
 
-/// The program with one command more, where that could be made.
-fn with<'a>(
-    program: Command<'a>,
-    command: Result<Command<'a>, AllocError>,
-) -> Result<Command<'a>, AllocError>
-    ensures { (shape : Shape) → IfOk command.entry (IsCommand shape) →
-        IfOk result (λ made. app_of made ≡ with_subcommand (app_of program.entry) shape) }
-{
-    match command {
-        Ok(command) => program.subcommand(command),
-        Err(error) => Err(error),
+impl Subcommand {
+    /// The command as the library is told of it.
+    pub(crate) fn told<'a>(self, alloc: Global) -> Result<Command<'a>, AllocError>
+        ensures { IfOk result (IsCommand (shape_for self)) }
+    {
+        let mut told = Command::new(alloc, self.name())
+            .about(self.about())
+            .after_help(self.more());
+        'arguments: for argument in self.arguments() {
+            told = told.arg(argument.told(alloc))?;
+        }
+        Ok(told)
+    }
+
+    /// Its name.
+    pub(crate) fn name<'a>(self) -> &'a str
+        ensures { result.now ≡ (shape_for self).name }
+    {
+        match self {
+            Subcommand::Judge => "judge",
+            Subcommand::Rank => "rank",
+            Subcommand::RiemannRoch => "rr",
+            Subcommand::Greedy => "greedy",
+            Subcommand::Rehearse => "rehearse",
+            Subcommand::Serve => "serve",
+            Subcommand::Party => "party",
+        }
+    }
+
+    /// Its arguments, in the order of the help.
+    fn arguments(self) -> &'static [Argument]
+        ensures { map rule_for result.now ≡ (shape_for self).rules }
+    {
+        match self {
+            Subcommand::Judge | Subcommand::RiemannRoch => LINES_ARGUMENTS,
+            Subcommand::Rank => RANK_ARGUMENTS,
+            Subcommand::Greedy => GREEDY_ARGUMENTS,
+            Subcommand::Rehearse => REHEARSE_ARGUMENTS,
+            Subcommand::Serve => SERVE_ARGUMENTS,
+            Subcommand::Party => PARTY_ARGUMENTS,
+        }
+    }
+
+    /// How its usage begins.
+    pub(crate) fn usage<'a>(self) -> &'a str {
+        match self {
+            Subcommand::Judge => "dollar judge",
+            Subcommand::Rank => "dollar rank",
+            Subcommand::RiemannRoch => "dollar rr",
+            Subcommand::Greedy => "dollar greedy",
+            Subcommand::Rehearse => "dollar rehearse",
+            Subcommand::Serve => "dollar serve",
+            Subcommand::Party => "dollar party",
+        }
+    }
+
+    /// What it does, in a line.
+    fn about<'a>(self) -> &'a str {
+        match self {
+            Subcommand::Judge => "Tells whether a table is winnable, and prints what shows it",
+            Subcommand::Rank => "Tests whether a table stays winnable wherever K dollars are lost",
+            Subcommand::RiemannRoch => "Prints the four numbers of Riemann-Roch for a table",
+            Subcommand::Greedy => "Lets the first vertex in debt borrow, until nobody is in debt",
+            Subcommand::Rehearse =>
+                "Plays a list of steps on a table, and prints what came of each",
+            Subcommand::Serve => "Answers the lines of the standard input on a table with seats",
+            Subcommand::Party =>
+                "Plays scripts side by side on one table, and prints what came of it",
+        }
+    }
+
+    /// What its help says after its arguments.
+    fn more<'a>(self) -> &'a str {
+        match self {
+            Subcommand::Judge => JUDGE_MORE,
+            Subcommand::Rank => RANK_MORE,
+            Subcommand::RiemannRoch => RIEMANN_ROCH_MORE,
+            Subcommand::Greedy => GREEDY_MORE,
+            Subcommand::Rehearse => REHEARSE_MORE,
+            Subcommand::Serve => SERVE_MORE,
+            Subcommand::Party => PARTY_MORE,
+        }
     }
 }
 
-pub(crate) fn judge<'a>(alloc: Global) -> Result<Command<'a>, AllocError>
-    ensures { IfOk result (IsCommand judge) }
-{
-    Command::new(alloc, "judge")
-        .about("Tells whether a table is winnable, and prints what shows it")
-        .after_help(JUDGE_MORE)
-        .arg(table_file(alloc))?
-        .arg(lines(alloc))?
-        .arg(divisors(alloc))?
-        .arg(line_workers(alloc))
-}
+const LINES_ARGUMENTS: &[Argument] = &[
+    Argument::File,
+    Argument::Lines,
+    Argument::Divisors,
+    Argument::LineWorkers,
+];
 
-pub(crate) fn rank<'a>(alloc: Global) -> Result<Command<'a>, AllocError>
-    ensures { IfOk result (IsCommand rank) }
-{
-    Command::new(alloc, "rank")
-        .about("Tests whether a table stays winnable wherever K dollars are lost")
-        .after_help(RANK_MORE)
-        .arg(table_file(alloc))?
-        .arg(lines(alloc))?
-        .arg(divisors(alloc))?
-        .arg(degree(alloc))?
-        .arg(rank_workers(alloc))
-}
+const RANK_ARGUMENTS: &[Argument] = &[
+    Argument::File,
+    Argument::Lines,
+    Argument::Divisors,
+    Argument::Degree,
+    Argument::RankWorkers,
+];
 
-pub(crate) fn riemann_roch<'a>(alloc: Global) -> Result<Command<'a>, AllocError>
-    ensures { IfOk result (IsCommand riemann_roch) }
-{
-    Command::new(alloc, "rr")
-        .about("Prints the four numbers of Riemann-Roch for a table")
-        .after_help(RIEMANN_ROCH_MORE)
-        .arg(table_file(alloc))?
-        .arg(lines(alloc))?
-        .arg(divisors(alloc))?
-        .arg(line_workers(alloc))
-}
+const GREEDY_ARGUMENTS: &[Argument] = &[Argument::File, Argument::Turns];
 
-pub(crate) fn greedy<'a>(alloc: Global) -> Result<Command<'a>, AllocError>
-    ensures { IfOk result (IsCommand greedy) }
-{
-    Command::new(alloc, "greedy")
-        .about("Lets the first vertex in debt borrow, until nobody is in debt")
-        .after_help(GREEDY_MORE)
-        .arg(table_file(alloc))?
-        .arg(turns(alloc))
-}
+const REHEARSE_ARGUMENTS: &[Argument] = &[Argument::File, Argument::Steps];
 
-pub(crate) fn rehearse<'a>(alloc: Global) -> Result<Command<'a>, AllocError>
-    ensures { IfOk result (IsCommand rehearse) }
-{
-    Command::new(alloc, "rehearse")
-        .about("Plays a list of steps on a table, and prints what came of each")
-        .after_help(REHEARSE_MORE)
-        .arg(table_file(alloc))?
-        .arg(steps(alloc))
-}
+const SERVE_ARGUMENTS: &[Argument] = &[
+    Argument::File,
+    Argument::Seats,
+    Argument::Capacity,
+    Argument::Workers,
+];
 
-pub(crate) fn serve<'a>(alloc: Global) -> Result<Command<'a>, AllocError>
-    ensures { IfOk result (IsCommand serve) }
-{
-    Command::new(alloc, "serve")
-        .about("Answers the lines of the standard input on a table with seats")
-        .after_help(SERVE_MORE)
-        .arg(table_file(alloc))?
-        .arg(seats(alloc))?
-        .arg(capacity(alloc))?
-        .arg(workers(alloc))
-}
-
-pub(crate) fn party<'a>(alloc: Global) -> Result<Command<'a>, AllocError>
-    ensures { IfOk result (IsCommand party) }
-{
-    Command::new(alloc, "party")
-        .about("Plays scripts side by side on one table, and prints what came of it")
-        .after_help(PARTY_MORE)
-        .arg(table_file(alloc))?
-        .arg(scripts(alloc))?
-        .arg(capacity(alloc))
-}
-
-fn degree<'a>(alloc: Global) -> Arg<'a>
-    ensures { IsArgument (word (codes "degree")) result }
-{
-    Arg::new(alloc, "degree")
-        .value_name("K")
-        .required(true)
-        .help(DEGREE_HELP)
-}
-
-fn turns<'a>(alloc: Global) -> Arg<'a>
-    ensures { IsArgument (word (codes "turns")) result }
-{
-    Arg::new(alloc, "turns")
-        .value_name("TURNS")
-        .required(true)
-        .help(TURNS_HELP)
-}
-
-fn steps<'a>(alloc: Global) -> Arg<'a>
-    ensures { IsArgument (word (codes "steps")) result }
-{
-    Arg::new(alloc, "steps")
-        .value_name("STEPS")
-        .required(true)
-        .help(STEPS_HELP)
-}
-
-fn scripts<'a>(alloc: Global) -> Arg<'a>
-    ensures { IsArgument (words (codes "script")) result }
-{
-    Arg::new(alloc, "script")
-        .value_name("SCRIPT")
-        .required(true)
-        .num_args(1..)
-        .help(SCRIPT_HELP)
-}
-
-fn workers<'a>(alloc: Global) -> Arg<'a>
-    ensures { IsArgument (option (codes "workers")) result }
-{
-    Arg::new(alloc, "workers")
-        .long("workers")
-        .value_name("N")
-        .help(WORKERS_HELP)
-}
-
-fn rank_workers<'a>(alloc: Global) -> Arg<'a>
-    ensures { IsArgument (option (codes "workers")) result }
-{
-    workers(alloc).help(RANK_WORKERS_HELP)
-}
-
-fn line_workers<'a>(alloc: Global) -> Arg<'a>
-    ensures { IsArgument (option (codes "workers")) result }
-{
-    workers(alloc).help(LINE_WORKERS_HELP)
-}
-
-fn seats<'a>(alloc: Global) -> Arg<'a>
-    ensures { IsArgument (option (codes "seats")) result }
-{
-    Arg::new(alloc, "seats")
-        .long("seats")
-        .value_name("N")
-        .help(SEATS_HELP)
-}
-
-fn lines<'a>(alloc: Global) -> Arg<'a>
-    ensures { IsArgument (flag (codes "lines")) result }
-{
-    Arg::new(alloc, "lines")
-        .long("lines")
-        .action(ArgAction::SetTrue)
-        .help(LINES_HELP)
-}
-
-fn divisors<'a>(alloc: Global) -> Arg<'a>
-    ensures { IsArgument (option (codes "divisors")) result }
-{
-    Arg::new(alloc, "divisors")
-        .long("divisors")
-        .value_name("LINES")
-        .help(DIVISORS_HELP)
-}
-
-fn capacity<'a>(alloc: Global) -> Arg<'a>
-    ensures { IsArgument (option (codes "cap")) result }
-{
-    Arg::new(alloc, "cap")
-        .long("cap")
-        .value_name("N")
-        .help(CAPACITY_HELP)
-}
-
-fn table_file<'a>(alloc: Global) -> Arg<'a>
-    ensures { IsArgument (word (codes "file")) result }
-{
-    Arg::new(alloc, "file")
-        .value_name("FILE")
-        .required(true)
-        .help(FILE_HELP)
-}
+const PARTY_ARGUMENTS: &[Argument] = &[Argument::File, Argument::Scripts, Argument::Capacity];

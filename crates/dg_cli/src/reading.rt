@@ -17,11 +17,9 @@ ghost use Rattle.dg_cli.specs.Asks.{
   IsAlone,
   word_of,
   words_of,
-  HasCapacity,
-  HasWorkers,
   HasNumber,
 };
-ghost use Rattle.dg_cli.specs.Numbers.{IsGiven, IsNumber};
+ghost use Rattle.dg_cli.specs.Numbers.{IsGiven, IsGivenOr, IsNumber};
 ghost use Rattle.dg_cli.specs.Telling.{Tells, least, most, name_of, rows_in};
 
 use clap::ArgMatches;
@@ -139,8 +137,8 @@ fn serve_in<'a>(inner: &ArgMatches<'a>) -> Result<ServeTask<'a>, Refusal<'a>>
     ensures { Tells (AsksServe (rows_in inner.now)) result }
 {
     let file = word_in(inner, "file")?;
-    let capacity = capacity_in(inner)?;
-    let workers = workers_in(inner)?;
+    let capacity = given_or(inner, NumberArgument::Capacity, MAX_CAPACITY)?;
+    let workers = given_or(inner, NumberArgument::Workers, 1)?;
     let seats = seats_in(inner)?;
     Ok(ServeTask {
         file,
@@ -155,7 +153,7 @@ fn party_in<'a>(alloc: Global, inner: &ArgMatches<'a>) -> Result<PartyTask<'a>, 
     ensures { Tells (AsksParty (rows_in inner.now)) result }
 {
     let file = word_in(inner, "file")?;
-    let capacity = capacity_in(inner)?;
+    let capacity = given_or(inner, NumberArgument::Capacity, MAX_CAPACITY)?;
     let scripts = scripts_in(alloc, inner)?;
     Ok(PartyTask {
         file,
@@ -164,9 +162,9 @@ fn party_in<'a>(alloc: Global, inner: &ArgMatches<'a>) -> Result<PartyTask<'a>, 
     })
 }
 
-/// The lines of a file, where the flag for lines or the option for amounts is there.
+/// The lines of a file, if the flag for lines or the option for amounts is there.
 ///
-/// Refused where both are there, then for the number of workers, then for the degree.
+/// Refused if both are there, then for the number of workers, then for the degree.
 fn sweep_in<'a>(name: &str, inner: &ArgMatches<'a>) -> Result<SweepTask<'a>, Refusal<'a>>
     requires { (word_of (codes "divisors") (rows_in inner.now) ≡ None) → HasLines (rows_in inner.now) }
     ensures { Tells (AsksSweep name.now (rows_in inner.now)) result }
@@ -176,7 +174,7 @@ fn sweep_in<'a>(name: &str, inner: &ArgMatches<'a>) -> Result<SweepTask<'a>, Ref
     if divisors.is_some() && has_lines(inner) {
         return Err(Refusal::Both);
     }
-    let workers = workers_in(inner)?;
+    let workers = given_or(inner, NumberArgument::Workers, 1)?;
     let question = question_in(name, inner)?;
     Ok(SweepTask {
         file,
@@ -198,7 +196,7 @@ fn question_in<'a>(name: &str, inner: &ArgMatches<'a>) -> Result<Question, Refus
     }
 }
 
-/// The task of a command that may have lines, where it has none.
+/// The task of a command that may have lines, if it has none.
 fn task_in<'a>(name: &str, inner: &ArgMatches<'a>) -> Result<Task<'a>, Refusal<'a>>
     requires lines { HasOneTable (rows_in inner.now) }
     requires others { (name.now ≢ codes "greedy") × (name.now ≢ codes "rehearse") }
@@ -246,7 +244,7 @@ fn rank_in<'a>(inner: &ArgMatches<'a>) -> Result<RankTask<'a>, Refusal<'a>>
     ensures { Tells (AsksRank (rows_in inner.now)) result }
 {
     let file = word_in(inner, "file")?;
-    let workers = workers_in(inner)?;
+    let workers = given_or(inner, NumberArgument::Workers, 1)?;
     let degree = number_in(inner, NumberArgument::Degree)?;
     Ok(RankTask {
         file,
@@ -299,23 +297,17 @@ fn word_in<'a>(inner: &ArgMatches<'a>, name: &str) -> Result<&'a str, Refusal<'a
     text_in(inner, name).ok_or(Refusal::Command)
 }
 
-/// The number of entries that the history may have.
-fn capacity_in<'a>(inner: &ArgMatches<'a>) -> Result<u32, Refusal<'a>>
-    ensures { Tells (HasCapacity (rows_in inner.now)) result }
+/// The number of an argument, or a default if it is not given.
+fn given_or<'a>(
+    inner: &ArgMatches<'a>,
+    argument: NumberArgument,
+    default: u32,
+) -> Result<u32, Refusal<'a>>
+    ensures { Tells (IsGivenOr default (least argument) (most argument) (word_of (name_of argument) (rows_in inner.now))) result }
 {
-    match given_in(inner, NumberArgument::Capacity)? {
-        Some(capacity) => Ok(capacity),
-        None => Ok(MAX_CAPACITY),
-    }
-}
-
-/// The number of workers, 1 where none is given.
-fn workers_in<'a>(inner: &ArgMatches<'a>) -> Result<u32, Refusal<'a>>
-    ensures { Tells (HasWorkers (rows_in inner.now)) result }
-{
-    match given_in(inner, NumberArgument::Workers)? {
-        Some(workers) => Ok(workers),
-        None => Ok(1),
+    match given_in(inner, argument)? {
+        Some(number) => Ok(number),
+        None => Ok(default),
     }
 }
 

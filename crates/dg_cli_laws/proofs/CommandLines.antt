@@ -9,8 +9,8 @@ use Rattle.clap.specs.declared.error.kind.ErrorKind.TheVariants.{ArgumentConflic
 use Rattle.dg_invocation.specs.declared.question.Question.TheVariants.{Judge, Rank, RiemannRoch}
 use Rattle.dg_cli.specs.Commands.{dollar}
 use Rattle.dg_cli.specs.Numbers.{IsGiven, IsNumber}
-use Rattle.dg_cli.specs.CommandLines.{CommandLinesAsk, IsFault, IsGreedy, IsHelp, IsJudge, IsNothing, IsParty, IsRank, IsRehearse, IsRiemannRoch, IsServe, IsSweep, IsSweepOf, IsVersion}
-use Rattle.dg_cli.proofs.Nothing.{no_given, nothing_by, only_greedy, only_judge, only_party, only_rank, only_riemann_roch, only_serve, past, zero_first}
+use Rattle.dg_cli_laws.specs.CommandLines.{CommandLinesAsk, IsFault, IsGreedy, IsHelp, IsJudge, IsNothing, IsParty, IsRank, IsRehearse, IsRiemannRoch, IsServe, IsSweep, IsSweepOf, IsVersion}
+use Rattle.dg_cli_laws.proofs.Nothing.{no_given, nothing_by, only_greedy, only_judge, only_party, only_rank, only_riemann_roch, only_serve, past, zero_first}
 
 number : (low high n : ℕ) (text : Text) → text ≡ decimal n → low ≤ n → n ≤ high → (m : ℕ) → m ≡ n → IsNumber low high text m
 number low high n text is least most m same = record {

@@ -1,0 +1,139 @@
+//! The arguments of the commands: their names and forms, and what the help says of them.
+ghost use Rattle.std.specs.Prelude.{◌≡◌};
+ghost use Rattle.dg_cli.specs.Building.{IsArgument, rule_by, rule_for};
+
+use crate::help_texts::{
+    CAPACITY_HELP, DEGREE_HELP, DIVISORS_HELP, FILE_HELP, LINE_WORKERS_HELP, LINES_HELP,
+    RANK_WORKERS_HELP, SCRIPT_HELP, SEATS_HELP, STEPS_HELP, TURNS_HELP, WORKERS_HELP,
+};
+use clap::{Arg, ArgAction};
+use std::alloc::Global;
+
+/// An argument of some commands.
+#[derive(Clone, Copy)]
+pub(crate) enum Argument {
+    /// The table file.
+    File,
+    /// The file of steps.
+    Steps,
+    /// The scripts.
+    Scripts,
+    /// The degree of a rank test.
+    Degree,
+    /// How many turns there may be.
+    Turns,
+    /// Whether the table file has a table on each line.
+    Lines,
+    /// The file of amounts.
+    Divisors,
+    /// How many seats lines name.
+    Seats,
+    /// How many entries there may be.
+    Capacity,
+    /// How many workers share trials.
+    Workers,
+    /// How many workers share trials or lines.
+    RankWorkers,
+    /// How many workers share lines.
+    LineWorkers,
+}
+
+/// How an argument is written.
+#[derive(Clone, Copy)]
+pub(crate) enum Form {
+    /// A word that has to be there.
+    Word,
+    /// One word or more, after all others.
+    Words,
+    /// `--name` with a word that is its value.
+    Option,
+    /// `--name` alone.
+    Flag,
+}
+
+impl Argument {
+    /// The argument as the library is told of it.
+    pub(crate) fn told<'a>(self, alloc: Global) -> Arg<'a>
+        ensures { IsArgument (rule_for self) result }
+    {
+        let name = self.name();
+        let told = Arg::new(alloc, name).help(self.help());
+        match self.form() {
+            Form::Word => told.value_name(self.shown()).required(true),
+            Form::Words => told.value_name(self.shown()).required(true).num_args(1..),
+            Form::Option => told.value_name(self.shown()).long(name),
+            Form::Flag => told.long(name).action(ArgAction::SetTrue),
+        }
+    }
+
+    /// Its name, which is also the word of an option or a flag after `--`.
+    fn name<'a>(self) -> &'a str
+        ensures { result.now ≡ (rule_for self).id }
+    {
+        match self {
+            Argument::File => "file",
+            Argument::Steps => "steps",
+            Argument::Scripts => "script",
+            Argument::Degree => "degree",
+            Argument::Turns => "turns",
+            Argument::Lines => "lines",
+            Argument::Divisors => "divisors",
+            Argument::Seats => "seats",
+            Argument::Capacity => "cap",
+            Argument::Workers | Argument::RankWorkers | Argument::LineWorkers => "workers",
+        }
+    }
+
+    /// How it is written.
+    fn form(self) -> Form
+        ensures { rule_for self ≡ rule_by result (rule_for self).id }
+    {
+        match self {
+            Argument::File | Argument::Steps | Argument::Degree | Argument::Turns => Form::Word,
+            Argument::Scripts => Form::Words,
+            Argument::Lines => Form::Flag,
+            Argument::Divisors
+            | Argument::Seats
+            | Argument::Capacity
+            | Argument::Workers
+            | Argument::RankWorkers
+            | Argument::LineWorkers => Form::Option,
+        }
+    }
+
+    /// What the usage calls its word; a flag has none.
+    fn shown<'a>(self) -> &'a str {
+        match self {
+            Argument::File => "FILE",
+            Argument::Steps => "STEPS",
+            Argument::Scripts => "SCRIPT",
+            Argument::Degree => "K",
+            Argument::Turns => "TURNS",
+            Argument::Lines => "",
+            Argument::Divisors => "LINES",
+            Argument::Seats
+            | Argument::Capacity
+            | Argument::Workers
+            | Argument::RankWorkers
+            | Argument::LineWorkers => "N",
+        }
+    }
+
+    /// What the help says of it.
+    fn help<'a>(self) -> &'a str {
+        match self {
+            Argument::File => FILE_HELP,
+            Argument::Steps => STEPS_HELP,
+            Argument::Scripts => SCRIPT_HELP,
+            Argument::Degree => DEGREE_HELP,
+            Argument::Turns => TURNS_HELP,
+            Argument::Lines => LINES_HELP,
+            Argument::Divisors => DIVISORS_HELP,
+            Argument::Seats => SEATS_HELP,
+            Argument::Capacity => CAPACITY_HELP,
+            Argument::Workers => WORKERS_HELP,
+            Argument::RankWorkers => RANK_WORKERS_HELP,
+            Argument::LineWorkers => LINE_WORKERS_HELP,
+        }
+    }
+}

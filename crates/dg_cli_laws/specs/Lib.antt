@@ -1,0 +1,2 @@
+-- Some command lines, and what they ask for.
+pub mod CommandLines
