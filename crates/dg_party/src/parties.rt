@@ -25,7 +25,7 @@ use std::thread::Threads;
 /// per vertex.
 ///
 /// Each thread enters the gate with its seat's number before its first line. Refused for want of memory; for want of a thread,
-/// so that not all scripts had sessions; and with `Log` where all had, and the table is not closed.
+/// so that not all scripts had sessions; and with `Log` if all had, and the table is not closed.
 pub fn party<R: Threads + Wait + Sync, G: Gate>(
     rt: &R,
     alloc: Global,

@@ -5,7 +5,7 @@ ghost use Rattle.dg_party.specs.Sessions.{IsSessionOver, AreSessions, RefusesSes
 use dg_log::Name;
 use dg_rank::Gate;
 use dg_session::{SessionEnd, serve_unheard};
-use dg_system::{Input, Shortage, beside};
+use dg_system::{Input, Shortage, in_parallel};
 use dg_table::{Seat, Table};
 use dg_tokens::Names;
 use std::alloc::Global;
@@ -37,7 +37,7 @@ impl<'a, N: Name, R, G> Drop for Room<'a, N, R, G> {
 /// the seat's number, and then answers the lines of its script. What they came to is told in the order of the scripts. The
 /// conditions are as many scripts as seats, and one name per vertex.
 ///
-/// Refused with `OutOfMemory`, after all sessions, and with `Spawn` where a thread could not be started: then some first seats
+/// Refused with `OutOfMemory`, after all sessions, and with `Spawn` if a thread could not be started: then some first seats
 /// had their sessions, not all, and the others know what they knew.
 pub fn sessions<N: Name + Send + Sync, R: Threads + Wait + Sync, G: Gate>(
     rt: &R,
@@ -108,7 +108,7 @@ fn play<'a, N: Name + Send + Sync, R: Threads + Wait + Sync, G: Gate>(
             (RefusesSessions N.table room.entry.now.names.now
             (contents left.entry.now) rest.entry.now rest.exit.now) }
     { play(room, left, rest) };
-    match beside(room.rt, &mut first, &mut others) {
+    match in_parallel(room.rt, &mut first, &mut others) {
         Ok((end, Ok(ends))) => match with_first(end, ends) {
             Ok(all) => Ok(all),
             Err(shortage) => Err(shortage),

@@ -20,7 +20,7 @@
 --   IsWanting held task fault == a party on this table lacks memory or a thread; or its table is not
 --                             closed
 --   RefusesParty held task fault old new == so is the party: there are too many scripts; or a file
---                             is not read; or the table file is refused, where all are; or memory,
+--                             is not read; or the table file is refused, if all are; or memory,
 --                             a thread or the history is refused. The output is as it was, unless
 --                             sessions ended early, or it failed
 use Rattle.std.specs.Prelude.{◌≡◌, ℕ, ◌+◌, ◌<◌, ◌≤◌, List, [], ◌∷◌, length, map, Option, ◌⊎◌}

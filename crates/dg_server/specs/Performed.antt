@@ -1,6 +1,6 @@
 -- What is asked for, done or refused. `held` tells what is known of the file of each name; input
 -- stands for the bytes that the reader gives, and old and new for what the output held and holds,
--- where those are known.
+-- if those are known.
 --   Performs held input asked old new == what is asked for is done: the output has grown by the
 --                                    answer to the task, by the text of a call for help, by what a
 --                                    session said, by the history and the totals of a party, or by

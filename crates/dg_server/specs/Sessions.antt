@@ -1,6 +1,6 @@
 -- Sessions over the input.
---   how_of seats          == how the lines name the seats: by number where so many are asked for,
---                         and not where none are
+--   how_of seats          == how the lines name the seats: by number if so many are asked for,
+--                         and not if none are
 --   IsHeard how table names input old new end == a session over the input, of the table's seats,
 --                            which know of no entry, came to this end; and the output has grown by
 --                            what it said

@@ -1,12 +1,12 @@
 -- The exit statuses of runs that end with a fault.
 --   IsStatus n             == 0, or the status of a run that ends with a fault
---   status_of_words fault  == the status where the words of the command line ask for nothing
---   status_of_source fault == the status where a file is not read
---   status_of_file fault   == the status where a table file is refused
---   status_of_table fault  == the status where a call of a table is refused so
---   status_of_task fault   == the status where a task is not done so
---   status_of_end end      == the status where a session ends so
---   status_of_sweep end    == the status where a sweep ends so
+--   status_of_words fault  == the status if the words of the command line ask for nothing
+--   status_of_source fault == the status if a file is not read
+--   status_of_file fault   == the status if a table file is refused
+--   status_of_table fault  == the status if a call of a table is refused so
+--   status_of_task fault   == the status if a task is not done so
+--   status_of_end end      == the status if a session ends so
+--   status_of_sweep end    == the status if a sweep ends so
 --   status fault           == 2 for a refused command line, 3 for refused input, 4 for want of
 --                         memory, 5 for reading and writing
 use Rattle.std.specs.Prelude.{◌≡◌, ℕ, ◌≤◌, ◌⊎◌}

@@ -1,4 +1,4 @@
--- Faults of the streams. Old and new stand for what the output held and holds, where that is known.
+-- Faults of the streams. Old and new stand for what the output held and holds, if that is known.
 --   IsOfInput fault       == the fault tells that the input of a session failed
 --   IsOfOutput fault      == the fault tells that the output failed
 --   BreaksOff fault old new text == the output failed, and has grown by a beginning of the text

@@ -1,7 +1,7 @@
 -- Sweeps over the lines of a file. `held` tells what is known of the file of each name, and old and
--- new what the output held and holds, where that is known.
+-- new what the output held and holds, if that is known.
 --   LinesIn held file question divisors P == P holds of the file of lines, and of what answers them:
---                         as tables, where none of amounts is named; or else as amounts, for the table
+--                         as tables, if none of amounts is named; or else as amounts, for the table
 --                         that the file describes
 --   HasLines held task P  == the same for the files that the task names
 --   IsSwept old new result h right == bytes that the file h may have were swept, with that result,
@@ -9,7 +9,7 @@
 --   Sweeps held task old new         == all its lines were answered
 --   RefusesLines h fault == the file h of lines can't be opened
 --   RefusesFiles held file divisors fault == the file of lines can't be opened; or the table file is
---                         refused, which comes first where the lines are amounts
+--                         refused, which comes first if the lines are amounts
 --   RefusesSweeping held task fault old new == the files are refused so, and the output is as it
 --                         was; or the sweep ended early
 use Rattle.std.specs.Prelude.{◌⊎◌, ℕ, List, Option, None, Some, Result, Ok, Err}

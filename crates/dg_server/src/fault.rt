@@ -76,7 +76,7 @@ pub fn status_of(fault: &Fault) -> u8
     }
 }
 
-/// The exit status where a task is not done so.
+/// The exit status if a task is not done so.
 fn status_of_task(fault: &TaskFault) -> u8
     ensures { result ≡ Rattle.dg_server.specs.Status.status_of_task fault.now }
 {
@@ -95,7 +95,7 @@ fn status_of_task(fault: &TaskFault) -> u8
     }
 }
 
-/// The exit status where a session ends so.
+/// The exit status if a session ends so.
 fn status_of_end(end: SessionEnd) -> u8
     ensures { result ≡ Rattle.dg_server.specs.Status.status_of_end end }
 {
@@ -107,7 +107,7 @@ fn status_of_end(end: SessionEnd) -> u8
     }
 }
 
-/// The exit status where a sweep ends so.
+/// The exit status if a sweep ends so.
 fn status_of_sweep(end: SweepEnd) -> u8
     ensures { result ≡ Rattle.dg_server.specs.Status.status_of_sweep end }
 {
@@ -117,7 +117,7 @@ fn status_of_sweep(end: SweepEnd) -> u8
     }
 }
 
-/// The exit status where a call of a table is refused so.
+/// The exit status if a call of a table is refused so.
 fn status_of_table(fault: dg_table::Fault) -> u8
     ensures { result ≡ Rattle.dg_server.specs.Status.status_of_table fault }
 {
@@ -150,7 +150,7 @@ fn sweep_end_text(end: SweepEnd) -> &'static str {
 }
 
 /// Writes what is said of a fault, and gives the exit status. That is one line, but after a refused command line as many
-/// as it takes, and for sessions of a party one for each. Where they cannot be written the status is the same.
+/// as it takes, and for sessions of a party one for each. If they cannot be written the status is the same.
 pub fn report<F: Write>(fault: &Fault, faults: &mut F) -> u8
     ensures { result ≡ status fault.now }
 {

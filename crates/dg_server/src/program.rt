@@ -16,8 +16,8 @@ use std::sync::Wait;
 use std::thread::Threads;
 
 /// Does what is asked for. The whole text of an answer is made before its first byte is written, so that `output` gets
-/// nothing where another fault than `Write` comes, and then a beginning of the text; but a session and a sweep answer as their
-/// lines come, and the history of a party is printed also where sessions of it ended early. Only a session reads the input.
+/// nothing if another fault than `Write` comes, and then a beginning of the text; but a session and a sweep answer as their
+/// lines come, and the history of a party is printed also if sessions of it ended early. Only a session reads the input.
 pub fn perform<R, S, I, O>(
     rt: &R,
     asked: Invocation<'_>,

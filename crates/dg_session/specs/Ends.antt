@@ -1,12 +1,12 @@
 -- How a session ends. `stream` is what was read, and `ended` says that no more is to come; s are
--- the seats before, and z after; `old` and `new` are what the writer held, where that is known.
+-- the seats before, and z after; `old` and `new` are what the writer held, if that is known.
 --   Answers t s ls z text == the lines ls are answered one after another with the text
 --   IsTooLong rest        == the rest begins with one byte more than a line may have, and no
 --                         newline
 --   Leaves stream ls P    == what stands after the lines ls is a rest of which P holds
 --   StopsAt t ended stream ls s z end == after the lines ls one more came, at which the session
 --                         ends so
---   EndsBy t ended stream ls s z result == what each end says, where just the lines ls are
+--   EndsBy t ended stream ls s z result == what each end says, if just the lines ls are
 --                            answered: they are all, and counted; reading failed after all whole
 --                            lines; a line is too long, or one too many; it stops at a line for
 --                            what the table or a thread refused; or for memory, or before; or the
@@ -14,10 +14,10 @@
 --   AreInOrder s          == the numbers of what the lines have entered ascend; the entries stand in
 --                            the history as the last line left it; and that is the one that a seat
 --                            has met, or there was no line of a seat
---   Writes result old new said text == the writer took what was said and the text, or, where it
+--   Writes result old new said text == the writer took what was said and the text, or, if it
 --                            took no more, all that was said and a front of the text
 --   IsOver t input rest old new xs ys result == the session of the seats xs is over, and they are
---                            ys. A stream was read, by which the reader's bytes, where known, have
+--                            ys. A stream was read, by which the reader's bytes, if known, have
 --                            become the rest. The lines of `told` are answered with what was said,
 --                            and then those of `last` with the text; these have no more bytes than
 --                            one read and one line. What they enter comes in their order

@@ -1,12 +1,12 @@
 -- Where a session ends at a line of one seat; x is the seat before the line and y after it, and
 -- `kept` is the number of the look that it keeps, if it keeps one.
---   CallsTable n kept command == the command makes an entry, where the table takes it: with that
+--   CallsTable n kept command == the command makes an entry, if the table takes it: with that
 --                                look kept, on n vertices
 --   TriesRank n kept command  == the command tries a rank on the look that is kept
---   MadeAtMost A x y          == the seat has made nothing, or what it makes where it is answered
+--   MadeAtMost A x y          == the seat has made nothing, or what it makes if it is answered
 --                                as A says
 --   RefusesCommand t kept command x y end == the command is not answered, and the session ends so:
---                                for what the table, the memory or a thread refused; where memory
+--                                for what the table, the memory or a thread refused; if memory
 --                                was refused, the entry may stand
 --   RefusesLine t kept line x y end       == so is the line, as its command
 use Rattle.std.specs.Prelude.{◌≡◌, ℕ, ◌⊎◌, List, [], Option, None, Some, ⊤}

@@ -1,8 +1,8 @@
 -- How far a session is, and how it goes on: what each floor, from the bytes that are read down to
 -- one command, promises of its states before and after. No public contract speaks of it.
---   heard text == what was said, where it is kept: nobody hears the others
+--   heard text == what was said, if it is kept: nobody hears the others
 --   Speaker    == how far a seat is: the seat, the number of the look that it keeps, if it keeps
---                 one, and what was said, where it is kept
+--                 one, and what was said, if it is kept
 --   Talk       == how far all seats are: who speaks, and what was said
 --   SoFar      == how far the session is: what came after the last newline, how many lines are
 --                 answered, and who speaks
@@ -26,7 +26,7 @@
 --                         them; what is said of it comes after what was said before
 --   TakesEnd t old new before after result == so is the end: what is pending is the last line, if
 --                         it has a byte
---   IsSaid said text == what was said, where it is kept, is the text
+--   IsSaid said text == what was said, if it is kept, is the text
 --   IsCleared old new == it is kept as before, and is nothing now
 --   IsWritten taken text old new result == all that was said is written, and it ends as the taking
 --                 did; or a front of it is, and the writer took no more

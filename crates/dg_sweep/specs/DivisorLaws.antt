@@ -1,6 +1,6 @@
 -- A law of lines of amounts.
 --   with_amounts content xs == what a file says that has the amounts xs, and else all as before
---   LinesStandForTables == where a line stands for a start, or its amounts are refused for their
+--   LinesStandForTables == if a line stands for a start, or its amounts are refused for their
 --                          number or range, it spells numbers with which the file that says the table
 --                          would describe that opening, or would be refused so
 use Rattle.std.specs.Prelude.{ℕ, ℤ, List}

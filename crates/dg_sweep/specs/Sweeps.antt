@@ -1,12 +1,12 @@
 -- How a sweep ends. `stream` is what was read, and `ended` says that no more is to come; `old` and
--- `new` are what the writer held, where that is known.
---   EndsAfter ended stream ls result == what each end says, where just the lines ls are answered:
---                       they are all, and no more are to come; or, where reading failed, all whole
+-- `new` are what the writer held, if that is known.
+--   EndsAfter ended stream ls result == what each end says, if just the lines ls are answered:
+--                       they are all, and no more are to come; or, if reading failed, all whole
 --                       lines
---   WritesAnswers result old new said text == the writer took what was said and the text, or, where
+--   WritesAnswers result old new said text == the writer took what was said and the text, or, if
 --                       it took no more, all that was said and a front of the text
 --   IsSweep right input rest old new result == a sweep is over. A stream was read, by which the
---                       reader's bytes, where known, have become the rest. The lines of `told` are
+--                       reader's bytes, if known, have become the rest. The lines of `told` are
 --                       answered by what was said, and then those of `last` by the text; these are
 --                       no more than the bytes of one read
 use Rattle.std.specs.Prelude.{◌≡◌, ℕ, ◌≤◌, List, ◌++◌, length, Option, Result, Ok, Err, ⊤}

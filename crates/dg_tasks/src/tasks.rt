@@ -17,7 +17,7 @@ use std::thread::Threads;
 
 /// The answer to a task, as text.
 ///
-/// Refused with `Source` or `File` where its table is not read or is refused, and then as the function is that does the task:
+/// Refused with `Source` or `File` if its table is not read or is refused, and then as the function is that does the task:
 /// `rehearsal`, which comes after `Source` for the steps, `judgement`, `rank_answer`, `riemann_roch`, or the greedy game with
 /// `Shortage`.
 pub fn answer<R, S>(rt: &R, task: &Task<'_>, sources: &S) -> Result<Vec<u8>, TaskFault>
