@@ -1,4 +1,4 @@
--- A `Known` and a `Witnesses` as values, and a `&` to what can be had twice. Assumes `Logic`.
+-- A `Witness` and a `Witnesses` as values, and a `&` to what can be had twice. Assumes `Logic`.
 use Rattle.std.proofs.Common.{ℕ, List, [], ◌∷◌, refl}
 use seplogic.Ra.Ura.{Ura}
 use mir.Val.{Val, vstruct, vcons, vnil}
@@ -23,23 +23,23 @@ abbrev pub token : Val
 token = vstruct (vcons (vstruct vnil) vnil)
 
 module _ {M : Type 1} {𝓤 : Ura M} (𝓛 : Logic 𝓤) where
-  pub known_made : (R : RattleType) (γ : ℕ) (x : R.Denot)
+  pub witness_made : (R : RattleType) (γ : ℕ) (x : R.Denot)
       → ent 𝓤 (sem 𝓛 (noted R γ (Some x))) (sem 𝓛 ((witness.the_row R).own_val (record {
         marker = record {};
         cell = γ;
         value = x;
       }) (token ∷ [])))
-  known_made R γ x = let F = (Struct (shape (witness.the_type R))).own_val (tt, tt) (token ∷ []) in
+  witness_made R γ x = let F = (Struct (shape (witness.the_type R))).own_val (tt, tt) (token ∷ []) in
       qed 𝓛 (‵ (noted R γ (Some x)) ∷ []) ∵
       use0 𝓛 (‵ F) (makes_shadow 𝓛 F (λ vss. (tt, ((λ uss. (tt, tt)), tt)))
       ((vstruct vnil ∷ [], tt), (refl, ((tt, (refl, tt)), tt)))) $ done !
 
-  pub facts_made : (R : RattleType) (items : List (ℕ × ℕ × R.Denot))
+  pub witnesses_made : (R : RattleType) (items : List (ℕ × ℕ × R.Denot))
       → ent 𝓤 (sem 𝓛 (noted_all R items)) (sem 𝓛 ((witnesses.the_row R).own_val (record {
         marker = record {};
         items = items;
       }) (token ∷ [])))
-  facts_made R items = let F = (Struct (shape (witnesses.the_type R))).own_val (tt, tt) (token ∷ []) in
+  witnesses_made R items = let F = (Struct (shape (witnesses.the_type R))).own_val (tt, tt) (token ∷ []) in
       qed 𝓛 (‵ (noted_all R items) ∷ []) ∵
       use0 𝓛 (‵ F) (makes_shadow 𝓛 F (λ vss. (tt, ((λ uss. (tt, tt)), tt)))
       ((vstruct vnil ∷ [], tt), (refl, ((tt, (refl, tt)), tt)))) $ done !

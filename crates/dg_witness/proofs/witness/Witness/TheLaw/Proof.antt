@@ -1,4 +1,4 @@
--- A `&` to a `Known` holds what it knows, which can be had twice. Assumes `Logic`.
+-- A `&` to a `Witness` holds what it knows, which can be had twice. Assumes `Logic`.
 use base.Logic.{snd∗}
 use base.Before.{before}
 use types.Logic.{sem}

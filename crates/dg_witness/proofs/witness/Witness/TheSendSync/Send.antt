@@ -1,4 +1,4 @@
--- A `Known` holds the name of a cell and a value that no thread has to itself.
+-- A `Witness` holds the name of a cell and a value that no thread has to itself.
 use denote.RattleType.{RattleType}
 use denote.Param.Send.{IsSend}
 use Rattle.dg_witness.specs.contracts.witness.Witness.{the_row}

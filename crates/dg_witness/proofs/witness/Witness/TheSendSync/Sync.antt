@@ -1,4 +1,4 @@
--- A `&` to a `Known` says the same in each thread.
+-- A `&` to a `Witness` says the same in each thread.
 use denote.RattleType.{RattleType}
 use denote.Param.Send.{IsSync, sendable}
 use denote.Struct.Owning.{shape}

@@ -22,7 +22,7 @@ use denote.Triple.Entry.{alive}
 use denote.Triple.Walked.{Stays, stay_dropped, walk_of, Goes-dropped}
 use Rattle.std.proofs.raw_atomic.Walks.{proved, leaves}
 use Rattle.dg_witness.specs.contracts.witness.Witness as witness
-use Rattle.dg_witness.proofs.Tokens.{token, known_made}
+use Rattle.dg_witness.proofs.Tokens.{token, witness_made}
 use Rattle.dg_witness.specs.contracts.witness.Witness.copy.{ended, clauses}
 use Rattle.dg_witness.specs.contracts.witness.Witness.copy.Key.{name as #self}
 use Rattle.dg_witness.proofs.witness.Witness.copy.Statement.{statement}
@@ -46,7 +46,7 @@ copy_spec 𝓤 𝓛 𝓜 𝓡 wired T L =
     qed 𝓛 ((raw (alive 𝓛 En.signature κs qs) ⊛ ‵ (owns (types_at En.signature.params κs) a y.0.4)) ∷
     raw ((c κs a).requires gh) ∷ []) ∵ split ! $ keep ! (1 ∷ 0 ∷ []) $
     fsplit ! $ fsplit ! $ keep ! (1 ∷ 3 ∷ []) $ unhide ! $ fsplit ! $ drop ! $
-    use1 𝓛 (‵ (S.own_val r (token ∷ []))) (known_made 𝓛 R γ x) $
+    use1 𝓛 (‵ (S.own_val r (token ∷ []))) (witness_made 𝓛 R γ x) $
     enter ! 𝓣.C 𝓣.Λ fn (p ∷ []) Post $ alloc_all ! (λ l. pass_all ! refl ((tt, tt), tt) $
     sets ! (agg ! (no_more !)) refl (tt, tt) $
     sets ! (agg ! (and_then ! (get ! refl) (no_more !))) refl (tt, (tt, tt)) $

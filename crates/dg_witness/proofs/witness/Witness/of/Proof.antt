@@ -25,7 +25,7 @@ use Rattle.std.proofs.raw_atomic.Walks.{proved, leaves}
 use Rattle.once_cell.specs.Once.{noted}
 use Rattle.once_cell.proofs.Notes as notes
 use Rattle.dg_witness.specs.contracts.witness.Witness as witness
-use Rattle.dg_witness.proofs.Tokens.{token, known_made}
+use Rattle.dg_witness.proofs.Tokens.{token, witness_made}
 use Rattle.dg_witness.specs.contracts.witness.Witness.of.{ended, clauses}
 use Rattle.dg_witness.specs.contracts.witness.Witness.of.Key.{name as #self}
 use Rattle.dg_witness.proofs.witness.Witness.of.Statement.{statement}
@@ -60,7 +60,7 @@ of_spec 𝓤 𝓛 𝓜 𝓡 wired T L =
     feq_i ! (List Val) (p ∷ []) (p ∷ []) refl $ fjoin ! $ nothing ! $ move ! (1 ∷ 0 ∷ []) $ fjoin ! $
     -- [the note; its token; the other; T's token]
     move ! (2 ∷ []) $ rewrite ! 0 (λ (k : Option R.Denot). ‵ (noted R γ k)) has.1 refl $
-    use1 𝓛 (‵ (S.own_val r (token ∷ []))) (known_made 𝓛 R γ x) $
+    use1 𝓛 (‵ (S.own_val r (token ∷ []))) (witness_made 𝓛 R γ x) $
     move ! (2 ∷ 3 ∷ []) $ join ! $ sets ! (agg ! (no_more !)) refl (tt, tt) $
     sets ! (agg ! (and_then ! (get ! refl) (no_more !))) refl (tt, (tt, tt)) $
     use0 𝓛 (raw (fact 𝓤 Told)) (fact_i 𝓤 Told (emp 𝓤) (refl, refl, has.1)) $

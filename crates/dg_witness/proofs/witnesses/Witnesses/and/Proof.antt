@@ -26,7 +26,7 @@ use Rattle.dg_witness.specs.Witnesses.{noted_all}
 use Rattle.dg_witness.specs.contracts.witnesses.Witnesses as witnesses
 use Rattle.dg_witness.specs.contracts.witness.Witness as witness
 use Rattle.dg_witness.proofs.AllNoted.{all_more}
-use Rattle.dg_witness.proofs.Tokens.{token, facts_made}
+use Rattle.dg_witness.proofs.Tokens.{token, witnesses_made}
 use Rattle.dg_witness.specs.contracts.witnesses.Witnesses.and.{ended, clauses}
 use Rattle.dg_witness.specs.contracts.witnesses.Witnesses.and.Key.{name as #self}
 use Rattle.dg_witness.proofs.witnesses.Witnesses.and.Statement.{statement}
@@ -61,7 +61,7 @@ and_spec 𝓤 𝓛 𝓜 𝓡 wired T L =
     -- [what self's `&` holds; what the other's holds; the tokens]
     unhide ! $ fsplit ! $ drop ! $ move ! (1 ∷ []) $ unhide ! $ fsplit ! $ drop ! $ move ! (1 ∷ 0 ∷ []) $
     use2 𝓛 (‵ (noted_all R more)) (all_more 𝓛 R items n γ x) $
-    use1 𝓛 (‵ (S.own_val r (token ∷ []))) (facts_made 𝓛 R more) $
+    use1 𝓛 (‵ (S.own_val r (token ∷ []))) (witnesses_made 𝓛 R more) $
     enter ! 𝓣.C 𝓣.Λ fn (p ∷ vint w32 n ∷ p' ∷ []) Post $
     alloc_all ! (λ l. pass_all ! refl ((tt, tt), ((tt, record { fits = are.1.0.1 }), ((tt, tt), tt))) $
     sets ! (agg ! (no_more !)) refl (tt, tt) $

@@ -28,7 +28,7 @@ use Rattle.once_cell.specs.Once.{noted}
 use Rattle.dg_witness.specs.contracts.witnesses.Witnesses as witnesses
 use Rattle.dg_witness.specs.contracts.witness.Witness as witness
 use Rattle.dg_witness.proofs.AllNoted.{all_at, item_at, part_at}
-use Rattle.dg_witness.proofs.Tokens.{token, known_made}
+use Rattle.dg_witness.proofs.Tokens.{token, witness_made}
 use Rattle.dg_witness.specs.contracts.witnesses.Witnesses.at.{ended, clauses}
 use Rattle.dg_witness.specs.contracts.witnesses.Witnesses.at.Key.{name as #self}
 use Rattle.dg_witness.proofs.witnesses.Witnesses.at.Statement.{statement}
@@ -60,7 +60,7 @@ at_spec 𝓤 𝓛 𝓜 𝓡 wired T L =
     (slice_get (map (λ (z : ℕ × ℕ × R.Denot). z.2) items) i ≡ Some x.2) in
     split ! $ move ! (1 ∷ []) $ fsplit ! $ fsplit ! $ keep ! (1 ∷ 3 ∷ []) $ unhide ! $ fsplit ! $ drop ! $
     use1 𝓛 (‵ (noted R x.1 (Some x.2))) (all_at 𝓛 R items i x found.1) $
-    use1 𝓛 (‵ (K.own_val r (token ∷ []))) (known_made 𝓛 R x.1 x.2) $
+    use1 𝓛 (‵ (K.own_val r (token ∷ []))) (witness_made 𝓛 R x.1 x.2) $
     enter ! 𝓣.C 𝓣.Λ fn (p ∷ vint w32 i ∷ []) Post $
     alloc_all ! (λ l. pass_all ! refl ((tt, tt), ((tt, record { fits = are.1.0.1 }), tt)) $
     sets ! (agg ! (no_more !)) refl (tt, tt) $

@@ -18,7 +18,7 @@ use denote.Triple.Entry.{alive}
 use denote.Triple.Walked.{Stays, walk_of}
 use Rattle.std.proofs.raw_atomic.Walks.{proved, leaves}
 use Rattle.dg_witness.specs.contracts.witnesses.Witnesses as witnesses
-use Rattle.dg_witness.proofs.Tokens.{token, facts_made}
+use Rattle.dg_witness.proofs.Tokens.{token, witnesses_made}
 use Rattle.dg_witness.specs.contracts.witnesses.Witnesses.new.{ended, clauses}
 use Rattle.dg_witness.specs.contracts.witnesses.Witnesses.new.Key.{name as #self}
 use Rattle.dg_witness.proofs.witnesses.Witnesses.new.Statement.{statement}
@@ -38,7 +38,7 @@ new_spec 𝓤 𝓛 𝓜 𝓡 wired T L =
     let Post : Val → SProp 𝓤 = (walk_of 𝓛 En hs c).post y in
     qed 𝓛 ((raw (alive 𝓛 En.signature κs qs) ⊛ ‵ (owns (types_at En.signature.params κs) a y.0.4)) ∷
     raw ((c κs a).requires gh) ∷ []) ∵ split ! $ keep ! (0 ∷ []) $
-    nothing ! $ use1 𝓛 (‵ (S.own_val r (token ∷ []))) (facts_made 𝓛 R []) $
+    nothing ! $ use1 𝓛 (‵ (S.own_val r (token ∷ []))) (witnesses_made 𝓛 R []) $
     enter ! 𝓣.C 𝓣.Λ fn [] Post $ alloc_all ! (λ l. pass_all ! refl tt $
     sets ! (agg ! (no_more !)) refl (tt, tt) $
     sets ! (agg ! (and_then ! (get ! refl) (no_more !))) refl (tt, (tt, tt)) $
