@@ -83,7 +83,7 @@ fn is_played<N: Name, R: Threads + Wait + Abort>(
 
 // The history as each seat found it at its last call: the second's is the beginning of the first's.
 fn found<N: Name>(rt: &impl Abort, first: &Seat<N>, second: &Seat<N>) {
-    let (long, short) = (first.past(), second.past());
+    let (long, short) = (first.prefix(), second.prefix());
     assert!(rt; long.len() == 10_007 && short.len() == 10_004);
     long.compare(short);
 }

@@ -1,4 +1,4 @@
-use Rattle.std.proofs.Common.{rules, length, ap, ◌∙◌}
+use Rattle.std.proofs.Common.{rules, length, ap, sym, ◌∙◌}
 use Rattle.dg_party.specs.Sessions.{contents}
 use Rattle.dg_lines.proofs.Printing.{legal_named}
 use Rattle.dg_party.proofs.Begun.{party_lacks}
