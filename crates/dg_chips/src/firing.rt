@@ -12,7 +12,7 @@ ghost use Rattle.dg_chips.specs.Refused.{IsRefusal};
 ghost use Rattle.dg_chips.specs.Light.{IsLight};
 
 use crate::divisor::Divisor;
-use crate::light::{gained_lightly, is_light};
+use crate::light::gained_lightly;
 use crate::limits::MAX_DRIFT;
 use crate::moves::{Move, MoveFault, script_of};
 use crate::script::Script;
@@ -76,10 +76,10 @@ fn fired_amounts(graph: &Graph, divisor: &Divisor, script: &Script) -> [i64; 16]
     ensures amounts { (v : ℕ) → v < graph.now.size →
         slice_index_or result v (pos 0) ≡ fired graph.now (at divisor.now) (at script.now) v }
 {
-    let light = is_light(graph, script.in_32_bits());
+    let lendings = script.entries();
     let mut amounts = [0; 16];
     for v in 0..graph.size() {
-        amounts[v] = divisor.get(v) + gained_by(graph, script, light, v);
+        amounts[v] = divisor.get(v) + gained(graph, &lendings, v);
     }
     amounts
 }

@@ -185,17 +185,17 @@ impl Game {
             RepliesAt (position_of self.now) self.now.q before self.now.gifts (asked plain.now) reply.new }
     {
         match plain {
-            Plain::Move(play) => self.answer_move(play, reply),
-            Plain::Gift(v, dollars) => self.answer_gift(*v, *dollars, reply),
-            Plain::Join(u, v) => self.answer_join(*u, *v, reply),
+            Plain::Move(play) => self.reply_to_move(play, reply),
+            Plain::Gift(v, dollars) => self.reply_to_gift(*v, *dollars, reply),
+            Plain::Join(u, v) => self.reply_to_join(*u, *v, reply),
             Plain::Look => *reply = Reply::Looked(self.gifts, self.amounts, self.graph),
-            Plain::Claim => self.answer_claim(reply),
+            Plain::Claim => self.reply_to_claim(reply),
         }
     }
 
     /// Writes the reply to a move.
     #[inline(never)]
-    fn answer_move(&self, play: &Move, reply: &mut Reply)
+    fn reply_to_move(&self, play: &Move, reply: &mut Reply)
         ensures { RepliesToMove (position_of self.now) play.now reply.new }
     {
         match apply(&self.graph, &self.amounts, play) {
@@ -206,7 +206,7 @@ impl Game {
 
     /// Writes the reply to a gift or a levy.
     #[inline(never)]
-    fn answer_gift(&self, v: u8, dollars: i64, reply: &mut Reply)
+    fn reply_to_gift(&self, v: u8, dollars: i64, reply: &mut Reply)
         ensures { RepliesToGift (position_of self.now) self.now.gifts v dollars reply.new }
     {
         match self.after_gift(v, dollars) {
@@ -217,7 +217,7 @@ impl Game {
 
     /// Writes the reply to a join.
     #[inline(never)]
-    fn answer_join(&self, u: u8, v: u8, reply: &mut Reply)
+    fn reply_to_join(&self, u: u8, v: u8, reply: &mut Reply)
         ensures { RepliesToJoin (position_of self.now) self.now.gifts u v reply.new }
     {
         match self.graph.join(u, v) {
@@ -227,7 +227,7 @@ impl Game {
     }
 
     /// Writes the reply to a claim.
-    fn answer_claim(&self, reply: &mut Reply)
+    fn reply_to_claim(&self, reply: &mut Reply)
         ensures { RepliesToClaim (position_of self.now) reply.new }
     {
         if self.amounts.is_effective() {

@@ -13,7 +13,6 @@
 --   last_made      what was made is the last entry, where there is one more
 use Rattle.std.proofs.Common.{◌≡◌, ℕ, ◌+◌, ◌-◌, ◌<◌, ◌≤◌, inl, inr, List, [], ◌∷◌, ◌++◌, length, length-append, Option, Some, None, slice_get, refl, sym, ap, subst, ◌∙◌, arith}
 use Rattle.std.proofs.lemmas.Option.{slice_get_within, same_Some}
-use Rattle.dg_chips.specs.Starts.{StartData}
 use Rattle.dg_game.proofs.LegalLaws.{legal_none}
 use Rattle.dg_game.specs.declared.entry.Entry.{Entry}
 use Rattle.dg_table.specs.Histories.{IsHistoryOf}

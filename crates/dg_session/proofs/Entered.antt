@@ -10,7 +10,6 @@ use Rattle.std.specs.List.{enumerate_from}
 use Rattle.std.proofs.lemmas.Option.{same_Some}
 use Rattle.std.proofs.lemmas.List.{length-map, nil_from_length}
 use Rattle.std.proofs.lemmas.List.Sums.{sum_by-cons}
-use Rattle.dg_chips.specs.Starts.{StartData}
 use Rattle.dg_game.specs.declared.entry.Entry.{Entry}
 use Rattle.dg_game.proofs.ListLaws.{slice_get-seam}
 use Rattle.dg_log.specs.Numbered.{AreBelow, StandIn, IsBeginning}

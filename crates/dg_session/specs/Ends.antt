@@ -26,9 +26,8 @@
 --   IsSession ..          == that of one seat, whose lines name none
 use Rattle.std.specs.Prelude.{◌≡◌, ℕ, ◌+◌, ◌<◌, ◌≤◌, ◌⊎◌, List, [], ◌∷◌, ◌++◌, length, slice_get, Option, Some, All, map, flat_map, Result, Ok, Err}
 use Rattle.std.specs.Io.KnownBytes.{Appends, Consumes, IsAtEnd}
-use Rattle.dg_chips.specs.Starts.{StartData}
 use Rattle.dg_log.specs.Numbered.{StandIn}
-use Rattle.dg_table.specs.Histories.{HasPast}
+use Rattle.dg_table.specs.Histories.{HasPrefix}
 use Rattle.dg_table.specs.Seats.{SeatView}
 use Rattle.dg_lines.specs.Cuts.{lines}
 use Rattle.dg_lines.specs.Streams.{HasNoNewline, Begins, with_newline}
@@ -113,7 +112,7 @@ pub record IsSessionOf (how : LineFormat) (table : TableData) (names : List (Lis
     (input rest old new : Option (List ℕ)) (xs ys : List SeatView)
     (result : Result ℕ SessionEnd) : Type 0 where
   pub over : IsOver (setup how table names) input rest old new xs ys result
-  pub found : All (HasPast table) ys
+  pub found : All (HasPrefix table) ys
   pub numbers : map (λ (y : SeatView). y.number) ys ≡ map (λ (x : SeatView). x.number) xs
 
 abbrev pub IsSession : TableData → List (List ℕ) → Option (List ℕ) → Option (List ℕ)

@@ -1,5 +1,5 @@
 -- What a session says to the lines of one seat. An entry that is made stands, with its number, in
--- the one history that the seat has found (`HasPast`), and is answered there as the game answers
+-- the one history that the seat has found (`HasPrefix`), and is answered there as the game answers
 -- it. `names` are the names of the vertices, and `kept` is the number of the look that the session
 -- keeps, if it keeps one.
 --   kept_after kept p           == the look that is kept after the entry p: it, if it is a look;

@@ -1,7 +1,7 @@
 //! Serving a stream of lines.
 ghost use Rattle.std.specs.Prelude.{◌≡◌, ◌≢◌, ◌≤◌, List, ℕ, [], length, None, Err, OnOk, All, true};
 ghost use Rattle.dg_rank.specs.Ranks.{MayHaveWorkers};
-ghost use Rattle.dg_table.specs.Histories.{HasPast};
+ghost use Rattle.dg_table.specs.Histories.{HasPrefix};
 ghost use Rattle.dg_session.specs.Ends.{IsOver, IsSession, IsSessionOf};
 ghost use Rattle.dg_session.specs.Setup.{setup};
 ghost use Rattle.dg_session.specs.SoFar.{heard, IsSaid, IsCleared, IsWritten};
@@ -128,7 +128,7 @@ pub fn serve_unheard<N: Name, R: Threads + Wait, I: Read>(
 
 /// Each seat has found a history of its table. Nothing is done.
 fn have_prefixes<N: Name>(seats: &[Seat<N>])
-    ensures { All (HasPast N.table) seats.now }
+    ensures { All (HasPrefix N.table) seats.now }
 {
     for seat in seats {
         let _prefix = seat.prefix();

@@ -2,7 +2,7 @@
 ghost use Rattle.std.specs.Prelude.{◌≡◌, ◌-◌, ◌<◌, ◌≤◌, [], ◌∷◌, ◌++◌, length, slice_get, true, None, Some, IfOk, IfSome, MatchBool, MatchOption, MatchResult};
 ghost use Rattle.std.specs.Vec.{vec_capacity};
 ghost use Rattle.dg_table.specs.Faults.{StandsFull};
-ghost use Rattle.dg_table.specs.Histories.{HasPast, IsHistoryOf};
+ghost use Rattle.dg_table.specs.Histories.{HasPrefix, IsHistoryOf};
 ghost use Rattle.dg_table.specs.Looks.{HasVertices, IsLastLook};
 ghost use Rattle.dg_table.specs.Opened.{MayHaveSeats, AreFresh};
 ghost use Rattle.dg_table.specs.Seats.{Keeps, Meets};
@@ -110,7 +110,7 @@ impl<N: Name> Seat<N> {
     /// history of the table, and the seat's entries in it are just those of its own calls.
     pub fn prefix(&self) -> &Prefix<N>
         ensures prefix { result.now ≡ self.now.prefix }
-        ensures found { HasPast N.table self.now }
+        ensures found { HasPrefix N.table self.now }
     {
         &self.prefix
     }
@@ -119,7 +119,7 @@ impl<N: Name> Seat<N> {
     /// was told of. It is a history of the table.
     pub fn met(&self) -> &Prefix<N>
         ensures met { result.now ≡ self.now.met }
-        ensures found { HasPast N.table self.now }
+        ensures found { HasPrefix N.table self.now }
     {
         &self.met
     }

@@ -1,4 +1,3 @@
-use Rattle.std.proofs.Common.{length}
 use Rattle.dg_session.proofs.Coming.{history_none}
 use Rattle.dg_session.proofs.course.Course.new.Goals as goal
 
