@@ -228,7 +228,7 @@ def fault_tables():
         page = Part(path)
         rows += [(numbered(row[1]), int(row[2]), page.place(row.start()))
                  for row in re.finditer(r"^\|.*\| `dollar: ([^`]*)` \| (\d) \|", page.text, re.M)]
-    rows += [("not JSON", int(status), place) for status, place in part.matches(r"^\| as above \|[^|]*\| (\d) \|$")]
+    rows += [("not JSON", int(status), place) for status, place in part.matches(r"^\| a fault of \[the table file\][^|]*\|[^|]*\| (\d) \|$")]
     for text, status, place in rows:
         if status != {**statuses, **wanted}.get(text, status):
             yield "%s: the status of `%s` is %d" % (place, text, {**statuses, **wanted}[text])
