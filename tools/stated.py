@@ -220,15 +220,15 @@ def fault_tables():
     bad = {"line #: " + text for text in words.line_faults()}
     wanted = {text: status for text, status in statuses.items() if text not in of_files | bad}
     wanted["line #:"], wanted["amount of vertex #"] = statuses[min(bad)], statuses["amount of vertex #"]
-    part = Part(FORMATS, "| Fault | Text | Causes, and what helps | Status |", "\n\n")
+    part = Part(FORMATS, "| Text | Meaning, and what helps | Status |", "\n\n")
     rows = [(numbered(row[1]), int(row[2]), part.place(row.start()))
-            for row in re.finditer(r"^\|[^|]*\| `([^`]*)`[^|]*\|[^|]*\| (\d) \|$", part.text, re.M)]
+            for row in re.finditer(r"^\| `([^`]*)`[^|]*\|[^|]*\| (\d) \|$", part.text, re.M)]
     yield from part.compare("fault", [(text, place) for text, _, place in rows], list(wanted))
     for path in sorted(glob.glob("docs/*.md")):
         page = Part(path)
         rows += [(numbered(row[1]), int(row[2]), page.place(row.start()))
                  for row in re.finditer(r"^\|.*\| `dollar: ([^`]*)` \| (\d) \|", page.text, re.M)]
-    rows += [("not JSON", int(status), place) for status, place in part.matches(r"^\| a refused table file \| as above \|[^|]*\| (\d) \|$")]
+    rows += [("not JSON", int(status), place) for status, place in part.matches(r"^\| a fault of \[the table file\][^|]*\|[^|]*\| (\d) \|$")]
     for text, status, place in rows:
         if status != {**statuses, **wanted}.get(text, status):
             yield "%s: the status of `%s` is %d" % (place, text, {**statuses, **wanted}[text])
@@ -286,7 +286,7 @@ def limits():
     for one, other in SAME:
         if known[one] != known[other]:
             yield "%s is %s, and %s is %s: they are one limit" % (one, known[one], other, known[other])
-    part = Part(FORMATS, "| What | Limit | Name in the code | Why |", "\n\n")
+    part = Part(FORMATS, "| What | Limit | Name in the code |", "\n\n")
     for row in re.finditer(r"^\|[^|]*\| ([\d,]+) \| `(dg_\w+::\w+)` \|", part.text, re.M):
         if known.get(row[2], "no constant") != row[1].replace(",", ""):
             yield "%s: %s is %s, not %s" % (part.place(row.start()), row[2], known.get(row[2], "no constant"), row[1])
