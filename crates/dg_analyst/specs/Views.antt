@@ -2,7 +2,7 @@
 --   LookView          == a look's entry, with its number, and what is kept of it
 --   Found A           == a look, and what was found on it: a verdict, or the answer of a rank test
 --   IsTaken o x       == what is kept of the look x of a table with the start o is that of its
---                        entry, and has the vertices of the opening
+--                        entry, and has the vertices of the start
 --   IsJudged q x v    == v is the verdict that is reckoned, from the vertex q, for the look x, its
 --                        amounts on its graph
 --   IsTried x k w v   == v is the right answer of the rank test of degree k for the look x, its

@@ -31,7 +31,7 @@ pub fn commit<N: Name>(
     reckoned: Reckoned<N>,
 ) -> Result<Receipt<N>, (Reckoned<N>, Fault)>
     ensures settled { IfOk result
-        (λ r. IsSettled N.table reckoned.look.receipt reckoned.look.shown
+        (λ r. IsSettled N.table reckoned.look.receipt
         (Finding.Judged reckoned.verdict) r seat.old seat.new) }
     ensures fault { IfErr result (λ e. (e.0 ≡ reckoned) × Keeps seat.old seat.new ×
         RefusesCall N.table seat.new e.1) }
@@ -60,8 +60,7 @@ pub fn commit_stale<N: Name>(
 ) -> Result<Option<Receipt<N>>, Fault>
     ensures settled { IfOk result (λ found. MatchOption found
         (Keeps seat.old seat.new × (seat.new.met ≡ seat.old.met))
-        (λ r. IsStale N.table look.now.receipt look.now.shown asks.now r
-        seat.old seat.new)) }
+        (λ r. IsStale N.table look.now.receipt asks.now r seat.old seat.new)) }
     ensures fault { IfErr result (λ f. Keeps seat.old seat.new ×
         RefusesCall N.table seat.new f) }
 {
@@ -82,7 +81,7 @@ pub fn commit_look<N: Name>(
 ) -> Result<Receipt<N>, Fault>
     ensures settled { (v : VerdictData) × IsJudged N.table.start.q look.now v ×
         IfOk result (λ r. IsSettled N.table look.now.receipt
-        look.now.shown (Finding.Judged v) r seat.old seat.new) }
+        (Finding.Judged v) r seat.old seat.new) }
     ensures fault { IfErr result (λ f. Keeps seat.old seat.new ×
         RefusesCall N.table seat.new f) }
 {
@@ -107,7 +106,7 @@ pub fn commit_rank<N: Name>(
     tried: Tried<N>,
 ) -> Result<Receipt<N>, (Tried<N>, Fault)>
     ensures settled { IfOk result
-        (λ r. IsSettled N.table tried.look.receipt tried.look.shown
+        (λ r. IsSettled N.table tried.look.receipt
         (Finding.Ranked tried.verdict) r seat.old seat.new) }
     ensures fault { IfErr result (λ e. (e.0 ≡ tried) × Keeps seat.old seat.new ×
         RefusesCall N.table seat.new e.1) }

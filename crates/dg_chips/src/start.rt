@@ -60,7 +60,7 @@ impl Start {
     /// The graph.
     pub fn graph(&self) -> &Graph
         ensures graph { result.now ≡ self.now.graph }
-        ensures opening { IsStart self.now }
+        ensures start { IsStart self.now }
     {
         &self.graph
     }

@@ -14,7 +14,7 @@
 -- Of entries that stand the latest first:
 --   scripts_since R            == the sum of the scripts of all moves accepted since the last
 --                                 change
---   after_change o R           == the position right after the last change, and that of the opening
+--   after_change o R           == the position right after the last change, and that of the start
 --                                 o if there is none
 -- So:
 --   position_after o H         == the position after the history H from the start o: that after

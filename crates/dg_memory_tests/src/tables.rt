@@ -34,7 +34,7 @@ pub(crate) const ANSWER: &[u8] =
 
 // What is done at a table.
 #[derive(Clone, Copy)]
-enum Scene {
+enum TableTest {
     // Two seats act, an observer reads, and the table is closed.
     Acts,
     // A strategy has two turns.
@@ -47,20 +47,20 @@ enum Scene {
     Pen,
 }
 
-// A scene that goes on from what stands is played on a new table once it was refused.
+// A test that goes on from what stands is played on a new table once it was refused.
 #[test]
 fn tables_answer_or_refuse(rt: HostRuntime) -> Result<(), Fail> {
     let alloc = rt.alloc();
     let file = triangle(&rt, alloc)?;
-    for scene in [
-        Scene::Acts,
-        Scene::Play,
-        Scene::SettleOut,
-        Scene::Serve,
-        Scene::Pen,
+    for test in [
+        TableTest::Acts,
+        TableTest::Play,
+        TableTest::SettleOut,
+        TableTest::Serve,
+        TableTest::Pen,
     ] {
-        if on_a_table(&rt, alloc, &file, scene)? != Outcome::Done {
-            assert!(&rt; on_a_table(&rt, alloc, &file, scene)? == Outcome::Done);
+        if on_a_table(&rt, alloc, &file, test)? != Outcome::Done {
+            assert!(&rt; on_a_table(&rt, alloc, &file, test)? == Outcome::Done);
         }
     }
     Ok(())
@@ -81,12 +81,12 @@ pub(crate) fn triangle<R: Abort + Print>(rt: &R, alloc: Global) -> Result<TableF
     }
 }
 
-// Plays the scene on a row of ten cells.
+// Plays the test on a row of ten cells.
 fn on_a_table<R: Threads + Wait + Abort + Print>(
     rt: &R,
     alloc: Global,
     file: &TableFile,
-    scene: Scene,
+    test: TableTest,
 ) -> Result<Outcome, Fail> {
     let row = match Row::new(alloc, 10) {
         Err(LogFault::OutOfMemory) => {
@@ -98,7 +98,7 @@ fn on_a_table<R: Threads + Wait + Abort + Print>(
             made?
         }
     };
-    opened::<Brand, R>(rt, alloc, row, file, 2, scene)
+    opened::<Brand, R>(rt, alloc, row, file, 2, test)
 }
 
 // The same if N names the row, the start and the number of seats. A row that comes back is used again.
@@ -108,12 +108,12 @@ fn opened<N: Name, R: Threads + Wait + Abort + Print>(
     row: Row,
     file: &TableFile,
     count: u8,
-    scene: Scene,
+    test: TableTest,
 ) -> Result<Outcome, Fail>
     requires row { row ≡ N.cells }
     requires table { N.table ≡ table_of file.now.start count (length row) }
 {
-    if let Scene::Pen = scene {
+    if let TableTest::Pen = test {
         return writes::<N, R>(rt, alloc, row);
     }
     let (table, seats) = match Table::<N>::open(alloc, row, file.start(), count) {
@@ -129,7 +129,7 @@ fn opened<N: Name, R: Threads + Wait + Abort + Print>(
                 .ok_or("a table")?
         }
     };
-    shown(rt, alloc, table, seats, file.names(), scene)
+    shown(rt, alloc, table, seats, file.names(), test)
 }
 
 fn shown<N: Name, R: Threads + Wait + Abort + Print>(
@@ -138,20 +138,20 @@ fn shown<N: Name, R: Threads + Wait + Abort + Print>(
     table: Table<N>,
     seats: Vec<Seat<N>>,
     names: &Names,
-    scene: Scene,
+    test: TableTest,
 ) -> Result<Outcome, Fail>
     requires { length names.now ≡ N.table.start.graph.size }
 {
     let mut seats = seats;
-    if let Scene::Acts = scene {
+    if let TableTest::Acts = test {
         act_in_turn(rt, alloc, &table, seats.as_mut_slice())?;
         watches(rt, alloc, &table)?;
         return closes(rt, alloc, table, seats);
     }
     let seat = seats.first_mut().ok_or("a seat")?;
-    let (name, outcome) = match scene {
-        Scene::Play => ("play", plays(rt, alloc, &table, seat)),
-        Scene::SettleOut => ("settle_out", settles(rt, alloc, &table, seat)),
+    let (name, outcome) = match test {
+        TableTest::Play => ("play", plays(rt, alloc, &table, seat)),
+        TableTest::SettleOut => ("settle_out", settles(rt, alloc, &table, seat)),
         _ => ("serve", serves(rt, alloc, &table, seat, names)),
     };
     tell(rt, name, outcome)?;

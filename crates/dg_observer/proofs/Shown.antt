@@ -32,8 +32,8 @@ shown_along o K (e ∷ L) d last legal shows (next, step, rest) =
     (shown_along o (K ++ e ∷ []) L next last (subst (IsLegal o) (sym whole) legal) after rest)
 
 pub positions_shown : PositionsAreShown
-positions_shown o H d opening legal folds =
+positions_shown o H d start legal folds =
     let start : Shows (position_after o []) o.divisor =
-    rw (no_entry o) (record { size = opening.size; amounts = λ v below. refl }) in
+    rw (no_entry o) (record { size = start.size; amounts = λ v below. refl }) in
     shown_along o [] H o.divisor d legal start
     (subst (λ (first : Vector). FoldsTo (λ old e next. next ≡ amounts_after old e.reply) first H d) folds.begun folds.steps)

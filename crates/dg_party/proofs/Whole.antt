@@ -13,7 +13,6 @@ use Rattle.std.specs.List.{slice_index}
 use Rattle.std.specs.Global.{Vec}
 use Rattle.std.proofs.lemmas.Option.{none-some}
 use Rattle.std.proofs.Math.Seq.{take-append_seam}
-use Rattle.dg_theory.specs.Multigraph.{Multigraph}
 use Rattle.dg_chips.specs.Starts.{StartData}
 use Rattle.dg_chips.specs.Vector.{Vector, at}
 use Rattle.dg_game.specs.Position.{Shows}
@@ -24,6 +23,8 @@ use Rattle.dg_game.proofs.StepLaw.{vertices_stay}
 use Rattle.dg_table.specs.Seats.{SeatView, entries_of}
 use Rattle.dg_table.specs.Opened.{AreFresh}
 use Rattle.dg_table.specs.Closing.{IsClosed, AreTotals, IsCloseRefused}
+use Rattle.dg_log.specs.declared.name.Name.{Ghosts}
+use Rattle.dg_table.specs.declared.audit.Audit.{Audit}
 use Rattle.dg_session.specs.declared.ends.SessionEnd.{SessionEnd}
 use Rattle.dg_party.specs.Sessions.{IsSessionOver, AreSessions, contents}
 use Rattle.dg_transcript.specs.Printed.{entries_text, seat_text, seats_text, calls_text, totals_text}
@@ -95,16 +96,15 @@ calls_are H s (suc n) (count ∷ calls) enough each =
     ap (λ c. seat_text s c ++ calls_text (s + 1) (take n calls)) first
     ∙ ap (λ t. seat_text s (length (entries_of s H)) ++ t) (calls_are H (s + 1) n calls (omega (arith, enough)) rest)
 
-call_counts : (table : TableData) (ys : List SeatView) (H : List Entry) (entries gifts : ℕ) (graph : Multigraph)
-    (position : Vector) (calls : List ℕ)
-    → IsClosed table ys H → AreTotals table.start table.seats ys H entries gifts graph position calls
-    → (k : ℕ) → k < table.seats → slice_index calls k ≡ length (entries_of (1 + k) H)
-call_counts table ys H entries gifts graph position calls closed totals k less =
+call_counts : {N : Type 0} {named : Ghosts N} (table : TableData) (ys : List SeatView) (a : Audit N named)
+    → IsClosed table ys a.pen.entries → AreTotals table ys a
+    → (k : ℕ) → k < table.seats → slice_index a.calls k ≡ length (entries_of (1 + k) a.pen.entries)
+call_counts table ys a closed totals k less =
     let has = closed.complete (k + 1) (omega arith) (omega (arith, less)) in
     let same : k + 1 ≡ 1 + k = omega arith in
-    totals.calls' has.0 has.1 has.2 k has.3
+    totals.calls has.0 has.1 has.2 k has.3
     ∙ ap length (sym (closed.held has.0 has.1 has.2).mine)
-    ∙ ap (λ j. length (entries_of j H)) (has.3 ∙ same)
+    ∙ ap (λ j. length (entries_of j a.pen.entries)) (has.3 ∙ same)
 
 pub contents_count : (scripts : List (Vec ℕ)) → length (contents scripts) ≡ length scripts
 contents_count [] = refl
@@ -120,16 +120,15 @@ audit_with names H position seats =
     codes "entries " ++ decimal (length H) ++ codes "\ngifts " ++ decimal (gifts_in H) ++ codes "\nposition "
     ++ pairs names (at position) ++ codes "\n" ++ seats
 
-whole : (table : TableData) (names scripts : List (List ℕ)) (xs ys : List SeatView)
-    (ends : List (Result ℕ SessionEnd)) (H : List Entry) (entries gifts : ℕ) (graph : Multigraph) (position : Vector)
-    (calls text : List ℕ)
+whole : {N : Type 0} {named : Ghosts N} (table : TableData) (names scripts : List (List ℕ)) (xs ys : List SeatView)
+    (ends : List (Result ℕ SessionEnd)) (a : Audit N named) (text : List ℕ)
     → length scripts ≡ table.seats → AreFresh table.seats xs → AreSessions table names scripts xs ys ends
-    → IsClosed table ys H → AreTotals table.start table.seats ys H entries gifts graph position calls
-    → table.seats ≤ length calls
-    → text ≡ entries_text names 0 H ++ totals_text names entries gifts position (take table.seats calls)
+    → IsClosed table ys a.pen.entries → AreTotals table ys a → table.seats ≤ length a.calls
+    → text ≡ entries_text names 0 a.pen.entries
+    ++ totals_text names a.entries a.gifts a.position (take table.seats a.calls)
     → IsParty table names scripts ends text
-whole table names scripts xs ys ends H entries gifts graph position calls text many fresh are closed totals enough
-    printed =
+whole table names scripts xs ys ends a text many fresh are closed totals enough printed =
+    let H = a.pen.entries in
     record {
       history = H;
       is = closed.history;
@@ -146,14 +145,16 @@ whole table names scripts xs ys ends H entries gifts graph position calls text m
             own = ap (λ k. entries_of k H) (sym number) ∙ (closed.held i s.after s.last).mine;
             session = s.session;
           };
-      position = position;
-      shown = totals.position';
+      position = a.position;
+      shown = totals.position;
       printed =
           printed
-          ∙ ap (λ k. entries_text names 0 H ++ totals_text names k gifts position (take table.seats calls)) totals.entries'
-          ∙ ap (λ k. entries_text names 0 H ++ totals_text names (length H) k position (take table.seats calls)) totals.gifts'
-          ∙ ap (λ t. entries_text names 0 H ++ audit_with names H position t)
-          (calls_are H 1 table.seats calls enough (call_counts table ys H entries gifts graph position calls closed totals)
+          ∙ ap (λ k. entries_text names 0 H ++ totals_text names k a.gifts a.position (take table.seats a.calls))
+          totals.entries
+          ∙ ap (λ k. entries_text names 0 H ++ totals_text names (length H) k a.position (take table.seats a.calls))
+          totals.gifts
+          ∙ ap (λ t. entries_text names 0 H ++ audit_with names H a.position t)
+          (calls_are H 1 table.seats a.calls enough (call_counts table ys a closed totals)
           ∙ ap (λ k. seats_text 1 k H) (sym many));
     }
 
@@ -171,25 +172,24 @@ seats_kept table names (c ∷ cs) [] ys ends are = elim are [ ]
 seats_kept table names (c ∷ cs) (x ∷ xs) [] ends are = elim are [ ]
 seats_kept table names (c ∷ cs) (x ∷ xs) (y ∷ ys) [] are = elim are [ ]
 
-pub whole_lent : (table : TableData) (names scripts : List (List ℕ)) (n len : ℕ)
+pub whole_lent : {N : Type 0} {named : Ghosts N} (table : TableData) (names scripts : List (List ℕ)) (n len : ℕ)
     (opened xs ys rest : List SeatView)
-    (ends : List (Result ℕ SessionEnd)) (H : List Entry) (entries gifts : ℕ) (graph : Multigraph)
-    (position : Vector) (calls text : List ℕ)
+    (ends : List (Result ℕ SessionEnd)) (a : Audit N named) (text : List ℕ)
     → length scripts ≡ n → n ≡ table.seats → AreFresh n opened → xs ≡ opened → len ≡ length opened
     → AreSessions table names scripts xs ys ends
-    → IsClosed table (take len (ys ++ rest)) H
-    × AreTotals table.start table.seats (take len (ys ++ rest)) H entries gifts graph position calls
-    → n ≤ length calls
-    → text ≡ entries_text names 0 H ++ totals_text names entries gifts position (take n calls)
+    → IsClosed table (take len (ys ++ rest)) a.pen.entries × AreTotals table (take len (ys ++ rest)) a
+    → n ≤ length a.calls
+    → text ≡ entries_text names 0 a.pen.entries ++ totals_text names a.entries a.gifts a.position (take n a.calls)
     → IsParty table names scripts ends text
-whole_lent table names scripts n len opened xs ys rest ends H entries gifts graph position calls text many
-    same fresh lent counted are closed enough printed =
+whole_lent table names scripts n len opened xs ys rest ends a text many same fresh lent counted are closed enough
+    printed =
     let all : length ys ≡ len = seats_kept table names scripts xs ys ends are ∙ ap length lent ∙ sym counted in
     let front : take len (ys ++ rest) ≡ ys = ap (λ k. take k (ys ++ rest)) (sym all) ∙ take-append_seam ys rest in
-    whole table names scripts xs ys ends H entries gifts graph position calls text (many ∙ same)
+    whole table names scripts xs ys ends a text (many ∙ same)
     (subst (λ k. AreFresh k xs) same (rw lent fresh)) are (rw (← front) closed.0) (rw (← front) closed.1)
-    (subst (λ k. k ≤ length calls) same enough)
-    (subst (λ k. text ≡ entries_text names 0 H ++ totals_text names entries gifts position (take k calls)) same printed)
+    (subst (λ k. k ≤ length a.calls) same enough)
+    (subst (λ k. text ≡ entries_text names 0 a.pen.entries
+    ++ totals_text names a.entries a.gifts a.position (take k a.calls)) same printed)
 
 pub party_unclosed : (table : TableData) (names scripts : List (List ℕ)) (n len : ℕ)
     (opened xs ys rest : List SeatView)

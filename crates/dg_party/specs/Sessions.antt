@@ -16,7 +16,10 @@ use Rattle.std.specs.Prelude.{◌≡◌, ◌≢◌, ℕ, zero, suc, ◌<◌, Lis
 use Rattle.std.specs.Global.{Vec}
 use Rattle.dg_chips.specs.Starts.{StartData}
 use Rattle.dg_table.specs.Seats.{SeatView}
+use Rattle.dg_session.specs.Setup.{setup}
+use Rattle.dg_session.specs.Streams.{Passage, passage}
 use Rattle.dg_session.specs.Ends.{IsSession}
+use Rattle.dg_session.specs.declared.line_format.LineFormat.TheVariants.{OneSeat}
 use Rattle.dg_session.specs.declared.ends.SessionEnd.{SessionEnd}
 use Rattle.dg_session.specs.declared.ends.SessionEnd.TheVariants.{Write}
 use Rattle.dg_system.specs.declared.shortage.Shortage.{Shortage}
@@ -30,9 +33,9 @@ pub record IsSessionOver (table : TableData) (names : List (List ℕ)) (script :
     (x y : SeatView)
     (end : Result ℕ SessionEnd) : Type 0 where
   pub rest : Option (List ℕ)
-  pub old : Option (List ℕ)
-  pub new : Option (List ℕ)
-  pub session : IsSession table names (Some script) rest old new x y end
+  pub output : Passage
+  pub session : IsSession (setup OneSeat table names) (passage (Some script) rest) output
+      (x ∷ []) (y ∷ []) end
   pub heard : end ≢ Err Write
 
 unfoldable pub AreSessions : TableData → List (List ℕ) → List (List ℕ) → List SeatView

@@ -8,10 +8,10 @@ mod gates;
 #[cfg(test)]
 mod observer;
 #[cfg(test)]
-mod openings;
-#[cfg(test)]
 mod strategy;
 #[cfg(test)]
 mod table;
+#[cfg(test)]
+mod table_tests;
 #[cfg(test)]
 mod tables;

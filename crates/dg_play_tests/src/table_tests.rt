@@ -135,7 +135,9 @@ fn shown_to_two<N: Name, R: Threads + Wait + Abort>(
 ) -> Result<(), Fail> {
     match &test {
         TableTest::Drift => settles(rt, alloc, table, first, second),
-        TableTest::Judged(between, reply) => judged(rt, alloc, table, first, second, *between, *reply),
+        TableTest::Judged(between, reply) => judged(
+            rt, alloc, table, first, second, *between, *reply,
+        ),
         TableTest::Ranked => ranked(rt, alloc, table, first, second),
         TableTest::TooMuch => asks_too_much(rt, alloc, table, first, second),
         TableTest::Watched => watched(rt, alloc, table, first, second),

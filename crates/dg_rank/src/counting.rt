@@ -15,7 +15,7 @@ pub const MAX_DEGREE: u32 = 1_000;
 pub const MAX_TRIALS: u32 = 200_000;
 
 /// How many trials of degree k there are on n vertices: effective divisors of that degree. `None` if n is not 1 to
-/// 16, if k is above 1,000, and where there are more than 200,000.
+/// 16, if k is above 1,000, or if there are more than 200,000.
 pub fn trials(n: usize, k: u32) -> Option<u32>
     ensures { MatchOption result (IsPastLimits n k) (IsWithinLimits n k) }
 {

@@ -9,8 +9,6 @@ mod gates;
 #[cfg(test)]
 mod names;
 #[cfg(test)]
-mod openings;
-#[cfg(test)]
 mod party;
 #[cfg(test)]
 mod session;
@@ -20,6 +18,8 @@ mod sources;
 mod streams;
 #[cfg(test)]
 mod sweeps;
+#[cfg(test)]
+mod table_tests;
 #[cfg(test)]
 mod tables;
 #[cfg(test)]

@@ -5,7 +5,7 @@
 --   served         a session whose table is closed served it
 --   party_on       a party over files that are held is that of the table that one of them describes
 --   refused_on     so is one that is refused
---   refused_lent   so is it where the opening, the names and the scripts were lent
+--   refused_lent   so is it where the start, the names and the scripts were lent
 --   as_it_was      what nobody writes to is as it was
 use Rattle.std.proofs.Common.{◌≡◌, ℕ, suc, ◌≤◌, List, [], ◌∷◌, ◌++◌, length, take, map, Option, None, Some, refl, sym, ap, subst, ◌∙◌, Bor, Vec, Global}
 use Rattle.std.proofs.lemmas.List.{length-map}
@@ -19,7 +19,8 @@ use Rattle.std.specs.Prelude.{Result, Option}
 use Rattle.dg_game.specs.declared.entry.Entry.{Entry}
 use Rattle.dg_table.specs.Closing.{IsClosed}
 use Rattle.dg_session.proofs.Entered.{entered_all, full_at_close}
-use Rattle.dg_session.specs.declared.line_format.LineFormat.{LineFormat}
+use Rattle.dg_session.specs.Setup.{Setup}
+use Rattle.dg_session.specs.Streams.{Passage}
 use Rattle.dg_server.specs.Sessions.{IsHeard, IsServed}
 use Rattle.dg_session.specs.declared.ends.SessionEnd.{SessionEnd}
 use Rattle.dg_party.specs.Sessions.{contents}
@@ -31,7 +32,7 @@ use Rattle.dg_tasks.specs.Tasks.{DescribesTable}
 use Rattle.dg_system.specs.AllHeld.{MayHoldAll}
 use Rattle.std.specs.Io.KnownBytes.{Keeps}
 use Rattle.dg_server.specs.Parties.{names_in, IsPartyOn, IsRefusedOn}
-use Rattle.dg_log.specs.Tables.{TableData, table_of}
+use Rattle.dg_log.specs.Tables.{table_of}
 
 pub seats_back : (len : ℕ) (xs ys rest : List SeatView) → length xs ≡ len
     → map (λ (x : SeatView). x.number) ys ≡ map (λ (x : SeatView). x.number) xs → take len (ys ++ rest) ≡ ys
@@ -62,10 +63,10 @@ may_play held n names all known count least most =
     let total : length all ≡ n = sym scripts ∙ same ∙ given ∙ sym count in
     rw total (least, most)
 
-pub served : {how : LineFormat} {table : TableData} {names : List (List ℕ)} {input old new : Option (List ℕ)}
-    {end : Result ℕ SessionEnd} (heard : IsHeard how table names input old new end) (H : List Entry)
+pub served : {t : Setup} {input : Option (List ℕ)} {output : Passage} {end : Result ℕ SessionEnd}
+    (heard : IsHeard t input output end) (H : List Entry)
     → map (λ (x : SeatView). x.number) heard.after ≡ map (λ (x : SeatView). x.number) heard.seats
-    → IsClosed table heard.after H → IsServed how table names input old new end
+    → IsClosed t.table heard.after H → IsServed t input output end
 served heard H same closed = record {
   heard = heard;
   history = H;
@@ -82,7 +83,7 @@ pub party_on : (held : List ℕ → Held) (task : PartyTask) (o : StartData) (na
     IsPartyOn held task ends text
 party_on held task o names all ends text table known party =
     record {
-      opening = o;
+      start = o;
       names = names;
       table = table;
       holds = (
@@ -98,7 +99,7 @@ pub refused_on : (held : List ℕ → Held) (task : PartyTask) (o : StartData) (
     → IsPartyRefused (table_of o (length all) task.capacity) names (contents all) refusal → IsRefusedOn held task refusal
 refused_on held task o names all refusal table known refused =
     record {
-      opening = o;
+      start = o;
       names = names;
       table = table;
       holds = (

@@ -1,15 +1,16 @@
 -- Runs of the program: how a run ends. `asks` and `refuses` say what the words of the command line
--- may ask for, and why they may ask for nothing, as their reader has it; `held` tells what is known
--- of the file of each name; input and rest stand for the bytes that the input gives before and
--- after, and old and new for what the output held and holds; of each it is told whether it failed.
---   Succeeds asks held words input old new == what the words ask for is done
---   IsOfWords refuses words fault old new == the words are refused so, and the output is as it was
---   IsOfAsked asks held words input rest fault old new == what the words ask for is refused so, or
---                         ended so; a fault in reading the input, or in writing, tells that the
---                         input, or the output, has failed
---   IsCause asks refuses held words input rest fault old new == one of the two
---   Fails asks refuses held words input rest n old new == n is the status of a fault that has its
---                         cause
+-- may ask for, and why they may ask for nothing, as their reader has it.
+--   Run                   == the words of its command line; what is known of the file of each name;
+--                         the input before and after, as input and rest; and the output before and
+--                         after, as old and new
+--   run_of words held input rest old new == the run of these
+--   Succeeds asks run     == what the words ask for is done
+--   IsOfWords refuses run fault == the words are refused so, and the output is as it was
+--   IsOfAsked asks run fault == what the words ask for is refused so, or ended so; a fault in
+--                         reading the input, or in writing, tells that the input, or the output,
+--                         has failed
+--   IsCause asks refuses run fault == one of the two
+--   Fails asks refuses run n == n is the status of a fault that has its cause
 use Rattle.std.specs.Prelude.{◌≡◌, ◌⊎◌, ℕ, List, Option, true}
 use Rattle.std.specs.Io.KnownBytes.{Keeps}
 use Rattle.dg_invocation.specs.declared.invocation.Invocation.{Invocation}
@@ -22,38 +23,44 @@ use Rattle.dg_server.specs.Status.{status}
 use Rattle.dg_server.specs.declared.fault.Fault.{Fault}
 use Rattle.dg_server.specs.declared.fault.Fault.TheVariants.{Words}
 
-pub record Succeeds (asks : List (List ℕ) → Invocation → Type 0) (held : List ℕ → Held)
-    (words : List (List ℕ)) (input : Option (List ℕ))
-    (old new : Writing) : Type 0 where
-  pub asked : Invocation
-  pub wanted : asks words asked
-  pub done : Performs held input asked old.contents new.contents
+pub record Run : Type 0 where
+  pub words : List (List ℕ)
+  pub held : List ℕ → Held
+  pub input : Reading
+  pub rest : Reading
+  pub old : Writing
+  pub new : Writing
 
-pub record IsOfWords (refuses : List (List ℕ) → ArgsFault → Type 0) (words : List (List ℕ))
-    (fault : Fault) (old new : Writing) : Type 0 where
+abbrev pub run_of : List (List ℕ) → (List ℕ → Held) → Reading → Reading → Writing → Writing → Run
+run_of words held input rest old new =
+    record { words = words; held = held; input = input; rest = rest; old = old; new = new }
+
+pub record Succeeds (asks : List (List ℕ) → Invocation → Type 0) (run : Run) : Type 0 where
+  pub asked : Invocation
+  pub wanted : asks run.words asked
+  pub done : Performs run.held run.input.remaining asked run.old.contents run.new.contents
+
+pub record IsOfWords (refuses : List (List ℕ) → ArgsFault → Type 0) (run : Run) (fault : Fault)
+    : Type 0 where
   pub why : ArgsFault
   pub tells : fault ≡ Words why
-  pub refused : refuses words why
-  pub kept : Keeps old.contents new.contents
+  pub refused : refuses run.words why
+  pub kept : Keeps run.old.contents run.new.contents
 
-pub record IsOfAsked (asks : List (List ℕ) → Invocation → Type 0) (held : List ℕ → Held)
-    (words : List (List ℕ)) (input rest : Reading)
-    (fault : Fault) (old new : Writing) : Type 0 where
+pub record IsOfAsked (asks : List (List ℕ) → Invocation → Type 0) (run : Run) (fault : Fault)
+    : Type 0 where
   pub asked : Invocation
-  pub wanted : asks words asked
-  pub refused : Refuses held input.remaining asked fault old.contents new.contents
-  pub read : IsOfInput fault → rest.has_failed ≡ true
-  pub write : IsOfOutput fault → new.has_failed ≡ true
+  pub wanted : asks run.words asked
+  pub refused : Refuses run.held run.input.remaining asked fault run.old.contents run.new.contents
+  pub read : IsOfInput fault → run.rest.has_failed ≡ true
+  pub write : IsOfOutput fault → run.new.has_failed ≡ true
 
 abbrev pub IsCause : (List (List ℕ) → Invocation → Type 0) → (List (List ℕ) → ArgsFault → Type 0)
-    → (List ℕ → Held) → List (List ℕ) → Reading → Reading
-    → Fault → Writing → Writing → Type 0
-IsCause asks refuses held words input rest fault old new =
-    IsOfWords refuses words fault old new ⊎ IsOfAsked asks held words input rest fault old new
+    → Run → Fault → Type 0
+IsCause asks refuses run fault = IsOfWords refuses run fault ⊎ IsOfAsked asks run fault
 
 pub record Fails (asks : List (List ℕ) → Invocation → Type 0)
-    (refuses : List (List ℕ) → ArgsFault → Type 0) (held : List ℕ → Held)
-    (words : List (List ℕ)) (input rest : Reading) (n : ℕ) (old new : Writing) : Type 0 where
+    (refuses : List (List ℕ) → ArgsFault → Type 0) (run : Run) (n : ℕ) : Type 0 where
   pub fault : Fault
   pub tells : status fault ≡ n
-  pub cause : IsCause asks refuses held words input rest fault old new
+  pub cause : IsCause asks refuses run fault

@@ -1,17 +1,17 @@
 -- Sessions over the input.
 --   how_of seats          == how the lines name the seats: by number if so many are asked for,
 --                         and not if none are
---   IsHeard how table names input old new end == a session over the input, of the table's seats,
---                            which know of no entry, came to this end; and the output has grown by
---                            what it said
---   IsServed how table names input old new end == it did; and there is one history of the
---                            table, in which the entries of each seat are just those of its own
---                            calls, each once and in order; and what the lines entered, one line
---                            after another, is all of it, numbered from 0; and it is full, if the
---                            end is that of a full table
+--   session_of task o names == what holds for the session that is asked for, on the table of the
+--                         start o
+--   IsHeard t input output end == a session over the input, of the table's seats, which know of no
+--                         entry, came to this end; and the output has grown by what it said
+--   IsServed t input output end == it did; and there is one history of the table, in which the
+--                         entries of each seat are just those of its own calls, each once and in
+--                         order; and what the lines entered, one line after another, is all of it,
+--                         numbered from 0; and it is full, if the end is that of a full table
 --   Serves held input task old new == such a session came to the end of the input, on the table of
 --                         the file that is named
---   EndsEarly how table names input fault old new == such a session ended early, for that fault;
+--   EndsEarly t input fault output == such a session ended early, for that fault;
 --                            or the table was not closed after it; or memory was refused before it
 --                            began, and the output is as it was
 --   RefusesServing held input task fault old new == the table file is refused so, and the output is
@@ -25,7 +25,9 @@ use Rattle.dg_game.specs.declared.entry.Entry.{Entry}
 use Rattle.dg_table.specs.Opened.{AreFresh}
 use Rattle.dg_table.specs.Closing.{IsClosed}
 use Rattle.dg_table.specs.Seats.{SeatView}
-use Rattle.dg_session.specs.Ends.{IsSessionOf}
+use Rattle.dg_session.specs.Setup.{Setup, setup}
+use Rattle.dg_session.specs.Streams.{Passage, passage}
+use Rattle.dg_session.specs.Ends.{IsSession}
 use Rattle.dg_session.specs.declared.line_format.LineFormat.{LineFormat}
 use Rattle.dg_session.specs.declared.line_format.LineFormat.TheVariants.{OneSeat, BySeat}
 use Rattle.dg_session.specs.declared.ends.SessionEnd.{SessionEnd}
@@ -39,50 +41,47 @@ use Rattle.dg_invocation.specs.declared.invocation.ServeTask.{ServeTask}
 use Rattle.dg_server.specs.declared.fault.Fault.{Fault}
 use Rattle.dg_server.specs.declared.fault.Fault.TheVariants.{Session, Shortage, History}
 use Rattle.dg_system.specs.declared.shortage.Shortage.TheVariants.{OutOfMemory}
-use Rattle.dg_log.specs.Tables.{TableData, table_of}
+use Rattle.dg_chips.specs.Starts.{StartData}
+use Rattle.dg_log.specs.Tables.{table_of}
 
 abbrev pub how_of : Option ℕ → LineFormat
 how_of None = OneSeat
 how_of (Some n) = BySeat
 
-pub record IsHeard (how : LineFormat) (table : TableData) (names : List (List ℕ))
-    (input old new : Option (List ℕ))
+abbrev pub session_of : ServeTask → StartData → List (List ℕ) → Setup
+session_of task o names =
+    setup (how_of task.seats) (table_of o (count_of task.seats) task.capacity) names
+
+pub record IsHeard (t : Setup) (input : Option (List ℕ)) (output : Passage)
     (end : Result ℕ SessionEnd) : Type 0 where
   pub rest : Option (List ℕ)
   pub seats : List SeatView
-  pub fresh : AreFresh table.seats seats
+  pub fresh : AreFresh t.table.seats seats
   pub after : List SeatView
-  pub session : IsSessionOf how table names input rest old new seats after end
+  pub session : IsSession t (passage input rest) output seats after end
 
-pub record IsServed (how : LineFormat) (table : TableData) (names : List (List ℕ))
-    (input old new : Option (List ℕ))
+pub record IsServed (t : Setup) (input : Option (List ℕ)) (output : Passage)
     (end : Result ℕ SessionEnd) : Type 0 where
-  pub heard : IsHeard how table names input old new end
+  pub heard : IsHeard t input output end
   pub history : List Entry
-  pub closed : IsClosed table heard.after history
-  pub full : end ≡ Err (Table Full) → length history ≡ table.capacity
+  pub closed : IsClosed t.table heard.after history
+  pub full : end ≡ Err (Table Full) → length history ≡ t.table.capacity
   pub whole : heard.session.over.end.entered ≡ enumerate_from 0 history
 
 abbrev pub Serves : (List ℕ → Held) → Option (List ℕ) → ServeTask → Option (List ℕ)
     → Option (List ℕ) → Type 0
-Serves held input task old new =
-    IsOnTable (held task.file.now) (λ o names. (count : ℕ)
-    × IsServed (how_of task.seats) (table_of o (count_of task.seats) task.capacity) names input old new
-    (Ok count))
+Serves held input task old new = IsOnTable (held task.file.now) (λ o names.
+    (count : ℕ) × IsServed (session_of task o names) input (passage old new) (Ok count))
 
-abbrev pub EndsEarly : LineFormat → TableData → List (List ℕ) → Option (List ℕ) → Fault
-    → Option (List ℕ) → Option (List ℕ)
-    → Type 0
-EndsEarly how table names input (Session end) old new =
-    IsServed how table names input old new (Err end)
-EndsEarly how table names input History old new = (end : Result ℕ SessionEnd)
-    × IsHeard how table names input old new end
-EndsEarly how table names input fault old new = (fault ≡ Shortage OutOfMemory) × Keeps old new
+abbrev pub EndsEarly : Setup → Option (List ℕ) → Fault → Passage → Type 0
+EndsEarly t input (Session end) output = IsServed t input output (Err end)
+EndsEarly t input History output = (end : Result ℕ SessionEnd) × IsHeard t input output end
+EndsEarly t input fault output =
+    (fault ≡ Shortage OutOfMemory) × Keeps output.before output.after
 
 abbrev pub RefusesServing : (List ℕ → Held) → Option (List ℕ) → ServeTask → Fault → Option (List ℕ)
     → Option (List ℕ) → Type 0
 RefusesServing held input task fault old new =
     (IsOfTask (RefusesItsTable (held task.file.now)) fault × Keeps old new)
     ⊎ IsOnTable (held task.file.now) (λ o names.
-    EndsEarly (how_of task.seats) (table_of o (count_of task.seats) task.capacity) names input fault
-    old new)
+    EndsEarly (session_of task o names) input fault (passage old new))

@@ -1,6 +1,6 @@
 //! A run of the program: what the words of a command line come to.
 ghost use Rattle.std.specs.Prelude.{◌≡◌, ◌≢◌, map, string_bytes};
-ghost use Rattle.dg_server.specs.Runs.{Succeeds, Fails};
+ghost use Rattle.dg_server.specs.Runs.{run_of, Succeeds, Fails};
 ghost use Rattle.dg_server.specs.Status.{IsStatus};
 
 use crate::fault::{Fault, report};
@@ -33,12 +33,11 @@ where
     F: Write,
     ensures status { IsStatus result }
     ensures done { result ≡ 0 →
-        Succeeds (W.asks reader.now) (S.held sources.now) (map string_bytes words.now)
-        input.old.remaining output.old output.new }
+        Succeeds (W.asks reader.now) (run_of (map string_bytes words.now) (S.held sources.now)
+        input.old input.new output.old output.new) }
     ensures failed { result ≢ 0 →
-        Fails (W.asks reader.now) (W.refuses reader.now) (S.held sources.now)
-        (map string_bytes words.now) input.old input.new result
-        output.old output.new }
+        Fails (W.asks reader.now) (W.refuses reader.now) (run_of (map string_bytes words.now)
+        (S.held sources.now) input.old input.new output.old output.new) result }
 {
     match reader.parse(rt.alloc(), words) {
         Ok(asked) => match perform(rt, asked, sources, input, output) {

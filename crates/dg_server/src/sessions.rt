@@ -2,6 +2,8 @@
 ghost use Rattle.std.specs.Prelude.{◌≡◌, ℕ, length, Ok, true, IfErr, OnOk};
 ghost use Rattle.dg_invocation.specs.Seats.{count_of};
 ghost use Rattle.dg_log.specs.Tables.{table_of};
+ghost use Rattle.dg_session.specs.Setup.{setup};
+ghost use Rattle.dg_session.specs.Streams.{passage};
 ghost use Rattle.dg_rank.specs.Ranks.{MayHaveWorkers};
 ghost use Rattle.dg_table.specs.Opened.{MayHaveSeats};
 ghost use Rattle.dg_server.specs.Sessions.{how_of, Serves, EndsEarly, IsServed, RefusesServing};
@@ -92,12 +94,13 @@ where
     requires some { MayHaveSeats seats }
     requires workers { MayHaveWorkers workers }
     ensures done { OnOk result ((count : ℕ)
-        × IsServed how (table_of table.now.start seats (length row)) table.now.names input.old.remaining
-        output.old.contents output.new.contents (Ok count)) }
+        × IsServed (setup how (table_of table.now.start seats (length row)) table.now.names)
+        input.old.remaining (passage output.old.contents output.new.contents) (Ok count)) }
     ensures read { IfErr result (λ fault. IsOfInput fault → input.new.has_failed ≡ true) }
     ensures write { IfErr result (λ fault. IsOfOutput fault → output.new.has_failed ≡ true) }
-    ensures early { IfErr result (λ fault. EndsEarly how (table_of table.now.start seats (length row))
-        table.now.names input.old.remaining fault output.old.contents output.new.contents) }
+    ensures early { IfErr result (λ fault.
+        EndsEarly (setup how (table_of table.now.start seats (length row)) table.now.names)
+        input.old.remaining fault (passage output.old.contents output.new.contents)) }
 {
     let alloc = rt.alloc();
     let (opened, mut all) = match Table::<N>::open(alloc, row, table.start(), seats) {

@@ -21,6 +21,7 @@ use Rattle.dg_table.proofs.Counts.{seats_counted}
 use Rattle.dg_table.proofs.Numbered.{begins_length}
 use Rattle.dg_session.specs.Setup.{Setup}
 use Rattle.dg_session.specs.Order.{AscendFrom}
+use Rattle.dg_session.specs.Streams.{Passage}
 use Rattle.dg_session.specs.Ends.{EndsBy, IsOver}
 use Rattle.dg_session.specs.declared.ends.SessionEnd.{SessionEnd}
 use Rattle.dg_session.specs.declared.ends.SessionEnd.TheVariants.{Table}
@@ -107,12 +108,12 @@ calls_all {table} {H} xs ys fresh same closed =
     ∙ ap (λ s. length (entries_of s H)) (number_at xs ys i y same (λ x there. fresh.number i x there) at)))
     closed.history.seated
 
-pub entered_all : {t : Setup} {table : TableData} {input rest old new : Option (List ℕ)} {xs ys : List SeatView}
-    {result : Result ℕ SessionEnd} {H : List Entry} (over : IsOver t input rest old new xs ys result) → AreFresh table.seats xs
+pub entered_all : {t : Setup} {table : TableData} {input output : Passage} {xs ys : List SeatView}
+    {result : Result ℕ SessionEnd} {H : List Entry} (over : IsOver t input output xs ys result) → AreFresh table.seats xs
     → map (λ (x : SeatView). x.number) ys ≡ map (λ (x : SeatView). x.number) xs → IsClosed table ys H
     → over.end.entered ≡ enumerate_from 0 H
-entered_all {t} {rest = rest} {xs = xs} {ys} {result} {H} over fresh same closed =
-    let fits = fits_all t (IsAtEnd rest) over.stream over.told over.last (over.told ++ over.last) xs over.middle over.after
+entered_all {t} {input = input} {xs = xs} {ys} {result} {H} over fresh same closed =
+    let fits = fits_all t (IsAtEnd input.after) over.stream over.told over.last (over.told ++ over.last) xs over.middle over.after
     over.end over.said over.text result over.first over.second over.ends in
     let none = calls_none xs fresh.mine in
     let all = calls_all xs ys fresh same closed in
@@ -127,11 +128,12 @@ entered_all {t} {rest = rest} {xs = xs} {ys} {result} {H} over fresh same closed
     (stand_on over.end.latest H over.end.entered begins over.order.stand)
     (omega (arith, fits.counted, none, all, seats))
 
-pub full_at_close : {t : Setup} {input rest old new : Option (List ℕ)} {xs ys : List SeatView}
-    {result : Result ℕ SessionEnd} {H : List Entry} (over : IsOver t input rest old new xs ys result)
+pub full_at_close : {t : Setup} {input output : Passage} {xs ys : List SeatView}
+    {result : Result ℕ SessionEnd} {H : List Entry} (over : IsOver t input output xs ys result)
     → IsClosed t.table ys H → result ≡ Err (Table Full) → length H ≡ t.table.capacity
-full_at_close {t} {rest = rest} {ys = ys} {H = H} over closed is =
-    let ends = subst (λ r. EndsBy t (IsAtEnd rest) over.stream (over.told ++ over.last) over.after over.end r) is over.ends in
+full_at_close {t} {input = input} {ys = ys} {H = H} over closed is =
+    let ends = subst (λ r. EndsBy t (IsAtEnd input.after) over.stream (over.told ++ over.last) over.after over.end r) is
+    over.ends in
     elim ends.2 [
       | inl other ↦ absurd (cc)
       | inr q ↦

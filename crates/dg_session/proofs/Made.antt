@@ -105,32 +105,26 @@ pub call_made : {table : TableData} {request : Request} {r : ℕ × Entry} {x y 
 call_made {table} {request} {r} {x} {y} answered = entry_made table answered.0 request x.told [] r x y
     (sym (append-nil x.told)) answered.1
 
-pub settled_made : {table : TableData} {look found : LookView} {f : Finding} {r : ℕ × Entry}
-    {x y : SeatView} → found ≡ look → IsTaken table.start look
-    → IsSettled table found.receipt found.shown f r x y → Stands table.start (asked_for look.receipt.0 f) r x y
-settled_made {table} {look} {found} {f} {r} {x} {y} same taken settled =
-    let of = rw same at settled.1 in
-    subst (λ i. Stands table.start (asked_for i f) r x y) taken.look.number
-    (entry_made table settled.0 (asked_for look.shown.number f) _ (look.receipt ∷ []) r x y refl of.entered)
+pub settled_made : {table : TableData} {look : ℕ × Entry} {f : Finding} {r : ℕ × Entry} {x y : SeatView}
+    → IsSettled table look f r x y → Stands table.start (asked_for look.0 f) r x y
+settled_made {table} {look} {f} {r} {x} {y} settled =
+    entry_made table settled.0 (asked_for look.0 f) _ (look ∷ []) r x y refl settled.1.entered
 
-pub stale_made : {table : TableData} {look : LookView} {r : ℕ × Entry} {x y : SeatView} (asks : Question)
-    → IsTaken table.start look → IsStale table look.receipt look.shown asks r x y
-    → Stands table.start (asked_on look.receipt.0 asks) r x y
-stale_made {table} {look} {r} {x} {y} asks taken stale =
-    subst (λ i. Stands table.start (asked_on i asks) r x y) taken.look.number
-    (entry_made table stale.0 (asked_on look.shown.number asks) _ (look.receipt ∷ []) r x y refl stale.1.entered)
+pub stale_made : {table : TableData} {look r : ℕ × Entry} {x y : SeatView} (asks : Question)
+    → IsStale table look asks r x y → Stands table.start (asked_on look.0 asks) r x y
+stale_made {table} {look} {r} {x} {y} asks stale =
+    entry_made table stale.0 (asked_on look.0 asks) _ (look ∷ []) r x y refl stale.1.entered
 
 degree_kept : (look : LookView) (k w : ℕ) (v : RankVerdict) → IsTried look k w v → degree_of v ≡ k
 degree_kept look k w (AtLeast j) tried = tried.right.0
 degree_kept look k w (Below j d) tried = tried.right.0
 
 pub rank_made : {table : TableData} {look found : LookView} {k w : ℕ} {v : RankVerdict} {r : ℕ × Entry}
-    {x y : SeatView} → found ≡ look → IsTaken table.start look
-    → IsTried look k w v → IsSettled table found.receipt found.shown (Ranked v) r x y
+    {x y : SeatView} → found ≡ look → IsTried look k w v → IsSettled table found.receipt (Ranked v) r x y
     → Stands table.start (RankRequest look.receipt.0 k) r x y
-rank_made {table} {look} {found} {k} {w} {v} {r} {x} {y} same taken tried settled =
+rank_made {table} {look} {found} {k} {w} {v} {r} {x} {y} same tried settled =
     subst (λ d. Stands table.start (RankRequest look.receipt.0 d) r x y) (degree_kept look k w v tried)
-    (settled_made {f = Ranked v} same taken settled)
+    (settled_made {f = Ranked v} (rw same at settled))
 
 pub rank_within : {o : StartData} {look : LookView} {k : ℕ} → IsTaken o look → IsWithin look.shown.graph.size k
     → IsWithin o.graph.size k

@@ -30,7 +30,7 @@ use Rattle.dg_system.specs.Growth.{Writing, AppendsFront}
 use Rattle.dg_system.proofs.Growing.{appends_none, appends_more}
 use Rattle.dg_system.proofs.InputReads.{consumes_none, consumes_more, consumes_kept}
 use Rattle.dg_session.specs.Setup.{Setup}
-use Rattle.dg_session.specs.Streams.{IsLine, AreLines}
+use Rattle.dg_session.specs.Streams.{IsLine, AreLines, Passage, passage}
 use Rattle.dg_session.specs.Speakers.{Speakers, newcomers}
 use Rattle.dg_session.specs.Ends.{Answers, StopsAt, EndsBy, Writes, IsOver}
 use Rattle.dg_session.specs.SoFar.{SoFar, beginning, IsReady, Goes, StopsIn, Halts, Takes, TakesEnd, IsWritten}
@@ -110,7 +110,7 @@ halts_by {t} {z = z} Write h = elim h.fails [
 halts_by end h = tt
 
 all_written : (old new : Option (List ℕ)) (said text : List ℕ) (end : SessionEnd) → IsHalt end
-    → Appends old new (said ++ text) → Writes (Err end) old new said text
+    → Appends old new (said ++ text) → Writes (Err end) (passage old new) said text
 all_written old new said text Write halt grown = absurd halt
 all_written old new said text end halt grown = grown
 
@@ -143,9 +143,9 @@ module _ {t : Setup} {input rest old mid : Option (List ℕ)} {xs : List SeatVie
   is_over : {rest' new : Option (List ℕ)} {result : Result ℕ SessionEnd} (bytes text : List ℕ) (w z : Speakers)
       (last : List (List ℕ)) → Consumes rest rest' bytes → AreLines (IsAtEnd rest') (at.pending ++ bytes) last
       → at.count + length last ≤ MAX_LINES → length (flat_map with_newline last) ≤ READ_SIZE + MAX_LINE + 1
-      → Answers t at.who last w text → Writes result old new far.text text
+      → Answers t at.who last w text → Writes result (passage old new) far.text text
       → EndsBy t (IsAtEnd rest') (far.stream ++ bytes) (far.goes.ls ++ last) w z result
-      → IsOver t input rest' old new xs z.seats result
+      → IsOver t (passage input rest') (passage old new) xs z.seats result
   is_over {rest'} bytes text w z last read came few short answered written ends = record {
     stream = far.stream ++ bytes;
     read = consumes_more input rest rest' far.stream bytes far.read read;
@@ -169,9 +169,9 @@ module _ {t : Setup} {input rest old mid : Option (List ℕ)} {xs : List SeatVie
 
   over_goes : {rest' new : Option (List ℕ)} {result : Result ℕ SessionEnd} {bytes text back : List ℕ} {to : SoFar}
       (z : Speakers) (g : Goes t at bytes back to text) → Consumes rest rest' bytes → length bytes ≤ READ_SIZE
-      → Writes result old new far.text text
+      → Writes result (passage old new) far.text text
       → EndsBy t (IsAtEnd rest') (far.stream ++ bytes) (far.goes.ls ++ g.ls) to.who z result
-      → IsOver t input rest' old new xs z.seats result
+      → IsOver t (passage input rest') (passage old new) xs z.seats result
   over_goes {bytes = bytes} {text} {back} {to} z g read small written ends =
       is_over bytes text to.who z g.ls read
       (omega (arith, g.counted, g.ready.few), inl (to.pending ++ back, g.came)) (omega (arith, g.counted, g.ready.few))
@@ -179,9 +179,9 @@ module _ {t : Setup} {input rest old mid : Option (List ℕ)} {xs : List SeatVie
 
   over_end : {rest' new : Option (List ℕ)} {result : Result ℕ SessionEnd} (text : List ℕ) (z : Speakers)
       → Consumes rest rest' [] → IsAtEnd rest' → Answers t at.who (last_line at.pending) z text
-      → Writes result old new far.text text
+      → Writes result (passage old new) far.text text
       → EndsBy t (IsAtEnd rest') (far.stream ++ []) (far.goes.ls ++ last_line at.pending) z z result
-      → IsOver t input rest' old new xs z.seats result
+      → IsOver t (passage input rest') (passage old new) xs z.seats result
   over_end text z read over answered written ends =
       is_over [] text z z (last_line at.pending) read (lines_end at.pending over far.goes.ready.line)
       (last_few at.pending at.count far.goes.ready.few far.goes.ready.full)
@@ -238,13 +238,13 @@ module _ {t : Setup} {input rest old mid : Option (List ℕ)} {xs : List SeatVie
   unsaid = subst (Appends old mid) (sym (append-nil far.text)) far.written
 
   pub session_reads : {rest' : Option (List ℕ)} → Keeps rest rest'
-      → IsOver t input rest' old mid xs at.who.seats (Err Read)
+      → IsOver t (passage input rest') (passage old mid) xs at.who.seats (Err Read)
   session_reads {rest'} keeps =
       let g : Goes t at [] [] at [] = goes_none refl far.goes.ready in
       over_goes at.who g (consumes_kept rest rest' keeps) (omega arith) unsaid
       (refl, (at.pending ++ [], cut g, subst IsLine (sym (append-nil at.pending)) far.goes.ready.line))
 
-  pub session_unsaid : IsOver t input rest old mid xs at.who.seats (Err Memory)
+  pub session_unsaid : IsOver t (passage input rest) (passage old mid) xs at.who.seats (Err Memory)
   session_unsaid =
       let g : Goes t at [] [] at [] = goes_none refl far.goes.ready in
       over_goes at.who g (consumes_none rest) (omega arith) unsaid (inl refl)
@@ -267,7 +267,7 @@ module _ {t : Setup} {input rest old : Option (List ℕ)} {xs : List SeatView} {
   grown text p = appends_more old w.contents w'.contents far.text text far.written p
 
   abbrev Over : Option (List ℕ) → Speakers → SessionEnd → Type 0
-  Over rest' z end = IsOver t input rest' old w'.contents xs z.seats (Err end)
+  Over rest' z end = IsOver t (passage input rest') (passage old w'.contents) xs z.seats (Err end)
 
   heard : {B E : Type 0} {rest' : Option (List ℕ)} (over : E → IsAtEnd rest') (bytes text : List ℕ) (z : Speakers)
       (taken : Result B SessionEnd) → Consumes rest rest' bytes → length bytes ≤ READ_SIZE
@@ -312,7 +312,7 @@ module _ {t : Setup} {input rest old : Option (List ℕ)} {xs : List SeatView} {
   pub session_ends : {rest' : Option (List ℕ)} {B : Type 0} {taken : Result B SessionEnd} {b : B} {to : SoFar}
       {before after : Option (List ℕ)} → Consumes rest rest' [] → IsAtEnd rest'
       → (takes : TakesEnd t at to before after taken) → IsWritten taken takes.text w w' (Ok b)
-      → IsOver t input rest' old w'.contents xs to.who.seats (Ok to.count)
+      → IsOver t (passage input rest') (passage old w'.contents) xs to.who.seats (Ok to.count)
   session_ends {taken = taken} {to = to} read over takes written =
       let text = takes.text in
       let (answered, done) = written_ok taken text w w' written takes.answered in
@@ -366,12 +366,11 @@ module _ (t : Setup) (ended : Type 0) (stream : List ℕ) (ls : List (List ℕ))
   numbers_ended (Err (Table fault)) h = numbers_stopped (Table fault) h
   numbers_ended (Err Spawn) h = numbers_stopped Spawn h
 
-pub numbers_of : {t : Setup} {input rest old new : Option (List ℕ)} {xs ys : List SeatView}
-    {result : Result ℕ SessionEnd} → IsOver t input rest old new xs ys result
-    → map (λ (x : SeatView). x.number) ys ≡ map (λ (x : SeatView). x.number) xs
-numbers_of {t} {rest = rest} {xs = xs} {result = result} h =
+pub numbers_of : {t : Setup} {input output : Passage} {xs ys : List SeatView} {result : Result ℕ SessionEnd}
+    → IsOver t input output xs ys result → map (λ (x : SeatView). x.number) ys ≡ map (λ (x : SeatView). x.number) xs
+numbers_of {t} {input = input} {xs = xs} {result = result} h =
     ap (map (λ (x : SeatView). x.number)) (sym h.seats)
-    ∙ numbers_ended t (IsAtEnd rest) h.stream (h.told ++ h.last) h.after h.end result h.ends
+    ∙ numbers_ended t (IsAtEnd input.after) h.stream (h.told ++ h.last) h.after h.end result h.ends
     ∙ numbers_answered t h.last h.middle h.after h.text h.second
     ∙ numbers_answered t h.told (newcomers xs) h.middle h.said h.first
 

@@ -1,5 +1,5 @@
 -- How a session ends. `stream` is what was read, and `ended` says that no more is to come; s are
--- the seats before, and z after; `old` and `new` are what the writer held, if that is known.
+-- the seats before, and z after.
 --   Answers t s ls z text == the lines ls are answered one after another with the text
 --   IsTooLong rest        == the rest begins with one byte more than a line may have, and no
 --                         newline
@@ -14,16 +14,15 @@
 --   AreInOrder s          == the numbers of what the lines have entered ascend; the entries stand in
 --                            the history as the last line left it; and that is the one that a seat
 --                            has met, or there was no line of a seat
---   Writes result old new said text == the writer took what was said and the text, or, if it
+--   Writes result output said text == the writer took what was said and the text, or, if it
 --                            took no more, all that was said and a front of the text
---   IsOver t input rest old new xs ys result == the session of the seats xs is over, and they are
---                            ys. A stream was read, by which the reader's bytes, if known, have
---                            become the rest. The lines of `told` are answered with what was said,
+--   IsOver t input output xs ys result == the session of the seats xs is over, and they are ys. A
+--                            stream was read, by which the reader's bytes, if known, have become
+--                            what is left. The lines of `told` are answered with what was said,
 --                            and then those of `last` with the text; these have no more bytes than
 --                            one read and one line. What they enter comes in their order
---   IsSessionOf how table names .. == so is one at a table, after which each seat has found a
---                            history of the table, and has its number
---   IsSession ..          == that of one seat, whose lines name none
+--   IsSession t input output xs ys result == so is one after which each seat has found a history
+--                            of the table, and has its number
 use Rattle.std.specs.Prelude.{◌≡◌, ℕ, ◌+◌, ◌<◌, ◌≤◌, ◌⊎◌, List, [], ◌∷◌, ◌++◌, length, slice_get, Option, Some, All, map, flat_map, Result, Ok, Err}
 use Rattle.std.specs.Io.KnownBytes.{Appends, Consumes, IsAtEnd}
 use Rattle.dg_log.specs.Numbered.{StandIn}
@@ -32,16 +31,13 @@ use Rattle.dg_table.specs.Seats.{SeatView}
 use Rattle.dg_lines.specs.Cuts.{lines}
 use Rattle.dg_lines.specs.Streams.{HasNoNewline, Begins, with_newline}
 use Rattle.dg_system.specs.Growth.{AppendsFront}
-use Rattle.dg_session.specs.Setup.{Setup, setup}
-use Rattle.dg_session.specs.Streams.{IsLine, AreLines}
+use Rattle.dg_session.specs.Setup.{Setup}
+use Rattle.dg_session.specs.Streams.{IsLine, AreLines, Passage}
 use Rattle.dg_session.specs.Order.{AscendFrom}
 use Rattle.dg_session.specs.Speakers.{Speakers, newcomers, AnswersLineOf, RefusesLineOf}
-use Rattle.dg_session.specs.declared.line_format.LineFormat.{LineFormat}
-use Rattle.dg_session.specs.declared.line_format.LineFormat.TheVariants.{OneSeat}
 use Rattle.dg_session.specs.declared.ends.TheConstants.{MAX_LINE, MAX_LINES, READ_SIZE}
 use Rattle.dg_session.specs.declared.ends.SessionEnd.{SessionEnd}
 use Rattle.dg_session.specs.declared.ends.SessionEnd.TheVariants.{Read, Write, LongLine, Turns, Memory}
-use Rattle.dg_log.specs.Tables.{TableData}
 
 unfoldable pub Answers : Setup → Speakers → List (List ℕ) → Speakers → List ℕ → Type 0
 Answers t s [] z text = (z ≡ s) × (text ≡ [])
@@ -83,18 +79,17 @@ pub record AreInOrder (s : Speakers) : Type 0 where
   pub met : (s.latest ≡ [])
       ⊎ ((i : ℕ) × (x : SeatView) × (slice_get s.seats i ≡ Some x) × (s.latest ≡ x.met))
 
-abbrev pub Writes : Result ℕ SessionEnd → Option (List ℕ) → Option (List ℕ) → List ℕ → List ℕ
-    → Type 0
-Writes (Err Write) old new said text = AppendsFront old new said text
-Writes result old new said text = Appends old new (said ++ text)
+abbrev pub Writes : Result ℕ SessionEnd → Passage → List ℕ → List ℕ → Type 0
+Writes (Err Write) output said text = AppendsFront output.before output.after said text
+Writes result output said text = Appends output.before output.after (said ++ text)
 
-pub record IsOver (t : Setup) (input rest old new : Option (List ℕ)) (xs ys : List SeatView)
+pub record IsOver (t : Setup) (input output : Passage) (xs ys : List SeatView)
     (result : Result ℕ SessionEnd) : Type 0 where
   pub stream : List ℕ
-  pub read : Consumes input rest stream
+  pub read : Consumes input.before input.after stream
   pub told : List (List ℕ)
   pub last : List (List ℕ)
-  pub came : AreLines (IsAtEnd rest) stream (told ++ last)
+  pub came : AreLines (IsAtEnd input.after) stream (told ++ last)
   pub few : length (flat_map with_newline last) ≤ READ_SIZE + MAX_LINE + 1
   pub middle : Speakers
   pub after : Speakers
@@ -103,19 +98,13 @@ pub record IsOver (t : Setup) (input rest old new : Option (List ℕ)) (xs ys : 
   pub text : List ℕ
   pub first : Answers t (newcomers xs) told middle said
   pub second : Answers t middle last after text
-  pub written : Writes result old new said text
-  pub ends : EndsBy t (IsAtEnd rest) stream (told ++ last) after end result
+  pub written : Writes result output said text
+  pub ends : EndsBy t (IsAtEnd input.after) stream (told ++ last) after end result
   pub seats : end.seats ≡ ys
   pub order : AreInOrder end
 
-pub record IsSessionOf (how : LineFormat) (table : TableData) (names : List (List ℕ))
-    (input rest old new : Option (List ℕ)) (xs ys : List SeatView)
+pub record IsSession (t : Setup) (input output : Passage) (xs ys : List SeatView)
     (result : Result ℕ SessionEnd) : Type 0 where
-  pub over : IsOver (setup how table names) input rest old new xs ys result
-  pub found : All (HasPrefix table) ys
+  pub over : IsOver t input output xs ys result
+  pub found : All (HasPrefix t.table) ys
   pub numbers : map (λ (y : SeatView). y.number) ys ≡ map (λ (x : SeatView). x.number) xs
-
-abbrev pub IsSession : TableData → List (List ℕ) → Option (List ℕ) → Option (List ℕ)
-    → Option (List ℕ) → Option (List ℕ) → SeatView → SeatView → Result ℕ SessionEnd → Type 0
-IsSession table names input rest old new x y result =
-    IsSessionOf OneSeat table names input rest old new (x ∷ []) (y ∷ []) result

@@ -184,7 +184,6 @@ fn enter_verdict<N: Name, R: Threads + Wait>(
         Commit (speaker seat.old kept.old said.old) (speaker seat.new kept.new said.new) result }
 {
     if let Some(look) = kept {
-        let _receipt = look.receipt();
         match commit_stale(
             shared.table,
             shared.rt,

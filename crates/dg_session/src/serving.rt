@@ -1,9 +1,11 @@
 //! Serving a stream of lines.
-ghost use Rattle.std.specs.Prelude.{◌≡◌, ◌≢◌, ◌≤◌, List, ℕ, [], length, None, Err, OnOk, All, true};
+ghost use Rattle.std.specs.Prelude.{◌≡◌, ◌≢◌, ◌≤◌, List, ℕ, [], ◌∷◌, length, None, Err, OnOk, All, true};
 ghost use Rattle.dg_rank.specs.Ranks.{MayHaveWorkers};
 ghost use Rattle.dg_table.specs.Histories.{HasPrefix};
-ghost use Rattle.dg_session.specs.Ends.{IsOver, IsSession, IsSessionOf};
+ghost use Rattle.dg_session.specs.Ends.{IsOver, IsSession};
 ghost use Rattle.dg_session.specs.Setup.{setup};
+ghost use Rattle.dg_session.specs.Streams.{passage};
+ghost use Rattle.dg_session.specs.declared.line_format.LineFormat.TheVariants.{OneSeat};
 ghost use Rattle.dg_session.specs.SoFar.{heard, IsSaid, IsCleared, IsWritten};
 
 use crate::answering::{Said, Shared};
@@ -40,8 +42,9 @@ pub fn serve<N: Name, R: Threads + Wait, I: Read, O: Write>(
 ) -> Result<u32, SessionEnd>
     requires names { length names.now ≡ N.table.start.graph.size }
     requires workers { MayHaveWorkers workers }
-    ensures session { IsSession N.table names.now reader.old.remaining
-        reader.new.remaining writer.old.contents writer.new.contents seat.old seat.new result }
+    ensures session { IsSession (setup OneSeat N.table names.now)
+        (passage reader.old.remaining reader.new.remaining)
+        (passage writer.old.contents writer.new.contents) (seat.old ∷ []) (seat.new ∷ []) result }
     ensures read { result ≡ Err SessionEnd.Read → reader.new.has_failed ≡ true }
     ensures write { result ≡ Err SessionEnd.Write → writer.new.has_failed ≡ true }
 {
@@ -75,9 +78,9 @@ pub fn serve_seats<N: Name, R: Threads + Wait, I: Read, O: Write>(
     requires names { length names.now ≡ N.table.start.graph.size }
     requires workers { MayHaveWorkers workers }
     requires some { 1 ≤ length seats.old }
-    ensures session { IsSessionOf how N.table names.now
-        reader.old.remaining reader.new.remaining writer.old.contents writer.new.contents seats.old
-        seats.new result }
+    ensures session { IsSession (setup how N.table names.now)
+        (passage reader.old.remaining reader.new.remaining)
+        (passage writer.old.contents writer.new.contents) seats.old seats.new result }
     ensures read { result ≡ Err SessionEnd.Read → reader.new.has_failed ≡ true }
     ensures write { result ≡ Err SessionEnd.Write → writer.new.has_failed ≡ true }
 {
@@ -106,8 +109,9 @@ pub fn serve_unheard<N: Name, R: Threads + Wait, I: Read>(
 ) -> Result<u32, SessionEnd>
     requires names { length names.now ≡ N.table.start.graph.size }
     requires workers { MayHaveWorkers workers }
-    ensures session { IsSession N.table names.now reader.old.remaining
-        reader.new.remaining None None seat.old seat.new result }
+    ensures session { IsSession (setup OneSeat N.table names.now)
+        (passage reader.old.remaining reader.new.remaining) (passage None None)
+        (seat.old ∷ []) (seat.new ∷ []) result }
     ensures read { result ≡ Err SessionEnd.Read → reader.new.has_failed ≡ true }
     ensures write { result ≢ Err SessionEnd.Write }
 {
@@ -146,10 +150,9 @@ fn serve_lines<N: Name, R: Threads + Wait, I: Read, O: Write>(
     requires some { 1 ≤ length seats.old }
     requires said { IsSaid (heard text) [] }
     requires unknown { heard text ≡ None → writer.old.contents ≡ None }
-    ensures session { IsOver
-        (setup shared.now.how N.table shared.now.names.now)
-        reader.old.remaining reader.new.remaining writer.old.contents writer.new.contents
-        seats.old seats.new result }
+    ensures session { IsOver (setup shared.now.how N.table shared.now.names.now)
+        (passage reader.old.remaining reader.new.remaining)
+        (passage writer.old.contents writer.new.contents) seats.old seats.new result }
     ensures read { result ≡ Err SessionEnd.Read → reader.new.has_failed ≡ true }
     ensures write { result ≡ Err SessionEnd.Write → writer.new.has_failed ≡ true }
     ensures still { heard text ≡ None → writer.new ≡ writer.old }

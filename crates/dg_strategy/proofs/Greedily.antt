@@ -1,5 +1,5 @@
 -- A greedy game, turn by turn.
---   IsUnderWay o H s  == the history H from the opening o is legal and greedy, has moves alone, and leads to the state s
+--   IsUnderWay o H s  == the history H from the start o is legal and greedy, has moves alone, and leads to the state s
 --   turn_made      what the least debtor answers makes a greedy turn
 --   begun          before the first turn
 --   legal_turn     a legal history with a greedy turn is legal

@@ -75,13 +75,13 @@ graph_found : (A : Choosing) (table : TableData) (x : SeatView) (r : ℕ × Entr
 graph_found A table x r y graph turn =
     graphs_hold table.start turn.history graph (legal_part table.start turn.history (r.1 ∷ []) turn.answered.history.legal)
 
-module _ (A : Choosing) (table : TableData) (opening : IsGraph table.start.graph) (x : SeatView) (r : ℕ × Entry)
+module _ (A : Choosing) (table : TableData) (start : IsGraph table.start.graph) (x : SeatView) (r : ℕ × Entry)
     (y : SeatView) where
   -- the reply to what was answered, and what is known of it where the answer is a move that can be made
   answered : (gives : GivesMoves A) (turn : IsTurnBy A table x r y) (m : Option Move) → turn.answer ≡ m →
       (IsMove r.1.request → IsMadeOrPastRange r.1.reply) × (gift_counted r.1.reply ≡ 0)
   answered gives turn (Some m) is =
-      let graph = graph_found A table x r y opening turn in
+      let graph = graph_found A table x r y start turn in
       let chosen = rw is at turn.chosen in
       let asked : r.1.request ≡ request.Move m = turn.answered.request' ∙ ap request_for is in
       let replies : Replies table.start turn.history (request.Move m) r.1.reply =
@@ -107,7 +107,7 @@ module _ (A : Choosing) (table : TableData) (opening : IsGraph table.start.graph
   pub settler_turn : SettlesDebts A → IsTurnBy A table x r y → IsSettlerTurn A table x r y
   unfolding strategy_turn
   settler_turn settles turn =
-      let graph = graph_found A table x r y opening turn in
+      let graph = graph_found A table x r y start turn in
       let kept = strategy_turn (settler_moves A settles) turn in
       let p = position_after table.start turn.history in
       let won : turn.answer ≡ None → r.1.reply ≡ Won = λ is.

@@ -7,7 +7,7 @@
 --   AllMoves H                 == each of the entries H is a move
 --   EndsSo n H settled         == there are n entries, all moves; or, if it is settled, fewer
 --                                 moves than n, and then a claim that is won
---   IsGreedyGame o n H settled == the history H from the opening o is legal and greedy, and ends so
+--   IsGreedyGame o n H settled == the history H from the start o is legal and greedy, and ends so
 --   EndsTurn settled e         == the entry is a move; or, if it is settled, a claim that is won
 --   IsGreedyTurn o H e settled == after the history H the entry e of seat 1 is so asked for and
 --                                 answered rightly, and ends so

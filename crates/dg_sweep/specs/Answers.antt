@@ -1,6 +1,6 @@
 -- What the line of a table is answered.
 --   IsVerdict o names text == the text is that of a verdict which is right for the amounts of the
---                             opening o, reckoned from its vertex q, and a newline
+--                             start o, reckoned from its vertex q, and a newline
 --   IsTested o k names text == the text is that of a rank verdict of degree k which is right for
 --                         the amounts of o, and a newline
 --   IsBelow o k text       == the rank of the amounts is below k, and that the text says; there are
@@ -106,10 +106,10 @@ pub record IsRefused (refuses : FileFault → Type 0) (text : List ℕ) : Type 0
   pub printed : text ≡ refusal (file_fault_text fault)
 
 pub record IsOfTable (question : Question) (line text : List ℕ) : Type 0 where
-  pub opening : StartData
+  pub start : StartData
   pub names : List (List ℕ)
-  pub table : IsTableFile line opening names
-  pub answer : AnswersTable question opening names text
+  pub table : IsTableFile line start names
+  pub answer : AnswersTable question start names text
 
 abbrev pub AnswersTableWithin : Question → List ℕ → List ℕ → Type 0
 AnswersTableWithin question line text =

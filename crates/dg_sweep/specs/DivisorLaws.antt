@@ -2,7 +2,7 @@
 --   with_amounts content xs == what a file says that has the amounts xs, and else all as before
 --   LinesStandForTables == if a line stands for a start, or its amounts are refused for their
 --                          number or range, it spells numbers with which the file that says the table
---                          would describe that opening, or would be refused so
+--                          would describe that start, or would be refused so
 use Rattle.std.specs.Prelude.{ℕ, ℤ, List}
 use Rattle.dg_chips.specs.Starts.{StartData}
 use Rattle.dg_chips.specs.declared.divisor.ChipFault.{ChipFault}

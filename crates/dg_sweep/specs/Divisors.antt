@@ -3,7 +3,7 @@
 --   SpellsAmounts line xs   == the words of the line are the decimals of the numbers xs, which 64 bits
 --                              hold
 --   SpellsNone line         == it spells no numbers so
---   HasAmountsOf o line p   == the line stands for the opening p: o with the amounts that it spells
+--   HasAmountsOf o line p   == the line stands for the start p: o with the amounts that it spells
 --   RefusesAmounts n line fault == the first fault of the line's amounts for n vertices, which a table
 --                              file with these amounts would have; of want of memory nothing is said
 --   AnswersAmounts question o names line text == the line stands for a table, and the text answers
@@ -46,9 +46,9 @@ RefusesAmounts n line fault = ⊥
 
 pub record IsOfAmounts (question : Question) (o : StartData) (names : List (List ℕ))
     (line text : List ℕ) : Type 0 where
-  pub opening : StartData
-  pub stands : HasAmountsOf o line opening
-  pub answer : AnswersTable question opening names text
+  pub start : StartData
+  pub stands : HasAmountsOf o line start
+  pub answer : AnswersTable question start names text
 
 abbrev pub AnswersAmounts : Question → StartData → List (List ℕ) → List ℕ → List ℕ → Type 0
 AnswersAmounts question o names line text =

@@ -139,12 +139,13 @@ pub settled : (table : TableData) (H : List Entry) (look : ℕ × Entry) (x : Lo
     KeepsFinding f r.1.reply →
     t.number ≡ m.number → t.mine ≡ m.mine → t.told ≡ m.told ++ look ∷ [] → t.prefix ≡ m.prefix →
     t.met ≡ m.met →
-    IsSettledAfter table H look x f r s t
+    IsSettledAfter table H look f r s t
 settled table H look x f r s m t answered of stands kept number mine told prefix met =
     let replies : Replies table.start H (asked_for look.0 f) r.1.reply =
     subst (λ i. Replies table.start H (asked_for i f) r.1.reply) of.number answered.reply in
+    let answered_on = subst (λ i. IsAnsweredAfter table H (asked_for i f) r s m) of.number answered in
     record {
-      entered = told_of look t answered stands number mine told prefix met;
+      entered = told_of look t answered_on stands number mine told prefix met;
       stands = stands;
       kept = kept;
       stale = stale_both table.start H look.0 f r.1.reply replies;
@@ -158,10 +159,11 @@ pub staled : (table : TableData) (H : List Entry) (look : ℕ × Entry) (x : Loo
     LeadsTo table.start H game → IsLookAt table.start H x → x.gifts ≢ game.gifts → r.1.reply ≡ Stale game.gifts →
     t.number ≡ m.number → t.mine ≡ m.mine → t.told ≡ m.told ++ look ∷ [] → t.prefix ≡ m.prefix →
     t.met ≡ m.met →
-    IsStaleAfter table H look x asks r s t
+    IsStaleAfter table H look asks r s t
 staled table H look x asks game r s m t answered of stands leads at other reply number mine told prefix met =
+    let answered_on = subst (λ i. IsAnsweredAfter table H (asked_on i asks) r s m) of.number answered in
     record {
-      entered = told_of look t answered stands number mine told prefix met;
+      entered = told_of look t answered_on stands number mine told prefix met;
       stands = stands;
       since = λ same. other (at.gifts ∙ ap (λ i. gifts_in (take i H)) of.number ∙ same ∙ sym leads.gifts);
       stale = reply ∙ ap Stale leads.gifts;

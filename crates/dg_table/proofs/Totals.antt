@@ -6,6 +6,8 @@ use Rattle.std.proofs.Common.{◌≡◌, ℕ, ◌+◌, ◌≤◌, List, length, 
 use Rattle.std.proofs.lemmas.List.{get_or_past}
 use Rattle.std.proofs.lemmas.Bool.{cases_lt}
 use Rattle.dg_chips.specs.Starts.{StartData}
+use Rattle.dg_game.specs.History.{position_after}
+use Rattle.dg_game.specs.Position.{Shows}
 use Rattle.dg_game.specs.State.{State}
 use Rattle.dg_game.specs.declared.entry.Entry.{Entry}
 use Rattle.dg_game.specs.declared.entry.TheConstants.{MAX_SEATS}
@@ -15,6 +17,8 @@ use Rattle.dg_table.specs.Histories.{IsHistoryOf}
 use Rattle.dg_table.specs.Lock.{IsUnderLock}
 use Rattle.dg_table.specs.Seats.{SeatView, entries_of}
 use Rattle.dg_table.proofs.Counts.{none_past, all_counted}
+use Rattle.dg_log.specs.declared.name.Name.{Ghosts}
+use Rattle.dg_table.specs.declared.audit.Audit.{Audit}
 use Rattle.dg_log.specs.Tables.{TableData}
 
 counted_at : {o : StartData} {seats : ℕ} {H : List Entry} {game : State} {counts : List ℕ} (s : ℕ) →
@@ -26,21 +30,24 @@ counted_at {o} {seats} {H} {game} {counts} s held = elim (cases_lt s MAX_SEATS) 
       get_or_past counts s 0 (omega (arith, held.places)) ∙ ap length (sym none)
 ]
 
-pub totals : {o : StartData} {seats : ℕ} {H : List Entry} {game : State} {counts : List ℕ} (xs : List SeatView) →
-    IsUnderLock o seats H game counts → AllHeld H xs →
-    AreTotals o seats xs H game.entries game.gifts game.graph game.amounts counts
-totals {o} {seats} {H} {game} {counts} xs held all =
+pub totals : {N : Type 0} {named : Ghosts N} {table : TableData} {game : State} {counts : List ℕ} (a : Audit N named)
+    (xs : List SeatView) →
+    IsUnderLock table.start table.seats a.pen.entries game counts → AllHeld a.pen.entries xs → a.entries ≡ game.entries →
+    a.gifts ≡ game.gifts → a.graph ≡ game.graph → a.position ≡ game.amounts → a.calls ≡ counts → AreTotals table xs a
+totals {table = table} {game} {counts} a xs held all entries gifts graph position calls =
+    let H = a.pen.entries in
     record {
-      entries' = held.game'.entries;
-      gifts' = held.game'.gifts;
-      graph' = held.game'.graph;
-      position' = held.game'.amounts;
-      calls' = λ i x at s number.
-          counted_at s held ∙ ap (λ n. length (entries_of n H)) (sym number) ∙ ap length (all i x at).mine;
-      others = λ s prefix below. counted_at s held ∙ ap length (none_past seats (s + 1) H held.seated (omega arith));
-      all = all_counted counts H held.counted held.places (λ k e at.
+      entries = entries ∙ held.game'.entries;
+      gifts = gifts ∙ held.game'.gifts;
+      graph = graph ∙ held.game'.graph;
+      position = subst (Shows (position_after table.start H)) (sym position) held.game'.amounts;
+      calls = λ i x at s number.
+          rw calls (counted_at s held ∙ ap (λ n. length (entries_of n H)) (sym number) ∙ ap length (all i x at).mine);
+      others = λ s past below.
+          rw calls (counted_at s held ∙ ap length (none_past table.seats (s + 1) H held.seated (omega arith)));
+      all = rw (calls, entries) (all_counted counts H held.counted held.places (λ k e at.
           let (least, most) = held.seated k e at in
-          (least, omega (arith, held.few))) ∙ sym held.game'.entries;
+          (least, omega (arith, held.few))) ∙ sym held.game'.entries);
     }
 
 pub history_of : {table : TableData} {H : List Entry} {game : State} {counts : List ℕ} →

@@ -4,10 +4,11 @@
 --   AllHeld H xs                 == the history H holds what each of the seats xs knows
 --   IsClosed table xs H          == H is a history of the table, and holds what each of the seats xs
 --                                   knows, among which are all of the table's
---   AreTotals o n xs H e g h d c == e, g, h and d are the number of entries of H, its gift count,
---                                   and the graph and the amounts after it; c has at each seat's
---                                   place, from 0, the number of its calls, and 0 past the n seats;
---                                   together they are the number of entries
+--   AreTotals table xs a         == what the audit a says of its history is so: the number of
+--                                   entries, the gift count, and the graph and the amounts after
+--                                   it; and at each seat's place, from 0, the number of its calls,
+--                                   and 0 past the table's seats; together they are the number of
+--                                   entries
 --   IsMissing n xs s             == s is the least of the seats 1 to n that is not among xs
 --   SomeKeepsMore H xs           == one of the seats xs is not admissible after H
 --   RefusesClose H n xs s        == s is the least seat that is missing; or s is 0, none is
@@ -16,16 +17,15 @@
 --                                   refused with s
 use Rattle.std.specs.Prelude.{◌≡◌, ℕ, ◌+◌, ◌<◌, ◌≤◌, List, length, slice_get, Some, ◌⊎◌, sum}
 use Rattle.std.specs.List.{slice_index}
-use Rattle.dg_theory.specs.Multigraph.{Multigraph}
-use Rattle.dg_chips.specs.Starts.{StartData}
-use Rattle.dg_chips.specs.Vector.{Vector}
 use Rattle.dg_game.specs.Position.{Shows}
 use Rattle.dg_game.specs.History.{position_after, gifts_in}
 use Rattle.dg_game.specs.declared.entry.Entry.{Entry}
 use Rattle.dg_game.specs.declared.entry.TheConstants.{MAX_SEATS}
 use Rattle.dg_table.specs.Histories.{IsHistoryOf}
 use Rattle.dg_table.specs.Seats.{SeatView, Holds, IsAdmissible}
+use Rattle.dg_log.specs.declared.name.Name.{Ghosts}
 use Rattle.dg_log.specs.Tables.{TableData}
+use Rattle.dg_table.specs.declared.audit.Audit.{Audit}
 
 abbrev pub HasSeat : List SeatView → ℕ → Type 0
 HasSeat xs s = (i : ℕ) × (x : SeatView) × (slice_get xs i ≡ Some x) × (x.number ≡ s)
@@ -41,17 +41,16 @@ pub record IsClosed (table : TableData) (xs : List SeatView) (H : List Entry) : 
   pub complete : IsComplete table.seats xs
   pub held : AllHeld H xs
 
-pub record AreTotals (o : StartData) (n : ℕ) (xs : List SeatView) (H : List Entry) (entries gifts : ℕ)
-    (graph : Multigraph)
-    (position : Vector) (calls : List ℕ) : Type 0 where
-  pub entries' : entries ≡ length H
-  pub gifts' : gifts ≡ gifts_in H
-  pub graph' : graph ≡ (position_after o H).graph
-  pub position' : Shows (position_after o H) position
-  pub calls' : (i : ℕ) (x : SeatView) → slice_get xs i ≡ Some x → (s : ℕ) → x.number ≡ s + 1 →
-      slice_index calls s ≡ length x.mine
-  pub others : (s : ℕ) → n ≤ s → s < MAX_SEATS → slice_index calls s ≡ 0
-  pub all : sum calls ≡ entries
+pub record AreTotals {N : Type 0} {named : Ghosts N} (table : TableData) (xs : List SeatView)
+    (a : Audit N named) : Type 0 where
+  pub entries : a.entries ≡ length a.pen.entries
+  pub gifts : a.gifts ≡ gifts_in a.pen.entries
+  pub graph : a.graph ≡ (position_after table.start a.pen.entries).graph
+  pub position : Shows (position_after table.start a.pen.entries) a.position
+  pub calls : (i : ℕ) (x : SeatView) → slice_get xs i ≡ Some x → (s : ℕ) → x.number ≡ s + 1 →
+      slice_index a.calls s ≡ length x.mine
+  pub others : (s : ℕ) → table.seats ≤ s → s < MAX_SEATS → slice_index a.calls s ≡ 0
+  pub all : sum a.calls ≡ a.entries
 
 pub record IsMissing (n : ℕ) (xs : List SeatView) (s : ℕ) : Type 0 where
   pub seat : (1 ≤ s) × (s ≤ n)

@@ -212,7 +212,7 @@ impl<N: Name> Held<N> {
         requires look { IsLookOf look.now shown.now }
         requires found { IsFoundFor N.table.start.q shown.now finding.now }
         ensures settled { IfOk result (λ r.
-            IsSettledAfter N.table self.old.entries look.now shown.now finding.now r seat.old seat.new ×
+            IsSettledAfter N.table self.old.entries look.now finding.now r seat.old seat.new ×
             (self.new ≡ record { entries = self.old.entries ++ r.1 ∷ []; stuck = false })) }
         ensures refused { IfErr result
             (λ f. (self.new.entries ≡ self.old.entries) × Meets self.old.entries seat.old seat.new ×
@@ -259,8 +259,7 @@ impl<N: Name> Held<N> {
         requires look { IsLookOf taken.now shown.now }
         ensures settled { IfOk result (λ found. MatchOption found
             ((self.new ≡ self.old) × (seat.new ≡ seat.old) × (shown.now.gifts ≡ gifts_in self.old.entries))
-            (λ r. IsStaleAfter N.table self.old.entries taken.now shown.now
-            asks.now r seat.old seat.new ×
+            (λ r. IsStaleAfter N.table self.old.entries taken.now asks.now r seat.old seat.new ×
             (self.new ≡ record { entries = self.old.entries ++ r.1 ∷ []; stuck = false }))) }
         ensures refused { IfErr result
             (λ f. (self.new.entries ≡ self.old.entries) × Meets self.old.entries seat.old seat.new ×
@@ -380,8 +379,7 @@ impl<N: Name> Held<N> {
     pub(crate) fn audit(self, log: Log<N>) -> Audit<N>
         ensures history { result.pen.entries ≡ self.entries }
         ensures totals { (xs : List SeatView) → AllHeld self.entries xs →
-            AreTotals N.table.start N.table.seats xs self.entries
-            result.entries result.gifts result.graph result.position result.calls }
+            AreTotals N.table xs result }
     {
         let Held {
             game,

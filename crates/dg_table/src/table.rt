@@ -165,7 +165,7 @@ impl<N: Name> Table<N> {
         requires look { IsLookOf look.now shown.now }
         requires found { IsFoundFor N.table.start.q shown.now finding.now }
         ensures settled { IfOk result
-            (λ r. IsSettled N.table look.now shown.now finding.now r seat.old seat.new) }
+            (λ r. IsSettled N.table look.now finding.now r seat.old seat.new) }
         ensures fault { IfErr result (λ f. Keeps seat.old seat.new ×
             RefusesCall N.table seat.new f) }
     {
@@ -192,7 +192,7 @@ impl<N: Name> Table<N> {
         requires { IsLookOf look.now shown.now }
         ensures settled { IfOk result (λ found. MatchOption found
             (Keeps seat.old seat.new × (seat.new.met ≡ seat.old.met))
-            (λ r. IsStale N.table look.now shown.now asks.now r seat.old seat.new)) }
+            (λ r. IsStale N.table look.now asks.now r seat.old seat.new)) }
         ensures fault { IfErr result (λ f. Keeps seat.old seat.new ×
             RefusesCall N.table seat.new f) }
     {
@@ -230,7 +230,7 @@ impl<N: Name> Table<N> {
     pub fn close(self, seats: Vec<Seat<N>>) -> Result<Audit<N>, CloseFault<N>>
         ensures { MatchResult result
             (λ a. IsClosed N.table seats.items a.pen.entries ×
-            AreTotals N.table.start N.table.seats seats.items a.pen.entries a.entries a.gifts a.graph a.position a.calls)
+            AreTotals N.table seats.items a)
             (λ f. (f.seats.items ≡ seats.items) ×
             IsCloseRefused N.table seats.items f.missing) }
     {

@@ -1,5 +1,5 @@
 -- Greedy games that are printed turn by turn.
---   IsPlayedTo o names s n text == n greedy turns from the opening o, all moves, lead to the state s, and the text is that of
+--   IsPlayedTo o names s n text == n greedy turns from the start o, all moves, lead to the state s, and the text is that of
 --                                  their history
 --   none_played    before the first turn
 --   turn_named     the reply of the next turn has as many amounts as there are names

@@ -2,7 +2,7 @@
 --   turns_text settled         == the line `turns` if the turns were used up, and nothing if the
 --                                 game is settled
 --   IsGreedyAnswer o n names text == the text is that of the history of a greedy game of at most n
---                                    turns from the opening o, and of how it ended
+--                                    turns from the start o, and of how it ended
 --   RefusesTurns fault         == memory was refused
 use Rattle.std.specs.Prelude.{◌≡◌, ℕ, Bool, true, false, List, [], ◌++◌, codes, ⊤}
 use Rattle.dg_chips.specs.Starts.{StartData}

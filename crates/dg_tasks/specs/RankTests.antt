@@ -6,7 +6,7 @@
 --   RefusesRank n k fault       == a rank test of degree k on n vertices is past the limits, or
 --                                  memory was refused, or a thread
 --   number_line label z         == the label, the number and a newline
---   riemann_roch_text o r s     == the lines of the opening divisor's degree, of the genus, and of
+--   riemann_roch_text o r s     == the lines of the start divisor's degree, of the genus, and of
 --                                  the ranks r and s
 --   IsRiemannRoch o text        == the dual is in range, and the text is those lines, with the rank
 --                                  of the divisor and that of its dual, each told by tests within

@@ -5,9 +5,11 @@
 --                                      whatever steps follow, and the text is that of their history,
 --                                      which has room for them
 --   IsStopped o steps fault         == the fault is the first of these steps, whatever steps follow
---   MayGoOn names r text            == so some steps from some opening have come to this
---   GoesOn names step r text r' text' result == of all such steps, with this one they come to that;
---                                      or the fault is the first of them with this one
+--   MayGoOn names r text            == so some steps from some start have come to this
+--   Played                          == what steps have come to, and the text of their history
+--   played r text                   == that of these
+--   GoesOn names step old new result == of all such steps, with this one they come to the new; or
+--                                      the fault is the first of them with this one
 use Rattle.std.specs.Prelude.{◌≡◌, ℕ, List, [], ◌∷◌, ◌++◌, length, ◌≤◌, Result, MatchResult}
 use Rattle.dg_chips.specs.Starts.{StartData}
 use Rattle.dg_rehearsal.specs.Rehearsal.{IsPlaying}
@@ -44,10 +46,17 @@ abbrev pub MayGoOn : List (List ℕ) → Rehearsal → List ℕ → Type 0
 MayGoOn names r text =
     (o : StartData) × (steps : List Step) × (length names ≡ o.graph.size) × IsPlayed o names steps r text
 
-abbrev pub GoesOn : {B : Type 0} → List (List ℕ) → Step → Rehearsal → List ℕ → Rehearsal → List ℕ
+pub record Played : Type 0 where
+  pub rehearsal : Rehearsal
+  pub text : List ℕ
+
+abbrev pub played : Rehearsal → List ℕ → Played
+played r text = record { rehearsal = r; text = text }
+
+abbrev pub GoesOn : {B : Type 0} → List (List ℕ) → Step → Played → Played
     → Result B RehearseFault → Type 0
-GoesOn names step r text r' text' result = MatchResult result
-    (λ _. (o : StartData) (steps : List Step) → IsPlayed o names steps r text →
-    IsPlayed o names (steps ++ step ∷ []) r' text')
-    (λ fault. (o : StartData) (steps : List Step) → IsPlayed o names steps r text →
+GoesOn names step old new result = MatchResult result
+    (λ _. (o : StartData) (steps : List Step) → IsPlayed o names steps old.rehearsal old.text →
+    IsPlayed o names (steps ++ step ∷ []) new.rehearsal new.text)
+    (λ fault. (o : StartData) (steps : List Step) → IsPlayed o names steps old.rehearsal old.text →
     IsStopped o (steps ++ step ∷ []) fault)

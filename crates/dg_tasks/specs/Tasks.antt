@@ -1,8 +1,8 @@
 -- Answers to tasks on tables, and when there is none. `held` tells what is known of the file of
 -- each name.
 --   DescribesTable h o names      == bytes that the file h may hold are a table file, of the
---                                    opening o with these names
---   IsOnTable h P                 == the file h describes a table, and P holds of its opening and
+--                                    start o with these names
+--   IsOnTable h P                 == the file h describes a table, and P holds of its start and
 --                                    names
 --   IsOfSteps h P                 == P holds of the lines of bytes that the file h may hold
 --   AnswersTask held o names task text == the text is the answer to the task on the start o with
@@ -43,10 +43,10 @@ pub record DescribesTable (h : Held) (o : StartData) (names : List (List ℕ)) :
   pub table : IsTableFile bytes o names
 
 pub record IsOnTable (h : Held) (P : StartData → List (List ℕ) → Type 0) : Type 0 where
-  pub opening : StartData
+  pub start : StartData
   pub names : List (List ℕ)
-  pub table : DescribesTable h opening names
-  pub holds : P opening names
+  pub table : DescribesTable h start names
+  pub holds : P start names
 
 pub record IsOfSteps (h : Held) (P : List (List ℕ) → Type 0) : Type 0 where
   pub bytes : List ℕ

@@ -1,7 +1,7 @@
 //! Schedules that are read, played and printed line by line: neither the steps nor the history are kept.
 ghost use Rattle.std.specs.Prelude.{IfOk, IfErr};
 ghost use Rattle.dg_lines.specs.Cuts.{lines};
-ghost use Rattle.dg_tasks.specs.Rehearsals.{IsPrinted, MayGoOn, GoesOn};
+ghost use Rattle.dg_tasks.specs.Rehearsals.{IsPrinted, MayGoOn, played, GoesOn};
 ghost use Rattle.dg_tasks.specs.Refusals.{RefusesSchedule};
 
 use crate::fault::TaskFault;
@@ -65,7 +65,8 @@ fn play_on(
     step: &Step,
 ) -> Result<(), RehearseFault>
     requires { MayGoOn names.now rehearsal.old text.old.items }
-    ensures { GoesOn names.now step.now rehearsal.old text.old.items rehearsal.new text.new.items result }
+    ensures { GoesOn names.now step.now (played rehearsal.old text.old.items)
+        (played rehearsal.new text.new.items) result }
 {
     let number = rehearsal.game.entries() as usize;
     match rehearsal.play(step, entry) {

@@ -1,7 +1,7 @@
 //! Looks, and what is entered on them, one call after another.
 
 use crate::gates::Counts;
-use crate::openings::{Scene, on_a_table};
+use crate::table_tests::{TableTest, on_a_table};
 use crate::tables::{triangle, winnable};
 use dg_analyst::{
     Look, Reckoned, Tried, commit, commit_look, commit_rank, commit_stale, look, reckon,
@@ -28,15 +28,18 @@ fn findings_are_entered_on_what_is_found(rt: HostRuntime) -> Result<(), Fail> {
     let one = triangle(&[1, 0, 0])?;
     let paid = Reply::Verdict(winnable(owing.graph(), &[0, 0, 0], &[0, 0, 0])?);
     let kept = Reply::Verdict(winnable(rich.graph(), &[0, 0, 0], &[1_000_000, 0, 0])?);
-    for (start, scene) in [
-        (&owing, Scene::Judged(LEND, paid)),
-        (&owing, Scene::Judged(Plain::Gift(1, 1), Reply::Stale(1))),
-        (&rich, Scene::Judged(Plain::Gift(0, 1), kept)),
-        (&one, Scene::Ranked),
-        (&owing, Scene::TooMuch),
-        (&owing, Scene::Drift),
+    for (start, test) in [
+        (&owing, TableTest::Judged(LEND, paid)),
+        (
+            &owing,
+            TableTest::Judged(Plain::Gift(1, 1), Reply::Stale(1)),
+        ),
+        (&rich, TableTest::Judged(Plain::Gift(0, 1), kept)),
+        (&one, TableTest::Ranked),
+        (&owing, TableTest::TooMuch),
+        (&owing, TableTest::Drift),
     ] {
-        on_a_table(&rt, rt.alloc(), 6, start, 2, scene)?;
+        on_a_table(&rt, rt.alloc(), 6, start, 2, test)?;
     }
     Ok(())
 }

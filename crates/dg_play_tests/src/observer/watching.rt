@@ -1,7 +1,7 @@
 //! Observers of a triangle.
 ghost use Rattle.std.specs.Prelude.{◌≡◌};
 
-use crate::openings::{Scene, on_a_table};
+use crate::table_tests::{TableTest, on_a_table};
 use crate::tables::{amounts, triangle};
 use dg_chips::{Divisor, Move};
 use dg_game::{Entry, Plain};
@@ -81,7 +81,7 @@ fn entries_are_counted(rt: HostRuntime) -> Result<(), Fail> {
         8,
         &triangle(&[0, 0, 0])?,
         2,
-        Scene::Watched,
+        TableTest::Watched,
     )
 }
 
@@ -169,11 +169,11 @@ fn follows_the_position<N: Name>(
     rt: &impl Abort,
     alloc: Global,
     log: &Log<N>,
-    opening: &Divisor,
+    start: &Divisor,
 ) -> Result<(), Fail>
-    requires { opening.now ≡ N.table.start.divisor }
+    requires { start.now ≡ N.table.start.divisor }
 {
-    let mut position = Observer::<N, Positions<N>>::new(alloc, Positions::new(), *opening);
+    let mut position = Observer::<N, Positions<N>>::new(alloc, Positions::new(), *start);
     let read = position.catch_up(log)?;
     assert!(rt; read == 3);
     assert!(rt; *position.state() == amounts(&[-2, 2, 1])?);

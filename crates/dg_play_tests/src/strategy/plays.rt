@@ -1,7 +1,7 @@
 //! Plays of one seat.
 
-use crate::openings::{Scene, on_a_table};
 use crate::strategy::choices::{LendFirst, LendRichest};
+use crate::table_tests::{TableTest, on_a_table};
 use crate::tables::{amounts, triangle};
 use dg_chips::Divisor;
 use dg_game::Reply;
@@ -17,8 +17,8 @@ use std::test::Fail;
 #[test]
 fn one_seat_plays(rt: HostRuntime) -> Result<(), Fail> {
     let owing = triangle(&[2, -1, -1])?;
-    for (cells, scene) in [(8, Scene::Strategies), (3, Scene::Turns)] {
-        on_a_table(&rt, rt.alloc(), cells, &owing, 1, scene)?;
+    for (cells, test) in [(8, TableTest::Strategies), (3, TableTest::Turns)] {
+        on_a_table(&rt, rt.alloc(), cells, &owing, 1, test)?;
     }
     Ok(())
 }

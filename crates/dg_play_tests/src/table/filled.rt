@@ -1,8 +1,8 @@
 //! A table that is filled with ten thousand entries, and what is refused once it is full.
 
-use crate::openings::{Scene, on_a_table};
 use crate::strategy::choices::LendFirst;
 use crate::table::settles::{look_at, settle};
+use crate::table_tests::{TableTest, on_a_table};
 use crate::tables::{amounts, triangle};
 use dg_analyst::{Reckoned, Tried, commit, commit_rank, look, reckon, try_rank};
 use dg_chips::{Divisor, Move};
@@ -29,7 +29,7 @@ fn a_table_is_filled_to_its_last_cell(rt: HostRuntime) -> Result<(), Fail> {
         10_007,
         &triangle(&[0, 0, 0])?,
         2,
-        Scene::Filled,
+        TableTest::Filled,
     )
 }
 
@@ -54,8 +54,8 @@ pub(crate) fn fills<N: Name, R: Threads + Wait + Abort>(
 
 // The position that an observer finds.
 fn watched<N: Name>(rt: &impl Abort, alloc: Global, table: &Table<N>) -> Result<Divisor, Fail> {
-    let opening = *table.start().divisor();
-    let mut observer = Observer::<N, Positions<N>>::new(alloc, Positions::new(), opening);
+    let start = *table.start().divisor();
+    let mut observer = Observer::<N, Positions<N>>::new(alloc, Positions::new(), start);
     let read = observer.catch_up(table.log())?;
     assert!(rt; read == 10_007);
     Ok(*observer.state())

@@ -1,8 +1,8 @@
 //! Many seats in threads of their own on one table, and an observer beside them.
 ghost use Rattle.std.specs.Prelude.{◌≡◌};
 
-use crate::openings::{Scene, on_a_table};
 use crate::strategy::choices::{BorrowFirst, LendFirst};
+use crate::table_tests::{TableTest, on_a_table};
 use crate::tables::{amounts, petersen, triangle};
 use dg_analyst::{commit, look, reckon};
 use dg_chips::{Divisor, Move, Start};
@@ -130,7 +130,7 @@ fn many_seats_make_one_history(rt: HostRuntime) -> Result<(), Fail> {
             cells,
             start,
             seats,
-            Scene::Meeting(meeting),
+            TableTest::Meeting(meeting),
         )?;
     }
     Ok(())
@@ -178,7 +178,7 @@ fn many_seats_play_on_ten_vertices(rt: HostRuntime) -> Result<(), Fail> {
             cells,
             start,
             seats,
-            Scene::Meeting(meeting),
+            TableTest::Meeting(meeting),
         )?;
     }
     Ok(())
@@ -246,8 +246,8 @@ fn read_a_hundred_times<N: Name>(
     alloc: Global,
     table: &Table<N>,
 ) -> Result<Observer<N, Positions<N>>, ObserverFault> {
-    let opening = *table.start().divisor();
-    let mut observer = Observer::<N, Positions<N>>::new(alloc, Positions::new(), opening);
+    let start = *table.start().divisor();
+    let mut observer = Observer::<N, Positions<N>>::new(alloc, Positions::new(), start);
     for _ in 0..100 {
         observer.catch_up(table.log())?;
     }

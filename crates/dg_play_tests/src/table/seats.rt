@@ -1,6 +1,6 @@
 //! Seats of small tables, one call after another.
 
-use crate::openings::{Scene, on_a_table};
+use crate::table_tests::{TableTest, on_a_table};
 use crate::tables::{amounts, triangle};
 use dg_chips::{Divisor, Move, Start};
 use dg_game::{Plain, Reply};
@@ -66,7 +66,7 @@ fn calls_are_entries_of_one_history(rt: HostRuntime) -> Result<(), Fail> {
             made.len() as u32,
             start,
             counts.len() as u8,
-            Scene::Calls(&calls),
+            TableTest::Calls(&calls),
         )?;
     }
     Ok(())
@@ -203,7 +203,7 @@ fn rows_and_tables_have_limits(rt: HostRuntime) -> Result<(), Fail> {
         assert!(&rt; Row::new(alloc, capacity).err() == Some(LogFault::Capacity));
     }
     let even = triangle(&[0, 0, 0])?;
-    on_a_table(&rt, alloc, 2, &even, 0, Scene::NoSeats)?;
-    on_a_table(&rt, alloc, 2, &even, 65, Scene::NoSeats)?;
-    on_a_table(&rt, alloc, 2, &even, 0, Scene::Pen)
+    on_a_table(&rt, alloc, 2, &even, 0, TableTest::NoSeats)?;
+    on_a_table(&rt, alloc, 2, &even, 65, TableTest::NoSeats)?;
+    on_a_table(&rt, alloc, 2, &even, 0, TableTest::Pen)
 }

@@ -1,8 +1,8 @@
 //! Sessions that enter a gate before their first lines.
 
 use crate::gates::Early;
-use crate::openings::{Scene, on_a_table};
 use crate::party::meetings::scripts_of;
+use crate::table_tests::{TableTest, on_a_table};
 use crate::tables::{TRIANGLE, triangle};
 use dg_file::{Names, read_table};
 use dg_log::Name;
@@ -18,7 +18,14 @@ use std::thread::Threads;
 
 #[test]
 fn sessions_enter_before_their_first_lines(rt: HostRuntime) -> Result<(), Fail> {
-    on_a_table(&rt, rt.alloc(), 4, &triangle(&[2, -1, -1])?, 3, Scene::Gate)
+    on_a_table(
+        &rt,
+        rt.alloc(),
+        4,
+        &triangle(&[2, -1, -1])?,
+        3,
+        TableTest::Gate,
+    )
 }
 
 // Each of three seats enters once, with its own number, and has no entry then.

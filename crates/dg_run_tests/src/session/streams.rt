@@ -1,6 +1,6 @@
 //! Readers and writers that fail.
 
-use crate::openings::{Scene, on_a_table};
+use crate::table_tests::{TableTest, on_a_table};
 use crate::tables::{TRIANGLE, triangle};
 use dg_chips::Start;
 use dg_file::{Names, read_table};
@@ -156,7 +156,7 @@ fn ends_where_a_read_fails<R: Threads + Wait + Abort + Sync>(
         9,
         owing,
         1,
-        Scene::Session(reader, writer, answer, end),
+        TableTest::Session(reader, writer, answer, end),
     )
 }
 
@@ -201,7 +201,7 @@ fn ends_where_a_write_fails<R: Threads + Wait + Abort + Sync>(
         9,
         owing,
         1,
-        Scene::Session(reader, writer, answer, end),
+        TableTest::Session(reader, writer, answer, end),
     )
 }
 

@@ -15,6 +15,6 @@ invariant_of-result g c =
     let kept = look_kept c.args.seat.now.mine c.call.new.seat.mine c.in_ok-receipt.receipt (Some shown) entered.request'
     entered.mine c.in-Some.ensures.0 in
     let vertices = c.in-Some.ensures.1 in
-    let opening = rw c.start-start.ensures at c.graph-graph.ensures.opening.vertex in
-    let vertex : c.q.result < shown.graph.size = rw (c.q.ensures, vertices.0, c.start-start.ensures) opening in
+    let start = rw c.start-start.ensures at c.graph-graph.ensures.start.vertex in
+    let vertex : c.q.result < shown.graph.size = rw (c.q.ensures, vertices.0, c.start-start.ensures) start in
     (record { look = kept; vertices = vertices }, cc, vertex)

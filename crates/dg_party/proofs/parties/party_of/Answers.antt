@@ -14,15 +14,14 @@ pub closing_text-requires-clause-position : goal.closing_text-requires-clause-po
 closing_text-requires-clause-position g c =
     c.requires.names ∙ ap (λ t. t.start.graph.size) (sym c.requires.table)
     ∙ shown_size g.N.Name.table.start c.in-Ok-close.audit.pen.entries c.in-Ok-close.audit.position
-    c.in-Ok-close.ensures.1.position'
+    c.in-Ok-close.ensures.1.position
 
 pub returns-in-Ok-closing_text-clause-played : goal.returns-in-Ok-closing_text-clause-played
 returns-in-Ok-closing_text-clause-played g c =
     whole_lent g.N.Name.table c.args.names.now (contents c.args.scripts.now)
     (length c.args.scripts.now) c.in-Ok.opened.1.len c.in-Ok.opened.1.items c.deref_mut.result.now c.sessions.new.seats _
     c.in-Ok-sessions.ends.items
-    c.in-Ok-close.audit.pen.entries c.in-Ok-close.audit.entries c.in-Ok-close.audit.gifts
-    c.in-Ok-close.audit.graph c.in-Ok-close.audit.position c.in-Ok-close.audit.calls c.in-Ok-closing_text.text.items
+    c.in-Ok-close.audit c.in-Ok-closing_text.text.items
     (contents_count c.args.scripts.now) (ap (λ t. t.seats) (sym c.requires.table))
     c.in-Ok.ensures (search rules) (search rules) c.in-Ok-sessions.ensures.ok c.in-Ok-close.ensures (search rules)
     c.in-Ok-closing_text.ensures

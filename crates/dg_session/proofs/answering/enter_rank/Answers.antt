@@ -9,7 +9,7 @@ returns-in-Ok-Some g c =
     let within : IsWithin c.in-Some.look.shown.graph.size c.args.k =
     (_, rw (c.size.ensures.size, c.graph.ensures) at c.in-Some-trials.ensures) in
     with_look c.in-Some.is
-    (entered (stale_made (question.Rank c.args.k) c.receipt-receipt.ensures.taken
+    (entered (stale_made (question.Rank c.args.k)
     (rw c.in-Ok-Some.field-0-is at c.in-Ok-Some.ensures.settled))
     (λ made after text enters. inr (rank_within c.receipt-receipt.ensures.taken within, enters))
     (any_ok _ refl) c.say_entry.ensures)

@@ -6,7 +6,7 @@ use Rattle.dg_session.proofs.answering.enter_verdict.Goals as goal
 pub returns-in-Ok-Some : goal.returns-in-Ok-Some
 returns-in-Ok-Some g c =
     with_look c.in-Some.is
-    (entered (stale_made question.Judge c.receipt-receipt.ensures.taken
+    (entered (stale_made question.Judge
     (rw c.in-Ok-Some.field-0-is at c.in-Ok-Some.ensures.settled))
     (λ made after text enters. enters) (any_ok _ refl) c.say_entry.ensures)
 

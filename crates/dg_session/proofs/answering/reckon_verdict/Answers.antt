@@ -9,7 +9,7 @@ pub returns-in-Ok : goal.returns-in-Ok
 returns-in-Ok g c =
     let (verdict, judged, settled) = c.in-Ok.ensures.settled in
     with_look c.in-Some.is
-    (entered (settled_made refl c.receipt-receipt.ensures.taken settled)
+    (entered (settled_made settled)
     (λ made after text enters. enters) (any_ok _ refl) c.say_entry.ensures)
 
 pub returns-in-Err : goal.returns-in-Err

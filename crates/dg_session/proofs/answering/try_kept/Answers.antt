@@ -13,7 +13,7 @@ pub returns-in-Ok-commit_rank : goal.returns-in-Ok-commit_rank
 returns-in-Ok-commit_rank g c =
     let (same, tried) = c.in-Ok.ensures in
     with_look (sym c.take.ensures.value ∙ c.in-Some.is)
-    (entered (rank_made same c.receipt-receipt.ensures.taken tried c.in-Ok-commit_rank.ensures.settled)
+    (entered (rank_made same tried c.in-Ok-commit_rank.ensures.settled)
     (λ made after text enters. inr (rank_within c.receipt-receipt.ensures.taken tried.within, enters))
     (any_ok _ (ap kept_number c.take.ensures.after)) c.say_entry.ensures)
 

@@ -10,7 +10,7 @@ pub returns-in-Ok : goal.returns-in-Ok
 returns-in-Ok g c =
     let table = g.N.Name.table in
     let A = g.C.Choose.may_answer c.strategy.inside.choice in
-    let graph : IsGraph table.start.graph = (subst IsStart c.start.ensures c.graph-graph.ensures.opening).graph in
+    let graph : IsGraph table.start.graph = (subst IsStart c.start.ensures c.graph-graph.ensures.start).graph in
     rw (← c.strategy.view_is)
     (played_as (IsTurnBy A table) (IsStrategyTurn A table)
     (λ x r y turn. strategy_turn A table graph x r y c.strategy.invariant turn)
@@ -20,7 +20,7 @@ pub returns-in-Err : goal.returns-in-Err
 returns-in-Err g c =
     let table = g.N.Name.table in
     let A = g.C.Choose.may_answer c.strategy.inside.choice in
-    let graph : IsGraph table.start.graph = (subst IsStart c.start.ensures c.graph-graph.ensures.opening).graph in
+    let graph : IsGraph table.start.graph = (subst IsStart c.start.ensures c.graph-graph.ensures.start).graph in
     rw (← c.strategy.view_is)
     (stopped_as (IsTurnBy A table) (IsStrategyTurn A table)
     (λ x r y turn. strategy_turn A table graph x r y c.strategy.invariant turn)

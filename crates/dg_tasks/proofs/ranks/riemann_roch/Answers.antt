@@ -20,7 +20,7 @@ returns-in_default-both_ranks_in_limits-clause-refused c =
 pub returns-in-Ok-clause-told : goal.returns-in-Ok-clause-told
 returns-in-Ok-clause-told c =
     let o = c.start-start.result.now in
-    let opening = c.graph-graph.ensures.opening in
+    let start = c.graph-graph.ensures.start in
     let (rank, dual_rank) = c.in-Some.ensures in
     let of_divisor : IsRankInLimits o.graph (at o.divisor) c.in-Some.rank =
     rw (← c.graph-graph.ensures.graph, ← c.divisor-divisor.ensures) rank in
@@ -42,8 +42,8 @@ returns-in-Ok-clause-told c =
       dual_rank = c.in-Some.dual_rank;
       of_dual = of_dual;
       apart =
-          riemann_roch o.graph (at o.divisor) c.in-Some.rank c.in-Some.dual_rank opening.graph.multigraph
-          (omega (arith, opening.vertex)) of_divisor.is_rank of_dual.is_rank;
+          riemann_roch o.graph (at o.divisor) c.in-Some.rank c.in-Some.dual_rank start.graph.multigraph
+          (omega (arith, start.vertex)) of_divisor.is_rank of_dual.is_rank;
       printed = rw (to_z-of_z w64 c.in-Some.rank fits, to_z-of_z w64 c.in-Some.dual_rank dual_fits) at text;
     } in
     rw (← c.start-start.ensures) told

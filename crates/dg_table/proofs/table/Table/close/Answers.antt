@@ -15,5 +15,5 @@ returns-in-None g c =
         complete = complete;
         held = held;
       }),
-      rw c.audit.ensures.history (c.audit.ensures.totals c.args.seats.items held),
+      c.audit.ensures.totals c.args.seats.items held,
     )

@@ -1,7 +1,0 @@
-use Rattle.std.proofs.Common.{length}
-use Rattle.dg_log.specs.Tables.{table_of}
-use Rattle.dg_run_tests.proofs.openings.on_a_table.Given as goal
-
--- A table is named by its row, its start and its number of seats.
-abbrev pub ghosts-opened : goal.ghosts-opened
-ghosts-opened g a = record { cells = a.row; table = table_of a.start.now a.count (length a.row) }
