@@ -308,9 +308,14 @@ class Refused(Fault):
     RefusedRiemannRoch(degree=None, genus=None, rank=None, dual=None, refused='shape of top')
     >>> row.rank is None, row.table, bool(row)
     (True, 0, False)
+    >>> print(row)
+    refused shape of top
     """
 
     refused: str
+
+    def __str__(self) -> str:
+        return "refused %s" % self.text
 
     def __bool__(self) -> bool:
         return False
