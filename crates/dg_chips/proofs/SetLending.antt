@@ -2,7 +2,6 @@
 --   into_first      how many edges join w to the first n vertices, as far as these are in S
 --   into_first-next one vertex more adds the edges to it, if it is in S
 --   into_first-in   one vertex of S more adds the edges to it, and they are few
---   into_first-out  a vertex outside S adds none
 --   none_there      past the graph there is no vertex of S
 --   set-gain        each vertex gets what comes along its edges from S, and one of S loses a dollar along each of its edges
 --   set-outside     so a 0 that stands where there is no vertex stays
@@ -57,12 +56,6 @@ into_first-in g S w v graph below member =
       valence-few g w graph,
     ) in
     (omega arith, next)
-
-pub into_first-out : (g : Multigraph) (S : ℕ → Bool) (w v : ℕ) → S v ≡ false →
-    into_first g S w v ≡ into_first g S w (v + 1)
-into_first-out g S w v missing =
-    let last : counted g S w v ≡ 0 = ap (λ b. if b then edges_between g w v else 0) missing in
-    omega (arith, into_first-next g S w v)
 
 pub none_there : (g : Multigraph) (S : ℕ → Bool) (v : ℕ) → IsSetBelow g.size S → g.size ≤ v → S v ≡ false
 none_there g S v inside past = ⊎_elim

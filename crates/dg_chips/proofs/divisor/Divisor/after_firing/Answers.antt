@@ -44,7 +44,8 @@ loop-w-preserved c =
     let sum : ℤ = to_z w32 (of_z w32 (slice_index_or xs w (pos 0))) +ℤ
     to_z w32 (of_z w32 (to_z w32 (of_z w32 c.from.result) -ℤ to_z w32 (of_z w32 c.from-in-loop-w.result))) in
     let after : to_z w32 (of_z w32 sum) ≡ moved w =
-    held_flow (slice_index_or xs w (pos 0)) c.from.result c.from-in-loop-w.result (moved w) got lent small (omega arith) less c.from.ensures c.from-in-loop-w.ensures
+    held_flow (slice_index_or xs w (pos 0)) c.from.result c.from-in-loop-w.result (moved w) got lent small
+    (omega arith) less c.from.ensures c.from-in-loop-w.ensures
     (omega (arith, ints)) in
     let kept = read_back xs w sum (moved w) within after in
     let told : c.from-in-loop-w-2.result ≡ unsigned_abs (moved w) =

@@ -7,7 +7,7 @@ use Rattle.std.proofs.lemmas.List.{get_or_past}
 use Rattle.std.proofs.Math.IntN.{ℤ, pos, ◌+ℤ◌, ◌-ℤ◌, ◌*ℤ◌}
 use mir.Val.{to_z, of_z}
 use Rattle.dg_theory.specs.Multigraph.{valence}
-use Rattle.dg_theory.specs.Firing.{fired, only_at}
+use Rattle.dg_theory.specs.Firing.{Amounts, fired, only_at}
 use Rattle.dg_theory.proofs.Absolute.{within_abs}
 use Rattle.dg_chips.specs.Vector.{Vector, at}
 use Rattle.dg_chips.proofs.VectorLaws.{filled-set, within_all}
@@ -117,6 +117,8 @@ loop-w-preserved c =
     let xs : List ℤ = c.loop-w.amounts in
     let within : w < length xs = omega arith in
     let here = (goal.at.loop-w-preserved c).After-carried_once-in-loop-w in
+    let moved : Amounts =
+    fired c.args.graph.now (at c.args.self.now) (only_at c.args.v (to_z w32 (of_z w32 c.args.times))) in
     let told : c.from.result ≡ unsigned_abs (wanted here) =
     c.from.ensures ∙ c.unsigned_abs.ensures.value ∙ ap unsigned_abs (kept here) in
     let others = λ (u : ℕ) (above : w + 1 ≤ u).
@@ -124,8 +126,7 @@ loop-w-preserved c =
     record {
       size = length-set _ _ _ ∙ c.loop-w.invariant.size;
       done = filled-set xs w _ _ within (after here) c.loop-w.invariant.done;
-      range = rw told (range-more (fired c.args.graph.now (at c.args.self.now) (only_at c.args.v (to_z w32 (of_z w32 c.args.times))))
-          w c.loop-w.fits c.loop-w.invariant.range);
+      range = rw told (range-more moved w c.loop-w.fits c.loop-w.invariant.range);
       ahead = λ u above. rw (others u above) (c.loop-w.invariant.ahead u (omega arith));
       small = λ u above. rw (others u above) (c.loop-w.invariant.small u (omega arith));
     }
