@@ -1,6 +1,5 @@
 -- Vectors of sixteen bytes, which a proof sees as lists of their lanes.
 --   lane-few        a lane is at most 255
---   lane_sum        a lane of a sum that does not wrap
 --   lane_rest       a lane of a difference that does not wrap
 --   lane_lack       a lane of what is lacking to 127: the greater of it and 127, less it
 --   marks           the bits of the lanes that are above 127, as a mask of sixteen
@@ -19,14 +18,6 @@ pub lane-few : (xs : List ℕ) (v : ℕ) → v < length xs → Each1 (Fits w8) x
 lane-few xs v few fits =
     let fit : Fits w8 (slice_index xs v) = Each1-get_or (Fits w8) xs v 0 few fits in
     omega (arith, fit.fits)
-
-pub lane_sum : (xs ys : List ℕ) (v : ℕ) → v < length xs → v < length ys →
-    slice_index xs v + slice_index ys v ≤ 255 →
-    slice_index (zip2 (λ a b. (a + b) % 256) xs ys) v ≡ slice_index xs v + slice_index ys v
-lane_sum xs ys v left right room =
-    let lane : slice_index (zip2 (λ a b. (a + b) % 256) xs ys) v ≡ (slice_index xs v + slice_index ys v) % 256 =
-    get_or-zip2 (λ a b. (a + b) % 256) xs ys v 0 0 0 left right in
-    omega arith
 
 pub lane_rest : (xs ys : List ℕ) (v : ℕ) → v < length xs → v < length ys →
     slice_index ys v ≤ slice_index xs v → slice_index xs v ≤ 255 →

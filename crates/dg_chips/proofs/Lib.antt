@@ -4,3 +4,5 @@ pub mod DriftLaws
 pub mod OneLending
 pub mod Applying
 mod LightLaws
+pub mod SetLending
+pub mod Lanes

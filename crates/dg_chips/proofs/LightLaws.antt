@@ -22,7 +22,7 @@ use Rattle.dg_graph.specs.Graph.{IsGraph}
 use Rattle.dg_chips.specs.Light.{IsLight}
 use Rattle.dg_chips.proofs.FlowLaws.{product_limit}
 
-total-within : (f : ℕ → ℕ) (n m : ℕ) → n ≤ m → total_below n f ≤ total_below m f
+pub total-within : (f : ℕ → ℕ) (n m : ℕ) → n ≤ m → total_below n f ≤ total_below m f
 total-within f n zero less = let same : n ≡ 0 = omega arith in rw same (omega arith)
 total-within f n (suc m) less = ⊎_elim
     (λ (same : n ≡ suc m). rw same (omega arith))

@@ -4,12 +4,14 @@ ghost use Rattle.std.specs.Prelude.{◌≡◌, ℕ, ◌<◌, ◌≤◌, ◌↔�
 ghost use Rattle.std.specs.List.{slice_index_or};
 ghost use Rattle.std.specs.Int.RustNames.{unsigned_abs};
 ghost use Rattle.dg_theory.specs.Rank.{canonical};
-ghost use Rattle.dg_theory.specs.Firing.{degree, IsEffective, only_at, fired};
+ghost use Rattle.dg_theory.specs.Firing.{degree, IsEffective, only_at, indicator, fired};
+ghost use Rattle.dg_graph.specs.Sets.{in_set, IsSetBelow};
 ghost use Rattle.dg_chips.specs.Vector.{at, HoldsNumbers, IsDivisor, IsInRange, IsOutOfRange};
 ghost use Rattle.dg_chips.specs.DivisorFaults.{IsFirstChipFault, IsFirstMinusFault};
 
 use crate::firing::carried_once;
 use crate::limits::MAX_AMOUNT;
+use crate::set_firing::flows;
 use crate::vector::{first_past, narrowed};
 use dg_graph::{Graph, MAX_VERTICES};
 use std::marker::Model;
@@ -202,11 +204,38 @@ impl Divisor {
         let row = graph.row(v);
         let mut amounts = self.amounts;
         amounts[v] -= carried_once(graph.valence(v), times);
+        let mut fits = true;
         for w in 0..16 {
             amounts[w] += carried_once(row[w], times);
-            if u64::from(amounts[w].unsigned_abs()) > MAX_AMOUNT {
-                return None;
-            }
+            fits &= u64::from(amounts[w].unsigned_abs()) <= MAX_AMOUNT;
+        }
+        if !fits {
+            return None;
+        }
+        Some(Divisor::of_row(size, amounts))
+    }
+
+    /// The divisor after each vertex of a set has lent once; `None` if an amount is then not within 1,000,000.
+    pub(crate) fn after_firing(&self, graph: &Graph, set: u16) -> Option<Divisor>
+        requires size { self.now.size ≡ graph.now.size }
+        requires vertices { IsSetBelow graph.now.size (in_set set) }
+        ensures { MatchOption result
+            (IsOutOfRange graph.now.size (fired graph.now (at self.now) (indicator (in_set set))))
+            (λ d. (d.size ≡ graph.now.size)
+            × IsInRange graph.now.size (fired graph.now (at self.now) (indicator (in_set set)))
+            × ((w : ℕ) → w < graph.now.size →
+            at d w ≡ fired graph.now (at self.now) (indicator (in_set set)) w)) }
+    {
+        let size = graph.size();
+        let (got, lent) = flows(graph, set);
+        let mut amounts = self.amounts;
+        let mut fits = true;
+        for w in 0..16 {
+            amounts[w] += i32::from(got[w]) - i32::from(lent[w]);
+            fits &= u64::from(amounts[w].unsigned_abs()) <= MAX_AMOUNT;
+        }
+        if !fits {
+            return None;
         }
         Some(Divisor::of_row(size, amounts))
     }

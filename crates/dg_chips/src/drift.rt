@@ -4,7 +4,8 @@ ghost use Rattle.std.specs.Prelude.{◌≡◌, ℕ, ◌<◌, ◌≤◌, ◌+ℤ�
 ghost use Rattle.std.specs.Int.RustNames.{unsigned_abs};
 ghost use Rattle.dg_chips.specs.Vector.{at, IsDrift};
 ghost use Rattle.dg_chips.specs.Moves.{script_of, IsPlayable};
-ghost use Rattle.dg_theory.specs.Firing.{FiresTo, only_at};
+ghost use Rattle.dg_theory.specs.Firing.{FiresTo, only_at, indicator};
+ghost use Rattle.dg_graph.specs.Sets.{in_set};
 ghost use Rattle.dg_chips.specs.Drifts.{IsPastDrift};
 
 use crate::divisor::Divisor;
@@ -13,7 +14,7 @@ use crate::limits::MAX_DRIFT;
 use crate::moves::Move;
 use crate::script::Script;
 use crate::wide::Wide;
-use dg_graph::Graph;
+use dg_graph::{Graph, contains};
 use std::marker::Model;
 
 /// How often each vertex has lent by some moves together, from -100,000,000,000,000 to 100,000,000,000,000; a negative
@@ -77,11 +78,11 @@ impl Drift {
         ensures entries { (v : ℕ) → v < graph.now.size →
             at result v ≡ at self.now v +ℤ script_of chip_move.now v }
     {
-        let size = graph.size();
+        let _size = graph.size();
         match chip_move {
             Move::Lend(v) => self.plus_at(usize::from(*v), 1),
             Move::Borrow(v) => self.plus_at(usize::from(*v), -1),
-            Move::Fire(set) => self.plus_script(&Script::indicator(size, *set)),
+            Move::Fire(set) => self.plus_set(*set),
             Move::Script(script) => self.plus_script(script),
         }
     }
@@ -99,6 +100,22 @@ impl Drift {
         let size = self.size;
         let mut entries = self.entries;
         entries[v] = entry;
+        Drift { size, entries }
+    }
+
+    /// The drift with one lending more of each vertex of a set.
+    fn plus_set(&self, set: u16) -> Drift
+        requires { (v : ℕ) → v < self.now.size →
+            unsigned_abs (at self.now v +ℤ indicator (in_set set) v) ≤ MAX_DRIFT }
+        ensures size { result.size ≡ self.now.size }
+        ensures entries { (v : ℕ) → v < self.now.size →
+            at result v ≡ at self.now v +ℤ indicator (in_set set) v }
+    {
+        let size = self.size();
+        let mut entries = [0; 16];
+        for v in 0..size {
+            entries[v] = self.get(v) + i64::from(contains(set, v));
+        }
         Drift { size, entries }
     }
 

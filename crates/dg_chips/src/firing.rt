@@ -10,6 +10,7 @@ ghost use Rattle.dg_chips.specs.Applied.{IsAfterMove};
 ghost use Rattle.dg_chips.specs.Lent.{IsLent, IsLendingRefusal};
 ghost use Rattle.dg_chips.specs.Refused.{IsRefusal};
 ghost use Rattle.dg_chips.specs.Light.{IsLight};
+ghost use Rattle.dg_chips.specs.declared.moves.Move.TheVariants.{Fire};
 
 use crate::divisor::Divisor;
 use crate::light::gained_lightly;
@@ -17,7 +18,7 @@ use crate::limits::MAX_DRIFT;
 use crate::moves::{Move, MoveFault, script_of};
 use crate::script::Script;
 use crate::wide::Wide;
-use dg_graph::Graph;
+use dg_graph::{Graph, is_within};
 
 /// The divisor after a move; the one that is handed in stays as it is.
 ///
@@ -33,7 +34,8 @@ pub fn apply(graph: &Graph, divisor: &Divisor, chip_move: &Move) -> Result<Divis
     match chip_move {
         Move::Lend(v) => lent(graph, divisor, usize::from(*v), 1),
         Move::Borrow(v) => lent(graph, divisor, usize::from(*v), -1),
-        Move::Fire(_) | Move::Script(_) => apply_script(graph, divisor, chip_move),
+        Move::Fire(set) => fired_set(graph, divisor, *set),
+        Move::Script(_) => apply_script(graph, divisor, chip_move),
     }
 }
 
@@ -49,6 +51,25 @@ fn lent(graph: &Graph, divisor: &Divisor, v: usize, times: i32) -> Result<Diviso
         return Err(MoveFault::NoVertex);
     }
     match divisor.after_lending(graph, v, times) {
+        Some(divisor) => Ok(divisor),
+        None => Err(MoveFault::Range),
+    }
+}
+
+/// The divisor after each vertex of a set has lent once.
+fn fired_set(graph: &Graph, divisor: &Divisor, set: u16) -> Result<Divisor, MoveFault>
+    requires { divisor.now.size ≡ graph.now.size }
+    ensures { MatchResult result
+        (IsAfterMove graph.now (at divisor.now) (Fire set))
+        (IsRefusal graph.now (at divisor.now) (Fire set)) }
+{
+    if !is_within(graph.size(), set) {
+        return Err(MoveFault::NoVertex);
+    }
+    if set == 0 {
+        return Err(MoveFault::Empty);
+    }
+    match divisor.after_firing(graph, set) {
         Some(divisor) => Ok(divisor),
         None => Err(MoveFault::Range),
     }

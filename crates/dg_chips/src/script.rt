@@ -76,6 +76,22 @@ impl Script {
         Script::of_row(entries.len(), narrowed(entries))
     }
 
+    /// The script with the first `size` of these entries. The conditions are that `size` is at most 16, and that each entry is
+    /// within 1,000,000,000.
+    pub fn of_first(size: usize, entries: &[i32; 16]) -> Script
+        requires few { size ≤ MAX_VERTICES }
+        requires limit { (v : ℕ) → unsigned_abs (slice_index_or entries.now v (pos 0)) ≤ MAX_ENTRY }
+        ensures size { result.size ≡ size }
+        ensures entries { (v : ℕ) → v < size → at result v ≡ slice_index_or entries.now v (pos 0) }
+    {
+        let mut first = [0; 16];
+        for v in 0..16 {
+            let entry = if v < size { entries[v] } else { 0 };
+            first[v] = entry;
+        }
+        Script::of_row(size, first)
+    }
+
     /// The script that is kept as this row.
     fn of_row(size: usize, entries: [i32; 16]) -> Script
         requires { IsScript (record { size = size; numbers = entries }) }

@@ -1,12 +1,15 @@
 //! What a vertex lends and gets when the vertices of a set lend together.
 
-ghost use Rattle.std.specs.Prelude.{◌≡◌, ℕ, ◌<◌, ◌≤◌, ◌*◌, ◌^◌, pos, ◌*ℤ◌};
+ghost use Rattle.std.specs.Prelude.{◌≡◌, ℕ, ◌+◌, ◌<◌, ◌≤◌, ◌*◌, ◌^◌, pos, ◌*ℤ◌, if◌then◌else◌, slice_index};
 ghost use Rattle.std.specs.Int.RustNames.{unsigned_abs};
+ghost use Rattle.dg_theory.specs.Multigraph.{valence};
+ghost use Rattle.dg_theory.specs.Burning.{edges_into};
 ghost use Rattle.dg_theory.specs.Firing.{gain, indicator, multiple};
 ghost use Rattle.dg_graph.specs.declared.limits.TheConstants.{MAX_VERTICES, MAX_VALENCE};
-ghost use Rattle.dg_graph.specs.Sets.{in_set};
+ghost use Rattle.dg_graph.specs.Sets.{in_set, IsSetBelow};
 
 use dg_graph::{Graph, contains};
+use std::simd::prelude::*;
 
 /// How often a vertex lends when each vertex of a set lends `times` times.
 pub(crate) fn lendings(set: u16, times: i128, v: usize) -> i128
@@ -47,4 +50,32 @@ fn carried(edges: u32, each: i128) -> i128
         return 0;
     }
     i128::from(edges) * each
+}
+
+/// What each vertex gets, and what it lends, when each vertex of a set lends once.
+pub(crate) fn flows(graph: &Graph, set: u16) -> ([u8; 16], [u8; 16])
+    requires { IsSetBelow graph.now.size (in_set set) }
+    ensures got { (v : ℕ) → v < MAX_VERTICES →
+        slice_index result.0 v ≡ edges_into graph.now (in_set set) v }
+    ensures lent { (v : ℕ) → v < MAX_VERTICES →
+        slice_index result.1 v ≡ (if in_set set v then valence graph.now v else 0) }
+{
+    let mut got = u8x16::splat(0);
+    let mut lent = [0; 16];
+    for v in 0..graph.size() {
+        if contains(set, v) {
+            got = with_row(got, u8x16::from_array(*graph.row(v)));
+            lent[v] = graph.valence(v);
+        }
+    }
+    (got.to_array(), lent)
+}
+
+/// The sums of the lanes.
+fn with_row(sums: u8x16, row: u8x16) -> u8x16
+    requires { (v : ℕ) → v < MAX_VERTICES → slice_index sums v + slice_index row v ≤ 255 }
+    ensures { (v : ℕ) → v < MAX_VERTICES →
+        slice_index result v ≡ slice_index sums v + slice_index row v }
+{
+    sums + row
 }

@@ -1,5 +1,6 @@
 //! The game as it stands, and what calls and findings do to it.
 ghost use Rattle.std.specs.Prelude.{◌≡◌, ◌≢◌, ℕ, ◌+◌, ◌<◌, ◌≤◌, List, [], ◌∷◌, ◌++◌, MatchOption, MatchResult, ⊤};
+ghost use Rattle.std.specs.Bool.{OnTrue};
 ghost use Rattle.std.specs.Int.RustNames.{unsigned_abs};
 ghost use Rattle.dg_chips.specs.Starts.{StartData};
 ghost use Rattle.dg_chips.specs.Vector.{at};
@@ -316,6 +317,7 @@ impl Game {
 
     /// Writes the reply to what was reckoned on a look, as `settle` gives it. The game stays as it is: `follow` takes the entry
     /// into the history. The conditions are those of `settle` but for the number of entries.
+    #[inline(always)]
     pub fn answer_finding(&self, look: &LookData, finding: &Finding, reply: &mut Reply)
         requires look { (o : StartData) × (H : List EntryData) × LeadsTo o H self.now ×
             IsLookAt o H look.now }
@@ -331,6 +333,7 @@ impl Game {
     }
 
     /// Writes the reply to a finding that is right as the game stands.
+    #[inline(always)]
     fn answer_found(&self, look: &LookData, finding: &Finding, reply: &mut Reply)
         requires look { (o : StartData) × (H : List EntryData) × LeadsTo o H self.now ×
             IsLookAt o H look.now }
@@ -345,8 +348,12 @@ impl Game {
         }
         match finding {
             Finding::Judged(verdict) => {
-                let carried = self.verdict_now(&look.position, &look.drift, verdict);
-                *reply = Reply::Verdict(carried);
+                if self.stands_at(&look.position) {
+                    *reply = Reply::Verdict(*verdict);
+                } else {
+                    let carried = self.verdict_now(&look.position, &look.drift, verdict);
+                    *reply = Reply::Verdict(carried);
+                }
             }
             Finding::Ranked(verdict) => *reply = Reply::Rank(*verdict),
         }
@@ -368,6 +375,13 @@ impl Game {
         *reply = Reply::Stale(self.gifts());
     }
 
+    /// Whether the position now is an earlier one.
+    fn stands_at(&self, then: &Divisor) -> bool
+        ensures { OnTrue result (then.now.numbers ≡ self.now.amounts.numbers) }
+    {
+        *then == self.amounts
+    }
+
     /// The verdict on an earlier position, carried over to the position now.
     fn verdict_now(&self, then: &Divisor, drift: &Drift, verdict: &Verdict) -> Verdict
         requires size { then.now.size ≡ self.now.graph.size }
@@ -378,9 +392,6 @@ impl Game {
         ensures order { result.order ≡ verdict.now.order }
     {
         let _size = self.amounts.size();
-        if *then == self.amounts {
-            return *verdict;
-        }
         let since = self.drift_from(then, drift);
         rebase(self.q(), verdict, &since)
     }

@@ -1,5 +1,6 @@
 -- The lemmas that the proofs cite, each file over plain variables.
 pub mod Cutting
+pub mod Blocks
 pub mod Streams
 pub mod Decided
 pub mod Integers

@@ -24,6 +24,7 @@ pub(crate) trait Amounts {
 impl Amounts for Divisor {
     ghost numbers = { λ x. x };
 
+    #[inline(always)]
     fn write(&self, v: usize, line: &mut [u8], end: usize) -> usize {
         write_number(self.get(v), line, end)
     }
@@ -32,6 +33,7 @@ impl Amounts for Divisor {
 impl Amounts for Script {
     ghost numbers = { λ x. x };
 
+    #[inline(always)]
     fn write(&self, v: usize, line: &mut [u8], end: usize) -> usize {
         write_number(self.get(v), line, end)
     }
@@ -40,6 +42,7 @@ impl Amounts for Script {
 impl Amounts for Wide {
     ghost numbers = { λ x. x };
 
+    #[inline(always)]
     fn write(&self, v: usize, line: &mut [u8], end: usize) -> usize {
         write_wide(self.get(v), line, end)
     }

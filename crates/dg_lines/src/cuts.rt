@@ -1,7 +1,10 @@
 //! Cutting bytes at a byte.
-ghost use Rattle.std.specs.Prelude.{◌≡◌, ◌==◌, position};
+ghost use Rattle.std.specs.Prelude.{◌≡◌, ◌≤◌, ◌==◌, length, map, take, position};
 ghost use Rattle.std.specs.Option.{option_copied};
+ghost use lib.Lanes.{mask_l};
 ghost use Rattle.dg_lines.specs.Cuts.{before, after};
+
+use std::simd::prelude::*;
 
 /// What stands before the first such byte, or all if there is none, and what stands after it, if there is one.
 pub fn cut(bytes: &[u8], at: u8) -> (&[u8], Option<&[u8]>)
@@ -14,8 +17,25 @@ pub fn cut(bytes: &[u8], at: u8) -> (&[u8], Option<&[u8]>)
     }
 }
 
+/// The first place of the byte. Where there are enough bytes, the first 32 are looked at together: most lines end there.
 fn first_place(bytes: &[u8], at: u8) -> Option<usize>
     ensures { result ≡ position (λ byte. byte == at) bytes.now }
 {
+    if bytes.len() >= 32 {
+        let places = places_in_32(bytes, at);
+        if places != 0 {
+            return Some(places.trailing_zeros() as usize);
+        }
+    }
     bytes.iter().position(|byte| *byte == at)
+}
+
+/// Where the byte stands among the first 32: bit i of the number is for place i.
+fn places_in_32(bytes: &[u8], at: u8) -> u64
+    requires { 32 ≤ length bytes.now }
+    ensures { result ≡ mask_l (map (λ byte. byte == at) (take 32 bytes.now)) }
+{
+    u8x32::from_slice(bytes)
+        .simd_eq(u8x32::splat(at))
+        .to_bitmask()
 }

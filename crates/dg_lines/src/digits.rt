@@ -7,7 +7,8 @@ use itoa::{Buffer, write_digits};
 /// The most bytes of a number.
 pub(crate) const MAX_DIGITS: usize = 40;
 
-/// Writes the number so that it ends at `end`, and says where it starts.
+/// Writes the number so that it ends at `end`, and says where it starts. One of a single digit is written at once.
+#[inline(always)]
 pub(crate) fn write_number(number: i64, line: &mut [u8], end: usize) -> usize
     requires room { MAX_DIGITS ≤ end }
     requires within { end ≤ length line.old }
@@ -15,6 +16,10 @@ pub(crate) fn write_number(number: i64, line: &mut [u8], end: usize) -> usize
     ensures short { end ≤ result + MAX_DIGITS }
     ensures written { drop result line.new ≡ signed_decimal number ++ drop end line.old }
 {
+    if number >= 0 && number < 10 {
+        line[end - 1] = b'0' + number as u8;
+        return end - 1;
+    }
     let start = write_digits(number.unsigned_abs(), line, end);
     if number >= 0 {
         return start;
@@ -24,6 +29,7 @@ pub(crate) fn write_number(number: i64, line: &mut [u8], end: usize) -> usize
 }
 
 /// The same for a number of more bits.
+#[inline(always)]
 pub(crate) fn write_wide(number: i128, line: &mut [u8], end: usize) -> usize
     requires room { MAX_DIGITS ≤ end }
     requires within { end ≤ length line.old }
@@ -31,9 +37,22 @@ pub(crate) fn write_wide(number: i128, line: &mut [u8], end: usize) -> usize
     ensures short { end ≤ result + MAX_DIGITS }
     ensures written { drop result line.new ≡ signed_decimal number ++ drop end line.old }
 {
-    if let Ok(number) = i64::try_from(number) {
-        return write_number(number, line, end);
+    match i64::try_from(number) {
+        Ok(number) => write_number(number, line, end),
+        Err(_) => write_long(number, line, end),
     }
+}
+
+/// The same for a number that may need more than 64 bits. It stands apart, so that no room for one is cleared if there is none.
+#[cold]
+#[inline(never)]
+fn write_long(number: i128, line: &mut [u8], end: usize) -> usize
+    requires room { MAX_DIGITS ≤ end }
+    requires within { end ≤ length line.old }
+    ensures start { result ≤ end }
+    ensures short { end ≤ result + MAX_DIGITS }
+    ensures written { drop result line.new ≡ signed_decimal number ++ drop end line.old }
+{
     let mut buffer = Buffer::new();
     let digits = buffer.format(number).as_bytes();
     let start = end - digits.len();

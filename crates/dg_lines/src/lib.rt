@@ -20,4 +20,4 @@ pub use laws::{lines_have_one_meaning, numerals_are_decimals, steps_have_one_mea
 pub use line::{LineFault, parse_line, parse_step, split_seat};
 pub use lines::Lines;
 pub use steps_file::{StepsFault, parse_steps};
-pub use text::{push_amounts, push_entry, push_reply, reply_text};
+pub use text::{push_amounts, push_entry, push_reply, push_verdict, reply_text};

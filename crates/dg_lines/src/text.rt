@@ -67,7 +67,7 @@ pub fn push_reply<A: Allocator>(
         Reply::Rank(verdict) => push_rank(text, names, verdict)?,
         Reply::Stale(gifts) => {
             text.extend_from_slice(b"stale ")?;
-            text.extend_from_slice(Buffer::new().format(*gifts).as_bytes())?;
+            push_number(text, *gifts)?;
         }
         Reply::Won => text.extend_from_slice(b"won")?,
         Reply::NotWon => text.extend_from_slice(b"not won")?,
@@ -119,14 +119,14 @@ fn push_counted<A: Allocator>(
         (word.now ++ decimal gifts ++ codes " " ++ pairs names.now (at divisor.now))) }
 {
     text.extend_from_slice(word)?;
-    text.extend_from_slice(Buffer::new().format(gifts).as_bytes())?;
+    push_number(text, gifts)?;
     text.push(b' ')?;
     push_pairs(text, names, divisor)?;
     Ok(())
 }
 
-/// The word of the verdict, the pairs of its script and those of its reduced divisor.
-fn push_verdict<A: Allocator>(
+/// The text of a verdict, after the text: its word, the pairs of its script and those of its reduced divisor.
+pub fn push_verdict<A: Allocator>(
     text: &mut Vec<u8, A>,
     names: &Names,
     verdict: &Verdict,
@@ -163,6 +163,18 @@ fn push_rank<A: Allocator>(
             push_pairs(text, names, loss)?;
         }
     }
+    Ok(())
+}
+
+/// The digits of a number. A single digit is written at once.
+fn push_number<A: Allocator>(text: &mut Vec<u8, A>, number: u32) -> Result<(), AllocError>
+    ensures { OnOk result (text.new.items ≡ text.old.items ++ decimal number) }
+{
+    if number < 10 {
+        text.push(b'0' + number as u8)?;
+        return Ok(());
+    }
+    text.extend_from_slice(Buffer::new().format(number).as_bytes())?;
     Ok(())
 }
 

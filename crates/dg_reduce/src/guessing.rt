@@ -167,6 +167,9 @@ fn lend(chips: &mut [i32; 16], row: &[i32; 16], times: i32) {
 /// the end.
 fn pay(lending: &Lending, near: &mut Near) {
     for _ in 0..PAYINGS {
+        if !is_owing(&near.chips) {
+            return;
+        }
         let Some(v) = first_owing(&near.chips) else {
             return;
         };
@@ -174,6 +177,15 @@ fn pay(lending: &Lending, near: &mut Near) {
         lend(&mut near.chips, &lending.rows[v], times);
         near.script[v] = near.script[v].wrapping_add(times);
     }
+}
+
+/// Whether somebody owes: the bits of all amounts together have the sign. Mostly nobody does, and that is told at once.
+fn is_owing(chips: &[i32; 16]) -> bool {
+    let mut bits = 0;
+    for v in 0..16 {
+        bits |= chips[v];
+    }
+    bits < 0
 }
 
 /// The least who owes.
@@ -262,17 +274,17 @@ fn script_of(graph: &Graph, q: usize, lendings: &[i32; 16]) -> Script
     let size = graph.size();
     let mut entries = cut_off(lendings);
     entries[q] = 0;
-    Script::sized(&entries[..size])
+    Script::of_first(size, &entries)
 }
 
 /// The lendings, cut off at the most that are guessed.
-fn cut_off(lendings: &[i32; 16]) -> [i64; 16]
+fn cut_off(lendings: &[i32; 16]) -> [i32; 16]
     ensures places { length result ≡ 16 }
     ensures few { (v : ℕ) → unsigned_abs (slice_index_or result v (pos 0)) ≤ MAX_ENTRY }
 {
     let mut entries = [0; 16];
     for v in 0..16 {
-        entries[v] = i64::from(lendings[v].clamp(-MOST, MOST));
+        entries[v] = lendings[v].clamp(-MOST, MOST);
     }
     entries
 }

@@ -6,6 +6,7 @@
 ghost use Rattle.std.specs.Prelude.{◌<◌, ◌≤◌};
 
 use dg_graph::{Graph, MAX_VERTICES};
+use std::simd::prelude::*;
 
 /// What is added to the lendings, so that those halfway between two numbers are rounded up, as they are reckoned here or there.
 const A_BIT_MORE: f64 = 0.001;
@@ -18,6 +19,8 @@ pub struct InverseLaplacian {
     q: usize,
     /// The number of vertices.
     size: usize,
+    /// The number of edges at each vertex.
+    valences: u8x16,
     /// How often each vertex lends so that one of them, and then q, has a dollar less, fractions too.
     inverse: [[f64; 16]; 16],
     /// What that comes to for the dollars that are left to the vertices: half of those that would keep them from burning.
@@ -52,6 +55,7 @@ impl InverseLaplacian {
         InverseLaplacian {
             q,
             size: graph.size(),
+            valences: u8x16::from_array(*graph.valences()),
             inverse,
             shift: shift_of(graph, q, &inverse),
             lending: Lending::new(graph, q),
@@ -61,7 +65,8 @@ impl InverseLaplacian {
     /// Whether this may serve a graph and a vertex q: the vertex is the one that it was made for, and so many edges meet at
     /// each vertex. A graph to which edges were added since has more.
     pub fn may_serve(&self, graph: &Graph, q: usize) -> bool {
-        self.q == q && self.lending.valences == valences_of(graph)
+        let valences = u8x16::from_array(*graph.valences());
+        self.q == q && self.valences.simd_eq(valences).all()
     }
 
     /// How often each vertex lends, fractions too, so that all off q keep as much as they are aimed at, if they hold so

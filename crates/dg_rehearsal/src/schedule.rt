@@ -246,6 +246,7 @@ impl Rehearsal {
     }
 
     /// Enters what was reckoned on the look that a seat keeps, writes the entry, and uses the look up.
+    #[inline(always)]
     fn enter(&mut self, seat: u8, look: &LookData, finding: &Finding, entry: &mut Entry)
         requires playing { (o : StartData) × (H : List Entry) × (steps : List Step) ×
             IsPlaying o steps H self.old × KeepsLook o H steps seat (Some look.now) }

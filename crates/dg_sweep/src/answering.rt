@@ -108,7 +108,9 @@ fn push_verdict(
     ensures { OnOk result (IsVerdict start.now names.now answer.new.items) }
 {
     let verdict = verdict_on(start, inverse);
-    push_line(answer, &Reply::Verdict(verdict), names)
+    dg_lines::push_verdict(answer, names, &verdict)?;
+    answer.push(b'\n')?;
+    Ok(())
 }
 
 /// The verdict on the amounts of a start.

@@ -11,6 +11,9 @@ use dg_strategy::greedy_turn;
 use dg_system::Shortage;
 use std::alloc::{AllocError, Global};
 
+/// The room for text at first, in bytes. From here on the system grows it by pages, which copies no byte.
+const FIRST_ROOM: usize = 131_072;
+
 /// The history of the greedy strategy on a table as text: a line for each entry, with its number, from 0 on, and the text of its
 /// reply; and then `turns` if so many turns were used up before nobody was in debt. The condition is at most 65,536 turns.
 ///
@@ -36,7 +39,7 @@ fn greedy_lines(alloc: Global, table: &TableFile, turns: u32) -> Result<Vec<u8>,
     let names = table.names();
     let mut game = Game::new(table.start());
     let mut entry = BLANK;
-    let mut text = Vec::new(alloc);
+    let mut text = Vec::with_capacity(alloc, FIRST_ROOM)?;
     'turns: for number in 0..turns {
         let settled = greedy_turn(&mut game, &mut entry);
         push_entry(&mut text, number as usize, &entry.reply, names)?;

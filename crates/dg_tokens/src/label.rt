@@ -3,6 +3,7 @@ ghost use Rattle.std.specs.Prelude.{◌≡◌, ◌+◌, ◌≤◌, ◌++◌, len
 ghost use Rattle.dg_tokens.specs.Labels.{IsLabel, label_kept};
 
 use crate::names::MAX_NAME;
+use std::simd::prelude::*;
 
 /// The most bytes of a label: a space, a name and `=`.
 pub const MAX_LABEL: usize = MAX_NAME + 2;
@@ -45,7 +46,8 @@ impl Label {
         ensures written { drop result line.new ≡ label_kept self.now ++ drop end line.old }
     {
         let from = end - MAX_LABEL;
-        line[from..end].copy_from_slice(&self.bytes);
+        u8x2::from_slice(&self.bytes[16..]).copy_to_slice(&mut line[from + 16..]);
+        u8x16::from_slice(&self.bytes).copy_to_slice(&mut line[from..]);
         from + self.start
     }
 }

@@ -1,5 +1,5 @@
 use Rattle.std.proofs.Common.{arith}
-use Rattle.dg_burn.proofs.Lanes.{lane_sum}
+use Rattle.dg_chips.proofs.Lanes.{lane_sum}
 use Rattle.dg_burn.proofs.fire.with_row.Goals as goal
 
 pub returns : goal.returns

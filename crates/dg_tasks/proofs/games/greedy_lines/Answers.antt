@@ -5,8 +5,8 @@ use Rattle.dg_tasks.proofs.games.greedy_lines.Goals as goal
 pub turns-init : goal.turns-init
 turns-init c =
     rw c.start.ensures at
-    (none_played c.start.result.now c.names-names.result.now c.new-game.result c.new-text.result.items
-    c.new-game.ensures c.new-text.ensures.items)
+    (none_played c.start.result.now c.names-names.result.now c.new-game.result c.in_ok-text.text.items
+    c.new-game.ensures c.in_ok-text.ensures.items)
 
 pub push_entry-requires : goal.push_entry-requires
 push_entry-requires c =

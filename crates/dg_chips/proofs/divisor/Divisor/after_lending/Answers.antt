@@ -1,4 +1,4 @@
-use Rattle.std.proofs.Common.{◌≡◌, ◌≢◌, ℕ, ◌+◌, ◌<◌, ◌≤◌, List, length, length-set, slice_set, get_or-set_same, get_or-set_other, below_more, arith, inl, inr, sym, ap, subst, ◌∙◌, ⊎_elim, w32}
+use Rattle.std.proofs.Common.{◌≡◌, ◌≢◌, ℕ, ◌+◌, ◌<◌, ◌≤◌, List, length, length-set, slice_set, get_or-set_same, get_or-set_other, arith, inl, inr, sym, ap, subst, ◌∙◌, ⊎_elim, w32}
 use Rattle.std.specs.List.{slice_index_or}
 use Rattle.std.specs.Int.RustNames.{unsigned_abs}
 use Rattle.std.proofs.lemmas.Bool.{cases_eq, cases_lt}
@@ -7,10 +7,11 @@ use Rattle.std.proofs.lemmas.List.{get_or_past}
 use Rattle.std.proofs.Math.IntN.{ℤ, pos, ◌+ℤ◌, ◌-ℤ◌, ◌*ℤ◌}
 use mir.Val.{to_z, of_z}
 use Rattle.dg_theory.specs.Multigraph.{valence}
-use Rattle.dg_theory.specs.Firing.{fired, only_at}
+use Rattle.dg_theory.specs.Firing.{Amounts, fired, only_at}
 use Rattle.dg_theory.proofs.Absolute.{within_abs}
 use Rattle.dg_chips.specs.Vector.{Vector, at}
 use Rattle.dg_chips.proofs.VectorLaws.{filled-set, within_all}
+use Rattle.dg_chips.proofs.SetLending.{range-more}
 use Rattle.dg_chips.proofs.OneLending.{fired-lender, fired-outside, held_gain, read_back}
 use Rattle.dg_chips.proofs.divisor.Divisor.after_lending.Goals as goal
 use Rattle.dg_chips.proofs.divisor.Divisor.after_lending.Goals.{After-carried_once-in-loop-w}
@@ -72,7 +73,7 @@ loop-w-init c =
     record {
       size = length-set _ _ _ ∙ places;
       done = λ u none. absurd (omega arith);
-      near = λ u none. absurd (omega arith);
+      range = λ u none. absurd (omega arith);
       ahead = λ u _. fired-lender c.args.graph.now (at c.args.self.now)
           (λ w. slice_index_or (slice_set xs c.args.v y) w (pos 0)) c.args.v x
           c.size-size.ensures.graph.multigraph c.requires.vertex (lent ∙ here) (λ w other. others w other ∙ same w) u;
@@ -91,13 +92,10 @@ overflow_add-amounts c =
     (c.loop-w.invariant.small c.loop-w.w (omega arith)) in
     omega (arith, ints)
 
-pub returns-then-from-gt-MAX_AMOUNT : goal.returns-then-from-gt-MAX_AMOUNT
-returns-then-from-gt-MAX_AMOUNT c =
+pub returns-then-not-fits : goal.returns-then-not-fits
+returns-then-not-fits c =
     let x : ℤ = to_z w32 (of_z w32 c.args.times) in
-    let w : ℕ = c.loop-w.w in
-    let kept = kept (goal.at.returns-then-from-gt-MAX_AMOUNT c).After-carried_once-in-loop-w in
-    let far : 1000000 < unsigned_abs (fired c.args.graph.now (at c.args.self.now) (only_at c.args.v x) w) =
-    omega (arith, ap unsigned_abs kept, c.unsigned_abs.ensures.value) in
+    let (w, few, far) = rw c.if-not-fits.true at c.loop-w.invariant.range in
     let held : x ≡ c.args.times = to_z-of_z w32 c.args.times c.ranges.times in
     let sized : c.self.inside.size ≡ c.args.self.now.size = ap (λ (d : Vector). d.size) c.self.view_is in
     elim (cases_lt w c.args.graph.now.size) [
@@ -119,26 +117,30 @@ loop-w-preserved c =
     let xs : List ℤ = c.loop-w.amounts in
     let within : w < length xs = omega arith in
     let here = (goal.at.loop-w-preserved c).After-carried_once-in-loop-w in
-    let kept = kept here in
+    let moved : Amounts =
+    fired c.args.graph.now (at c.args.self.now) (only_at c.args.v (to_z w32 (of_z w32 c.args.times))) in
+    let told : c.from.result ≡ unsigned_abs (wanted here) =
+    c.from.ensures ∙ c.unsigned_abs.ensures.value ∙ ap unsigned_abs (kept here) in
     let others = λ (u : ℕ) (above : w + 1 ≤ u).
     let other : u ≢ w = omega arith in get_or-set_other xs w u (to_z w32 (of_z w32 (sum here))) (pos 0) other in
     record {
       size = length-set _ _ _ ∙ c.loop-w.invariant.size;
       done = filled-set xs w _ _ within (after here) c.loop-w.invariant.done;
-      near = below_more _ _ c.loop-w.invariant.near (omega (arith, ap unsigned_abs kept, c.unsigned_abs.ensures.value));
+      range = rw told (range-more moved w c.loop-w.fits c.loop-w.invariant.range);
       ahead = λ u above. rw (others u above) (c.loop-w.invariant.ahead u (omega arith));
       small = λ u above. rw (others u above) (c.loop-w.invariant.small u (omega arith));
     }
 
 pub of_row-requires : goal.of_row-requires
 of_row-requires c =
+    let near = rw c.if-not-fits.false at c.loop-w.invariant.range in
     let x : ℤ = to_z w32 (of_z w32 c.args.times) in
     let sized : c.self.inside.size ≡ c.args.self.now.size = ap (λ (d : Vector). d.size) c.self.view_is in
     let empty : (u : ℕ) → c.args.graph.now.size ≤ u → at c.args.self.now u ≡ pos 0 =
     λ u past. sym (ap (λ (d : Vector). at d u) c.self.view_is) ∙ c.self.invariant.inside u (omega arith) in
     record {
       few = omega arith;
-      within = λ u below. rw (c.loop-w.invariant.done u (omega arith)) (c.loop-w.invariant.near u (omega arith));
+      within = λ u below. rw (c.loop-w.invariant.done u (omega arith)) (near u (omega arith));
       inside = λ u past. elim (cases_lt u 16) [
         | inl below ↦ c.loop-w.invariant.done u (omega arith)
             ∙ fired-outside c.args.graph.now

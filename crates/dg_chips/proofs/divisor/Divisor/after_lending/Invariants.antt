@@ -1,17 +1,19 @@
-use Rattle.std.proofs.Common.{◌≡◌, ℕ, ◌<◌, ◌≤◌, length}
+use Rattle.std.proofs.Common.{◌≡◌, ℕ, ◌<◌, ◌≤◌, length, MatchBool}
 use Rattle.std.specs.List.{slice_index_or}
 use Rattle.std.specs.Int.RustNames.{unsigned_abs}
 use Rattle.std.proofs.Math.IntN.{pos, ◌+ℤ◌, ◌*ℤ◌}
 use Rattle.dg_theory.specs.Multigraph.{edges_between}
 use Rattle.dg_theory.specs.Firing.{fired, only_at}
-use Rattle.dg_chips.specs.Vector.{at}
+use Rattle.dg_chips.specs.Vector.{at, IsInRange, IsOutOfRange}
 use Rattle.dg_chips.proofs.divisor.Divisor.after_lending.Given as goal
 
 abbrev pub invariant-loop-w : goal.invariant-loop-w
 invariant-loop-w l = record {
   size : length l.amounts ≡ 16;
   done : (u : ℕ) → u < l.w → slice_index_or l.amounts u (pos 0) ≡ fired l.graph (at l.self) (only_at l.v l.times) u;
-  near : (u : ℕ) → u < l.w → unsigned_abs (fired l.graph (at l.self) (only_at l.v l.times) u) ≤ 1000000;
+  range : MatchBool l.fits
+      (IsInRange l.w (fired l.graph (at l.self) (only_at l.v l.times)))
+      (IsOutOfRange l.w (fired l.graph (at l.self) (only_at l.v l.times)));
   ahead : (u : ℕ) → l.w ≤ u →
       slice_index_or l.amounts u (pos 0) +ℤ pos (edges_between l.graph l.v u) *ℤ l.times
       ≡ fired l.graph (at l.self) (only_at l.v l.times) u;

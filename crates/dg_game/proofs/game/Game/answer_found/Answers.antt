@@ -1,4 +1,8 @@
-use Rattle.std.proofs.Common.{◌≡◌, arith, ap}
+use Rattle.std.proofs.Common.{◌≡◌, List, arith, ap, subst}
+use Rattle.std.specs.List.{slice_index_or}
+use Rattle.std.proofs.Math.IntN.{ℤ, pos}
+use Rattle.dg_chips.specs.Vector.{at}
+use Rattle.dg_verdict.specs.Right.{IsRight}
 use Rattle.dg_game.specs.State.{State}
 use Rattle.dg_game.proofs.LookLaws.{moved_since, judged_after, ranked_after, look_size}
 use Rattle.dg_game.proofs.game.Game.answer_found.Goals as goal
@@ -20,8 +24,19 @@ verdict_now-carried-requires-clause-right c =
     moved_since o H _ _ leads look (omega (arith, c.if-self-look.false, ap (λ (s : State). s.gifts) c.self.view_is)) in
     rw graph (rw c.in-Judged.is at c.requires.found)
 
-pub returns-in-Judged-clause-replies : goal.returns-in-Judged-clause-replies
-returns-in-Judged-clause-replies c = λ o H leads look.
+pub returns-then-stands_at-clause-replies : goal.returns-then-stands_at-clause-replies
+returns-then-stands_at-clause-replies c = λ o H leads look.
+    let same : c.args.self.now.gifts ≡ c.args.look.now.gifts =
+    omega (arith, c.if-self-look.false, ap (λ (s : State). s.gifts) c.self.view_is) in
+    let (graph, t, led) = moved_since o H _ _ leads look same in
+    let found : IsRight c.args.self.now.graph c.args.self.now.q (at c.args.look.now.position) c.in-Judged.verdict =
+    rw graph (rw c.in-Judged.is at c.requires.found) in
+    let right = subst (λ (l : List ℤ). IsRight c.args.self.now.graph c.args.self.now.q
+    (λ v. slice_index_or l v (pos 0)) c.in-Judged.verdict) c.if-stands_at.ensures found in
+    rw c.in-Judged.is (judged_after o H _ _ c.in-Judged.verdict leads look same right)
+
+pub returns-else-stands_at-clause-replies : goal.returns-else-stands_at-clause-replies
+returns-else-stands_at-clause-replies c = λ o H leads look.
     rw c.in-Judged.is (judged_after o H _ _ c.verdict_now-carried.result leads look
     (omega (arith, c.if-self-look.false, ap (λ (s : State). s.gifts) c.self.view_is))
     c.verdict_now-carried.ensures.right)

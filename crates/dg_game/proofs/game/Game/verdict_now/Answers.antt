@@ -1,9 +1,4 @@
-use Rattle.std.proofs.Common.{◌≡◌, List, ap, pos, refl, sym, subst, ◌∙◌}
-use Rattle.std.specs.Prelude.{ℤ}
-use Rattle.std.specs.List.{slice_index_or}
-use Rattle.std.proofs.lemmas.Bool.{and_parts}
-use Rattle.std.proofs.lemmas.Bool.Decides.{Decides-int_eq}
-use Rattle.std.proofs.lemmas.Slice.Eq.{slice_eq-Decides}
+use Rattle.std.proofs.Common.{sym, subst}
 use Rattle.dg_theory.specs.Firing.{fired}
 use Rattle.dg_chips.specs.Vector.{at, IsDivisor}
 use Rattle.dg_verdict.specs.Right.{IsRight}
@@ -32,14 +27,3 @@ returns-clause-right c =
     right-cong g c.args.self.now.q _ (at c.args.self.now.amounts) c.rebase.result
     (λ v below. sym (c.drift_from-since.ensures.led v below))
     (rw c.q.ensures.q at moved)
-
-pub returns-then-eq-clause-right : goal.returns-then-eq-clause-right
-returns-then-eq-clause-right c =
-    let same : c.args.then.now.numbers ≡ c.self.inside.amounts.numbers =
-    (slice_eq-Decides Decides-int_eq c.args.then.now.numbers c.self.inside.amounts.numbers _ refl).0
-    ((and_parts _ _ (sym c.eq.ensures ∙ c.if-eq.true)).1) in
-    let numbers : c.args.then.now.numbers ≡ c.args.self.now.amounts.numbers =
-    same ∙ ap (λ (s : State). s.amounts.numbers) c.self.view_is in
-    subst (λ (l : List ℤ). IsRight c.args.self.now.graph c.args.self.now.q
-    (λ v. slice_index_or l v (pos 0)) c.args.verdict.now)
-    numbers c.requires.right
