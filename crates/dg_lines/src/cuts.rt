@@ -17,7 +17,7 @@ pub fn cut(bytes: &[u8], at: u8) -> (&[u8], Option<&[u8]>)
     }
 }
 
-/// The first place of the byte. Where there are enough bytes, the first 32 are looked at together: most lines end there.
+/// The first place of the byte. If there are 32 bytes, these are looked at together, because most lines end there.
 fn first_place(bytes: &[u8], at: u8) -> Option<usize>
     ensures { result ≡ position (λ byte. byte == at) bytes.now }
 {
@@ -30,7 +30,7 @@ fn first_place(bytes: &[u8], at: u8) -> Option<usize>
     bytes.iter().position(|byte| *byte == at)
 }
 
-/// Where the byte stands among the first 32: bit i of the number is for place i.
+/// The places of the byte among the first 32: bit i of the number is for place i.
 fn places_in_32(bytes: &[u8], at: u8) -> u64
     requires { 32 ≤ length bytes.now }
     ensures { result ≡ mask_l (map (λ byte. byte == at) (take 32 bytes.now)) }

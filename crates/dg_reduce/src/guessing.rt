@@ -179,7 +179,7 @@ fn pay(lending: &Lending, near: &mut Near) {
     }
 }
 
-/// Whether somebody owes: the bits of all amounts together have the sign. Mostly nobody does, and that is told at once.
+/// Whether somebody owes: one of the amounts has the sign's bit. Mostly none has.
 fn is_owing(chips: &[i32; 16]) -> bool {
     let mut bits = 0;
     for v in 0..16 {

@@ -11,7 +11,7 @@ use dg_strategy::greedy_turn;
 use dg_system::Shortage;
 use std::alloc::{AllocError, Global};
 
-/// The room for text at first, in bytes. From here on the system grows it by pages, which copies no byte.
+/// The room for text at first, in bytes. The system makes more room than this by whole pages, and copies no byte.
 const FIRST_ROOM: usize = 131_072;
 
 /// The history of the greedy strategy on a table as text: a line for each entry, with its number, from 0 on, and the text of its
