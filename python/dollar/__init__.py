@@ -12,6 +12,18 @@ RiemannRoch(degree=0, genus=1, rank=0, dual=0)
 
 A table is made of whatever has a graph, and what is no table is an error; see `Table`. `judge_all`, `rank_all` and `rr_all` answer
 many tables, `Session` plays line by line, `flaw` checks a verdict without the program. docs/tools.md shows it all.
+
+All names:
+
+- `Table`, `example`: a table; the table of a file in the clone's folder `examples`
+- `judge`, `rank`, `rr`, `rehearse`, `greedy`, `party`: the commands for one table
+- `judge_all`, `rank_all`, `rr_all`, `to_csv`: those for many; a CSV file of their answers
+- `Verdict`, `RankTest`, `RiemannRoch`, `Entry`, `History`, `Party`: answers; most are an `Answer` or a dict
+- `RefusedVerdict`, `RefusedRankTest`, `RefusedRiemannRoch`: rows of refused tables; each is a `Refused`
+- `Session`, `Ended`, `End`: a session; that it has ended, and how
+- `Fault`, `ProgramNotFound`, `find_program`: a refusal; that no program is found; where one is
+- `flaw`, `fired`, `burnt`, `edges`, `joined`, `picture`: the game itself, without the program; a picture of a table
+- `run`, `answer`, `history`: the lines that any command prints; what a line and a history say
 """
 
 from dollar import former

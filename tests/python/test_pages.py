@@ -31,8 +31,8 @@ def test_pipes(tool):
     assert [line.strip() for line in done.stdout.splitlines()] == wanted and done.returncode == 0
 
 
-def test_the_page_has_each_name():
-    assert [name for name in dollar.__all__ if not re.search(r"`%s\b" % name, PAGE)] == []
+def test_the_help_lists_each_name():
+    assert [name for name in dollar.__all__ if not re.search(r"`%s\b" % name, dollar.__doc__)] == []
 
 
 def block(page, first):
