@@ -1,8 +1,9 @@
 //! The cells of a table's history, read by anyone.
-ghost use Rattle.std.specs.Prelude.{◌≡◌, ◌<◌, ◌≤◌, List, [], length, map, MatchOption, ⊤, false};
+ghost use Rattle.std.specs.Prelude.{◌≡◌, ◌<◌, ◌≤◌, List, length, map, MatchOption, ⊤};
 ghost use Rattle.std.specs.Vec.{vec_len};
 ghost use Rattle.once_cell.specs.Once.{cell_name};
 ghost use Rattle.dg_game.specs.declared.game.TheConstants.{MAX_ENTRIES};
+ghost use Rattle.dg_log.specs.Written.{blank};
 
 use crate::name::Name;
 use crate::pen::Pen;
@@ -30,7 +31,7 @@ impl<N: Name> Log<N> {
     pub fn new(row: Row) -> (Log<N>, Pen<N>, Seating<N>)
         requires row { row ≡ N.cells }
         requires capacity { length row ≡ N.table.capacity }
-        ensures { result.1 ≡ record { entries = []; stuck = false } }
+        ensures { result.1 ≡ blank }
     {
         let log = Log {
             cells: row.cells,

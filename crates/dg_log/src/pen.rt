@@ -4,6 +4,7 @@ ghost use Rattle.std.specs.List.{slice_get};
 ghost use Rattle.std.specs.declared.option.Option.TheVariants.{Some};
 ghost use Rattle.dg_game.specs.declared.game.TheConstants.{MAX_ENTRIES};
 ghost use Rattle.dg_log.specs.Numbered.{AreBelow, StandIn, IsBeginning};
+ghost use Rattle.dg_log.specs.Written.{blank, with_entry, after_refusal};
 
 use crate::log::Log;
 use crate::name::Name;
@@ -40,7 +41,7 @@ impl<N: Name> Pen<N> {
     /// A pen that wrote nothing.
     pub(crate) fn new() -> Pen<N>
         requires { N.table.capacity ≤ MAX_ENTRIES }
-        ensures { result ≡ record { entries = []; stuck = false } }
+        ensures { result ≡ blank }
     {
         Pen {
             witnesses: Witnesses::new(),
@@ -55,10 +56,8 @@ impl<N: Name> Pen<N> {
     pub fn put(&mut self, log: &Log<N>, entry: Box<Entry>) -> Result<Receipt<N>, Box<Entry>>
         requires { length self.old.entries < N.table.capacity }
         ensures { MatchResult result
-            (λ r. (r ≡ (length self.old.entries, entry.value)) ×
-            (self.new ≡ record { entries = self.old.entries ++ entry.value ∷ []; stuck = false }))
-            (λ b. (b.value ≡ entry.value) ×
-            (self.new ≡ record { entries = self.old.entries; stuck = true })) }
+            (λ r. (r ≡ (length self.old.entries, entry.value)) × (self.new ≡ with_entry self.old entry.value))
+            (λ b. (b.value ≡ entry.value) × (self.new ≡ after_refusal self.old)) }
     {
         let cell = &log.cells[self.len as usize];
         let mut note = cell.note();

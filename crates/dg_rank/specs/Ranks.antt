@@ -4,12 +4,15 @@
 --                             genus
 --   IsRankInLimits g D r   == r is the rank of D, and the test of the next degree is within the
 --                             limits
+--   AreRanksInLimits g D r == so are the two of r, of D and of its dual
 --   NeedsTooMany g D       == D needs too many rank tests: its rank is told by none within the
 --                             limits, since D passes all that come before one past them
---   DualNeedsTooMany g D   == the dual of D is in range, and D or the dual needs too many rank
---                             tests
+--   EitherNeedsTooMany g D == D or its dual needs too many rank tests
+--   DualNeedsTooMany g D   == the dual of D is in range, and so it is
 --   BothArePast g D k      == the rank test of degree k is past the limits, and so is that of the
 --                             dual which passes if it passes
+--   TellsRankTest g D k result == the result is whether the rank of D is at least k; or `TooMany`,
+--                             and both are past the limits
 --   NeedsPastTests g D     == D passes all rank tests before one that is past the limits, as is
 --                             that of the dual
 --   FailsFirstAt g D k     == k is the least degree of the rank tests that D fails
@@ -17,7 +20,7 @@
 --   IsRankFault n k w e    == a rank test with w workers is refused for this cause, and for no
 --                             earlier one, and never for want of memory; whether a thread really
 --                             did not start, no definition can say
-use Rattle.std.specs.Prelude.{◌≡◌, ℕ, ◌<◌, ◌≤◌, ◌⊎◌, ℤ, pos, ◌+ℤ◌, ◌-ℤ◌, ◌≤ℤ◌, ◌<ℤ◌}
+use Rattle.std.specs.Prelude.{◌≡◌, ℕ, ◌<◌, ◌≤◌, ◌⊎◌, ℤ, pos, ◌+ℤ◌, ◌-ℤ◌, ◌≤ℤ◌, ◌<ℤ◌, Bool, MatchBool, Result, Ok, Err}
 use Rattle.dg_theory.specs.Multigraph.{Multigraph, genus}
 use Rattle.dg_theory.specs.Firing.{Amounts, degree}
 use Rattle.dg_theory.specs.Rank.{less, canonical, HasRankAtLeast, IsRank}
@@ -40,20 +43,31 @@ pub record IsRankInLimits (g : Multigraph) (D : Amounts) (r : ℤ) : Type 0 wher
   pub follows : pos next ≡ r +ℤ pos 1
   pub within : IsWithin g.size next
 
+abbrev pub AreRanksInLimits : Multigraph → Amounts → ℤ × ℤ → Type 0
+AreRanksInLimits g D r =
+    IsRankInLimits g D r.0 × IsRankInLimits g (less (canonical g) D) r.1
+
 pub record NeedsTooMany (g : Multigraph) (D : Amounts) : Type 0 where
   pub degree : ℕ
   pub past : IsPastLimits g.size degree
   pub passed : (k : ℕ) → k < degree → HasRankAtLeast g D k
 
+abbrev pub EitherNeedsTooMany : Multigraph → Amounts → Type 0
+EitherNeedsTooMany g D = NeedsTooMany g D ⊎ NeedsTooMany g (less (canonical g) D)
+
 pub record DualNeedsTooMany (g : Multigraph) (D : Amounts) : Type 0 where
   pub in_range : IsInRange g.size (less (canonical g) D)
-  pub either : NeedsTooMany g D ⊎ NeedsTooMany g (less (canonical g) D)
+  pub either : EitherNeedsTooMany g D
 
 pub record BothArePast (g : Multigraph) (D : Amounts) (k : ℕ) : Type 0 where
   pub other : ℕ
   pub dual : pos k -ℤ pos other ≡ (degree g.size D +ℤ pos 1) -ℤ genus g
   pub past : IsPastLimits g.size k
   pub dual_past : IsPastLimits g.size other
+
+abbrev pub TellsRankTest : Multigraph → Amounts → ℕ → Result Bool RankFault → Type 0
+TellsRankTest g D k (Ok told) = MatchBool told (HasRankAtLeast g D k) (¬ HasRankAtLeast g D k)
+TellsRankTest g D k (Err fault) = (fault ≡ TooMany) × BothArePast g D k
 
 pub record NeedsPastTests (g : Multigraph) (D : Amounts) : Type 0 where
   pub degree : ℕ

@@ -10,7 +10,7 @@ ghost use Rattle.dg_graph.specs.Graph.{IsGraph};
 ghost use Rattle.dg_chips.specs.Vector.{at};
 ghost use Rattle.dg_rank.specs.Limits.{IsWithinLimits};
 ghost use Rattle.dg_rank.specs.Losses.{AreSmall, AllWin, IsFirstLossIn, IsPartial};
-ghost use Rattle.dg_rank.specs.Ranks.{IsUnsettled, BothArePast};
+ghost use Rattle.dg_rank.specs.Ranks.{IsUnsettled, TellsRankTest};
 ghost use Rattle.dg_rank.specs.declared.rank_fault.RankFault.TheVariants.{TooMany};
 
 use crate::counting::trials;
@@ -30,11 +30,7 @@ use dg_reduce::{InverseLaplacian, reduce_certified};
 pub fn has_rank(graph: &Graph, q: usize, divisor: &Divisor, k: u32) -> Result<bool, RankFault>
     requires size { divisor.now.size ≡ graph.now.size }
     requires vertex { q < graph.now.size }
-    ensures { MatchResult result
-        (λ b. MatchBool b
-        (HasRankAtLeast graph.now (at divisor.now) k)
-        (¬ HasRankAtLeast graph.now (at divisor.now) k))
-        (λ e. (e ≡ TooMany) × BothArePast graph.now (at divisor.now) k) }
+    ensures { TellsRankTest graph.now (at divisor.now) k result }
 {
     passes(graph, &InverseLaplacian::new(graph, 0), divisor, k)
 }
@@ -48,11 +44,7 @@ pub(crate) fn passes(
 ) -> Result<bool, RankFault>
     requires size { divisor.now.size ≡ graph.now.size }
     requires some { 0 < graph.now.size }
-    ensures { MatchResult result
-        (λ b. MatchBool b
-        (HasRankAtLeast graph.now (at divisor.now) k)
-        (¬ HasRankAtLeast graph.now (at divisor.now) k))
-        (λ e. (e ≡ TooMany) × BothArePast graph.now (at divisor.now) k) }
+    ensures { TellsRankTest graph.now (at divisor.now) k result }
 {
     let size = graph.size();
     // The clause of `size` says that the amounts are within their limit.

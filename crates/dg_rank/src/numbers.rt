@@ -1,11 +1,11 @@
 //! The rank of a divisor and that of its dual, as numbers: the first test that fails tells the one, and by the theorem of
 //! Riemann and Roch the other.
-ghost use Rattle.std.specs.Prelude.{◌≡◌, ◌<◌, ◌≤◌, ◌⊎◌, pos, ◌+ℤ◌, ◌-ℤ◌, MatchOption};
+ghost use Rattle.std.specs.Prelude.{◌≡◌, ◌<◌, ◌≤◌, pos, ◌+ℤ◌, ◌-ℤ◌, MatchOption};
 ghost use Rattle.dg_theory.specs.Multigraph.{genus};
 ghost use Rattle.dg_theory.specs.Firing.{degree};
 ghost use Rattle.dg_theory.specs.Rank.{less, canonical, IsRank};
 ghost use Rattle.dg_chips.specs.Vector.{at};
-ghost use Rattle.dg_rank.specs.Ranks.{IsRankInLimits, NeedsTooMany, NeedsPastTests, FailsFirstAt};
+ghost use Rattle.dg_rank.specs.Ranks.{IsRankInLimits, AreRanksInLimits, NeedsTooMany, EitherNeedsTooMany, NeedsPastTests, FailsFirstAt};
 
 use crate::counting::trials;
 use crate::duals::{passes, ranks_apart};
@@ -49,10 +49,8 @@ pub fn both_ranks_in_limits(graph: &Graph, q: usize, divisor: &Divisor) -> Optio
     requires size { divisor.now.size ≡ graph.now.size }
     requires vertex { q < graph.now.size }
     ensures { MatchOption result
-        (NeedsTooMany graph.now (at divisor.now)
-        ⊎ NeedsTooMany graph.now (less (canonical graph.now) (at divisor.now)))
-        (λ r. IsRankInLimits graph.now (at divisor.now) r.0
-        × IsRankInLimits graph.now (less (canonical graph.now) (at divisor.now)) r.1) }
+        (EitherNeedsTooMany graph.now (at divisor.now))
+        (AreRanksInLimits graph.now (at divisor.now)) }
 {
     let fails = first_failing(graph, divisor)?;
     let dual_fails = first_failing_of_dual(graph, divisor, fails);

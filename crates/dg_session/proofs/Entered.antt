@@ -5,7 +5,7 @@
 --   calls_all       the calls of all seats are as many as the entries of their history
 --   entered_all     what was entered is all of the history
 --   full_at_close   which is full, where the session ended so
-use Rattle.std.proofs.Common.{◌≡◌, ℕ, zero, suc, ◌+◌, ◌<◌, ◌≤◌, inl, inr, List, [], ◌∷◌, ◌++◌, length, length-append, map, Option, Some, sum, get_or, slice_get, Result, Err, refl, sym, ap, subst, ◌∙◌, arith, append_assoc}
+use Rattle.std.proofs.Common.{◌≡◌, ℕ, zero, suc, ◌+◌, ◌<◌, ◌≤◌, inl, inr, List, [], ◌∷◌, ◌++◌, length, length-append, map, Some, sum, get_or, slice_get, Result, Err, refl, sym, ap, subst, ◌∙◌, arith, append_assoc}
 use Rattle.std.specs.List.{enumerate_from}
 use Rattle.std.proofs.lemmas.Option.{same_Some}
 use Rattle.std.proofs.lemmas.List.{length-map, nil_from_length}
@@ -22,13 +22,12 @@ use Rattle.dg_table.proofs.Numbered.{begins_length}
 use Rattle.dg_session.specs.Setup.{Setup}
 use Rattle.dg_session.specs.Order.{AscendFrom}
 use Rattle.dg_session.specs.Streams.{Passage}
-use Rattle.dg_session.specs.Ends.{EndsBy, IsOver}
+use Rattle.dg_session.specs.Ends.{reading, EndsBy, IsOver}
 use Rattle.dg_session.specs.declared.ends.SessionEnd.{SessionEnd}
 use Rattle.dg_session.specs.declared.ends.SessionEnd.TheVariants.{Table}
 use Rattle.dg_session.proofs.Coming.{below_stand, stand_on}
 use Rattle.dg_session.proofs.InOrder.{calls_of, get_set, fits_all}
 use Rattle.dg_log.specs.Tables.{TableData}
-use Rattle.std.specs.Io.KnownBytes.{IsAtEnd}
 
 few_between : (a b : ℕ) (ps : List (ℕ × Entry)) → AscendFrom a ps → AreBelow b ps → a ≤ b → a + length ps ≤ b
 few_between a b [] up below few = omega (arith, few)
@@ -113,7 +112,7 @@ pub entered_all : {t : Setup} {table : TableData} {input output : Passage} {xs y
     → map (λ (x : SeatView). x.number) ys ≡ map (λ (x : SeatView). x.number) xs → IsClosed table ys H
     → over.end.entered ≡ enumerate_from 0 H
 entered_all {t} {input = input} {xs = xs} {ys} {result} {H} over fresh same closed =
-    let fits = fits_all t (IsAtEnd input.after) over.stream over.told over.last (over.told ++ over.last) xs over.middle over.after
+    let fits = fits_all t (reading over.stream (over.told ++ over.last) input.after) over.told over.last xs over.middle over.after
     over.end over.said over.text result over.first over.second over.ends in
     let none = calls_none xs fresh.mine in
     let all = calls_all xs ys fresh same closed in
@@ -132,15 +131,15 @@ pub full_at_close : {t : Setup} {input output : Passage} {xs ys : List SeatView}
     {result : Result ℕ SessionEnd} {H : List Entry} (over : IsOver t input output xs ys result)
     → IsClosed t.table ys H → result ≡ Err (Table Full) → length H ≡ t.table.capacity
 full_at_close {t} {input = input} {ys = ys} {H = H} over closed is =
-    let ends = subst (λ r. EndsBy t (IsAtEnd input.after) over.stream (over.told ++ over.last) over.after over.end r) is
+    let ends = subst (λ r. EndsBy t (reading over.stream (over.told ++ over.last) input.after) over.after over.end r) is
     over.ends in
     elim ends.2 [
       | inl other ↦ absurd (cc)
       | inr q ↦
           let line = q.3 in
           let at : slice_get ys q.0 ≡ Some line.y =
-          ap (λ zs. slice_get zs q.0) (sym over.seats ∙ line.turn.seats)
-          ∙ get_set over.after.seats q.0 line.x line.y line.turn.seat in
+          ap (λ zs. slice_get zs q.0) (sym over.seats ∙ line.seat.new)
+          ∙ get_set over.after.seats q.0 line.x line.y line.seat.old in
           omega (
             arith,
             line.refused.2.1.full,

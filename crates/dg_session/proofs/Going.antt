@@ -16,7 +16,7 @@ use Rattle.dg_session.specs.Setup.{Setup}
 use Rattle.dg_session.specs.Streams.{IsLine, AreLines}
 use Rattle.dg_session.specs.Speakers.{Speakers, AnswersLineOf, RefusesLineOf}
 use Rattle.dg_session.specs.Ends.{Answers}
-use Rattle.dg_session.specs.SoFar.{SoFar, IsReady, Goes, Halts, RefusesPart, StaysAt}
+use Rattle.dg_session.specs.SoFar.{SoFar, IsReady, Goes, round, Halts, RefusesPart, StaysAt}
 use Rattle.dg_session.specs.declared.ends.TheConstants.{MAX_LINE, MAX_LINES}
 use Rattle.dg_session.specs.declared.ends.SessionEnd.{SessionEnd}
 use Rattle.dg_session.specs.declared.ends.SessionEnd.TheVariants.{LongLine, Turns}
@@ -142,14 +142,14 @@ module _ {t : Setup} {old at : SoFar} {bytes rest text : List ℕ} (g : Goes t o
   stays part more end cut plain some h = absurd h
 
   pub halts_part : {E : Type 0} {end : SessionEnd} (part more : List ℕ) → rest ≡ part ++ more → HasNoNewline part
-      → 1 ≤ length rest → RefusesPart at.pending at.count part end → Halts t E old bytes at.who text end
+      → 1 ≤ length rest → RefusesPart at.pending at.count part end → Halts t E old bytes (round at.who text) end
   halts_part {E} {end} part more cut plain some h =
       record { rest = rest; at = at; goes = g; fails = inl (stays part more end cut plain some h, refl) }
 
   pub halts_line : {E : Type 0} {z : Speakers} {end : SessionEnd} (part more : List ℕ)
       → rest ≡ part ++ 10 ∷ more
       → IsLine (at.pending ++ part) → at.count < MAX_LINES → RefusesLineOf t at.who (at.pending ++ part) z end
-      → Halts t E old bytes z text end
+      → Halts t E old bytes (round z text) end
   halts_line {E} {z} {end} part more cut is few refused = record {
     rest = rest;
     at = at;
@@ -185,7 +185,7 @@ last_one {t} {s} {z} {text} (b ∷ bs) some holds =
     answers_one t s z (b ∷ bs) text (subst (λ l. AnswersLineOf t s l z text) (append-nil (b ∷ bs)) holds)
 
 pub last_halts : {t : Setup} {E : Type 0} {at : SoFar} {z : Speakers} {end : SessionEnd} → E → IsReady at
-    → 1 ≤ length at.pending → RefusesLineOf t at.who (at.pending ++ []) z end → Halts t E at [] z [] end
+    → 1 ≤ length at.pending → RefusesLineOf t at.who (at.pending ++ []) z end → Halts t E at [] (round z []) end
 last_halts {t} {E} {at} {z} {end} over ready some refused = record {
   rest = [];
   at = at;

@@ -4,7 +4,7 @@
 --   Fits n s      what the lines entered is in order, and the seats, which had n calls, made no others
 --   fits_begun    so it is before the first line
 --   fits_all      and after all, however the session ends
-use Rattle.std.proofs.Common.{◌≡◌, ℕ, zero, suc, ◌+◌, inl, inr, List, [], ◌∷◌, ◌++◌, length, length-append, Option, Some, slice_get, Result, Ok, Err, refl, sym, ap, subst, ◌∙◌, arith}
+use Rattle.std.proofs.Common.{◌≡◌, ℕ, zero, suc, ◌+◌, inl, inr, List, [], ◌∷◌, ◌++◌, length, length-append, Some, slice_get, Result, Ok, Err, refl, sym, ap, subst, ◌∙◌, arith}
 use Rattle.std.specs.List.{slice_set}
 use Rattle.dg_game.specs.declared.entry.Entry.{Entry}
 use Rattle.dg_log.specs.Numbered.{StandIn}
@@ -12,8 +12,8 @@ use Rattle.dg_table.specs.Seats.{SeatView}
 use Rattle.dg_session.specs.Setup.{Setup}
 use Rattle.dg_session.specs.Order.{AscendFrom}
 use Rattle.dg_session.specs.Saying.{Gains}
-use Rattle.dg_session.specs.Speakers.{Speakers, newcomers, Becomes, GoesOn, AnswersLineOf, RefusesLineOf}
-use Rattle.dg_session.specs.Ends.{Answers, StopsAt, EndsBy, AreInOrder}
+use Rattle.dg_session.specs.Speakers.{Speakers, newcomers, Replaces, GoesOn, AnswersLineOf, RefusesLineOf}
+use Rattle.dg_session.specs.Ends.{Answers, Reading, StopsAt, EndsBy, AreInOrder}
 use Rattle.dg_session.specs.declared.ends.SessionEnd.{SessionEnd}
 use Rattle.dg_session.specs.declared.ends.SessionEnd.TheVariants.{Read, Write, LongLine, Turns, Table, Memory, Spawn}
 use Rattle.dg_session.proofs.Coming.{ascend_more, below_stand, stand_on, stand_both}
@@ -42,9 +42,9 @@ calls_set (w ∷ xs) zero k x y at more =
     omega (arith, ap (λ (z : SeatView). length z.mine) same, more)
 calls_set (w ∷ xs) (suc i) k x y at more = omega (arith, calls_set xs i k x y at more)
 
-fits_on : {n : ℕ} (i : ℕ) (s z : Speakers) (x y : SeatView) (kept after : Option ℕ) (made : List (ℕ × Entry))
-    → Becomes i s z x y kept after → Gains x y made → GoesOn s z y made → Fits n s → Fits n z
-fits_on {n} i s z x y kept after made turn gained goes fits = record {
+fits_on : {n : ℕ} (i : ℕ) (s z : Speakers) (x y : SeatView) (made : List (ℕ × Entry))
+    → Replaces i s.seats z.seats x y → Gains x y made → GoesOn s z y made → Fits n s → Fits n z
+fits_on {n} i s z x y made turn gained goes fits = record {
   order = record {
     ascend = subst (AscendFrom 0) (sym goes.entered)
         (ascend_more 0 (length s.latest) s.entered made (omega arith) fits.order.ascend
@@ -52,13 +52,13 @@ fits_on {n} i s z x y kept after made turn gained goes fits = record {
     stand = subst (StandIn z.latest) (sym goes.entered) (subst (λ L. StandIn L (s.entered ++ made)) (sym goes.latest)
         (stand_both y.met s.entered made
         (stand_on s.latest y.met s.entered goes.order.begins fits.order.stand) goes.order.stand));
-    met = inr (i, y, ap (λ ys. slice_get ys i) turn.seats ∙ get_set s.seats i x y turn.seat, goes.latest);
+    met = inr (i, y, ap (λ ys. slice_get ys i) turn.new ∙ get_set s.seats i x y turn.old, goes.latest);
   };
   counted =
       let mine : length y.mine ≡ length x.mine + length made = ap length gained.mine ∙ length-append x.mine made in
-      let all = calls_set s.seats i (length made) x y turn.seat mine in
+      let all = calls_set s.seats i (length made) x y turn.old mine in
       let more = length-append s.entered made in
-      let seats = ap calls_of turn.seats in
+      let seats = ap calls_of turn.new in
       omega (arith, seats, all, ap length goes.entered, more, fits.counted);
 }
 
@@ -66,14 +66,14 @@ fits_said : {n : ℕ} (t : Setup) (s z : Speakers) (line text : List ℕ) → An
     → Fits n z
 fits_said {n} t s z line text a fits = elim a [
   | inl p ↦ subst (Fits n) (sym p.1) fits
-  | inr q ↦ fits_on q.0 s z q.3.x q.3.y q.3.kept q.3.after q.3.made q.3.turn q.3.gained q.3.goes_on fits
+  | inr q ↦ fits_on q.0 s z q.3.x q.3.y q.3.made q.3.seat q.3.gained q.3.goes_on fits
 ]
 
 fits_left : {n : ℕ} (t : Setup) (s z : Speakers) (line : List ℕ) (end : SessionEnd) → RefusesLineOf t s line z end
     → Fits n s → Fits n z
 fits_left {n} t s z line end r fits = elim r [
   | inl p ↦ subst (Fits n) (sym p.1) fits
-  | inr q ↦ fits_on q.0 s z q.3.x q.3.y q.3.kept q.3.after q.3.made q.3.turn q.3.gained q.3.goes_on fits
+  | inr q ↦ fits_on q.0 s z q.3.x q.3.y q.3.made q.3.seat q.3.gained q.3.goes_on fits
 ]
 
 fits_answered : {n : ℕ} (t : Setup) (ls : List (List ℕ)) (s z : Speakers) (text : List ℕ) → Answers t s ls z text
@@ -84,15 +84,14 @@ fits_answered {n} t (line ∷ ls) s z text p fits =
     let (m, front, back, answer, more, whole) = p in
     fits_answered t ls m z back more (fits_said t s m line front answer fits)
 
-module _ {n : ℕ} (t : Setup) (ended : Type 0) (stream : List ℕ) (ls : List (List ℕ)) (s z : Speakers)
-    (fits : Fits n s) where
+module _ {n : ℕ} (t : Setup) (r : Reading) (s z : Speakers) (fits : Fits n s) where
   same : z ≡ s → Fits n z
   same is = subst (Fits n) (sym is) fits
 
-  stopped : (end : SessionEnd) → StopsAt t ended stream ls s z end → Fits n z
+  stopped : (end : SessionEnd) → StopsAt t r s z end → Fits n z
   stopped end h = fits_left t s z h.0 end h.2 fits
 
-  fits_ended : (result : Result ℕ SessionEnd) → EndsBy t ended stream ls s z result → Fits n z
+  fits_ended : (result : Result ℕ SessionEnd) → EndsBy t r s z result → Fits n z
   fits_ended (Ok count) h = same h.0
   fits_ended (Err Read) h = same h.0
   fits_ended (Err LongLine) h = same h.0
@@ -102,9 +101,9 @@ module _ {n : ℕ} (t : Setup) (ended : Type 0) (stream : List ℕ) (ls : List (
   fits_ended (Err (Table fault)) h = stopped (Table fault) h
   fits_ended (Err Spawn) h = stopped Spawn h
 
-pub fits_all : (t : Setup) (ended : Type 0) (stream : List ℕ) (told last all : List (List ℕ)) (xs : List SeatView)
+pub fits_all : (t : Setup) (r : Reading) (told last : List (List ℕ)) (xs : List SeatView)
     (m w z : Speakers) (said text : List ℕ) (result : Result ℕ SessionEnd) → Answers t (newcomers xs) told m said
-    → Answers t m last w text → EndsBy t ended stream all w z result → Fits (calls_of xs) z
-fits_all t ended stream told last all xs m w z said text result first second ends =
-    fits_ended t ended stream all w z
+    → Answers t m last w text → EndsBy t r w z result → Fits (calls_of xs) z
+fits_all t r told last xs m w z said text result first second ends =
+    fits_ended t r w z
     (fits_answered t last m w text second (fits_answered t told (newcomers xs) m said first (fits_begun xs))) result ends

@@ -40,7 +40,7 @@ use Rattle.dg_table.proofs.Numbered.{begins_on, begins_length}
 use Rattle.dg_table.specs.Seats.{SeatView, Keeps}
 use Rattle.dg_table.specs.Faults.{RefusesCall}
 use Rattle.dg_table.specs.declared.fault.Fault.{Fault}
-use Rattle.dg_table.specs.Answered.{IsEnteredAfter, IsAnswered}
+use Rattle.dg_table.specs.Answered.{entering, IsEnteredAfter, IsAnswered}
 use Rattle.dg_table.specs.Settled.{IsSettled, IsStale}
 use Rattle.dg_session.specs.Saying.{Gains, Enters, kept_after, look_after, AnswersCommand}
 use Rattle.dg_session.specs.declared.ends.SessionEnd.{SessionEnd}
@@ -78,7 +78,7 @@ pub record Stands (o : StartData) (request : Request) (r : ℕ × Entry) (x y : 
 
 pub entry_made : (table : TableData) (H : List Entry) (request : Request) (known heard : List (ℕ × Entry))
     (r : ℕ × Entry) (x y : SeatView)
-    → known ≡ x.told ++ heard → IsEnteredAfter table H request known r x y → Stands table.start request r x y
+    → known ≡ x.told ++ heard → IsEnteredAfter table request known (entering H r x y) → Stands table.start request r x y
 entry_made table H request known heard r x y told e = record {
   asked' = e.request';
   sized = legal_sized table.start (H ++ r.1 ∷ []) (length H) r.1 e.history.legal (slice_get-seam H r.1 []);

@@ -18,7 +18,7 @@ use Rattle.dg_session.specs.Refusing.{RefusesLine}
 use Rattle.dg_session.specs.Saying.{Gains}
 use Rattle.dg_session.proofs.Coming.{comes_from, gained_met, line_met, line_one, refused_made}
 use Rattle.dg_session.specs.Setup.{Setup}
-use Rattle.dg_session.specs.Speakers.{Speakers, speakers, kept_number, IsFor, IsForNone, Becomes, GoesOn, AnswersLineOf, RefusesLineOf}
+use Rattle.dg_session.specs.Speakers.{Speakers, speakers, kept_number, IsFor, IsForNone, Replaces, GoesOn, AnswersLineOf, RefusesLineOf}
 use Rattle.dg_session.specs.SoFar.{Hears, Handles}
 use Rattle.dg_session.specs.declared.line_format.LineFormat.TheVariants.{BySeat}
 use Rattle.dg_session.specs.declared.ends.SessionEnd.{SessionEnd}
@@ -43,15 +43,16 @@ get_at [] i d low = absurd (omega (arith, low))
 get_at (y ∷ xs) zero d low = refl
 get_at (y ∷ xs) (suc i) d low = get_at xs i d (omega (arith, low))
 
-turned : (xs : List SeatView) (ks : List (Option LookView)) (i : ℕ) (d y : SeatView) (e l : Option LookView)
-    (H L : List Entry) (ps qs : List (ℕ × Entry)) → i < length xs → length ks ≡ length xs
-    → Becomes i (speakers xs ks H ps) (speakers (slice_set xs i y) (slice_set ks i l) L qs) (slice_index_or xs i d) y
-    (kept_number (slice_index_or ks i e)) (kept_number l)
-turned xs ks i d y e l H L ps qs low size = record {
-  seat = get_at xs i d low;
-  look = get_map kept_number ks i (slice_index_or ks i e) (get_at ks i e (omega (arith, low, size)));
-  seats = refl;
-  looks = map-set kept_number ks i l;
+seat_turned : (xs : List SeatView) (i : ℕ) (d y : SeatView) → i < length xs
+    → Replaces i xs (slice_set xs i y) (slice_index_or xs i d) y
+seat_turned xs i d y low = record { old = get_at xs i d low; new = refl }
+
+look_turned : (ks : List (Option LookView)) (i : ℕ) (e l : Option LookView) → i < length ks
+    → Replaces i (map kept_number ks) (map kept_number (slice_set ks i l)) (kept_number (slice_index_or ks i e))
+    (kept_number l)
+look_turned ks i e l low = record {
+  old = get_map kept_number ks i (slice_index_or ks i e) (get_at ks i e low);
+  new = map-set kept_number ks i l;
 }
 
 -- the ends that a line gives a session
@@ -106,7 +107,8 @@ spoken {t = t} {text = text} {result = Ok b} xs ks i d m y e l H L ps qs for low
         y = y;
         kept = kept_number (slice_index_or ks i e);
         after = kept_number l;
-        turn = turned xs ks i d y e l H L ps qs low size;
+        seat = seat_turned xs i d y low;
+        look = look_turned ks i e l (omega (arith, low, size));
         made = h.done.made;
         answers = h.done.answers;
         gained = gained_met meets y h.done.made h.done.gained;
@@ -132,7 +134,8 @@ spoken {t = t} {text = text} {result = Err end} xs ks i d m y e l H L ps qs for 
           y = y;
           kept = kept_number (slice_index_or ks i e);
           after = kept_number l;
-          turn = turned xs ks i d y e l H L ps qs low size;
+          seat = seat_turned xs i d y low;
+          look = look_turned ks i e l (omega (arith, low, size));
           refused = line_met meets t (kept_number (slice_index_or ks i e)) text y end h.refused;
           made = made;
           gained = gained_met meets y made gained;
@@ -158,8 +161,8 @@ pub sizes_kept : (t : Setup) (s z : Speakers) (line text : List ℕ) → Answers
 sizes_kept t s z line text a = elim a [
   | inl p ↦ (ap (λ (w : Speakers). length w.seats) p.1, ap (λ (w : Speakers). length w.kept) p.1)
   | inr q ↦ (
-    ap length q.3.turn.seats ∙ length-set s.seats q.0 q.3.y,
-    ap length q.3.turn.looks ∙ length-set s.kept q.0 q.3.after,
+    ap length q.3.seat.new ∙ length-set s.seats q.0 q.3.y,
+    ap length q.3.look.new ∙ length-set s.kept q.0 q.3.after,
   )
 ]
 
@@ -174,14 +177,14 @@ pub numbers_said : (t : Setup) (s z : Speakers) (line text : List ℕ) → Answe
     → numbers z ≡ numbers s
 numbers_said t s z line text a = elim a [
   | inl p ↦ ap numbers p.1
-  | inr q ↦ ap (map (λ (x : SeatView). x.number)) q.3.turn.seats
-      ∙ numbers_set s.seats q.0 q.3.x q.3.y q.3.turn.seat q.3.gained.number
+  | inr q ↦ ap (map (λ (x : SeatView). x.number)) q.3.seat.new
+      ∙ numbers_set s.seats q.0 q.3.x q.3.y q.3.seat.old q.3.gained.number
 ]
 
 pub numbers_left : (t : Setup) (s z : Speakers) (line : List ℕ) (end : SessionEnd) → RefusesLineOf t s line z end
     → numbers z ≡ numbers s
 numbers_left t s z line end r = elim r [
   | inl p ↦ ap numbers p.1
-  | inr q ↦ ap (map (λ (x : SeatView). x.number)) q.3.turn.seats
-      ∙ numbers_set s.seats q.0 q.3.x q.3.y q.3.turn.seat (number_left t q.3.kept q.1 q.3.x q.3.y end q.3.refused)
+  | inr q ↦ ap (map (λ (x : SeatView). x.number)) q.3.seat.new
+      ∙ numbers_set s.seats q.0 q.3.x q.3.y q.3.seat.old (number_left t q.3.kept q.1 q.3.x q.3.y end q.3.refused)
 ]

@@ -32,8 +32,8 @@ use Rattle.dg_system.proofs.InputReads.{consumes_none, consumes_more, consumes_k
 use Rattle.dg_session.specs.Setup.{Setup}
 use Rattle.dg_session.specs.Streams.{IsLine, AreLines, Passage, passage}
 use Rattle.dg_session.specs.Speakers.{Speakers, newcomers}
-use Rattle.dg_session.specs.Ends.{Answers, StopsAt, EndsBy, Writes, IsOver}
-use Rattle.dg_session.specs.SoFar.{SoFar, beginning, IsReady, Goes, StopsIn, Halts, Takes, TakesEnd, IsWritten}
+use Rattle.dg_session.specs.Ends.{Answers, Reading, reading, StopsAt, EndsBy, Writes, IsOver}
+use Rattle.dg_session.specs.SoFar.{SoFar, beginning, IsReady, Goes, StopsIn, round, Halts, Takes, TakesEnd, IsWritten}
 use Rattle.dg_session.specs.declared.ends.TheConstants.{MAX_LINE, MAX_LINES, READ_SIZE}
 use Rattle.dg_session.specs.declared.ends.SessionEnd.{SessionEnd}
 use Rattle.dg_session.specs.declared.ends.SessionEnd.TheVariants.{Read, Write, LongLine, Turns, Table, Memory, Spawn}
@@ -98,7 +98,7 @@ IsHalt Write = ⊥
 IsHalt end = ⊤
 
 pub halts_by : {t : Setup} {E : Type 0} {at : SoFar} {bytes text : List ℕ} {z : Speakers} (end : SessionEnd)
-    → Halts t E at bytes z text end → IsHalt end
+    → Halts t E at bytes (round z text) end → IsHalt end
 halts_by {t} {z = z} Read h = elim h.fails [
   | inl stays ↦ stays.0
   | inr line ↦ ends_by t h.at.who z line.line Read line.stops
@@ -144,7 +144,7 @@ module _ {t : Setup} {input rest old mid : Option (List ℕ)} {xs : List SeatVie
       (last : List (List ℕ)) → Consumes rest rest' bytes → AreLines (IsAtEnd rest') (at.pending ++ bytes) last
       → at.count + length last ≤ MAX_LINES → length (flat_map with_newline last) ≤ READ_SIZE + MAX_LINE + 1
       → Answers t at.who last w text → Writes result (passage old new) far.text text
-      → EndsBy t (IsAtEnd rest') (far.stream ++ bytes) (far.goes.ls ++ last) w z result
+      → EndsBy t (reading (far.stream ++ bytes) (far.goes.ls ++ last) rest') w z result
       → IsOver t (passage input rest') (passage old new) xs z.seats result
   is_over {rest'} bytes text w z last read came few short answered written ends = record {
     stream = far.stream ++ bytes;
@@ -163,14 +163,14 @@ module _ {t : Setup} {input rest old mid : Option (List ℕ)} {xs : List SeatVie
     written = written;
     ends = ends;
     seats = refl;
-    order = (fits_all t (IsAtEnd rest') (far.stream ++ bytes) far.goes.ls last (far.goes.ls ++ last) xs at.who w z
+    order = (fits_all t (reading (far.stream ++ bytes) (far.goes.ls ++ last) rest') far.goes.ls last xs at.who w z
         far.text text _ far.goes.answered answered ends).order;
   }
 
   over_goes : {rest' new : Option (List ℕ)} {result : Result ℕ SessionEnd} {bytes text back : List ℕ} {to : SoFar}
       (z : Speakers) (g : Goes t at bytes back to text) → Consumes rest rest' bytes → length bytes ≤ READ_SIZE
       → Writes result (passage old new) far.text text
-      → EndsBy t (IsAtEnd rest') (far.stream ++ bytes) (far.goes.ls ++ g.ls) to.who z result
+      → EndsBy t (reading (far.stream ++ bytes) (far.goes.ls ++ g.ls) rest') to.who z result
       → IsOver t (passage input rest') (passage old new) xs z.seats result
   over_goes {bytes = bytes} {text} {back} {to} z g read small written ends =
       is_over bytes text to.who z g.ls read
@@ -180,7 +180,7 @@ module _ {t : Setup} {input rest old mid : Option (List ℕ)} {xs : List SeatVie
   over_end : {rest' new : Option (List ℕ)} {result : Result ℕ SessionEnd} (text : List ℕ) (z : Speakers)
       → Consumes rest rest' [] → IsAtEnd rest' → Answers t at.who (last_line at.pending) z text
       → Writes result (passage old new) far.text text
-      → EndsBy t (IsAtEnd rest') (far.stream ++ []) (far.goes.ls ++ last_line at.pending) z z result
+      → EndsBy t (reading (far.stream ++ []) (far.goes.ls ++ last_line at.pending) rest') z z result
       → IsOver t (passage input rest') (passage old new) xs z.seats result
   over_end text z read over answered written ends =
       is_over [] text z z (last_line at.pending) read (lines_end at.pending over far.goes.ready.line)
@@ -195,19 +195,19 @@ module _ {t : Setup} {input rest old mid : Option (List ℕ)} {xs : List SeatVie
       → length (far.goes.ls ++ g.ls) ≡ to.count
   number g = let size = length-append far.goes.ls g.ls in omega (arith, size, far.goes.counted, g.counted)
 
-  stops_at : {E ended : Type 0} (over : E → ended) {bytes text : List ℕ} {z : Speakers} {e : SessionEnd}
-      (h : Halts t E at bytes z text e) → StopsIn t E h.at h.rest z e
-      → StopsAt t ended (far.stream ++ bytes) (far.goes.ls ++ h.goes.ls) h.at.who z e
-  stops_at over h f = (
+  stops_at : {E : Type 0} (rest' : Option (List ℕ)) (over : E → IsAtEnd rest') {bytes text : List ℕ} {z : Speakers}
+      {e : SessionEnd} (h : Halts t E at bytes (round z text) e) → StopsIn t E h.at h.rest z e
+      → StopsAt t (reading (far.stream ++ bytes) (far.goes.ls ++ h.goes.ls) rest') h.at.who z e
+  stops_at rest' over h f = (
     f.line,
     lines_then over (f.line ∷ []) (cut h.goes) f.came (omega (arith, number h.goes, f.few)),
     f.stops,
   )
 
-  ends_so : {E ended : Type 0} (over : E → ended) {bytes text : List ℕ} {z : Speakers} (e : SessionEnd)
-      (h : Halts t E at bytes z text e)
-      → EndsBy t ended (far.stream ++ bytes) (far.goes.ls ++ h.goes.ls) h.at.who z (Err e)
-  ends_so over {z = z} LongLine h = elim h.fails [
+  ends_so : {E : Type 0} (rest' : Option (List ℕ)) (over : E → IsAtEnd rest') {bytes text : List ℕ} {z : Speakers}
+      (e : SessionEnd) (h : Halts t E at bytes (round z text) e)
+      → EndsBy t (reading (far.stream ++ bytes) (far.goes.ls ++ h.goes.ls) rest') h.at.who z (Err e)
+  ends_so rest' over {z = z} LongLine h = elim h.fails [
     | inl stays ↦ (
       stays.1,
       omega (arith, number h.goes, stays.0.0),
@@ -215,7 +215,7 @@ module _ {t : Setup} {input rest old mid : Option (List ℕ)} {xs : List SeatVie
     )
     | inr f ↦ absurd (ends_by t h.at.who z f.line LongLine f.stops)
   ]
-  ends_so over {z = z} Turns h = elim h.fails [
+  ends_so rest' over {z = z} Turns h = elim h.fails [
     | inl stays ↦ (
       stays.1,
       number h.goes ∙ stays.0.0,
@@ -224,15 +224,15 @@ module _ {t : Setup} {input rest old mid : Option (List ℕ)} {xs : List SeatVie
     )
     | inr f ↦ absurd (ends_by t h.at.who z f.line Turns f.stops)
   ]
-  ends_so over (Table fault) h = elim h.fails [ inl stays ↦ absurd stays.0 | inr f ↦ stops_at over h f ]
-  ends_so over Spawn h = elim h.fails [ inl stays ↦ absurd stays.0 | inr f ↦ stops_at over h f ]
-  ends_so over Memory h = elim h.fails [ inl stays ↦ inl stays.1 | inr f ↦ inr (stops_at over h f) ]
-  ends_so over e h = absurd (halts_by e h)
+  ends_so rest' over (Table fault) h = elim h.fails [ inl stays ↦ absurd stays.0 | inr f ↦ stops_at rest' over h f ]
+  ends_so rest' over Spawn h = elim h.fails [ inl stays ↦ absurd stays.0 | inr f ↦ stops_at rest' over h f ]
+  ends_so rest' over Memory h = elim h.fails [ inl stays ↦ inl stays.1 | inr f ↦ inr (stops_at rest' over h f) ]
+  ends_so rest' over e h = absurd (halts_by e h)
 
-  unheard : {E ended : Type 0} (over : E → ended) {bytes text : List ℕ} {z : Speakers} {e : SessionEnd}
-      (h : Halts t E at bytes z text e)
-      → EndsBy t ended (far.stream ++ bytes) (far.goes.ls ++ h.goes.ls) h.at.who z (Err Write)
-  unheard over {e = e} h = elim h.fails [ inl stays ↦ inl stays.1 | inr f ↦ inr (e, stops_at over h f) ]
+  unheard : {E : Type 0} (rest' : Option (List ℕ)) (over : E → IsAtEnd rest') {bytes text : List ℕ} {z : Speakers}
+      {e : SessionEnd} (h : Halts t E at bytes (round z text) e)
+      → EndsBy t (reading (far.stream ++ bytes) (far.goes.ls ++ h.goes.ls) rest') h.at.who z (Err Write)
+  unheard rest' over {e = e} h = elim h.fails [ inl stays ↦ inl stays.1 | inr f ↦ inr (e, stops_at rest' over h f) ]
 
   unsaid : Appends old mid (far.text ++ [])
   unsaid = subst (Appends old mid) (sym (append-nil far.text)) far.written
@@ -271,29 +271,30 @@ module _ {t : Setup} {input rest old : Option (List ℕ)} {xs : List SeatView} {
 
   heard : {B E : Type 0} {rest' : Option (List ℕ)} (over : E → IsAtEnd rest') (bytes text : List ℕ) (z : Speakers)
       (taken : Result B SessionEnd) → Consumes rest rest' bytes → length bytes ≤ READ_SIZE
-      → IfErr taken (Halts t E at bytes z text)
+      → IfErr taken (Halts t E at bytes (round z text))
       → OnOk taken (AppendsFront old w'.contents far.text text → Over rest' z Write)
       → AppendsFront old w'.contents far.text text → Over rest' z Write
-  heard over bytes text z (Ok b) read small halted all front = all front
-  heard over bytes text z (Err e) read small h all front = over_goes far z h.goes read small front (unheard far over h)
+  heard {rest' = rest'} over bytes text z (Ok b) read small halted all front = all front
+  heard {rest' = rest'} over bytes text z (Err e) read small h all front =
+      over_goes far z h.goes read small front (unheard far rest' over h)
 
   breaks : {B E : Type 0} {rest' : Option (List ℕ)} (over : E → IsAtEnd rest') (bytes text : List ℕ) (z : Speakers)
       (taken : Result B SessionEnd) {end : SessionEnd} → Consumes rest rest' bytes → length bytes ≤ READ_SIZE
-      → IfErr taken (Halts t E at bytes z text)
+      → IfErr taken (Halts t E at bytes (round z text))
       → OnOk taken (AppendsFront old w'.contents far.text text → Over rest' z Write)
       → IsWritten taken text w w' (Err end) → Over rest' z end
   breaks {B} {E} {rest'} over bytes text z taken {end} read small halted all written = elim written [
-    | inl so ↦ let h : Halts t E at bytes z text end = subst (λ r. IfErr r (Halts t E at bytes z text)) so.0 halted in
+    | inl so ↦ let h : Halts t E at bytes (round z text) end = subst (λ r. IfErr r (Halts t E at bytes (round z text))) so.0 halted in
         over_goes far z h.goes read small
-        (all_written old w'.contents far.text text end (halts_by end h) (grown text so.1)) (ends_so far over end h)
+        (all_written old w'.contents far.text text end (halts_by end h) (grown text so.1)) (ends_so far rest' over end h)
     | inr stuck ↦ let same : end ≡ Write = cc in
         subst (Over rest' z) (sym same) (heard over bytes text z taken read small halted all
         (stuck.1.0, stuck.1.1, grown (take stuck.1.0 text) stuck.1.2))
   ]
 
   pub session_halts : {rest' : Option (List ℕ)} {B : Type 0} {taken : Result B SessionEnd} {to : SoFar}
-      {before after : Option (List ℕ)} {bytes : List ℕ} {end : SessionEnd} → Consumes rest rest' bytes
-      → length bytes ≤ READ_SIZE → (takes : Takes t at bytes to before after taken)
+      {said : Passage} {bytes : List ℕ} {end : SessionEnd} → Consumes rest rest' bytes
+      → length bytes ≤ READ_SIZE → (takes : Takes t at bytes to said taken)
       → IsWritten taken takes.text w w' (Err end) → Over rest' to.who end
   session_halts {taken = taken} {to} {bytes = bytes} read small takes written =
       breaks (λ (none : ⊥). absurd none) bytes takes.text to.who taken read small takes.halted
@@ -301,8 +302,8 @@ module _ {t : Setup} {input rest old : Option (List ℕ)} {xs : List SeatView} {
       takes.taken) written
 
   pub session_closes : {rest' : Option (List ℕ)} {B : Type 0} {taken : Result B SessionEnd} {to : SoFar}
-      {before after : Option (List ℕ)} {end : SessionEnd} → Consumes rest rest' [] → IsAtEnd rest'
-      → (takes : TakesEnd t at to before after taken) → IsWritten taken takes.text w w' (Err end)
+      {said : Passage} {end : SessionEnd} → Consumes rest rest' [] → IsAtEnd rest'
+      → (takes : TakesEnd t at to said taken) → IsWritten taken takes.text w w' (Err end)
       → Over rest' to.who end
   session_closes {taken = taken} {to} read over takes written =
       breaks (λ (end : ⊤). over) [] takes.text to.who taken read (omega arith) takes.halted
@@ -310,8 +311,8 @@ module _ {t : Setup} {input rest old : Option (List ℕ)} {xs : List SeatView} {
       over_end far takes.text to.who read over all front (inl refl)) takes.answered) written
 
   pub session_ends : {rest' : Option (List ℕ)} {B : Type 0} {taken : Result B SessionEnd} {b : B} {to : SoFar}
-      {before after : Option (List ℕ)} → Consumes rest rest' [] → IsAtEnd rest'
-      → (takes : TakesEnd t at to before after taken) → IsWritten taken takes.text w w' (Ok b)
+      {said : Passage} → Consumes rest rest' [] → IsAtEnd rest'
+      → (takes : TakesEnd t at to said taken) → IsWritten taken takes.text w w' (Ok b)
       → IsOver t (passage input rest') (passage old w'.contents) xs to.who.seats (Ok to.count)
   session_ends {taken = taken} {to = to} read over takes written =
       let text = takes.text in
@@ -352,11 +353,11 @@ numbers_answered t (line ∷ ls) s z text p =
     let (m, front, back, answer, more, whole) = p in
     numbers_answered t ls m z back more ∙ numbers_said t s m line front answer
 
-module _ (t : Setup) (ended : Type 0) (stream : List ℕ) (ls : List (List ℕ)) (s z : Speakers) where
-  numbers_stopped : (end : SessionEnd) → StopsAt t ended stream ls s z end → numbers z ≡ numbers s
+module _ (t : Setup) (r : Reading) (s z : Speakers) where
+  numbers_stopped : (end : SessionEnd) → StopsAt t r s z end → numbers z ≡ numbers s
   numbers_stopped end h = numbers_left t s z h.0 end h.2
 
-  numbers_ended : (result : Result ℕ SessionEnd) → EndsBy t ended stream ls s z result → numbers z ≡ numbers s
+  numbers_ended : (result : Result ℕ SessionEnd) → EndsBy t r s z result → numbers z ≡ numbers s
   numbers_ended (Ok count) h = ap numbers h.0
   numbers_ended (Err Read) h = ap numbers h.0
   numbers_ended (Err LongLine) h = ap numbers h.0
@@ -370,7 +371,7 @@ pub numbers_of : {t : Setup} {input output : Passage} {xs ys : List SeatView} {r
     → IsOver t input output xs ys result → map (λ (x : SeatView). x.number) ys ≡ map (λ (x : SeatView). x.number) xs
 numbers_of {t} {input = input} {xs = xs} {result = result} h =
     ap (map (λ (x : SeatView). x.number)) (sym h.seats)
-    ∙ numbers_ended t (IsAtEnd input.after) h.stream (h.told ++ h.last) h.after h.end result h.ends
+    ∙ numbers_ended t (reading h.stream (h.told ++ h.last) input.after) h.after h.end result h.ends
     ∙ numbers_answered t h.last h.middle h.after h.text h.second
     ∙ numbers_answered t h.told (newcomers xs) h.middle h.said h.first
 

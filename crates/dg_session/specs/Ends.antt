@@ -1,16 +1,16 @@
--- How a session ends. `stream` is what was read, and `ended` says that no more is to come; s are
--- the seats before, and z after.
+-- How a session ends; s are the seats before, and z after.
 --   Answers t s ls z text == the lines ls are answered one after another with the text
 --   IsTooLong rest        == the rest begins with one byte more than a line may have, and no
 --                         newline
---   Leaves stream ls P    == what stands after the lines ls is a rest of which P holds
---   StopsAt t ended stream ls s z end == after the lines ls one more came, at which the session
---                         ends so
---   EndsBy t ended stream ls s z result == what each end says, if just the lines ls are
---                            answered: they are all, and counted; reading failed after all whole
---                            lines; a line is too long, or one too many; it stops at a line for
---                            what the table or a thread refused; or for memory, or before; or the
---                            writer took no more
+--   Reading               == what was read, the lines in it that are answered, and what the reader
+--                            has left, if that is known
+--   reading stream ls left == that of these
+--   Leaves r P            == what stands after the answered lines is a rest of which P holds
+--   StopsAt t r s z end   == after the answered lines one more came, at which the session ends so
+--   EndsBy t r s z result == what each end says, if just those lines are answered: they are all,
+--                            and counted; reading failed after all whole lines; a line is too long,
+--                            or one too many; it stops at a line for what the table or a thread
+--                            refused; or for memory, or before; or the writer took no more
 --   AreInOrder s          == the numbers of what the lines have entered ascend; the entries stand in
 --                            the history as the last line left it; and that is the one that a seat
 --                            has met, or there was no line of a seat
@@ -51,27 +51,31 @@ pub record IsTooLong (rest : List ℕ) : Type 0 where
   pub no_newline : HasNoNewline front
   pub long : length front ≡ MAX_LINE + 1
 
-abbrev pub Leaves : List ℕ → List (List ℕ) → (List ℕ → Type 0) → Type 0
-Leaves stream ls P = (rest : List ℕ) × Begins IsLine stream ls rest × P rest
+pub record Reading : Type 0 where
+  pub stream : List ℕ
+  pub answered : List (List ℕ)
+  pub left : Option (List ℕ)
 
-abbrev pub StopsAt : Setup → Type 0 → List ℕ → List (List ℕ) → Speakers → Speakers → SessionEnd
-    → Type 0
-StopsAt t ended stream ls s z end =
-    (line : List ℕ) × AreLines ended stream (ls ++ line ∷ []) × RefusesLineOf t s line z end
+abbrev pub reading : List ℕ → List (List ℕ) → Option (List ℕ) → Reading
+reading stream ls left = record { stream = stream; answered = ls; left = left }
 
-abbrev pub EndsBy : Setup → Type 0 → List ℕ → List (List ℕ) → Speakers → Speakers
-    → Result ℕ SessionEnd → Type 0
-EndsBy t ended stream ls s z (Ok count) =
-    (z ≡ s) × ended × (ls ≡ lines stream) × (count ≡ length ls)
-EndsBy t ended stream ls s z (Err Read) = (z ≡ s) × Leaves stream ls IsLine
-EndsBy t ended stream ls s z (Err LongLine) =
-    (z ≡ s) × (length ls < MAX_LINES) × Leaves stream ls IsTooLong
-EndsBy t ended stream ls s z (Err Turns) =
-    (z ≡ s) × (length ls ≡ MAX_LINES) × Leaves stream ls (λ rest. 1 ≤ length rest)
-EndsBy t ended stream ls s z (Err Write) =
-    (z ≡ s) ⊎ ((end : SessionEnd) × StopsAt t ended stream ls s z end)
-EndsBy t ended stream ls s z (Err Memory) = (z ≡ s) ⊎ StopsAt t ended stream ls s z Memory
-EndsBy t ended stream ls s z (Err end) = StopsAt t ended stream ls s z end
+abbrev pub Leaves : Reading → (List ℕ → Type 0) → Type 0
+Leaves r P = (rest : List ℕ) × Begins IsLine r.stream r.answered rest × P rest
+
+abbrev pub StopsAt : Setup → Reading → Speakers → Speakers → SessionEnd → Type 0
+StopsAt t r s z end = (line : List ℕ) × AreLines (IsAtEnd r.left) r.stream (r.answered ++ line ∷ [])
+    × RefusesLineOf t s line z end
+
+abbrev pub EndsBy : Setup → Reading → Speakers → Speakers → Result ℕ SessionEnd → Type 0
+EndsBy t r s z (Ok count) =
+    (z ≡ s) × IsAtEnd r.left × (r.answered ≡ lines r.stream) × (count ≡ length r.answered)
+EndsBy t r s z (Err Read) = (z ≡ s) × Leaves r IsLine
+EndsBy t r s z (Err LongLine) = (z ≡ s) × (length r.answered < MAX_LINES) × Leaves r IsTooLong
+EndsBy t r s z (Err Turns) =
+    (z ≡ s) × (length r.answered ≡ MAX_LINES) × Leaves r (λ rest. 1 ≤ length rest)
+EndsBy t r s z (Err Write) = (z ≡ s) ⊎ ((end : SessionEnd) × StopsAt t r s z end)
+EndsBy t r s z (Err Memory) = (z ≡ s) ⊎ StopsAt t r s z Memory
+EndsBy t r s z (Err end) = StopsAt t r s z end
 
 pub record AreInOrder (s : Speakers) : Type 0 where
   pub ascend : AscendFrom 0 s.entered
@@ -99,7 +103,7 @@ pub record IsOver (t : Setup) (input output : Passage) (xs ys : List SeatView)
   pub first : Answers t (newcomers xs) told middle said
   pub second : Answers t middle last after text
   pub written : Writes result output said text
-  pub ends : EndsBy t (IsAtEnd input.after) stream (told ++ last) after end result
+  pub ends : EndsBy t (reading stream (told ++ last) input.after) after end result
   pub seats : end.seats ≡ ys
   pub order : AreInOrder end
 

@@ -20,12 +20,14 @@
 --   StaysAt at rest end == the session ends so before the rest: a line there is too long or one too
 --                 many, or memory is refused
 --   StopsIn t ended at rest z end  == or at the line that comes next, as it is refused
---   Halts t ended old bytes z text end == the bytes are taken but for a rest, and there the session
---                 ends so; z speak then; `ended` says that no more is to come
---   Takes t old bytes new before after result == the bytes are taken, or the session halts in
---                         them; what is said of it comes after what was said before
---   TakesEnd t old new before after result == so is the end: what is pending is the last line, if
---                         it has a byte
+--   Round      == who speaks after some lines, and the text that answers them
+--   round z text == that of these
+--   Halts t ended old bytes after end == the bytes are taken but for a rest, and there the session
+--                 ends so; `ended` says that no more is to come
+--   Takes t old bytes new said result == the bytes are taken, or the session halts in them; what is
+--                 said of it comes after what was said before
+--   TakesEnd t old new said result == so is the end: what is pending is the last line, if it has a
+--                 byte
 --   IsSaid said text == what was said, if it is kept, is the text
 --   IsCleared old new == it is kept as before, and is nothing now
 --   IsWritten taken text old new result == all that was said is written, and it ends as the taking
@@ -41,7 +43,7 @@ use Rattle.dg_system.specs.Growth.{Writing, AppendsFront}
 use Rattle.dg_lines.specs.Streams.{Begins, last_line}
 use Rattle.dg_session.specs.Setup.{Setup}
 use Rattle.dg_session.specs.Course.{CourseView}
-use Rattle.dg_session.specs.Streams.{IsLine, AreLines}
+use Rattle.dg_session.specs.Streams.{IsLine, AreLines, Passage}
 use Rattle.dg_session.specs.Saying.{Gains, AnswersCommand, AnswersLine}
 use Rattle.dg_session.specs.Refusing.{RefusesCommand, RefusesLine}
 use Rattle.dg_session.specs.Speakers.{Speakers, speakers, newcomers, kept_number, AnswersLineOf, RefusesLineOf}
@@ -159,27 +161,34 @@ pub record StopsIn (t : Setup) (ended : Type 0) (at : SoFar) (rest : List ℕ) (
   pub few : at.count < MAX_LINES
   pub stops : RefusesLineOf t at.who line z end
 
-pub record Halts (t : Setup) (ended : Type 0) (old : SoFar) (bytes : List ℕ) (z : Speakers)
-    (text : List ℕ) (end : SessionEnd) : Type 0 where
+pub record Round : Type 0 where
+  pub who : Speakers
+  pub text : List ℕ
+
+abbrev pub round : Speakers → List ℕ → Round
+round z text = record { who = z; text = text }
+
+pub record Halts (t : Setup) (ended : Type 0) (old : SoFar) (bytes : List ℕ) (after : Round)
+    (end : SessionEnd) : Type 0 where
   pub rest : List ℕ
   pub at : SoFar
-  pub goes : Goes t old bytes rest at text
-  pub fails : (StaysAt at rest end × (z ≡ at.who)) ⊎ StopsIn t ended at rest z end
+  pub goes : Goes t old bytes rest at after.text
+  pub fails : (StaysAt at rest end × (after.who ≡ at.who)) ⊎ StopsIn t ended at rest after.who end
 
 pub record Takes {B : Type 0} (t : Setup) (old : SoFar) (bytes : List ℕ) (new : SoFar)
-    (before after : Option (List ℕ)) (result : Result B SessionEnd) : Type 0 where
+    (said : Passage) (result : Result B SessionEnd) : Type 0 where
   pub text : List ℕ
-  pub said : after ≡ append_known before text
+  pub grown : said.after ≡ append_known said.before text
   pub taken : OnOk result (Goes t old bytes [] new text)
-  pub halted : IfErr result (Halts t ⊥ old bytes new.who text)
+  pub halted : IfErr result (Halts t ⊥ old bytes (round new.who text))
 
-pub record TakesEnd {B : Type 0} (t : Setup) (old new : SoFar) (before after : Option (List ℕ))
+pub record TakesEnd {B : Type 0} (t : Setup) (old new : SoFar) (said : Passage)
     (result : Result B SessionEnd) : Type 0 where
   pub text : List ℕ
-  pub said : after ≡ append_known before text
+  pub grown : said.after ≡ append_known said.before text
   pub answered : OnOk result (Answers t old.who (last_line old.pending) new.who text)
   pub counted : OnOk result (new.count ≡ old.count + length (last_line old.pending))
-  pub halted : IfErr result (Halts t ⊤ old [] new.who text)
+  pub halted : IfErr result (Halts t ⊤ old [] (round new.who text))
 
 abbrev pub IsSaid : Option (List ℕ) → List ℕ → Type 0
 IsSaid None text = ⊤

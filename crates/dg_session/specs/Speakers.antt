@@ -8,9 +8,7 @@
 --                                text is its command line: the line begins with the number i + 1
 --                                and a space; or it names no seat, and is for the first
 --   IsForNone how n line      == the line is for none of n seats
---   Becomes i s z x y kept after == of the seats s, the one at the place i was x and keeps that
---                                look; it is y now and keeps this one; and the seats z are those,
---                                all others as in s
+--   Replaces i xs ys x y  == the list xs has x at the place i, and ys is the same with y there
 --   GoesOn s z y made  == the line of a seat, which is y then, has entered these entries, after all
 --                         that the lines before it left: the history as it leaves it is that which y
 --                         has met
@@ -64,11 +62,9 @@ IsFor BySeat n line i text = IsSeated (i + 1) text line × (i < n)
 abbrev pub IsForNone : LineFormat → ℕ → List ℕ → Type 0
 IsForNone how n line = (i : ℕ) (text : List ℕ) → ¬ IsFor how n line i text
 
-pub record Becomes (i : ℕ) (s z : Speakers) (x y : SeatView) (kept after : Option ℕ) : Type 0 where
-  pub seat : slice_get s.seats i ≡ Some x
-  pub look : slice_get s.kept i ≡ Some kept
-  pub seats : z.seats ≡ slice_set s.seats i y
-  pub looks : z.kept ≡ slice_set s.kept i after
+pub record Replaces {A : Type 0} (i : ℕ) (xs ys : List A) (x y : A) : Type 0 where
+  pub old : slice_get xs i ≡ Some x
+  pub new : ys ≡ slice_set xs i y
 
 pub record GoesOn (s z : Speakers) (y : SeatView) (made : List (ℕ × Entry)) : Type 0 where
   pub order : ComeAfter s.latest made y.met
@@ -81,7 +77,8 @@ pub record AnswersIn (t : Setup) (i : ℕ) (text : List ℕ) (s z : Speakers) (s
   pub y : SeatView
   pub kept : Option ℕ
   pub after : Option ℕ
-  pub turn : Becomes i s z x y kept after
+  pub seat : Replaces i s.seats z.seats x y
+  pub look : Replaces i s.kept z.kept kept after
   pub made : List (ℕ × Entry)
   pub answers : AnswersLine t kept text made after said
   pub gained : Gains x y made
@@ -99,7 +96,8 @@ pub record RefusesIn (t : Setup) (i : ℕ) (text : List ℕ) (s z : Speakers) (e
   pub y : SeatView
   pub kept : Option ℕ
   pub after : Option ℕ
-  pub turn : Becomes i s z x y kept after
+  pub seat : Replaces i s.seats z.seats x y
+  pub look : Replaces i s.kept z.kept kept after
   pub refused : RefusesLine t kept text x y end
   pub made : List (ℕ × Entry)
   pub gained : Gains x y made

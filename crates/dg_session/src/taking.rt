@@ -2,6 +2,7 @@
 ghost use Rattle.std.specs.Prelude.{◌≡◌, ◌≢◌, ◌+◌, ◌++◌, ◌<◌, ◌≤◌, [], length, map, None, OnOk, IfErr, IfSome};
 ghost use Rattle.dg_session.specs.Speakers.{kept_number};
 ghost use Rattle.dg_session.specs.Setup.{setup};
+ghost use Rattle.dg_session.specs.Streams.{passage};
 ghost use Rattle.dg_session.specs.SoFar.{heard, talk, so_far, Handles, IsReady, RefusesPart, Takes, TakesEnd};
 
 use crate::answering::{Said, Shared};
@@ -173,7 +174,7 @@ pub(crate) fn take_bytes<N: Name, R: Threads + Wait>(
     requires { IsReady (so_far progress.old seats.old) }
     ensures { Takes (setup shared.now.how N.table shared.now.names.now)
         (so_far progress.old seats.old) bytes.now (so_far progress.new seats.new)
-        (heard progress.old.said.text) (heard progress.new.said.text) result }
+        (passage (heard progress.old.said.text) (heard progress.new.said.text)) result }
 {
     let mut rest = bytes;
     'parts: while !rest.is_empty() {
@@ -206,7 +207,7 @@ pub(crate) fn take_end<N: Name, R: Threads + Wait>(
     requires { IsReady (so_far progress.old seats.old) }
     ensures { TakesEnd (setup shared.now.how N.table shared.now.names.now)
         (so_far progress.old seats.old) (so_far progress.new seats.new)
-        (heard progress.old.said.text) (heard progress.new.said.text) result }
+        (passage (heard progress.old.said.text) (heard progress.new.said.text)) result }
 {
     if progress.pending.is_empty() {
         return Ok(());

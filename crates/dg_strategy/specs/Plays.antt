@@ -18,7 +18,8 @@
 --                              moves and then by the claim of the receipt, those entries
 --   IsStopped T table n x y fault == after fewer than n turns, all moves, the next one was refused
 --                              with the fault
-use Rattle.std.specs.Prelude.{◌≡◌, ℕ, ◌<◌, Bool, true, false, List, [], ◌∷◌, ◌++◌, length, Option, Some, None, ⊤}
+--   Plays T table n x y result == the seat has so played, or was so stopped
+use Rattle.std.specs.Prelude.{◌≡◌, ℕ, ◌<◌, Bool, true, false, List, [], ◌∷◌, ◌++◌, length, Option, Some, None, ⊤, Result, Ok, Err}
 use Rattle.std.specs.List.{FoldsTo}
 use Rattle.dg_chips.specs.Starts.{StartData}
 use Rattle.dg_chips.specs.Vector.{Vector}
@@ -31,7 +32,7 @@ use Rattle.dg_game.specs.declared.entry.Request.{Request}
 use Rattle.dg_game.specs.declared.entry.Request.TheVariants as request
 use Rattle.dg_game.specs.declared.entry.Reply.{Reply}
 use Rattle.dg_game.specs.declared.entry.Reply.TheVariants.{Moved, Refused, Won}
-use Rattle.dg_table.specs.Answered.{IsAnsweredAfter}
+use Rattle.dg_table.specs.Answered.{entering, IsAnsweredAfter}
 use Rattle.dg_table.specs.Faults.{RefusesCall}
 use Rattle.dg_table.specs.Seats.{SeatView, Keeps}
 use Rattle.dg_table.specs.Turns.{request_for}
@@ -56,7 +57,7 @@ pub record IsTurnBy (A : Choosing) (table : TableData) (x : SeatView) (r : ℕ �
   pub answer : Option Move
   pub shown : Shows (position_after table.start history) amounts
   pub chosen : A (position_after table.start history).graph amounts answer
-  pub answered : IsAnsweredAfter table history (request_for answer) r x y
+  pub answered : IsAnsweredAfter table (request_for answer) (entering history r x y)
 
 abbrev pub IsMadeOrPastRange : Reply → Type 0
 IsMadeOrPastRange (Moved d) = ⊤
@@ -112,3 +113,8 @@ module _ (T : SeatView → ℕ × Entry → SeatView → Type 0) where
     pub moves : AreMoves entries
     pub few : length entries < n
     pub refused : RefusesCall table y fault
+
+  abbrev pub Plays : {N : Type 0} → TableData → ℕ → SeatView → SeatView → Result (Ended N) Fault
+      → Type 0
+  Plays table n x y (Ok ended) = IsPlayed n x y ended
+  Plays table n x y (Err fault) = IsStopped table n x y fault

@@ -1,9 +1,9 @@
 //! Turns in a row.
-ghost use Rattle.std.specs.Prelude.{◌≡◌, length, IfOk, IfErr, MatchResult, true, IsTrue, ◌↔◌};
+ghost use Rattle.std.specs.Prelude.{◌≡◌, length, IfOk, IfErr, true, IsTrue, ◌↔◌};
 ghost use Rattle.dg_table.specs.Faults.{RefusesCall};
 ghost use Rattle.dg_table.specs.Seats.{Keeps};
 ghost use Rattle.dg_game.specs.declared.entry.Request.TheVariants.{Claim as ClaimRequest};
-ghost use Rattle.dg_strategy.specs.Plays.{IsTurnBy, IsStrategyTurn, IsSettlerTurn, IsPlayed, IsStopped};
+ghost use Rattle.dg_strategy.specs.Plays.{IsTurnBy, IsStrategyTurn, IsSettlerTurn, Plays};
 
 use crate::choice::Choose;
 use crate::settler::Settler;
@@ -50,11 +50,8 @@ pub fn play<N: Name, C: Choose + Drop>(
     strategy: &Strategy<C>,
     turns: u32,
 ) -> Result<Ended<N>, Fault>
-    ensures { MatchResult result
-        (IsPlayed (IsStrategyTurn (C.may_answer strategy.now) N.table)
-        turns seat.old seat.new)
-        (IsStopped (IsStrategyTurn (C.may_answer strategy.now) N.table)
-        N.table turns seat.old seat.new) }
+    ensures { Plays (IsStrategyTurn (C.may_answer strategy.now) N.table)
+        N.table turns seat.old seat.new result }
 {
     let _graph = table.start().graph();
     match turns_by(rt, alloc, table, seat, &strategy.choice, turns) {
@@ -75,11 +72,8 @@ pub fn settle_out<N: Name, C: Choose + Drop>(
     settler: &Settler<C>,
     turns: u32,
 ) -> Result<Ended<N>, Fault>
-    ensures { MatchResult result
-        (IsPlayed (IsSettlerTurn (C.may_answer settler.now) N.table) turns
-        seat.old seat.new)
-        (IsStopped (IsSettlerTurn (C.may_answer settler.now) N.table)
-        N.table turns seat.old seat.new) }
+    ensures { Plays (IsSettlerTurn (C.may_answer settler.now) N.table)
+        N.table turns seat.old seat.new result }
 {
     let _graph = table.start().graph();
     match turns_by(rt, alloc, table, seat, &settler.choice, turns) {
@@ -97,10 +91,7 @@ fn turns_by<N: Name, C: Choose>(
     choice: &C,
     turns: u32,
 ) -> Result<Ended<N>, Fault>
-    ensures { MatchResult result
-        (IsPlayed (IsTurnBy (C.may_answer choice.now) N.table) turns
-        seat.old seat.new)
-        (IsStopped (IsTurnBy (C.may_answer choice.now) N.table) N.table turns seat.old seat.new) }
+    ensures { Plays (IsTurnBy (C.may_answer choice.now) N.table) N.table turns seat.old seat.new result }
 {
     for _ in 0..turns {
         let receipt = turn_by(rt, alloc, table, seat, choice)?;
@@ -120,8 +111,7 @@ fn turn_by<N: Name, C: Choose>(
     choice: &C,
 ) -> Result<Receipt<N>, Fault>
     ensures turn { IfOk result
-        (λ r. IsTurnBy (C.may_answer choice.now) N.table
-        seat.old r seat.new) }
+        (λ r. IsTurnBy (C.may_answer choice.now) N.table seat.old r seat.new) }
     ensures fault { IfErr result
         (λ f. Keeps seat.old seat.new × RefusesCall N.table seat.new f) }
 {

@@ -12,7 +12,7 @@
 --                 is refused
 --   held_none     what the lock holds at the start
 --   held_more     what the lock holds after one more entry
-use Rattle.std.proofs.Common.{inl, inr, Bool, ◌≡◌, ◌≢◌, Option, take, ℕ, ◌+◌, ◌<◌, ◌≤◌, List, [], ◌∷◌, ◌++◌, length, get_or, set, slice_get, Some, arith, refl, sym, ap, subst, ◌∙◌}
+use Rattle.std.proofs.Common.{inl, inr, ◌≡◌, ◌≢◌, Option, take, ℕ, ◌+◌, ◌<◌, ◌≤◌, List, [], ◌∷◌, ◌++◌, length, get_or, set, slice_get, Some, arith, refl, sym, ap, subst, ◌∙◌}
 use Rattle.std.proofs.lemmas.List.{length-set, length_push, append-nil}
 use Rattle.std.proofs.lemmas.Option.{slice_get_within}
 use Rattle.dg_chips.specs.Starts.{StartData}
@@ -30,7 +30,7 @@ use Rattle.dg_game.specs.declared.finding.Question.{Question}
 use Rattle.dg_game.specs.declared.look.LookData.{LookData}
 use Rattle.dg_game.proofs.LegalLaws.{legal_none}
 use Rattle.dg_game.proofs.ListLaws.{slice_get-append}
-use Rattle.dg_table.specs.Answered.{IsEnteredAfter, IsAnsweredAfter}
+use Rattle.dg_table.specs.Answered.{entering, IsEnteredAfter, IsAnsweredAfter}
 use Rattle.dg_table.specs.Faults.{RefusesStep, RefusesSettling}
 use Rattle.dg_table.specs.declared.fault.Fault.{Fault}
 use Rattle.dg_table.specs.declared.fault.Fault.TheVariants.{OutOfMemory, Full, Log}
@@ -45,6 +45,7 @@ use Rattle.dg_table.proofs.Findings.{stale_both, carried_over}
 use Rattle.dg_table.proofs.Numbered.{stand_more, stand_longer}
 use Rattle.dg_table.proofs.Counts.{seated_more, counted_more, counted_none}
 use Rattle.dg_log.specs.Tables.{TableData}
+use Rattle.dg_log.specs.Written.{Written}
 
 pub holds_more : (H : List Entry) (e : Entry) (x y : SeatView) → Holds H x → e.seat ≡ x.number → y.number ≡ x.number →
     y.mine ≡ x.mine ++ (length H, e) ∷ [] → y.told ≡ x.told → y.prefix ≡ H ++ e ∷ [] → y.met ≡ H ++ e ∷ [] →
@@ -66,28 +67,27 @@ history_more table H e seated least most room legal = record {
   seated = seated_more table.seats H e seated least most;
 }
 
-pub kept_more : {table : TableData} {s : ℕ} {mine told second : List
-    (ℕ × Entry)} {prefix met : List Entry} {look : Option LookData}
-    (H : List Entry) (e : Entry) (next : Option LookData) → IsSeatState table s mine told prefix met second look →
-    IsHistoryOf table (H ++ e ∷ []) → entries_of s H ≡ mine → e.seat ≡ s →
-    IsKeptLook table.start (mine ++ (length H, e) ∷ []) next →
-    IsSeatState table s (mine ++ (length H, e) ∷ []) told (H ++ e ∷ []) (H ++ e ∷ []) second next
-kept_more {table} {s} {mine} {told} {second} {prefix} {met} {look} H e next seated found held own last = record {
-  least = seated.least;
-  most = seated.most;
-  found = found;
-  own = own_more s H e own ∙ ap (λ ps. ps ++ (length H, e) ∷ []) held;
-  met = found;
-  since = ([], sym (append-nil (H ++ e ∷ [])));
-  told_said = seated.told_said;
-  look_kept = last;
+pub kept_more : {table : TableData} {x y : SeatView} {told : List (ℕ × Entry)} {look next : Option LookData}
+    (H : List Entry) (e : Entry) → IsSeatState table x told look → IsHistoryOf table (H ++ e ∷ []) →
+    entries_of x.number H ≡ x.mine → e.seat ≡ x.number → IsKeptLook table.start (x.mine ++ (length H, e) ∷ []) next →
+    y.number ≡ x.number → y.mine ≡ x.mine ++ (length H, e) ∷ [] → y.told ≡ x.told → y.prefix ≡ H ++ e ∷ [] →
+    y.met ≡ H ++ e ∷ [] → IsSeatState table y told next
+kept_more {table} {x} {y} {told} {look} {next} H e seated found held own last number mine heard prefix met = record {
+  least = rw number seated.least;
+  most = rw number seated.most;
+  found = rw prefix found;
+  own = rw (number, prefix, mine) (own_more x.number H e own ∙ ap (λ ps. ps ++ (length H, e) ∷ []) held);
+  met = rw met found;
+  since = rw (prefix, met) ([], sym (append-nil (H ++ e ∷ [])));
+  told_said = rw heard seated.told_said;
+  look_kept = rw mine last;
 }
 
 pub answered : {table : TableData} {H : List Entry} {x : SeatView} (e : Entry) (y : SeatView) →
     Replies table.start H e.request e.reply → IsHistoryOf table (H ++ e ∷ []) → Holds H x → e.seat ≡ x.number →
     y.number ≡ x.number →
     y.mine ≡ x.mine ++ (length H, e) ∷ [] → y.told ≡ x.told → y.prefix ≡ H ++ e ∷ [] → y.met ≡ H ++ e ∷ [] →
-    IsAnsweredAfter table H e.request (length H, e) x y
+    IsAnsweredAfter table e.request (entering H (length H, e) x y)
 answered {table} {H} {x} e y replies history holds own number mine told prefix met = record {
   place = refl;
   seat = own;
@@ -105,10 +105,10 @@ answered {table} {H} {x} e y replies history holds own number mine told prefix m
 
 pub told_of : {table : TableData} {H : List Entry} {request : Request} {r : ℕ × Entry} {s m : SeatView}
     (look : ℕ × Entry) (t : SeatView) →
-    IsAnsweredAfter table H request r s m → slice_get H look.0 ≡ Some look.1 →
+    IsAnsweredAfter table request (entering H r s m) → slice_get H look.0 ≡ Some look.1 →
     t.number ≡ m.number → t.mine ≡ m.mine → t.told ≡ m.told ++ look ∷ [] → t.prefix ≡ m.prefix →
     t.met ≡ m.met →
-    IsEnteredAfter table H request (s.told ++ look ∷ []) r s t
+    IsEnteredAfter table request (s.told ++ look ∷ []) (entering H r s t)
 told_of {table} {H} {request} {r} {s} {m} look t answered stands number mine told prefix met =
     let hears : t.told ≡ s.told ++ look ∷ [] = told ∙ ap (λ ps. ps ++ look ∷ []) answered.told in
     let there : slice_get (H ++ r.1 ∷ []) look.0 ≡ Some look.1 =
@@ -135,15 +135,16 @@ told_of {table} {H} {request} {r} {s} {m} look t answered stands number mine tol
 
 pub settled : (table : TableData) (H : List Entry) (look : ℕ × Entry) (x : LookData) (f : Finding) (r : ℕ × Entry)
     (s m t : SeatView) →
-    IsAnsweredAfter table H (asked_for x.number f) r s m → IsLookOf look x → slice_get H look.0 ≡ Some look.1 →
+    IsAnsweredAfter table (asked_for x.number f) (entering H r s m) → IsLookOf look x →
+    slice_get H look.0 ≡ Some look.1 →
     KeepsFinding f r.1.reply →
     t.number ≡ m.number → t.mine ≡ m.mine → t.told ≡ m.told ++ look ∷ [] → t.prefix ≡ m.prefix →
     t.met ≡ m.met →
-    IsSettledAfter table H look f r s t
+    IsSettledAfter table look f (entering H r s t)
 settled table H look x f r s m t answered of stands kept number mine told prefix met =
     let replies : Replies table.start H (asked_for look.0 f) r.1.reply =
     subst (λ i. Replies table.start H (asked_for i f) r.1.reply) of.number answered.reply in
-    let answered_on = subst (λ i. IsAnsweredAfter table H (asked_for i f) r s m) of.number answered in
+    let answered_on = subst (λ i. IsAnsweredAfter table (asked_for i f) (entering H r s m)) of.number answered in
     record {
       entered = told_of look t answered_on stands number mine told prefix met;
       stands = stands;
@@ -155,13 +156,14 @@ settled table H look x f r s m t answered of stands kept number mine told prefix
 pub staled : (table : TableData) (H : List Entry) (look : ℕ × Entry) (x : LookData) (asks : Question)
     (game : State) (r : ℕ × Entry)
     (s m t : SeatView) →
-    IsAnsweredAfter table H (asked_on x.number asks) r s m → IsLookOf look x → slice_get H look.0 ≡ Some look.1 →
+    IsAnsweredAfter table (asked_on x.number asks) (entering H r s m) → IsLookOf look x →
+    slice_get H look.0 ≡ Some look.1 →
     LeadsTo table.start H game → IsLookAt table.start H x → x.gifts ≢ game.gifts → r.1.reply ≡ Stale game.gifts →
     t.number ≡ m.number → t.mine ≡ m.mine → t.told ≡ m.told ++ look ∷ [] → t.prefix ≡ m.prefix →
     t.met ≡ m.met →
-    IsStaleAfter table H look asks r s t
+    IsStaleAfter table look asks (entering H r s t)
 staled table H look x asks game r s m t answered of stands leads at other reply number mine told prefix met =
-    let answered_on = subst (λ i. IsAnsweredAfter table H (asked_on i asks) r s m) of.number answered in
+    let answered_on = subst (λ i. IsAnsweredAfter table (asked_on i asks) (entering H r s m)) of.number answered in
     record {
       entered = told_of look t answered_on stands number mine told prefix met;
       stands = stands;
@@ -169,12 +171,11 @@ staled table H look x asks game r s m t answered of stands leads at other reply 
       stale = reply ∙ ap Stale leads.gifts;
     }
 
-pub settling_refused : (table : TableData) (H : List Entry) (i : ℕ) (x : SeatView) (b c : Bool) (f : Fault) →
-    IsAdmissible H x →
-    i < length H → RefusesStep table H x b c f → RefusesSettling table H i x b c f
-settling_refused table H i x b c OutOfMemory admissible read refused = refused
-settling_refused table H i x b c Full admissible read refused = refused
-settling_refused table H i x b c Log admissible read (room, refused) = (
+pub settling_refused : (table : TableData) (p q : Written) (i : ℕ) (x : SeatView) (f : Fault) →
+    IsAdmissible p.entries x → i < length p.entries → RefusesStep table p q x f → RefusesSettling table p q i x f
+settling_refused table p q i x OutOfMemory admissible read refused = refused
+settling_refused table p q i x Full admissible read refused = refused
+settling_refused table p q i x Log admissible read (room, refused) = (
   room,
   elim refused [
     | inl other ↦ absurd (other.0 admissible)

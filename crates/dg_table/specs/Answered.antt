@@ -1,11 +1,14 @@
 -- How a call is answered at a table.
---   IsEnteredAfter table H request known r x y == the request of the seat x is entered with the
---                                    receipt r after the history H, which holds what the seat knew.
---                                    The seat is then y, and was told of the entries known. The one
---                                    history is H and the entry, whose place in it is the last
---   IsAnsweredAfter table H request r x y == the call of the seat x is so entered, and the seat is
---                                    told of nothing more
---   IsAnswered table request r x y == it is so answered after some history
+--   Entering                == a history, the receipt of the entry that comes after it, and the seat
+--                              that makes the entry, before and after
+--   entering H r x y        == of these
+--   history_after e         == the history with the entry at its end
+--   IsEnteredAfter table request known e == the request is so entered: the history holds what the
+--                              seat knew before, and with the entry what it knows after. It was told
+--                              of the entries known. The one history is the history with the entry,
+--                              whose place is the last
+--   IsAnsweredAfter table request e == the call is so entered, and the seat is told of nothing more
+--   IsAnswered table request r x y  == it is so answered after some history
 use Rattle.std.specs.Prelude.{◌≡◌, ℕ, List, [], ◌∷◌, ◌++◌, length}
 use Rattle.dg_game.specs.Replies.{Replies}
 use Rattle.dg_game.specs.declared.entry.Entry.{Entry}
@@ -14,25 +17,35 @@ use Rattle.dg_table.specs.Histories.{IsHistoryOf}
 use Rattle.dg_table.specs.Seats.{SeatView, Holds}
 use Rattle.dg_log.specs.Tables.{TableData}
 
-pub record IsEnteredAfter (table : TableData) (H : List Entry) (request : Request)
-    (known : List (ℕ × Entry)) (r : ℕ × Entry)
-    (x y : SeatView) : Type 0 where
-  pub place : r.0 ≡ length H
-  pub seat : r.1.seat ≡ x.number
-  pub request' : r.1.request ≡ request
-  pub reply : Replies table.start H request r.1.reply
-  pub before : Holds H x
-  pub history : IsHistoryOf table (H ++ r.1 ∷ [])
-  pub holds : Holds (H ++ r.1 ∷ []) y
-  pub number : y.number ≡ x.number
-  pub mine : y.mine ≡ x.mine ++ r ∷ []
-  pub told : y.told ≡ known
-  pub prefix : y.prefix ≡ H ++ r.1 ∷ []
-  pub met : y.met ≡ H ++ r.1 ∷ []
+pub record Entering : Type 0 where
+  pub history : List Entry
+  pub receipt : ℕ × Entry
+  pub before : SeatView
+  pub after : SeatView
 
-abbrev pub IsAnsweredAfter : TableData → List Entry → Request → ℕ × Entry → SeatView →
-    SeatView → Type 0
-IsAnsweredAfter table H request r x y = IsEnteredAfter table H request x.told r x y
+abbrev pub entering : List Entry → ℕ × Entry → SeatView → SeatView → Entering
+entering H r x y = record { history = H; receipt = r; before = x; after = y }
+
+abbrev pub history_after : Entering → List Entry
+history_after e = e.history ++ e.receipt.1 ∷ []
+
+pub record IsEnteredAfter (table : TableData) (request : Request) (known : List (ℕ × Entry))
+    (e : Entering) : Type 0 where
+  pub place : e.receipt.0 ≡ length e.history
+  pub seat : e.receipt.1.seat ≡ e.before.number
+  pub request' : e.receipt.1.request ≡ request
+  pub reply : Replies table.start e.history request e.receipt.1.reply
+  pub before : Holds e.history e.before
+  pub history : IsHistoryOf table (history_after e)
+  pub holds : Holds (history_after e) e.after
+  pub number : e.after.number ≡ e.before.number
+  pub mine : e.after.mine ≡ e.before.mine ++ e.receipt ∷ []
+  pub told : e.after.told ≡ known
+  pub prefix : e.after.prefix ≡ history_after e
+  pub met : e.after.met ≡ history_after e
+
+abbrev pub IsAnsweredAfter : TableData → Request → Entering → Type 0
+IsAnsweredAfter table request e = IsEnteredAfter table request e.before.told e
 
 abbrev pub IsAnswered : TableData → Request → ℕ × Entry → SeatView → SeatView → Type 0
-IsAnswered table request r x y = (H : List Entry) × IsAnsweredAfter table H request r x y
+IsAnswered table request r x y = (H : List Entry) × IsAnsweredAfter table request (entering H r x y)

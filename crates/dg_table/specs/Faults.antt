@@ -2,15 +2,15 @@
 --   StandsFull table H x        == H is a history of the table, and fills it; it begins with the
 --                                  history that the seat x found, and the entries that the seat
 --                                  keeps stand in it
---   RefusesStep table H x b c f == the step after H of a seat x that has the space for it is
---                                  refused with f; b and c say whether the pen was stuck before
---                                  and after it
---   RefusesSettling table H i x b c f == the step by which the seat x enters a finding on the look
---                                  of number i is refused so
+--   MayEnter table H x          == H has room for an entry, and the seat x is admissible after it
+--   RefusesStep table p q x f   == the step of a seat x that has the space for it is refused with f;
+--                                  p and q are what the pen has written before and after it
+--   RefusesSettling table p q i x f == so is the step by which the seat x enters a finding on the
+--                                  look of number i
 --   RefusesCall table x f       == if the call of the seat x was refused with f, this is known:
 --                                  after `Full`, the history that it has met then fills the table;
 --                                  after `Log`, that has room
-use Rattle.std.specs.Prelude.{◌≡◌, ℕ, ◌<◌, ◌≤◌, List, Bool, true, length, ⊤, ◌⊎◌}
+use Rattle.std.specs.Prelude.{◌≡◌, ℕ, ◌<◌, ◌≤◌, List, true, length, ⊤, ◌⊎◌}
 use Rattle.dg_game.specs.declared.entry.Entry.{Entry}
 use Rattle.dg_log.specs.Numbered.{StandIn, IsBeginning}
 use Rattle.dg_table.specs.Histories.{IsHistoryOf}
@@ -18,6 +18,7 @@ use Rattle.dg_table.specs.Seats.{SeatView, IsAdmissible}
 use Rattle.dg_table.specs.declared.fault.Fault.{Fault}
 use Rattle.dg_table.specs.declared.fault.Fault.TheVariants.{OutOfMemory, Full, Log}
 use Rattle.dg_log.specs.Tables.{TableData}
+use Rattle.dg_log.specs.Written.{Written}
 
 pub record StandsFull (table : TableData) (H : List Entry) (x : SeatView) : Type 0 where
   pub full : length H ≡ table.capacity
@@ -26,19 +27,23 @@ pub record StandsFull (table : TableData) (H : List Entry) (x : SeatView) : Type
   pub mine : StandIn H x.mine
   pub told : StandIn H x.told
 
-abbrev pub RefusesStep : TableData → List Entry → SeatView → Bool → Bool → Fault → Type 0
-RefusesStep table H x b c OutOfMemory = ⊥
-RefusesStep table H x b c Full = StandsFull table H x × (c ≡ b)
-RefusesStep table H x b c Log =
-    (length H < table.capacity) × (((¬ IsAdmissible H x) × (c ≡ b)) ⊎ (IsAdmissible H x × (c ≡ true)))
+abbrev pub MayEnter : TableData → List Entry → SeatView → Type 0
+MayEnter table H x = (length H < table.capacity) × IsAdmissible H x
 
-abbrev pub RefusesSettling : TableData → List Entry → ℕ → SeatView → Bool → Bool → Fault →
-    Type 0
-RefusesSettling table H i x b c OutOfMemory = ⊥
-RefusesSettling table H i x b c Full = StandsFull table H x × (c ≡ b)
-RefusesSettling table H i x b c Log = (length H < table.capacity) ×
-    (((¬ IsAdmissible H x) × (c ≡ b)) ⊎ (IsAdmissible H x × (length H ≤ i) × (c ≡ b)) ⊎
-    (IsAdmissible H x × (i < length H) × (c ≡ true)))
+abbrev pub RefusesStep : TableData → Written → Written → SeatView → Fault → Type 0
+RefusesStep table p q x OutOfMemory = ⊥
+RefusesStep table p q x Full = StandsFull table p.entries x × (q.stuck ≡ p.stuck)
+RefusesStep table p q x Log = (length p.entries < table.capacity) ×
+    (((¬ IsAdmissible p.entries x) × (q.stuck ≡ p.stuck))
+    ⊎ (IsAdmissible p.entries x × (q.stuck ≡ true)))
+
+abbrev pub RefusesSettling : TableData → Written → Written → ℕ → SeatView → Fault → Type 0
+RefusesSettling table p q i x OutOfMemory = ⊥
+RefusesSettling table p q i x Full = StandsFull table p.entries x × (q.stuck ≡ p.stuck)
+RefusesSettling table p q i x Log = (length p.entries < table.capacity) ×
+    (((¬ IsAdmissible p.entries x) × (q.stuck ≡ p.stuck))
+    ⊎ (IsAdmissible p.entries x × (length p.entries ≤ i) × (q.stuck ≡ p.stuck))
+    ⊎ (IsAdmissible p.entries x × (i < length p.entries) × (q.stuck ≡ true)))
 
 abbrev pub RefusesCall : TableData → SeatView → Fault → Type 0
 RefusesCall table x OutOfMemory = ⊤

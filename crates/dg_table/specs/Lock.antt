@@ -7,13 +7,15 @@
 --                                    admissible, and holds what it knows
 --   IsKeptLook o ps look          == the look that is kept is the last of the entries ps, and has the
 --                                    vertices of the start o
---   IsSeatState table s ps qs H M d look == what the seat s keeps fits together: the history H that
---                                    it found is one of the table, with the entries ps as its own;
---                                    so is the history M that it has met, which begins with H; the
---                                    receipt set d is of the entries qs that it was told of, and
---                                    look is its last look
-use Rattle.std.specs.Prelude.{◌≡◌, ℕ, ◌+◌, ◌<◌, ◌≤◌, List, length, Option, IfSome}
+--   seat_view x                   == what a contract sees of a seat, by its fields x
+--   IsSeatState table x d look     == what the seat x keeps fits together: the history that it found
+--                                    is one of the table, with the seat's entries as its own; so is
+--                                    the history that it has met, which begins with that; the
+--                                    receipt set d is of the entries that it was told of, and look
+--                                    is its last look
+use Rattle.std.specs.Prelude.{◌≡◌, ℕ, ◌+◌, ◌<◌, ◌≤◌, ◌&&◌, nat_lt, List, length, Option, IfSome}
 use Rattle.std.specs.List.{slice_index}
+use Rattle.std.specs.Vec.{vec_len, vec_capacity}
 use Rattle.dg_chips.specs.Starts.{StartData}
 use Rattle.dg_game.specs.Legal.{IsSeat, IsLegal}
 use Rattle.dg_game.specs.State.{State, LeadsTo}
@@ -25,6 +27,7 @@ use Rattle.dg_log.specs.Numbered.{IsBeginning}
 use Rattle.dg_table.specs.Histories.{IsHistoryOf}
 use Rattle.dg_table.specs.Looks.{HasVertices, IsLastLook}
 use Rattle.dg_table.specs.Seats.{SeatView, Holds, IsAdmissible, AreSeated, entries_of}
+use Rattle.dg_table.specs.declared.seat.Seat.TheInside.{Inside}
 use Rattle.dg_log.specs.Tables.{TableData}
 
 abbrev pub AreCountsOf : List ℕ → List Entry → Type 0
@@ -51,14 +54,24 @@ pub record IsKeptLook (o : StartData) (ps : List (ℕ × Entry)) (look : Option 
   pub last : IsLastLook ps look
   pub vertices : IfSome look (HasVertices o.graph.size)
 
-pub record IsSeatState (table : TableData) (s : ℕ) (ps qs : List (ℕ × Entry)) (H M : List Entry)
-    (d : List (ℕ × Entry))
+abbrev pub seat_view : {N : Type 0} → Inside N → SeatView
+seat_view x = record {
+  number = x.number;
+  mine = x.mine.items;
+  told = x.told.items;
+  prefix = x.prefix;
+  met = x.met;
+  space = nat_lt (vec_len x.mine) (vec_capacity x.mine) && nat_lt (vec_len x.told) (vec_capacity x.told);
+  hears = nat_lt (vec_len x.told) (vec_capacity x.told);
+}
+
+pub record IsSeatState (table : TableData) (x : SeatView) (d : List (ℕ × Entry))
     (look : Option LookData) : Type 0 where
-  pub least : 1 ≤ s
-  pub most : s ≤ table.seats
-  pub found : IsHistoryOf table H
-  pub own : entries_of s H ≡ ps
-  pub met : IsHistoryOf table M
-  pub since : IsBeginning H M
-  pub told_said : d ≡ qs
-  pub look_kept : IsKeptLook table.start ps look
+  pub least : 1 ≤ x.number
+  pub most : x.number ≤ table.seats
+  pub found : IsHistoryOf table x.prefix
+  pub own : entries_of x.number x.prefix ≡ x.mine
+  pub met : IsHistoryOf table x.met
+  pub since : IsBeginning x.prefix x.met
+  pub told_said : d ≡ x.told
+  pub look_kept : IsKeptLook table.start x.mine look

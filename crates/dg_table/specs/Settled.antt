@@ -3,15 +3,12 @@
 --                                  right there from the vertex q, whose script leads from the
 --                                  amounts of p to the divisor that was found; or a rank test that
 --                                  is right there
---   IsSettledAfter table H look f r s t == the finding f on the look is entered by the seat s with
---                                  the receipt r after the history H. The seat is then t, and was
---                                  told of the look
---   IsSettled table look f r s t == it is so entered after some history
---   IsStaleAfter table H look asks r s t == the question on the look is entered as stale by the
---                                  seat s with the receipt r after the history H, in which gifts
---                                  were accepted since the look. The seat is then t, and was told
+--   IsSettledAfter table look f e == the finding f on the look is so entered, and the seat was told
 --                                  of the look
---   IsStale table look asks r s t == it is so entered after some history
+--   IsSettled table look f r x y == it is so entered after some history
+--   IsStaleAfter table look asks e == the question on the look is so entered, as stale, because gifts
+--                                  were accepted since the look; and the seat was told of the look
+--   IsStale table look asks r x y == it is so entered after some history
 use Rattle.std.specs.Prelude.{◌≡◌, ◌≢◌, ◌↔◌, ℕ, List, [], ◌∷◌, ◌++◌, take, slice_get, Some}
 use Rattle.dg_theory.specs.Firing.{FiresTo}
 use Rattle.dg_chips.specs.Vector.{at}
@@ -26,7 +23,7 @@ use Rattle.dg_game.specs.declared.entry.Reply.TheVariants.{Verdict, Rank, Stale}
 use Rattle.dg_game.specs.declared.finding.Finding.{Finding}
 use Rattle.dg_game.specs.declared.finding.Finding.TheVariants.{Judged, Ranked}
 use Rattle.dg_game.specs.declared.finding.Question.{Question}
-use Rattle.dg_table.specs.Answered.{IsEnteredAfter}
+use Rattle.dg_table.specs.Answered.{Entering, entering, IsEnteredAfter}
 use Rattle.dg_table.specs.Seats.{SeatView}
 use Rattle.dg_log.specs.Tables.{TableData}
 
@@ -36,26 +33,27 @@ IsCarriedTo p q (Judged v) (Verdict w) =
 IsCarriedTo p q (Ranked v) (Rank w) = IsRankTest p.graph p.amounts (degree_of v) w
 IsCarriedTo p q f reply = ⊥
 
-pub record IsSettledAfter (table : TableData) (H : List Entry) (look : ℕ × Entry) (f : Finding)
-    (r : ℕ × Entry) (s t : SeatView) : Type 0 where
-  pub entered : IsEnteredAfter table H (asked_for look.0 f) (s.told ++ look ∷ []) r s t
-  pub stands : slice_get H look.0 ≡ Some look.1
-  pub kept : KeepsFinding f r.1.reply
+pub record IsSettledAfter (table : TableData) (look : ℕ × Entry) (f : Finding) (e : Entering)
+    : Type 0 where
+  pub entered : IsEnteredAfter table (asked_for look.0 f) (e.before.told ++ look ∷ []) e
+  pub stands : slice_get e.history look.0 ≡ Some look.1
+  pub kept : KeepsFinding f e.receipt.1.reply
   -- gifts were accepted since the look
-  pub stale : (gifts_in (take look.0 H) ≢ gifts_in H) ↔ (r.1.reply ≡ Stale (gifts_in H))
+  pub stale : (gifts_in (take look.0 e.history) ≢ gifts_in e.history)
+      ↔ (e.receipt.1.reply ≡ Stale (gifts_in e.history))
   -- no gift was
-  pub carried : gifts_in (take look.0 H) ≡ gifts_in H →
-      IsCarriedTo (position_after table.start H) table.start.q f r.1.reply
+  pub carried : gifts_in (take look.0 e.history) ≡ gifts_in e.history →
+      IsCarriedTo (position_after table.start e.history) table.start.q f e.receipt.1.reply
 
 abbrev pub IsSettled : TableData → ℕ × Entry → Finding → ℕ × Entry → SeatView → SeatView → Type 0
-IsSettled table look f r s t = (H : List Entry) × IsSettledAfter table H look f r s t
+IsSettled table look f r x y = (H : List Entry) × IsSettledAfter table look f (entering H r x y)
 
-pub record IsStaleAfter (table : TableData) (H : List Entry) (look : ℕ × Entry) (asks : Question)
-    (r : ℕ × Entry) (s t : SeatView) : Type 0 where
-  pub entered : IsEnteredAfter table H (asked_on look.0 asks) (s.told ++ look ∷ []) r s t
-  pub stands : slice_get H look.0 ≡ Some look.1
-  pub since : gifts_in (take look.0 H) ≢ gifts_in H
-  pub stale : r.1.reply ≡ Stale (gifts_in H)
+pub record IsStaleAfter (table : TableData) (look : ℕ × Entry) (asks : Question) (e : Entering)
+    : Type 0 where
+  pub entered : IsEnteredAfter table (asked_on look.0 asks) (e.before.told ++ look ∷ []) e
+  pub stands : slice_get e.history look.0 ≡ Some look.1
+  pub since : gifts_in (take look.0 e.history) ≢ gifts_in e.history
+  pub stale : e.receipt.1.reply ≡ Stale (gifts_in e.history)
 
 abbrev pub IsStale : TableData → ℕ × Entry → Question → ℕ × Entry → SeatView → SeatView → Type 0
-IsStale table look asks r s t = (H : List Entry) × IsStaleAfter table H look asks r s t
+IsStale table look asks r x y = (H : List Entry) × IsStaleAfter table look asks (entering H r x y)

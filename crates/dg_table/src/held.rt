@@ -1,5 +1,5 @@
 //! What the lock of a table holds.
-ghost use Rattle.std.specs.Prelude.{ℕ, List, Some, slice_get, ◌≡◌, ◌<◌, ◌≤◌, ◌↔◌, [], ◌∷◌, ◌++◌, true, false, length, IsTrue, IfOk, IfSome, IfErr, MatchOption, MatchResult, MatchBool};
+ghost use Rattle.std.specs.Prelude.{ℕ, List, Some, slice_get, ◌≡◌, ◌<◌, ◌≤◌, ◌↔◌, [], ◌∷◌, ◌++◌, true, false, length, IsTrue, IfOk, IfSome, IfErr, MatchOption, MatchResult, MatchBool, OnErr};
 ghost use Rattle.dg_chips.specs.Starts.{StartData};
 ghost use Rattle.dg_game.specs.History.{gifts_in};
 ghost use Rattle.dg_game.specs.Legal.{IsSeat, IsLegal};
@@ -7,7 +7,8 @@ ghost use Rattle.dg_game.specs.Look.{IsFoundFor};
 ghost use Rattle.dg_game.specs.Replies.{Replies};
 ghost use Rattle.dg_game.specs.Requests.{asked};
 ghost use Rattle.dg_game.specs.State.{LeadsTo};
-ghost use Rattle.dg_table.specs.Answered.{IsAnsweredAfter};
+ghost use Rattle.dg_log.specs.Written.{blank, with_entry, after_refusal};
+ghost use Rattle.dg_table.specs.Answered.{entering, IsAnsweredAfter};
 ghost use Rattle.dg_table.specs.Closing.{HasSeat, IsComplete, AllHeld, AreTotals, IsMissing, SomeKeepsMore, RefusesClose};
 ghost use Rattle.dg_table.specs.Faults.{RefusesStep, RefusesSettling};
 ghost use Rattle.dg_table.specs.declared.fault.Fault.TheVariants.{Log as LogFault};
@@ -18,7 +19,7 @@ ghost use Rattle.dg_table.specs.Looks.{IsLookOf};
 ghost use Rattle.dg_table.specs.Opened.{MayHaveSeats};
 ghost use Rattle.dg_table.specs.Seats.{SeatView, Holds, IsAdmissible, Meets};
 ghost use Rattle.dg_table.specs.Settled.{IsSettledAfter, IsStaleAfter};
-ghost use Rattle.dg_table.specs.Turns.{MayBeAsked, request_for, IsTurnAfter, RefusesTurnAfter};
+ghost use Rattle.dg_table.specs.Turns.{MayBeAsked, asking, request_for, IsTurnAfter, IsAskedToEnter};
 
 use crate::audit::Audit;
 use crate::fault::Fault;
@@ -55,11 +56,11 @@ impl<N: Name> Model for Held<N> {
 impl<N: Name> Held<N> {
     /// What the lock of a table holds before its first entry.
     pub(crate) fn new(pen: Pen<N>, start: &Start, seats: u8) -> Held<N>
-        requires pen { pen ≡ record { entries = []; stuck = false } }
+        requires pen { pen ≡ blank }
         requires start { start.now ≡ N.table.start }
         requires seats { seats ≡ N.table.seats }
         requires count { MayHaveSeats seats }
-        ensures { result ≡ record { entries = []; stuck = false } }
+        ensures { result ≡ blank }
     {
         Held {
             game: Game::new(start),
@@ -101,7 +102,7 @@ impl<N: Name> Held<N> {
     fn ready(&self, log: &Log<N>, seat: &Seat<N>) -> Result<(), Fault>
         ensures stands { MatchResult result
             (λ _. IsReady N.table.capacity self.now.entries seat.now)
-            (RefusesStep N.table self.now.entries seat.now self.now.stuck self.now.stuck) }
+            (RefusesStep N.table self.now self.now seat.now) }
         ensures barred { IfErr result
             (λ f. f ≡ LogFault → ¬ IsAdmissible self.now.entries seat.now) }
     {
@@ -134,12 +135,11 @@ impl<N: Name> Held<N> {
     ) -> Result<Receipt<N>, Fault>
         requires { seat.old.space ≡ true }
         ensures entered { IfOk result
-            (λ r. IsAnsweredAfter N.table self.old.entries
-            (asked plain.now) r seat.old seat.new ×
-            (self.new ≡ record { entries = self.old.entries ++ r.1 ∷ []; stuck = false })) }
+            (λ r. IsAnsweredAfter N.table (asked plain.now) (entering self.old.entries r seat.old seat.new) ×
+            (self.new ≡ with_entry self.old r.1)) }
         ensures refused { IfErr result
             (λ f. (self.new.entries ≡ self.old.entries) × Meets self.old.entries seat.old seat.new ×
-            RefusesStep N.table self.old.entries seat.old self.old.stuck self.new.stuck f) }
+            RefusesStep N.table self.old self.new seat.old f) }
     {
         match self.ready(log, seat) {
             Ok(()) => {}
@@ -171,12 +171,14 @@ impl<N: Name> Held<N> {
         requires space { seat.old.space ≡ true }
         requires asked { MayBeAsked F.FnMut choose.old }
         ensures entered { IfOk result (λ r.
-            IsTurnAfter F.FnMut N.table self.old.entries choose.old choose.new r seat.old seat.new ×
-            (self.new ≡ record { entries = self.old.entries ++ r.1 ∷ []; stuck = false })) }
+            IsTurnAfter F.FnMut N.table (asking choose.old choose.new)
+            (entering self.old.entries r seat.old seat.new) ×
+            (self.new ≡ with_entry self.old r.1)) }
         ensures refused { IfErr result
             (λ f. (self.new.entries ≡ self.old.entries) × Meets self.old.entries seat.old seat.new ×
-            RefusesTurnAfter F.FnMut N.table self.old.entries seat.old
-            self.old.stuck self.new.stuck choose.old choose.new f) }
+            RefusesStep N.table self.old self.new seat.old f) }
+        ensures asked { OnErr result
+            (IsAskedToEnter F.FnMut N.table self.old.entries seat.old (asking choose.old choose.new)) }
     {
         match self.ready(log, seat) {
             Ok(()) => {}
@@ -212,12 +214,11 @@ impl<N: Name> Held<N> {
         requires look { IsLookOf look.now shown.now }
         requires found { IsFoundFor N.table.start.q shown.now finding.now }
         ensures settled { IfOk result (λ r.
-            IsSettledAfter N.table self.old.entries look.now finding.now r seat.old seat.new ×
-            (self.new ≡ record { entries = self.old.entries ++ r.1 ∷ []; stuck = false })) }
+            IsSettledAfter N.table look.now finding.now (entering self.old.entries r seat.old seat.new) ×
+            (self.new ≡ with_entry self.old r.1)) }
         ensures refused { IfErr result
             (λ f. (self.new.entries ≡ self.old.entries) × Meets self.old.entries seat.old seat.new ×
-            RefusesSettling N.table self.old.entries look.now.0 seat.old
-            self.old.stuck self.new.stuck f) }
+            RefusesSettling N.table self.old self.new look.now.0 seat.old f) }
     {
         match self.ready_on(log, seat, look) {
             Ok(()) => {}
@@ -259,12 +260,11 @@ impl<N: Name> Held<N> {
         requires look { IsLookOf taken.now shown.now }
         ensures settled { IfOk result (λ found. MatchOption found
             ((self.new ≡ self.old) × (seat.new ≡ seat.old) × (shown.now.gifts ≡ gifts_in self.old.entries))
-            (λ r. IsStaleAfter N.table self.old.entries taken.now asks.now r seat.old seat.new ×
-            (self.new ≡ record { entries = self.old.entries ++ r.1 ∷ []; stuck = false }))) }
+            (λ r. IsStaleAfter N.table taken.now asks.now (entering self.old.entries r seat.old seat.new) ×
+            (self.new ≡ with_entry self.old r.1))) }
         ensures refused { IfErr result
             (λ f. (self.new.entries ≡ self.old.entries) × Meets self.old.entries seat.old seat.new ×
-            RefusesSettling N.table self.old.entries taken.now.0 seat.old
-            self.old.stuck self.new.stuck f) }
+            RefusesSettling N.table self.old self.new taken.now.0 seat.old f) }
     {
         if self.game.gifts() == shown.gifts {
             return Ok(None);
@@ -292,8 +292,7 @@ impl<N: Name> Held<N> {
         ensures { MatchResult result
             (λ _. IsReady N.table.capacity self.now.entries seat.now ×
             (slice_get self.now.entries look.now.0 ≡ Some look.now.1))
-            (RefusesSettling N.table self.now.entries look.now.0 seat.now
-            self.now.stuck self.now.stuck) }
+            (RefusesSettling N.table self.now self.now look.now.0 seat.now) }
     {
         self.ready(log, seat)?;
         let number = look.number();
@@ -318,14 +317,14 @@ impl<N: Name> Held<N> {
         requires replies { Replies N.table.start self.old.entries slot.value.request slot.value.reply }
         requires legal { IsLegal N.table.start (self.old.entries ++ slot.value ∷ []) }
         ensures entered { IfOk result (λ r.
-            IsAnsweredAfter N.table self.old.entries slot.value.request r seat.old seat.new ×
-            (self.new ≡ record { entries = self.old.entries ++ r.1 ∷ []; stuck = false })) }
+            IsAnsweredAfter N.table slot.value.request (entering self.old.entries r seat.old seat.new) ×
+            (self.new ≡ with_entry self.old r.1)) }
         ensures reply { IfOk result (λ r. r.1.reply ≡ slot.value.reply) }
         ensures hears { IfOk result (λ _. seat.new.hears ≡ true) }
         ensures refused { IfErr result
-            (λ f. (self.new ≡ record { entries = self.old.entries; stuck = true }) ×
+            (λ f. (self.new ≡ after_refusal self.old) ×
             Meets self.old.entries seat.old seat.new ×
-            RefusesStep N.table self.old.entries seat.old self.old.stuck self.new.stuck f) }
+            RefusesStep N.table self.old self.new seat.old f) }
     {
         let Ok(receipt) = self.pen.put(log, slot) else {
             seat.meet(&self.pen.prefix());

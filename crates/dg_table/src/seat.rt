@@ -29,24 +29,15 @@ pub struct Seat<N: Name> {
 }
 
 impl<N: Name> Model for Seat<N> {
-    ghost use Rattle.std.specs.Prelude.{◌&&◌, nat_lt, length};
-    ghost use Rattle.std.specs.Vec.{vec_len, vec_capacity};
     ghost use Rattle.dg_table.specs.Seats.{SeatView};
-    ghost use Rattle.dg_table.specs.Lock.{IsSeatState};
 
     ghost Value = { SeatView };
 
-    ghost view = { λ x. record {
-      number = x.number;
-      mine = x.mine.items;
-      told = x.told.items;
-      prefix = x.prefix;
-      met = x.met;
-      space = nat_lt (vec_len x.mine) (vec_capacity x.mine) && nat_lt (vec_len x.told) (vec_capacity x.told);
-      hears = nat_lt (vec_len x.told) (vec_capacity x.told);
-    } };
+    ghost use Rattle.dg_table.specs.Lock.{seat_view, IsSeatState};
 
-    ghost invariant = { λ x. IsSeatState N.table x.number x.mine.items x.told.items x.prefix x.met x.told_receipt_set x.look };
+    ghost view = { seat_view };
+
+    ghost invariant = { λ x. IsSeatState N.table (seat_view x) x.told_receipt_set x.look };
 }
 
 impl<N: Name> Seat<N> {
@@ -215,6 +206,11 @@ impl<N: Name> Seat<N> {
     {
         self.mine.reserve(1)?;
         self.told.reserve(1)?;
-        Ok(Box::new(alloc, BLANK)?)
+        blank_entry(alloc)
     }
+}
+
+/// A box for an entry; what is in it means nothing.
+fn blank_entry(alloc: Global) -> Result<Box<Entry>, AllocError> {
+    Ok(Box::new(alloc, BLANK)?)
 }

@@ -10,7 +10,7 @@ ghost use Rattle.dg_table.specs.Looks.{IsLookOf};
 ghost use Rattle.dg_table.specs.Opened.{AreFresh, RefusesOpening};
 ghost use Rattle.dg_table.specs.Seats.{Keeps};
 ghost use Rattle.dg_table.specs.Settled.{IsSettled, IsStale};
-ghost use Rattle.dg_table.specs.Turns.{MayBeAsked, IsTurn, RefusesTurn};
+ghost use Rattle.dg_table.specs.Turns.{MayBeAsked, asking, IsTurn, RefusesTurn};
 ghost use Rattle.dg_table.specs.declared.fault.Fault.TheVariants.{Log as LogFault};
 
 use crate::audit::Audit;
@@ -138,9 +138,9 @@ impl<N: Name> Table<N> {
     ) -> Result<Receipt<N>, Fault>
         requires { MayBeAsked F.FnMut choose.old }
         ensures turned { IfOk result
-            (λ r. IsTurn F.FnMut N.table choose.old choose.new r seat.old seat.new) }
+            (λ r. IsTurn F.FnMut N.table (asking choose.old choose.new) r seat.old seat.new) }
         ensures fault { IfErr result (λ f. Keeps seat.old seat.new ×
-            RefusesTurn F.FnMut N.table seat.new choose.old choose.new f) }
+            RefusesTurn F.FnMut N.table seat.new (asking choose.old choose.new) f) }
     {
         let slot = self.room(alloc, seat)?;
         self.held.lock(rt).turn(&self.log, seat, slot, choose)
@@ -229,10 +229,8 @@ impl<N: Name> Table<N> {
     /// calls of it that it did not make.
     pub fn close(self, seats: Vec<Seat<N>>) -> Result<Audit<N>, CloseFault<N>>
         ensures { MatchResult result
-            (λ a. IsClosed N.table seats.items a.pen.entries ×
-            AreTotals N.table seats.items a)
-            (λ f. (f.seats.items ≡ seats.items) ×
-            IsCloseRefused N.table seats.items f.missing) }
+            (λ a. IsClosed N.table seats.items a.pen.entries × AreTotals N.table seats.items a)
+            (λ f. (f.seats.items ≡ seats.items) × IsCloseRefused N.table seats.items f.missing) }
     {
         let Table {
             held,

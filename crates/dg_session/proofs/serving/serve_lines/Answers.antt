@@ -43,7 +43,7 @@ returns-in-Ok-write_said-clause-session g c =
     (read_nothing _ _ _ _ zero c.in-Some-read_some.ensures.bytes) (c.in-Some-read_some.ensures.end zero room)
     c.take_end-taken.ensures (c.in-Ok-write_said.ensures.written c.take_end-taken.ensures.text
     (said_whole (heard c.args.text) _ c.requires.said c.reads.invariant.1
-    c.take_end-taken.ensures.said))
+    c.take_end-taken.ensures.grown))
 
 pub returns-in-Err-clause-session : goal.returns-in-Err-clause-session
 returns-in-Err-clause-session g c =
@@ -53,7 +53,7 @@ returns-in-Err-clause-session g c =
     (read_nothing _ _ _ _ zero c.in-Some-read_some.ensures.bytes) (c.in-Some-read_some.ensures.end zero room)
     c.take_end-taken.ensures (c.in-Err.ensures.written c.take_end-taken.ensures.text
     (said_whole (heard c.args.text) _ c.requires.said c.reads.invariant.1
-    c.take_end-taken.ensures.said))
+    c.take_end-taken.ensures.grown))
 
 pub returns-in-Err-clause-read : goal.returns-in-Err-clause-read
 returns-in-Err-clause-read g c e =
@@ -61,7 +61,7 @@ returns-in-Err-clause-read g c e =
     c.take_end-taken.ensures.halted
     (λ end. halts_by end) (c.in-Err.ensures.written c.take_end-taken.ensures.text
     (said_whole (heard c.args.text) _ c.requires.said c.reads.invariant.1
-    c.take_end-taken.ensures.said)) e)
+    c.take_end-taken.ensures.grown)) e)
 
 pub returns-in-Err-clause-write : goal.returns-in-Err-clause-write
 returns-in-Err-clause-write g c e =
@@ -69,20 +69,20 @@ returns-in-Err-clause-write g c e =
     c.take_end-taken.ensures.halted
     (λ end. halts_by end) (c.in-Err.ensures.written c.take_end-taken.ensures.text
     (said_whole (heard c.args.text) _ c.requires.said c.reads.invariant.1
-    c.take_end-taken.ensures.said)) e
+    c.take_end-taken.ensures.grown)) e
 
 pub reads-preserved : goal.reads-preserved
 reads-preserved g c =
     let (goes, written) = written_ok c.take_bytes-taken.result _ c.reads.writer c.write_said-in-reads.new.writer
     (c.in-Ok-write_said-2.ensures.written c.take_bytes-taken.ensures.text
     (said_whole (heard c.args.text) _ c.requires.said c.reads.invariant.1
-    c.take_bytes-taken.ensures.said))
+    c.take_bytes-taken.ensures.grown))
     c.take_bytes-taken.ensures.taken in (
       so_far_more c.reads.invariant.0 (read_chunk _ _ _ _ _ c.deref.ensures.value c.in-Some-read_some.ensures.bytes)
           goes written,
-      cleared_whole (heard c.args.text) _ c.requires.said c.reads.invariant.1 c.take_bytes-taken.ensures.said
+      cleared_whole (heard c.args.text) _ c.requires.said c.reads.invariant.1 c.take_bytes-taken.ensures.grown
           c.in-Ok-write_said-2.ensures.cleared,
-      λ none. c.write_said-in-reads.ensures.still (silent _ c.reads.invariant.1 c.take_bytes-taken.ensures.said none)
+      λ none. c.write_said-in-reads.ensures.still (silent _ c.reads.invariant.1 c.take_bytes-taken.ensures.grown none)
           ∙ c.reads.invariant.2 none,
       c.read_some.ensures.size ∙ c.reads.invariant.3,
     )
@@ -94,7 +94,7 @@ reads-smaller g c =
     let (goes, written) = written_ok c.take_bytes-taken.result _ c.reads.writer c.write_said-in-reads.new.writer
     (c.in-Ok-write_said-2.ensures.written c.take_bytes-taken.ensures.text
     (said_whole (heard c.args.text) _ c.requires.said c.reads.invariant.1
-    c.take_bytes-taken.ensures.said))
+    c.take_bytes-taken.ensures.grown))
     c.take_bytes-taken.ensures.taken in
     let zero = c.if-size-eq0.false in
     fewer_left c.reads.invariant.0.goes.ready goes (omega (arith, size, zero))
@@ -109,7 +109,7 @@ returns-in-Err-write_said-clause-session g c =
     (omega (arith, size, c.in-Some-read_some.ensures.bound, room))
     c.take_bytes-taken.ensures (c.in-Err-write_said.ensures.written c.take_bytes-taken.ensures.text
     (said_whole (heard c.args.text) _ c.requires.said c.reads.invariant.1
-    c.take_bytes-taken.ensures.said))
+    c.take_bytes-taken.ensures.grown))
 
 pub returns-in-Err-write_said-clause-read : goal.returns-in-Err-write_said-clause-read
 returns-in-Err-write_said-clause-read g c e =
@@ -117,7 +117,7 @@ returns-in-Err-write_said-clause-read g c e =
     c.take_bytes-taken.ensures.halted (λ end. halts_by end) (c.in-Err-write_said.ensures.written
     c.take_bytes-taken.ensures.text
     (said_whole (heard c.args.text) _ c.requires.said c.reads.invariant.1
-    c.take_bytes-taken.ensures.said)) e)
+    c.take_bytes-taken.ensures.grown)) e)
 
 pub returns-in-Err-write_said-clause-write : goal.returns-in-Err-write_said-clause-write
 returns-in-Err-write_said-clause-write g c e =
@@ -125,30 +125,30 @@ returns-in-Err-write_said-clause-write g c e =
     c.take_bytes-taken.ensures.halted (λ end. halts_by end) (c.in-Err-write_said.ensures.written
     c.take_bytes-taken.ensures.text
     (said_whole (heard c.args.text) _ c.requires.said c.reads.invariant.1
-    c.take_bytes-taken.ensures.said)) e
+    c.take_bytes-taken.ensures.grown)) e
 
 -- a session that nobody hears leaves the writer as it was
 pub write_said-requires : goal.write_said-requires
 write_said-requires g c none =
-    let silent = unheard (heard c.args.text) _ c.reads.invariant.1 c.take_end-taken.ensures.said none in
+    let silent = unheard (heard c.args.text) _ c.reads.invariant.1 c.take_end-taken.ensures.grown none in
     ap (λ w. w.contents) (c.reads.invariant.2 silent) ∙ c.requires.unknown silent
 
 pub write_said-requires-in-reads : goal.write_said-requires-in-reads
 write_said-requires-in-reads g c none =
-    let silent = unheard (heard c.args.text) _ c.reads.invariant.1 c.take_bytes-taken.ensures.said none in
+    let silent = unheard (heard c.args.text) _ c.reads.invariant.1 c.take_bytes-taken.ensures.grown none in
     ap (λ w. w.contents) (c.reads.invariant.2 silent) ∙ c.requires.unknown silent
 
 pub returns-in-Ok-write_said-clause-still : goal.returns-in-Ok-write_said-clause-still
 returns-in-Ok-write_said-clause-still g c none =
-    c.write_said.ensures.still (silent _ c.reads.invariant.1 c.take_end-taken.ensures.said none)
+    c.write_said.ensures.still (silent _ c.reads.invariant.1 c.take_end-taken.ensures.grown none)
     ∙ c.reads.invariant.2 none
 
 pub returns-in-Err-clause-still : goal.returns-in-Err-clause-still
 returns-in-Err-clause-still g c none =
-    c.write_said.ensures.still (silent _ c.reads.invariant.1 c.take_end-taken.ensures.said none)
+    c.write_said.ensures.still (silent _ c.reads.invariant.1 c.take_end-taken.ensures.grown none)
     ∙ c.reads.invariant.2 none
 
 pub returns-in-Err-write_said-clause-still : goal.returns-in-Err-write_said-clause-still
 returns-in-Err-write_said-clause-still g c none =
-    c.write_said-in-reads.ensures.still (silent _ c.reads.invariant.1 c.take_bytes-taken.ensures.said none)
+    c.write_said-in-reads.ensures.still (silent _ c.reads.invariant.1 c.take_bytes-taken.ensures.grown none)
     ∙ c.reads.invariant.2 none

@@ -17,7 +17,7 @@ returns-in-Err g c =
     let some : 1 ≤ length c.parts.rest.now = search (rules, tests) in
     record {
       text = c.parts.invariant.text;
-      said = c.parts.invariant.said;
+      grown = c.parts.invariant.said;
       taken = tt;
       halted = halts_part c.parts.invariant.goes part more whole (part_plain c.parts.rest.now part c.cut.ensures.before) some
           (subst (λ (l : List ℕ). RefusesPart l c.parts.progress.count part c.in-Err.end) c.deref.ensures.value
@@ -31,7 +31,7 @@ returns-in-Ok-extend_from_slice g c =
     c.in_default.is in
     record {
       text = c.parts.invariant.text;
-      said = c.parts.invariant.said;
+      grown = c.parts.invariant.said;
       taken = goes_part c.parts.invariant.goes part c.extend_from_slice.new.self.items (whole ∙ append-nil part)
           c.in-Ok-extend_from_slice.ensures.items (part_plain c.parts.rest.now part c.cut.ensures.before)
           (subst (λ (l : List ℕ). length l + length part ≤ MAX_LINE) c.deref.ensures.value c.in-Ok.ensures.short)
@@ -49,7 +49,7 @@ returns-in-Err-end_line g c =
     (subst (λ (l : List ℕ). length l + length part ≤ MAX_LINE) c.deref.ensures.value c.in-Ok.ensures.short) in
     record {
       text = c.parts.invariant.text;
-      said = c.in-Err-end_line.ensures.handled.unsaid ∙ c.parts.invariant.said;
+      grown = c.in-Err-end_line.ensures.handled.unsaid ∙ c.parts.invariant.said;
       taken = tt;
       halted = halts_line c.parts.invariant.goes part c.in-Some.after.now cut is few
           c.in-Err-end_line.ensures.handled.refused;

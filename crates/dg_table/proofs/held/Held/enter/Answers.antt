@@ -59,8 +59,8 @@ invariant_of-seat g c =
     let history : c.put.new.self.entries ≡ H ++ e ∷ [] = ap (λ (w : Written). w.entries) c.in-Ok.ensures.1 in
     let found = history_more g.N.Name.table H e c.self.invariant.0.seated
     (omega (arith, seated.least, own)) (omega (arith, seated.most, own)) room legal in
-    rw (items, c.prefix-seat-inside.ensures, c.prefix-seat-inside-2.ensures, history, receipt)
-    (kept_more H e c.keep_look.new.look seated found holds.mine own seen)
+    kept_more H e seated found holds.mine own seen refl (rw receipt at items) refl
+    (c.prefix-seat-inside.ensures ∙ history) (c.prefix-seat-inside-2.ensures ∙ history)
 
 pub returns-clause-entered : goal.returns-clause-entered
 returns-clause-entered g c =

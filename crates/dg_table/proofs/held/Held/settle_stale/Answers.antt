@@ -29,8 +29,8 @@ returns-in_err-receipt-clause-refused g c =
     let stands = c.in-Ok.ensures.1 in
     let read : c.args.taken.now.0 < length H = slice_get_within H c.args.taken.now.0 c.args.taken.now.1 stands in
     let step = c.in_err-receipt.ensures.refused in
-    let refused = settling_refused g.N.Name.table H c.args.taken.now.0 c.args.seat.now c.args.self.now.stuck
-    c.enter.new.self.stuck c.in_err-receipt.field-0.0 ready.admissible read step.2 in
+    let refused = settling_refused g.N.Name.table c.args.self.now c.enter.new.self c.args.taken.now.0 c.args.seat.now
+    c.in_err-receipt.field-0.0 ready.admissible read step.2 in
     search rules
 
 pub returns-clause-settled : goal.returns-clause-settled

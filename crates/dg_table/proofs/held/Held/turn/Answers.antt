@@ -1,12 +1,10 @@
-use Rattle.std.proofs.Common.{rules}
 use Rattle.dg_table.proofs.Turning.{barred_turn}
 use Rattle.dg_table.proofs.held.Held.turn.Goals as goal
 
-pub returns-in-Err-clause-refused : goal.returns-in-Err-clause-refused
-returns-in-Err-clause-refused g c =
-    let barred = barred_turn g.F.FnMut c.args.choose.now _ _ _ _ _ c.in-Err.ensures.stands
-    c.in-Err.ensures.barred in
-    search rules
+pub returns-in-Err-clause-asked : goal.returns-in-Err-clause-asked
+returns-in-Err-clause-asked g c =
+    barred_turn g.F.FnMut c.args.choose.now g.N.Name.table c.args.self.now c.args.seat.now _ c.in-Err.ensures.stands
+    c.in-Err.ensures.barred
 
 pub enter-requires-clause-legal : goal.enter-requires-clause-legal
 enter-requires-clause-legal g c =
