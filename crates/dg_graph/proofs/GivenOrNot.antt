@@ -11,14 +11,14 @@
 --   joined_or_apart   they are, or some vertex is joined to vertex 0 by no chain
 --   size_or_not       the number of vertices is within the limits, or not
 --   graph_or_fault    a graph, or the first fault
-use Rattle.std.proofs.Common.{◌≡◌, ◌≢◌, ℕ, zero, suc, ◌<◌, ◌≤◌, ◌⊎◌, inl, inr, min, Bool, true, false, not, List, [], ◌∷◌, length, set, replicate, count_by, slice_get, Some, get_or, MatchBool, arith, refl, sym, ap, rules, ◌∙◌, length-set, ⊎_elim}
+use Rattle.std.proofs.Common.{◌≡◌, ℕ, zero, suc, ◌<◌, ◌≤◌, ◌⊎◌, inl, inr, min, Bool, true, false, not, List, [], ◌∷◌, length, set, replicate, count_by, slice_get, Some, get_or, MatchBool, arith, refl, sym, ap, ◌∙◌, length-set, ⊎_elim}
 use Rattle.std.proofs.lemmas.Bool.{cases_Bool, cases_eq, cases_lt, false≢true}
-use Rattle.std.proofs.lemmas.Option.{slice_get-get_or, get_or_from_slice_get}
+use Rattle.std.proofs.lemmas.Option.{slice_get-get_or}
 use Rattle.dg_theory.specs.Sums.{total_below}
 use Rattle.dg_theory.specs.Multigraph.{Multigraph, JoinedIn, entry}
 use Rattle.dg_theory.proofs.Searching.{AllBelow, FirstOf, first_or_all}
-use Rattle.dg_graph.specs.Items.{Item, IsItem, IsItems, IsRightBefore, HasItem, IsGiven, edges_listed, valence_listed}
-use Rattle.dg_graph.specs.Faults.{IsSize, JoinsNoVertex, IsLoop, IsEmptyItem, IsFirstHigh, IsParted, IsFirstGraphFault}
+use Rattle.dg_graph.specs.Items.{Item, IsItem, IsItems, IsRightBefore, HasItem, IsGiven, edges_listed}
+use Rattle.dg_graph.specs.Faults.{IsSize, JoinsNoVertex, IsLoop, IsEmptyItem, IsFirstHigh, IsFirstGraphFault}
 use Rattle.dg_graph.specs.Search.{is_in, IsNextTo, IsInOrApart, IsJoined, IsApart}
 use Rattle.dg_graph.specs.declared.fault.GraphFault.{GraphFault}
 use Rattle.dg_graph.specs.declared.fault.GraphFault.TheVariants.{Size, NoVertex, Loop, Multiplicity, Valence, NotConnected}

@@ -3,7 +3,7 @@
 --   more_begun     the session of a first seat, and what became of those after it
 --   all_begun      the session of a first seat, and those of all others
 --   party_lacks    a party whose sessions are not told is refused for what they lack
-use Rattle.std.proofs.Common.{◌≡◌, ℕ, suc, List, ◌∷◌, length, arith, refl, sym, ap, subst, ◌∙◌, Result}
+use Rattle.std.proofs.Common.{◌≡◌, ℕ, suc, List, ◌∷◌, arith, sym, ap, subst, ◌∙◌, Result}
 use Rattle.std.specs.Global.{Vec}
 use Rattle.dg_table.specs.Opened.{AreFresh}
 use Rattle.dg_table.specs.Seats.{SeatView}

@@ -14,7 +14,6 @@
 --                         the others are as they were
 use Rattle.std.specs.Prelude.{◌≡◌, ◌≢◌, ℕ, zero, suc, ◌<◌, List, [], ◌∷◌, length, Option, Some, ⊤, Result, Err, map}
 use Rattle.std.specs.Global.{Vec}
-use Rattle.dg_chips.specs.Starts.{StartData}
 use Rattle.dg_table.specs.Seats.{SeatView}
 use Rattle.dg_session.specs.Setup.{setup}
 use Rattle.dg_session.specs.Streams.{Passage, passage}

@@ -11,7 +11,7 @@
 --                         has failed
 --   IsCause asks refuses run fault == one of the two
 --   Fails asks refuses run n == n is the status of a fault that has its cause
-use Rattle.std.specs.Prelude.{◌≡◌, ◌⊎◌, ℕ, List, Option, true}
+use Rattle.std.specs.Prelude.{◌≡◌, ◌⊎◌, ℕ, List, true}
 use Rattle.std.specs.Io.KnownBytes.{Keeps}
 use Rattle.dg_invocation.specs.declared.invocation.Invocation.{Invocation}
 use Rattle.dg_invocation.specs.declared.parse_args.ArgsFault.{ArgsFault}

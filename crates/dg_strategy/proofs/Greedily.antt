@@ -6,7 +6,7 @@
 --   went_on        with one more turn that is a move
 --   settled_game   with one more turn that is the claim the game is settled
 --   used_up        or its turns are used up
-use Rattle.std.proofs.Common.{◌≡◌, ℕ, ◌<◌, Bool, true, false, not, is_some, List, [], ◌∷◌, ◌++◌, length, Option, Some, None, arith, refl, sym, ap, subst, ◌∙◌, append_assoc, append-nil}
+use Rattle.std.proofs.Common.{◌≡◌, ℕ, ◌<◌, Bool, true, false, not, is_some, List, [], ◌∷◌, ◌++◌, length, Option, Some, None, arith, refl, sym, subst, append_assoc, append-nil}
 use Rattle.dg_theory.specs.Firing.{IsEffective}
 use Rattle.dg_chips.specs.Starts.{StartData}
 use Rattle.dg_chips.specs.declared.moves.Move.{Move}

@@ -6,7 +6,6 @@
 use Rattle.std.proofs.Common.{◌≡◌, ℕ, ◌<◌, [], ◌∷◌, Option, Some, None, arith, refl, ap, subst, ◌∙◌}
 use Rattle.dg_theory.specs.Firing.{IsEffective}
 use Rattle.dg_graph.specs.Graph.{IsGraph}
-use Rattle.dg_chips.specs.Starts.{StartData}
 use Rattle.dg_chips.specs.Vector.{at}
 use Rattle.dg_chips.specs.Moves.{IsPlayable}
 use Rattle.dg_chips.specs.declared.moves.Move.{Move}

@@ -1,4 +1,4 @@
-use Rattle.std.proofs.Common.{rules, length, sym, subst}
+use Rattle.std.proofs.Common.{rules, sym, subst}
 use Rattle.dg_table.specs.Opened.{AreFresh}
 use Rattle.dg_table.specs.Closing.{IsClosed}
 use Rattle.dg_server.proofs.Serving.{seats_back, served}
