@@ -34,6 +34,8 @@ class Editor {
     this.hands.other = { drag: (press, at) => this.drag(press, at), up: (press, at, to) => this.up(press, at, to) };
     this.shown(true);
     this.fill();
+    // What stood above the button is hidden now, and the board may be out of sight.
+    element("board").scrollIntoView({ block: "nearest" });
   }
 
   /* A layout with room around it, for what is to come. */
