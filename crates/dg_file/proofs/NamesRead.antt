@@ -3,19 +3,18 @@
 --   texts vertices      the bytes of all
 --   text_at vertices v  the text of a vertex
 --   names-more          one more name
---   old-seen            a name stood before just if its text is not the first
+--   names-added         the same of what `add` leaves, if the name is new
 --   names-all           the names of all vertices
 --   names-few           before the last vertex there is room for a name
 --   name-fault          a text that is no name
 --   twice-fault         a name that stood before
---   has-texts           a text is among texts just if its bytes are among theirs
-use Rattle.std.proofs.Common.{◌≡◌, ℕ, ◌+◌, ◌<◌, ◌≤◌, Bool, true, false, not, ◌||◌, refl, List, [], ◌∷◌, ◌++◌, length, get_or, take, map, Some, Bor, option_map, sym, ap, ◌∙◌, arith}
-use Rattle.std.specs.Prelude.{slice_get, bytes_eq}
-use Rattle.std.specs.List.{list_any}
+--   stood               a name stood before just if it was not added
+use Rattle.std.proofs.Common.{◌≡◌, ℕ, ◌+◌, ◌<◌, ◌≤◌, Bool, true, false, not, cond, refl, List, [], ◌∷◌, ◌++◌, length, get_or, take, map, Some, Bor, option_map, sym, ap, ◌∙◌, arith}
+use Rattle.std.specs.Prelude.{slice_get}
 use Rattle.std.proofs.lemmas.List.{length-map, length-take, take-map, take_all, map_more}
 use Rattle.std.proofs.lemmas.Option.{slice_get-map, slice_get-get_or}
 use Rattle.dg_graph.specs.Faults.{IsSize}
-use Rattle.dg_tokens.specs.Names.{IsName, AreNames, has}
+use Rattle.dg_tokens.specs.Names.{IsName, AreNames, has, added}
 use Rattle.dg_file.specs.FileFaults.{IsNameFault, IsTwiceFault}
 
 abbrev pub the_text : Bor (List ℕ) → List ℕ
@@ -40,6 +39,11 @@ module _ (vertices : List (Bor (List ℕ))) (v : ℕ) (names : List (List ℕ)) 
       ap (λ front. front ++ text_at vertices v ∷ []) (so_far ∙ take-map the_text v vertices)
       ∙ sym (take-map the_text (v + 1) vertices ∙ map_more the_text vertices v none below)
 
+  pub names-added : has names (text_at vertices v) ≡ false
+      → added names (text_at vertices v) ≡ take (v + 1) (texts vertices)
+  names-added new =
+      ap (λ old. cond old names (names ++ text_at vertices v ∷ [])) new ∙ names-more
+
   pub names-few : length vertices ≤ 16 → length names < 16
   names-few few = rw so_far (omega (arith, length-take v (texts vertices)))
 
@@ -59,16 +63,10 @@ module _ (vertices : List (Bor (List ℕ))) (v : ℕ) (names : List (List ℕ)) 
     refused = (text_at vertices v, text-there, (is, rw so_far at stood));
   }
 
--- whether a text is among those that were seen
-pub has-texts : (seen : List (Bor (List ℕ))) (name : List ℕ)
-    → list_any (λ each. bytes_eq name each.now) seen ≡ has (texts seen) name
-has-texts [] name = refl
-has-texts (each ∷ seen) name = ap (λ found. bytes_eq name each.now || found) (has-texts seen name)
-
-pub old-seen : (first : Bool) (seen : List (Bor (List ℕ))) (names : List (List ℕ)) (name : List ℕ)
-    → first ≡ not (has (texts seen) name) → texts seen ≡ names → has names name ≡ not first
-old-seen first seen names name is kept =
-    rw (← kept, is) (elim (has (texts seen) name) as (λ t. t ≡ not (not t)) [ true ↦ refl | false ↦ refl ])
+pub stood : (is_new : Bool) (names : List (List ℕ)) (name : List ℕ) → is_new ≡ not (has names name)
+    → has names name ≡ not is_new
+stood is_new names name is =
+    rw is (elim (has names name) as (λ t. t ≡ not (not t)) [ true ↦ refl | false ↦ refl ])
 
 pub names-all : (vertices : List (Bor (List ℕ))) (v : ℕ) (names : List (List ℕ)) → length vertices ≤ v
     → names ≡ take v (texts vertices) → names ≡ texts vertices

@@ -19,8 +19,8 @@ use Rattle.dg_chips.specs.Starts.{StartData}
 use Rattle.dg_chips.specs.DivisorFaults.{IsFirstChipFault}
 use Rattle.dg_chips.specs.declared.divisor.ChipFault.{ChipFault}
 use Rattle.dg_chips.specs.declared.divisor.ChipFault.TheVariants.{Length, Range}
-use Rattle.dg_tokens.specs.Names.{IsName, AreNames, is_name, has, place_of}
-use Rattle.dg_tokens.proofs.NamesLaws.{IsName-tested, is_name-IsName, AreNames-nil, AreNames-push}
+use Rattle.dg_tokens.specs.Names.{IsName, AreNames, has, place_of}
+use Rattle.dg_tokens.proofs.NamesLaws.{is_name, IsName-tested, is_name-IsName, AreNames-nil, AreNames-push}
 use Rattle.dg_file.specs.Content.{Content}
 use Rattle.dg_file.specs.TableFiles.{items_of, IsTable}
 use Rattle.dg_file.specs.FileFaults.{HasText, GivesGraph, GivesDivisor, RefusesTable}

@@ -2,7 +2,6 @@
 -- is said.
 --   parts_of members         == the values of the four members
 --   shape_fault_for fault    == the same as a fault of the file
---   name_fault_for fault     == the same as a fault of the file
 --   RefusesShape value fault == that is the fault of the value's shape
 --   RefusesValue value fault == that is the fault of the value's shape, or of the content that it says
 --   RefusesNames names fault == the number of names is at fault, or else that is the first name at
@@ -19,8 +18,6 @@ use Rattle.dg_file.specs.declared.fault.FileFault.TheVariants as file
 use Rattle.dg_file.specs.declared.shape.Members.{Members}
 use Rattle.dg_file.specs.declared.shape.ShapeFault.{ShapeFault}
 use Rattle.dg_file.specs.declared.shape.ShapeFault.TheVariants as shape
-use Rattle.dg_file.specs.declared.table_file.NameFault.{NameFault}
-use Rattle.dg_file.specs.declared.table_file.NameFault.TheVariants as name
 
 abbrev pub parts_of : Members → Parts
 parts_of members = record {
@@ -38,17 +35,12 @@ abbrev pub RefusesShape : Data → ShapeFault → Type 0
 RefusesShape value (shape.Shape part) = IsShapeFault value part
 RefusesShape value shape.OutOfMemory = ⊤
 
-abbrev pub name_fault_for : NameFault → FileFault
-name_fault_for name.Number = file.Graph Size
-name_fault_for (name.Name v) = file.Name v
-name_fault_for (name.Twice v) = file.Twice v
-name_fault_for name.OutOfMemory = file.OutOfMemory
-
-abbrev pub RefusesNames : List (List ℕ) → NameFault → Type 0
-RefusesNames names name.Number = ¬ IsSize (length names)
-RefusesNames names (name.Name v) = IsNameFault names v
-RefusesNames names (name.Twice v) = IsTwiceFault names v
-RefusesNames names name.OutOfMemory = ⊤
+abbrev pub RefusesNames : List (List ℕ) → FileFault → Type 0
+RefusesNames names (file.Graph Size) = ¬ IsSize (length names)
+RefusesNames names (file.Name v) = IsNameFault names v
+RefusesNames names (file.Twice v) = IsTwiceFault names v
+RefusesNames names file.OutOfMemory = ⊤
+RefusesNames names fault = ⊥
 
 abbrev pub RefusesValue : Data → FileFault → Type 0
 RefusesValue value file.Json = ⊥

@@ -1,6 +1,6 @@
 //! Table files: the start of a game, and the names of its vertices.
-ghost use Rattle.std.specs.Prelude.{◌≡◌, ◌++◌, ◌∷◌, [], length, map, not, true, IfOk, IfErr};
-ghost use Rattle.dg_tokens.specs.Names.{AreNames, has};
+ghost use Rattle.std.specs.Prelude.{◌≡◌, length, map, IfOk, IfErr};
+ghost use Rattle.dg_tokens.specs.Names.{AreNames};
 ghost use Rattle.dg_file.specs.TableFiles.{IsTable, IsTableFile, vertex_of, items_of};
 ghost use Rattle.dg_file.specs.FileFaults.{RefusesTable, RefusesFile};
 ghost use Rattle.dg_file.specs.Reading.{RefusesNames, RefusesValue};
@@ -12,7 +12,6 @@ use crate::shape::{Content, content_of, value_of};
 use dg_chips::{Divisor, Start};
 use dg_graph::{Graph, GraphFault, MAX_VERTICES};
 use dg_tokens::{Names, is_name};
-use indexmap::IndexSet;
 use serde_json::Value;
 use std::alloc::{AllocError, Global};
 
@@ -67,75 +66,25 @@ fn table_of(alloc: Global, value: &Value) -> Result<TableFile, FileFault>
     Ok(TableFile { start, names })
 }
 
-/// Why texts do not name the vertices of a table.
-#[derive(Clone, Copy)]
-enum NameFault {
-    /// There are none, or more than there may be vertices.
-    Number,
-    /// The text is no name.
-    Name(usize),
-    /// The name stood before.
-    Twice(usize),
-    /// Memory was refused.
-    OutOfMemory,
-}
-
-impl From<AllocError> for NameFault {
-    ghost use Rattle.dg_file.specs.declared.table_file.NameFault.{NameFault};
-
-    ghost from_gives = { λ _ fault. fault ≡ NameFault.OutOfMemory };
-
-    fn from(_error: AllocError) -> NameFault {
-        NameFault::OutOfMemory
-    }
-}
-
-impl From<NameFault> for FileFault {
-    ghost use Rattle.dg_file.specs.Reading.{name_fault_for};
-
-    ghost from_gives = { λ names fault. fault ≡ name_fault_for names };
-
-    fn from(fault: NameFault) -> FileFault {
-        match fault {
-            NameFault::Number => FileFault::Graph(GraphFault::Size),
-            NameFault::Name(v) => FileFault::Name(v),
-            NameFault::Twice(v) => FileFault::Twice(v),
-            NameFault::OutOfMemory => FileFault::OutOfMemory,
-        }
-    }
-}
-
 /// The texts as names, from the first on.
-fn names_of(alloc: Global, vertices: &[&str]) -> Result<Names, NameFault>
+fn names_of(alloc: Global, vertices: &[&str]) -> Result<Names, FileFault>
     ensures names { IfOk result (λ names. names ≡ map (λ vertex. vertex.now) vertices.now) }
     ensures are_names { IfOk result AreNames }
     ensures refused { IfErr result (RefusesNames (map (λ vertex. vertex.now) vertices.now)) }
 {
     if vertices.is_empty() || vertices.len() > MAX_VERTICES {
-        return Err(NameFault::Number);
+        return Err(FileFault::Graph(GraphFault::Size));
     }
     let mut names = Names::new(alloc);
-    let mut seen = IndexSet::new(alloc);
     for (v, vertex) in vertices.iter().enumerate() {
         if !is_name(vertex.as_bytes()) {
-            return Err(NameFault::Name(v));
+            return Err(FileFault::Name(v));
         }
-        if !is_first(&mut seen, vertex)? {
-            return Err(NameFault::Twice(v));
+        if !names.add(alloc, vertex)? {
+            return Err(FileFault::Twice(v));
         }
-        names.push(alloc, vertex)?;
     }
     Ok(names)
-}
-
-/// Keeps a text that was not seen before, and says whether it was not.
-fn is_first<'a>(seen: &mut IndexSet<&'a str>, text: &'a str) -> Result<bool, AllocError>
-    ensures first { IfOk result (λ first. first ≡ not (has (map (λ each. each.now) seen.old.keys) text.now)) }
-    ensures kept { IfOk result (λ first. first ≡ true
-        → map (λ each. each.now) seen.new.keys ≡ map (λ each. each.now) seen.old.keys ++ text.now ∷ []) }
-{
-    let first = seen.insert(text)?;
-    Ok(first)
 }
 
 /// The edges as items of a graph.

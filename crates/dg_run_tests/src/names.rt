@@ -1,6 +1,6 @@
 //! Names of vertices.
 
-use dg_file::Names;
+use dg_tokens::{Names, is_name};
 use std::alloc::Global;
 use std::process::Abort;
 use std::test::Fail;
@@ -14,14 +14,17 @@ fn names_are_kept_once(rt: HostRuntime) -> Result<(), Fail> {
 }
 
 fn keeps_one(rt: &impl Abort, alloc: Global, names: &mut Names) -> Result<(), Fail> {
-    assert!(rt; names.is_empty() && names.place(b"a").is_none());
-    assert!(rt; names.add(alloc, "a")?);
-    assert!(rt; !names.add(alloc, "a")? && !names.is_empty());
+    let name = "a";
+    assert!(rt; names.is_empty() && names.place(name.as_bytes()).is_none());
+    assert!(rt; is_name(name.as_bytes()));
+    assert!(rt; names.add(alloc, name)?);
+    assert!(rt; !names.add(alloc, name)? && !names.is_empty());
     Ok(())
 }
 
 fn finds_one(rt: &impl Abort, names: &Names) {
     assert!(rt; names.place(b"a") == Some(0) && names.place(b"A").is_none());
+    assert!(rt; names.place(b"\xff").is_none());
     assert!(rt; names.len() == 1);
     let mut line = [b'.'; 20];
     let start = names.write_label(0, &mut line, 19);

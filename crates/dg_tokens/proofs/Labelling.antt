@@ -1,11 +1,12 @@
 -- The labels of vertices.
 --   AreLabels-pushed   the label of the next name, put at the next vertex
+--   AreLabels-added    the same if the name may be among them already
 use Rattle.std.proofs.Common.{◌≡◌, ℕ, ◌<◌, List, [], ◌∷◌, ◌++◌, length, set, sym, subst, inl, inr, arith, length-append}
 use Rattle.std.specs.List.{slice_index_or}
-use Rattle.std.proofs.lemmas.Bool.{cases_order}
+use Rattle.std.proofs.lemmas.Bool.{cases_order, cond_both}
 use Rattle.std.proofs.lemmas.List.{get_or-set_same, get_or-set_other, get_or_append_left, get_or_at}
 use Rattle.dg_tokens.specs.declared.label.Label.{Label}
-use Rattle.dg_tokens.specs.Names.{name_at}
+use Rattle.dg_tokens.specs.Names.{has, added, name_at}
 use Rattle.dg_tokens.specs.Labels.{AreLabels, IsLabel}
 
 module _ (labels : List Label) (names : List (List ℕ)) (name : List ℕ) (next : ℕ) (l : Label)
@@ -29,3 +30,8 @@ module _ (labels : List Label) (names : List (List ℕ)) (name : List ℕ) (next
             (sym (get_or_append_left names (name ∷ []) [] v (omega arith))) (before-next v other (omega arith))
         | inr (inr more) ↦ absurd (omega (arith, length-append names (name ∷ [])))
       ]
+
+  pub AreLabels-added : AreLabels (set labels next l) (added names name)
+  AreLabels-added =
+      cond_both (has names name) names (names ++ name ∷ []) (AreLabels (set labels next l))
+      (λ old. before-next) (λ new. AreLabels-pushed)

@@ -1,22 +1,29 @@
 -- Names of vertices.
+--   is_name            whether bytes are a name
 --   IsName-tested      bytes that pass the test are a name
 --   is_name-IsName     a name passes the test
---   is_name-no_name    what is no name does not
+--   IsUtf8-name        a name is UTF-8
 --   AreNames-nil       no names are names
 --   AreNames-push      a new name after names gives names
---   is_new-named       of a name: it is new where it is not among the names
---   is_new-no_name     what is no name is not new
+--   AreNames-added     names stay names if a name is added
+--   has-no_name        what is no name is not among names
 --   name_at-place_of   the vertex of a name has that name
 --   place_of-name_at   the name of a vertex has that vertex
 --   bytes_eq-swaps     comparing bytes is symmetric
-use Rattle.std.proofs.Common.{◌≡◌, ℕ, zero, suc, ◌<◌, Bool, true, false, not, ◌&&◌, List, [], ◌∷◌, ◌++◌, length, Some, IsTrue, refl, sym, ap, ◌||◌, ◌∙◌, arith}
-use Rattle.std.specs.Prelude.{All, bytes_eq}
+use Rattle.std.proofs.Common.{◌≡◌, ℕ, zero, suc, ◌<◌, Bool, true, false, not, ◌&&◌, List, [], ◌∷◌, ◌++◌, length, Some, IsTrue, refl, sym, subst, ◌||◌, ◌∙◌, arith, inl, inr}
+use Rattle.std.specs.Prelude.{All, bytes_eq, leb, ◌==◌}
+use Rattle.std.specs.Str.{IsUtf8}
 use Rattle.std.specs.List.{AllByRecursion, IsDistinct, list_all, prefix_len}
-use Rattle.std.proofs.lemmas.Bool.{false≢true, false_from_ne_true, and_parts, and_from, leb-true, le-leb, lt-ltb}
+use Rattle.std.proofs.lemmas.Bool.{false≢true, false_from_ne_true, and_parts, and_from, leb-true, le-leb, lt-ltb, eqb-true, cond_both, or_cases}
 use Rattle.std.proofs.lemmas.List.Elements.{All-nil, All-cons, All-head, All-tail, All-push}
 use Rattle.std.proofs.lemmas.List.Quantifiers.{position-Some}
 use Rattle.std.proofs.lemmas.Slice.Eq.{bytes_eq-Decides}
-use Rattle.dg_tokens.specs.Names.{IsName, AreNames, is_name, is_name_byte, has, is_new, place_of, name_at}
+use Rattle.std.proofs.lemmas.Str.{IsUtf8-from_ascii}
+use Rattle.std.proofs.lemmas.Str.Ascii.{IsAscii-from_all}
+use Rattle.dg_tokens.specs.Names.{IsName, AreNames, is_from_to, is_name_byte, has, added, place_of, name_at}
+
+abbrev pub is_name : List ℕ → Bool
+is_name bytes = leb 1 (length bytes) && leb (length bytes) 16 && list_all is_name_byte bytes
 
 all-tested : (p : ℕ → Bool) (xs : List ℕ) → list_all p xs ≡ true → All (λ x. IsTrue (p x)) xs
 all-tested p [] passes = All-nil (λ x. IsTrue (p x))
@@ -45,8 +52,34 @@ is_name-IsName bytes name =
     and_from _ _ (and_from _ _ (le-leb 1 (length bytes) name.not_empty) (le-leb (length bytes) 16 name.short))
     (list_all-All is_name_byte bytes name.each)
 
-pub is_name-no_name : (bytes : List ℕ) → ¬ IsName bytes → is_name bytes ≡ false
-is_name-no_name bytes bad = false_from_ne_true (is_name bytes) (λ passes. bad (IsName-tested bytes passes))
+below : (low high b : ℕ) → is_from_to low high b ≡ true → high < 128 → b < 128
+below low high b within few =
+    omega (arith, leb-true b high (and_parts (leb low b) (leb b high) within).1)
+
+ascii : (b : ℕ) → IsTrue (is_name_byte b) → b < 128
+ascii b is =
+    elim (or_cases (is_from_to 48 57 b || is_from_to 65 90 b || is_from_to 97 122 b) (b == 95) is) [
+      | inl letter ↦
+          elim (or_cases (is_from_to 48 57 b || is_from_to 65 90 b) (is_from_to 97 122 b) letter) [
+            | inl capital ↦
+                elim (or_cases (is_from_to 48 57 b) (is_from_to 65 90 b) capital) [
+                  | inl digit ↦ below 48 57 b digit (omega arith)
+                  | inr other ↦ below 65 90 b other (omega arith)
+                ]
+            | inr small ↦ below 97 122 b small (omega arith)
+          ]
+      | inr line ↦ omega (arith, eqb-true b 95 line)
+    ]
+
+all-ascii : (bytes : List ℕ) → All (λ b. IsTrue (is_name_byte b)) bytes → All (λ b. b < 128) bytes
+all-ascii [] each = All-nil (λ b. b < 128)
+all-ascii (b ∷ bytes) each =
+    All-cons (λ b. b < 128) b bytes (ascii b (All-head (λ b. IsTrue (is_name_byte b)) b bytes each))
+    (all-ascii bytes (All-tail (λ b. IsTrue (is_name_byte b)) b bytes each))
+
+pub IsUtf8-name : (bytes : List ℕ) → IsName bytes → IsUtf8 bytes
+IsUtf8-name bytes is =
+    IsUtf8-from_ascii bytes (IsAscii-from_all bytes (all-ascii bytes is.each))
 
 pub AreNames-nil : AreNames []
 unfolding IsDistinct
@@ -92,11 +125,20 @@ AreNames-push names name are is new = record {
   different = distinct-push names name are.different new;
 }
 
-pub is_new-named : (names : List (List ℕ)) (name : List ℕ) → IsName name → is_new names name ≡ not (has names name)
-is_new-named names name is = ap (λ named. named && not (has names name)) (is_name-IsName name is)
+pub AreNames-added : (names : List (List ℕ)) (name : List ℕ) → AreNames names → IsName name
+    → AreNames (added names name)
+AreNames-added names name are is =
+    cond_both (has names name) names (names ++ name ∷ []) AreNames (λ old. are)
+    (λ new. AreNames-push names name are is new)
 
-pub is_new-no_name : (names : List (List ℕ)) (name : List ℕ) → ¬ IsName name → is_new names name ≡ false
-is_new-no_name names name bad = ap (λ named. named && not (has names name)) (is_name-no_name name bad)
+pub has-no_name : (names : List (List ℕ)) (name : List ℕ) → All IsName names → ¬ IsName name → has names name ≡ false
+has-no_name [] name each bad = refl
+has-no_name (x ∷ names) name each bad =
+    false_from_ne_true (bytes_eq name x || has names name)
+    (λ found. elim (or_cases (bytes_eq name x) (has names name) found) [
+      | inl same ↦ bad (subst IsName (sym ((bytes_eq-Decides name x).0 same)) (All-head IsName x names each))
+      | inr later ↦ false≢true (sym (has-no_name names name (All-tail IsName x names each) bad) ∙ later)
+    ])
 
 pub name_at-place_of : (names : List (List ℕ)) (name : List ℕ) (v : ℕ) → place_of names name ≡ Some v
     → name_at names v ≡ name

@@ -1,36 +1,59 @@
--- Texts seen as the list of their bytes: the names with one more, the first place of a name, and what the search for it tells.
---   pushed_text     the bytes of the texts with one put last
---   position_text   the first text of these bytes stands where the name does
---   new-tested      a name is new just if it has no place
+-- A set of texts seen as the list of their bytes: whether a name is in it, what `insert` leaves, and the place of a name.
+--   has_text        a text is in the set just if its bytes are among the names
+--   insert_text     the bytes of the texts after `insert`
+--   position_text   the text of these bytes stands where the name does
+--   no_place        what is no name has no place
 use Rattle.std.proofs.Common.{◌≡◌, ℕ, suc, ◌+◌, ◌||◌, cond, not, length, Option, Some, None, List, [], ◌∷◌, ◌++◌, Bool, true, false, refl, sym, ap, ◌∙◌, map, string_bytes, arith}
-use Rattle.std.specs.Prelude.{bytes_eq, nat_lt, String, position, is_some}
-use Rattle.std.specs.List.{prefix_len}
+use Rattle.std.specs.Prelude.{bytes_eq, nat_lt, String, string_eq, position, is_some}
+use Rattle.std.specs.List.{list_any, prefix_len}
+use Rattle.std.proofs.lemmas.Bool.{false≢true}
 use Rattle.std.proofs.lemmas.Bool.Decides.{nat_tests}
 use Rattle.std.proofs.lemmas.List.{length-map, map-append}
 use Rattle.std.specs.declared.alloc.Global.{Global}
-use Rattle.dg_tokens.specs.Names.{IsName, has, is_new, place_of}
-use Rattle.dg_tokens.proofs.NamesLaws.{bytes_eq-swaps, is_new-named}
+use Rattle.indexmap.specs.IndexSet.{insert_key}
+use Rattle.dg_tokens.specs.Names.{IsName, AreNames, has, added, place_of}
+use Rattle.dg_tokens.proofs.NamesLaws.{bytes_eq-swaps, has-no_name}
 
 abbrev pub bytes_of : List (String Global) → List (List ℕ)
 bytes_of keys = map string_bytes keys
 
-pub pushed_text : (keys : List (String Global)) (key : String Global) (names : List (List ℕ)) (name : List ℕ)
-    → bytes_of keys ≡ names → string_bytes key ≡ name → bytes_of (keys ++ key ∷ []) ≡ names ++ name ∷ []
-pushed_text keys key names name e f =
-    map-append string_bytes keys (key ∷ []) ∙ ap (λ front. front ++ string_bytes key ∷ []) e
-    ∙ ap (λ last. names ++ last ∷ []) f
+has-bytes_of : (keys : List (String Global)) (name : List ℕ)
+    → list_any (λ key. bytes_eq name (string_bytes key)) keys ≡ has (bytes_of keys) name
+has-bytes_of [] name = refl
+has-bytes_of (key ∷ keys) name = ap (λ found. bytes_eq name (string_bytes key) || found) (has-bytes_of keys name)
 
-prefix_len-map : (p : List ℕ → Bool) (keys : List (String Global))
-    → prefix_len (λ key. p (string_bytes key)) keys ≡ prefix_len p (bytes_of keys)
-prefix_len-map p [] = refl
-prefix_len-map p (key ∷ keys) = ap (λ n. cond (p (string_bytes key)) (1 + n) 0) (prefix_len-map p keys)
+pub has_text : (keys : List (String Global)) (key : String Global) (names : List (List ℕ)) (name : List ℕ)
+    → bytes_of keys ≡ names → string_bytes key ≡ name → list_any (string_eq key) keys ≡ has names name
+has_text keys key names name e f = rw (← e, ← f) (has-bytes_of keys (string_bytes key))
 
-pub position_text : (keys : List (String Global)) (names : List (List ℕ)) (name : List ℕ) → bytes_of keys ≡ names
-    → position (λ own. bytes_eq (string_bytes own) name) keys ≡ place_of names name
+pub insert_text : (keys : List (String Global)) (key : String Global) (names : List (List ℕ)) (name : List ℕ)
+    → bytes_of keys ≡ names → string_bytes key ≡ name
+    → bytes_of (insert_key string_eq keys key) ≡ added names name
+insert_text keys key names name e f =
+    rw (← has_text keys key names name e f)
+    (elim (list_any (string_eq key) keys) as
+    (λ t. bytes_of (cond t keys (keys ++ key ∷ [])) ≡ cond t names (names ++ name ∷ [])) [
+      | true ↦ e
+      | false ↦
+          map-append string_bytes keys (key ∷ []) ∙ ap (λ front. front ++ string_bytes key ∷ []) e
+          ∙ ap (λ last. names ++ last ∷ []) f
+    ])
+
+prefix_len-text : (keys : List (String Global)) (name : List ℕ)
+    → prefix_len (λ key. not (bytes_eq name (string_bytes key))) keys
+    ≡ prefix_len (λ own. not (bytes_eq own name)) (bytes_of keys)
+prefix_len-text [] name = refl
+prefix_len-text (key ∷ keys) name =
+    rw (bytes_eq-swaps name (string_bytes key))
+    (ap (λ n. cond (not (bytes_eq (string_bytes key) name)) (1 + n) 0) (prefix_len-text keys name))
+
+pub position_text : (keys : List (String Global)) (names : List (List ℕ)) (text name : List ℕ)
+    → bytes_of keys ≡ names → text ≡ name
+    → position (λ own. bytes_eq text (string_bytes own)) keys ≡ place_of names name
 unfolding place_of
-position_text keys names name e =
+position_text keys names text name e same =
     let size : length (bytes_of keys) ≡ length keys = length-map keys _ in
-    rw (← e, prefix_len-map (λ own. not (bytes_eq own name)) keys, size) refl
+    rw (← e, ← same, prefix_len-text keys text, size) refl
 
 one_less : (n m : ℕ) → nat_lt (1 + n) (suc m) ≡ nat_lt n m
 one_less n m = grind (arith, nat_tests)
@@ -57,8 +80,10 @@ unfolding place_of
 has-place_of names name =
     some-if (nat_lt (prefix_len (λ own. not (bytes_eq own name)) names) (length names)) _ ∙ found names name
 
-pub new-tested : (names : List (List ℕ)) (name bytes : List ℕ) (place : Option ℕ) (t : Bool) → bytes ≡ name
-    → place ≡ place_of names bytes → IsName bytes → t ≡ is_some place → is_new names name ≡ not t
-new-tested names name bytes place t same at is tested =
-    rw (← same)
-    (is_new-named names bytes is ∙ ap not (sym (has-place_of names bytes) ∙ ap is_some (sym at) ∙ sym tested))
+none-from : (place : Option ℕ) → is_some place ≡ false → place ≡ None
+none-from None e = refl
+none-from (Some v) e = absurd (false≢true (sym e))
+
+pub no_place : (names : List (List ℕ)) (name : List ℕ) → AreNames names → ¬ IsName name → place_of names name ≡ None
+no_place names name are bad =
+    none-from (place_of names name) (has-place_of names name ∙ has-no_name names name are.each bad)

@@ -3,17 +3,15 @@
 --   is_name_byte b      == whether the byte b is an ASCII digit, an ASCII letter or `_`
 --   IsName bytes        == 1 to 16 bytes, each an ASCII letter, an ASCII digit or `_`
 --   has names name      == whether the name is among the names
---   is_name bytes       == whether the bytes are a name
---   is_new names name   == whether the bytes are a name that is not among the names
---   added names name    == the names with the name put last if it is new, and otherwise as they
---                          are
+--   added names name    == the names as they are if the name is among them, and otherwise with the
+--                          name put last
 --   place_of names name == the first vertex of that name, if there is one
 --   name_at names v     == the name of the vertex v
 --   AreNames names      == each is a name, and no two are the same
 --   label name          == what stands before the amount of a vertex of that name: a space, the
 --                          name and `=`
-use Rattle.std.specs.Prelude.{ℕ, ◌≤◌, ◌||◌, ◌&&◌, not, Bool, IsTrue, List, [], ◌∷◌, ◌++◌, length, Option, cond, leb, ◌==◌, bytes_eq, codes, All, position}
-use Rattle.std.specs.List.{list_any, list_all, slice_index_or, IsDistinct}
+use Rattle.std.specs.Prelude.{ℕ, ◌≤◌, ◌||◌, ◌&&◌, Bool, IsTrue, List, [], ◌∷◌, ◌++◌, length, Option, cond, leb, ◌==◌, bytes_eq, codes, All, position}
+use Rattle.std.specs.List.{list_any, slice_index_or, IsDistinct}
 use Rattle.dg_tokens.specs.declared.names.TheConstants.{MAX_NAME}
 
 abbrev pub is_from_to : ℕ → ℕ → ℕ → Bool
@@ -31,14 +29,8 @@ pub record IsName (bytes : List ℕ) : Type 0 where
 abbrev pub has : List (List ℕ) → List ℕ → Bool
 has names name = list_any (bytes_eq name) names
 
-abbrev pub is_name : List ℕ → Bool
-is_name bytes = leb 1 (length bytes) && leb (length bytes) MAX_NAME && list_all is_name_byte bytes
-
-abbrev pub is_new : List (List ℕ) → List ℕ → Bool
-is_new names name = is_name name && not (has names name)
-
 abbrev pub added : List (List ℕ) → List ℕ → List (List ℕ)
-added names name = cond (is_new names name) (names ++ name ∷ []) names
+added names name = cond (has names name) names (names ++ name ∷ [])
 
 unfoldable pub place_of : List (List ℕ) → List ℕ → Option ℕ
 place_of names name = position (λ own. bytes_eq own name) names

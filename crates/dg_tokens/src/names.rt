@@ -1,11 +1,13 @@
 //! The names of a table's vertices.
-ghost use Rattle.std.specs.Prelude.{◌≡◌, ◌↔◌, ◌+◌, ◌<◌, ◌≤◌, ◌++◌, [], ◌∷◌, length, drop, Some, IsTrue, IfSome, IfOk, OnOk, OnErr, position, bytes_eq, string_bytes};
-ghost use Rattle.dg_tokens.specs.Names.{IsName, AreNames, is_new, added, place_of, name_at, label};
+ghost use Rattle.std.specs.Prelude.{◌≡◌, ◌↔◌, ◌+◌, ◌<◌, ◌≤◌, ◌++◌, [], length, drop, not, Some, IsTrue, IfSome, IfOk, OnErr};
+ghost use Rattle.dg_tokens.specs.Names.{IsName, AreNames, has, added, place_of, name_at, label};
 
 use crate::label::{Label, MAX_LABEL};
 use dg_graph::MAX_VERTICES;
+use indexmap::IndexSet;
 use std::alloc::{AllocError, Global};
 use std::marker::Model;
+use std::str;
 
 /// The most bytes of a name.
 pub const MAX_NAME: usize = 16;
@@ -27,24 +29,25 @@ fn is_name_byte(byte: u8) -> bool
 /// The names of a table's vertices, in vertex order: at most 16, all different.
 #[derive(Drop)]
 pub struct Names {
-    names: Vec<String>,
+    set: IndexSet<String>,
     // Of the vertices that have no name yet, any.
     labels: [Label; MAX_VERTICES],
 }
 
 impl Model for Names {
-    ghost use Rattle.std.specs.Prelude.{ℕ, List, length, map, string_bytes, ◌≤◌};
+    ghost use Rattle.std.specs.Prelude.{ℕ, List, map, string_bytes, ◌≤◌};
+    ghost use Rattle.indexmap.specs.IndexSet.{index_set_len};
     ghost use Rattle.dg_graph.specs.declared.limits.TheConstants.{MAX_VERTICES};
     ghost use Rattle.dg_tokens.specs.Labels.{AreLabels};
     ghost use Rattle.dg_tokens.specs.Names.{AreNames};
 
     ghost Value = { List (List ℕ) };
 
-    ghost view = { λ names. map string_bytes names.names.items };
+    ghost view = { λ names. map string_bytes names.set.keys };
 
-    ghost invariant = { λ names. (length names.names.items ≤ MAX_VERTICES)
-        × AreNames (map string_bytes names.names.items)
-        × AreLabels names.labels (map string_bytes names.names.items) };
+    ghost invariant = { λ names. (index_set_len names.set ≤ MAX_VERTICES)
+        × AreNames (map string_bytes names.set.keys)
+        × AreLabels names.labels (map string_bytes names.set.keys) };
 }
 
 impl Names {
@@ -53,7 +56,7 @@ impl Names {
         ensures { result ≡ [] }
     {
         Names {
-            names: Vec::new(alloc),
+            set: IndexSet::new(alloc),
             labels: [Label::empty(); MAX_VERTICES],
         }
     }
@@ -64,51 +67,32 @@ impl Names {
         ensures few { result ≤ MAX_VERTICES }
         ensures names { AreNames self.now }
     {
-        self.names.len()
+        self.set.len()
     }
 
     /// Whether there are no names.
     pub fn is_empty(&self) -> bool
         ensures { IsTrue result ↔ (self.now ≡ []) }
     {
-        self.names.is_empty()
+        self.set.is_empty()
     }
 
-    /// Names the next vertex, and says whether it did: what is no name, or is there already, changes nothing.
+    /// Names the next vertex, and says whether it did: a name that a vertex has already changes nothing. The conditions are
+    /// that the text is a name, and that there are fewer than 16 names.
     ///
     /// If memory is refused, nothing has changed.
     pub fn add(&mut self, alloc: Global, name: &str) -> Result<bool, AllocError>
-        requires { length self.old < MAX_VERTICES }
-        ensures added { IfOk result (λ added. added ≡ is_new self.old name.now) }
+        requires name { IsName name.now }
+        requires room { length self.old < MAX_VERTICES }
+        ensures added { IfOk result (λ added. added ≡ not (has self.old name.now)) }
         ensures names { IfOk result (λ _. self.new ≡ added self.old name.now) }
         ensures err { OnErr result (self.new ≡ self.old) }
     {
-        let bytes = name.as_bytes();
-        if !is_name(bytes) {
-            return Ok(false);
-        }
-        if self.place(bytes).is_some() {
-            return Ok(false);
-        }
-        self.push(alloc, name)?;
-        Ok(true)
-    }
-
-    /// Names the next vertex. The conditions are that the text is a name which no vertex has yet, and that there are fewer
-    /// than 16 names.
-    ///
-    /// If memory is refused, nothing has changed.
-    pub fn push(&mut self, alloc: Global, name: &str) -> Result<(), AllocError>
-        requires room { length self.old < MAX_VERTICES }
-        requires new { IsTrue (is_new self.old name.now) }
-        ensures pushed { OnOk result (self.new ≡ self.old ++ name.now ∷ []) }
-        ensures err { OnErr result (self.new ≡ self.old) }
-    {
         let own = String::from_str(alloc, name)?;
-        let next = self.names.len();
-        self.names.push(own)?;
+        let next = self.set.len();
         self.labels[next] = Label::new(name.as_bytes());
-        Ok(())
+        let is_new = self.set.insert(own)?;
+        Ok(is_new)
     }
 
     /// The vertex of that name, if there is one.
@@ -118,7 +102,11 @@ impl Names {
         ensures named { IfSome result (λ v. name_at self.now v ≡ name.now) }
         ensures few { length self.now ≤ MAX_VERTICES }
     {
-        let place = first_place(self.names.as_slice(), name)?;
+        let set = &self.set;
+        let Ok(text) = str::from_utf8(name) else {
+            return None;
+        };
+        let place = set.get_index_of(text)?;
         Some(place as u8)
     }
 
@@ -128,7 +116,7 @@ impl Names {
         ensures name { result.now ≡ name_at self.now v }
         ensures placed { place_of self.now result.now ≡ Some v }
     {
-        self.names[v].as_str()
+        self.set[v].as_str()
     }
 
     /// Writes the label of a vertex, ` name=`, so that it ends at `end`, and says where it starts. The bytes before it are
@@ -144,11 +132,4 @@ impl Names {
         let labels = &self.labels;
         labels[v].write(line, end)
     }
-}
-
-fn first_place(names: &[String], name: &[u8]) -> Option<usize>
-    ensures place { result ≡ position (λ own. bytes_eq (string_bytes own) name.now) names.now }
-    ensures vertex { IfSome result (λ v. v < length names.now) }
-{
-    names.iter().position(|own| own.as_bytes() == name)
 }

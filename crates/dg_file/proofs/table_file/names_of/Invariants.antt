@@ -4,4 +4,4 @@ use Rattle.dg_file.proofs.NamesRead.{texts}
 use Rattle.dg_file.proofs.table_file.names_of.Given as goal
 
 abbrev pub invariant-loop-v : goal.invariant-loop-v
-invariant-loop-v l = record { so_far : l.names ≡ take l.v (texts l.vertices); are : AreNames l.names; kept : texts l.seen.keys ≡ l.names }
+invariant-loop-v l = record { so_far : l.names ≡ take l.v (texts l.vertices); are : AreNames l.names }

@@ -1,50 +1,40 @@
--- What is no name, or has a place, is not new; anything else is.
-use Rattle.std.proofs.Common.{◌≡◌, ℕ, Bool, true, false, ap, cond, ◌∙◌, sym, List, [], ◌∷◌, ◌++◌}
-use Rattle.std.proofs.lemmas.Bool.{false≢true}
-use Rattle.dg_tokens.specs.Names.{IsName, is_new, added}
-use Rattle.dg_tokens.proofs.Naming.{new-tested}
-use Rattle.dg_tokens.proofs.NamesLaws.{is_new-no_name}
+-- What `insert` leaves, as a list of names.
+use Rattle.std.proofs.Common.{◌≡◌, ℕ, ◌≤◌, Bool, true, false, ap, not, cond, ◌∙◌, sym, length, List, map, string_bytes, arith, rules}
+use Rattle.std.proofs.lemmas.List.{length-map}
+use Rattle.std.specs.Prelude.{String}
+use Rattle.std.specs.declared.alloc.Global.{Global}
+use Rattle.dg_tokens.specs.Names.{added}
+use Rattle.dg_tokens.proofs.Naming.{has_text, insert_text}
+use Rattle.dg_tokens.proofs.NamesLaws.{AreNames-added}
+use Rattle.dg_tokens.proofs.Labelling.{AreLabels-added}
 use Rattle.dg_tokens.proofs.names.Names.add.Goals as goal
-use Rattle.dg_tokens.proofs.names.Names.add.Goals.{Then-not-is_name, Then-is_some, In_ok-push}
+use Rattle.dg_tokens.proofs.names.Names.add.Goals.{In_ok-is_new}
 
-not_named : (c : Then-not-is_name) → ¬ IsName c.args.name.now
-not_named c = λ is. false≢true (sym c.if-not-is_name.true ∙ c.is_name.ensures.1 (rw c.as_bytes-bytes.ensures.value is))
+at_most_one : (b : Bool) → cond {A = ℕ} b 1 0 ≤ 1
+at_most_one true = omega arith
+at_most_one false = omega arith
 
-old : (c : Then-is_some) → is_new c.args.self.now c.args.name.now ≡ false
-old c = new-tested c.args.self.now c.args.name.now c.as_bytes-bytes.result.now c.place.result true c.as_bytes-bytes.ensures.value
-    c.place.ensures.place (c.is_name.ensures.0 c.if-not-is_name.false) c.if-is_some.ensures
-
-new : (c : In_ok-push) → is_new c.args.self.now c.args.name.now ≡ true
-new c = new-tested c.args.self.now c.args.name.now c.as_bytes-bytes.result.now c.place.result false c.as_bytes-bytes.ensures.value
-    c.place.ensures.place (c.is_name.ensures.0 c.if-not-is_name.false) c.if-is_some.ensures
-
--- what is added, by whether it is new
-names_are : (names : List (List ℕ)) (name : List ℕ) (t : Bool) → is_new names name ≡ t
-    → added names name ≡ cond t (names ++ name ∷ []) names
-names_are names name t e = ap (λ new. cond new (names ++ name ∷ []) names) e
-
-pub push-requires-clause-new : goal.push-requires-clause-new
-push-requires-clause-new c =
-    new-tested c.args.self.now c.args.name.now c.as_bytes-bytes.result.now c.place.result false c.as_bytes-bytes.ensures.value
-    c.place.ensures.place (c.is_name.ensures.0 c.if-not-is_name.false) c.if-is_some.ensures
+left : (c : In_ok-is_new) → map string_bytes c.insert.new.self.keys ≡ added c.args.self.now c.args.name.now
+left c =
+    ap (λ (keys : List (String Global)). map string_bytes keys) c.in_ok-is_new.ensures.keys
+    ∙ insert_text c.self.inside.set.keys c.in_ok-own.own _ _ c.self.view_is c.in_ok-own.ensures.ok
 
 pub returns-clause-added : goal.returns-clause-added
-returns-clause-added c = sym (new c)
+returns-clause-added c =
+    c.in_ok-is_new.ensures.added
+    ∙ ap not (has_text c.self.inside.set.keys c.in_ok-own.own _ _ c.self.view_is c.in_ok-own.ensures.ok)
 
 pub returns-clause-names : goal.returns-clause-names
-returns-clause-names c =
-    c.in_ok-push.ensures.pushed ∙ sym (names_are c.args.self.now c.args.name.now true (new c))
+returns-clause-names c = left c
 
-pub returns-then-is_some-clause-added : goal.returns-then-is_some-clause-added
-returns-then-is_some-clause-added c = sym (old c)
-
-pub returns-then-is_some-clause-names : goal.returns-then-is_some-clause-names
-returns-then-is_some-clause-names c = sym (names_are c.args.self.now c.args.name.now false (old c))
-
-pub returns-then-not-is_name-clause-added : goal.returns-then-not-is_name-clause-added
-returns-then-not-is_name-clause-added c = sym (is_new-no_name c.args.self.now c.args.name.now (not_named c))
-
-pub returns-then-not-is_name-clause-names : goal.returns-then-not-is_name-clause-names
-returns-then-not-is_name-clause-names c =
-    sym (names_are c.args.self.now c.args.name.now false
-    (is_new-no_name c.args.self.now c.args.name.now (not_named c)))
+pub invariant_of-self-2 : goal.invariant_of-self-2
+invariant_of-self-2 c =
+    let old : length c.self.inside.set.keys ≡ length c.args.self.now =
+    sym (length-map c.self.inside.set.keys string_bytes) ∙ ap length c.self.view_is in
+    let size : length c.self.inside.labels ≡ 16 = search rules in (
+      omega (arith, old, at_most_one c.in_ok-is_new.is_new, c.in_ok-is_new.ensures.len, c.requires.room),
+      rw (left c) (AreNames-added c.args.self.now c.args.name.now (rw c.self.view_is at c.self.invariant.1) c.requires.name),
+      rw (left c) (AreLabels-added c.self.inside.labels c.args.self.now c.args.name.now c.len-next.result _
+          (omega (arith, old, c.len-next.ensures.len)) (omega (arith, c.requires.room, old, c.len-next.ensures.len, size))
+          (rw c.as_bytes.ensures.value at c.new.ensures) (rw c.self.view_is at c.self.invariant.2)),
+    )
