@@ -106,48 +106,31 @@ def file_faults():
     return texts(FILE_FAULTS, "file_fault_text")
 
 
-# Where each type of faults stands, and the functions that say what one means.
-TYPES = {"Shape": "dg_file/src/fault.rt", "FileFault": "dg_file/src/fault.rt", "GraphFault": "dg_graph/src/fault.rt",
-         "ChipFault": "dg_chips/src/divisor.rt", "SourceFault": "dg_system/src/sources.rt", "ArgsFault": "dg_invocation/src/parse_args.rt",
-         "TaskFault": "dg_tasks/src/fault.rt", "Fault": "dg_server/src/fault.rt", "LineFault": "dg_lines/src/line.rt"}
-SHORTAGE = "dg_system/src/shortage.rt"
-TELLERS = {"call_text": "dg_tasks/src/fault.rt", "end_text": "dg_server/src/fault.rt", "sweep_end_text": "dg_server/src/fault.rt"}
+# Where each type of faults stands. What a type is called where it stands beside another of that name comes first.
+TYPES = {"Fault": "dg_server/src/fault.rt", "dg_table::Fault": "dg_table/src/fault.rt", "TaskFault": "dg_tasks/src/fault.rt",
+         "FileFault": "dg_file/src/fault.rt", "Shape": "dg_file/src/fault.rt", "GraphFault": "dg_graph/src/fault.rt",
+         "ChipFault": "dg_chips/src/divisor.rt", "SourceFault": "dg_system/src/sources.rt", "Shortage": "dg_system/src/shortage.rt",
+         "WriteFailed": "dg_system/src/output.rt", "ArgsFault": "dg_invocation/src/parse_args.rt", "LineFault": "dg_lines/src/line.rt",
+         "StepsFault": "dg_lines/src/steps_file.rt", "RankFault": "dg_rank/src/rank_fault.rt",
+         "RehearseFault": "dg_rehearsal/src/schedule.rt", "SessionEnd": "dg_session/src/ends.rt", "SweepEnd": "dg_sweep/src/ends.rt"}
+WITHIN = {("SessionEnd", "Fault"): "dg_table::Fault"}
 
 
 def variants(name):
-    """The variants of a type of faults: each with its text as the code has it, and the type of what it holds."""
+    """The variants of a type of faults: each with its text as the code has it, and the types of what it holds. A type without
+    variants has one, of no name."""
     text = re.sub(r"^ *//.*\n", "", read("crates/" + TYPES[name]), flags=re.M)
-    body = text[text.index("pub enum %s {" % name):]
+    word = name.rpartition("::")[2]
+    alone = re.search(r"#\[error\((.*)\)\]\npub struct %s;" % word, text)
+    if alone:
+        return [("", alone[1], [])]
+    body = text[text.index("pub enum %s {" % word):]
     body = body[:body.index("\n}")]
     found = [(each[2], each[1], re.findall(r"\b([A-Z]\w+)", each[3] or ""))
              for each in re.finditer(r"#\[error\((.*)\)\]\n    (\w+)(\([^\n]*\)|\s\{[^}]*\})?,", body)]
     if not found or len(found) < body.count("#[error("):
         raise ValueError("%s: the variants of %s are not written as tools/words.py reads them" % (TYPES[name], name))
     return found
-
-
-def told(teller, status=None):
-    """The texts that a function has, each with the status where one of them is given for each variant."""
-    text = read("crates/" + TELLERS[teller])
-    body = text[text.index("fn %s(" % teller):]
-    body = body[:body.index("\n}")]
-    arm = r'\w+::(\w+)(?:\(\w+\))? => (?:"(.*)"|(\w+)\(fault\)|(Shortage::\w+|shortage)\.text\(\)),'
-    arms = re.findall(arm, body)
-    if not arms or len(arms) < body.count("=>"):
-        raise ValueError("%s: the arms of %s are not written as tools/words.py reads them" % (TELLERS[teller], teller))
-    for variant, literal, other, shortage in arms:
-        number = status(variant) if callable(status) else status
-        if other:
-            yield from told(other, number)
-        elif shortage:
-            yield from ((lacking, number) for lacking in shortages(shortage.partition("::")[2]))
-        else:
-            yield literal, number
-
-
-def shortages(variant=""):
-    """What is said of what the system lacks: of one variant, or of each."""
-    return [text for name, text in re.findall(r'Shortage::(\w+) => "(.*)",', read("crates/" + SHORTAGE)) if variant in ("", name)]
 
 
 def status_of(function, variant):
@@ -162,30 +145,45 @@ def status_of(function, variant):
     raise KeyError("%s of %s" % (function, variant))
 
 
-def faults_of(name="Fault", status=lambda variant: status_of("status", variant)):
-    """The faults of a type, each as its text and its exit status."""
-    if name == "LineFault":
-        yield from ((text, status) for text in line_faults())
-        return
+def shown(name, held, argument, status):
+    """What an argument of a fault's text shows, with its status: each text of the fault that it is or that the variant holds, or #
+    for a number."""
+    path = re.match(r"[\w:]*", argument)[0]
+    for type_name, variant in ((path, ""), path.rpartition("::")[::2]):
+        if type_name in TYPES:
+            return [(text, status) for text, _ in faults_of(type_name, status, variant)]
+    inner = [WITHIN.get((name, type_name), type_name) for type_name in held]
+    of_field = re.fullmatch(r"\{(fault|least)\}", argument) or argument == "transparent"
+    if of_field and inner and inner[0] in TYPES:
+        return list(faults_of(inner[0], status))
+    return [("#", status)]
+
+
+def faults_of(name="Fault", status=lambda variant: status_of("status", variant), only=None):
+    """The faults of a type, or of one variant of it: each as its text and its exit status."""
     for variant, text, held in variants(name):
+        if only is not None and variant != only:
+            continue
         number = status(variant) if callable(status) else status
-        literal = re.fullmatch(r'"([^"]*)"(?:, .*)?', text)
-        teller = re.search(r"(\w+)\(\*\.\w+\)", text)
-        if text == "transparent" and held[-1] == "Shortage":
-            yield from ((lacking, number) for lacking in shortages())
-        elif text == "transparent":
-            yield from faults_of(held[-1], number)
-        elif teller:
-            yield from told(teller[1], number)
-        elif literal[1] == "line {line}: {fault}":
-            yield from (("line {}: " + bad, each) for bad, each in faults_of("LineFault", number))
-        elif literal[1] != "{0}":
-            yield literal[1], number
+        if text == "transparent":
+            yield from shown(name, held, text, number)
+            continue
+        literal, rest = re.fullmatch(r'"([^"]*)"(?:, (.*))?', text).groups()
+        arguments = iter(re.split(r", (?![^{]*\})", rest or ""))
+        found = [("", number)]
+        for part in re.split(r"(\{\w*\})", literal):
+            if part.startswith("{"):
+                after = shown(name, held, next(arguments) if part == "{}" else part, number)
+                found = [(before + each, own) for before, _ in found for each, own in after]
+            else:
+                found = [(before + part, own) for before, own in found]
+        if literal != "{0}" or held != ["String"]:
+            yield from found
 
 
 def faults():
     """The faults that end a run: the text of each, where # is a number, and its exit status."""
-    return sorted({(re.sub(r"\{\w*\}", "#", text), status) for text, status in faults_of()})
+    return sorted(set(faults_of()))
 
 
 if __name__ == "__main__":

@@ -7,6 +7,7 @@ ghost use Rattle.dg_chips.specs.Refused.{IsMisfit};
 
 use crate::script::Script;
 use dg_graph::{MAX_VERTICES, is_within};
+use thiserror::Error;
 
 /// A move of the dollar game. Vertices are numbered from 0.
 #[derive(Clone, Copy, PartialEq, Eq)]
@@ -22,15 +23,19 @@ pub enum Move {
 }
 
 /// Why a move is refused.
-#[derive(Clone, Copy, Debug, PartialEq, Eq)]
+#[derive(Clone, Copy, Debug, PartialEq, Eq, Error)]
 pub enum MoveFault {
     /// It names a vertex that is not there.
+    #[error("the move has no vertex")]
     NoVertex,
     /// It fires the empty set.
+    #[error("the set is empty")]
     Empty,
     /// Its script has another number of vertices than the graph.
+    #[error("size of the script")]
     Script,
     /// It leaves an amount that is not within 1,000,000.
+    #[error("an amount is out of range")]
     Range,
 }
 

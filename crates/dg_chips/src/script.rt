@@ -16,13 +16,16 @@ use crate::vector::{first_past, narrowed, widened};
 use crate::wide::Wide;
 use dg_graph::{Graph, MAX_VERTICES, contains};
 use std::marker::Model;
+use thiserror::Error;
 
 /// Why numbers are refused as a script. Vertices are numbered from 0.
-#[derive(Clone, Copy, Debug, PartialEq, Eq)]
+#[derive(Clone, Copy, Debug, PartialEq, Eq, Error)]
 pub enum ScriptFault {
     /// There are not as many numbers as vertices.
+    #[error("number of script entries")]
     Length,
     /// The number of the vertex is not within 1,000,000,000.
+    #[error("script entry of vertex {0}")]
     Limit(usize),
 }
 

@@ -7,13 +7,16 @@ ghost use Rattle.dg_chips.specs.StartFaults.{IsStartFault};
 use crate::divisor::Divisor;
 use dg_graph::Graph;
 use std::marker::Model;
+use thiserror::Error;
 
 /// Why a start is refused.
-#[derive(Clone, Copy, Debug, PartialEq, Eq)]
+#[derive(Clone, Copy, Debug, PartialEq, Eq, Error)]
 pub enum StartFault {
     /// The divisor has another number of vertices than the graph.
+    #[error("size of the divisor")]
     Length,
     /// The vertex q is not there.
+    #[error("q is not a vertex")]
     Vertex,
 }
 

@@ -7,7 +7,7 @@ ghost use Rattle.dg_cli.specs.Refusals.{AskNothing, Refuses};
 ghost use Rattle.dg_cli.specs.Faults.{IsNoCall, IsSaid, IsWhy};
 
 use crate::commands::{SUBCOMMANDS, dollar};
-use crate::reading::{NumberArgument, Refusal, asked_by};
+use crate::reading::{Refusal, asked_by};
 use clap::Command;
 use clap::error::ErrorKind;
 use dg_invocation::{ArgsFault, Invocation, ParseArgs};
@@ -88,41 +88,25 @@ fn error_of(
         (refusal.entry ≡ Refusal.Memory → kind_of error ≡ ErrorKind.OutOfMemory)
         × IsNoCall (kind_of error)) }
 {
-    let name = name.unwrap_or("");
-    match refusal {
-        Refusal::Memory => Ok(clap::Error::from(AllocError)),
-        Refusal::Command => {
-            told_with(
-                alloc,
-                "",
-                ErrorKind::MissingSubcommand,
-                "a command is missing",
-            )
-        }
-        Refusal::Lines => told_with(
-            alloc,
-            name,
-            ErrorKind::MissingRequiredArgument,
-            "the following required arguments were not provided:\n  --lines",
-        ),
-        Refusal::Both => told_with(
-            alloc,
-            name,
-            ErrorKind::ArgumentConflict,
-            "the argument '--lines' cannot be used with '--divisors <LINES>'",
-        ),
-        Refusal::Number(argument, word) => {
-            let text = range_text(alloc, argument, word)?;
-            told_with(alloc, name, ErrorKind::ValueValidation, text.as_str())
-        }
+    if let Refusal::Memory = refusal {
+        return Ok(clap::Error::from(AllocError));
     }
+    let text = format!(in alloc; "{refusal}")?;
+    let kind = kind_for(&refusal);
+    told_with(alloc, name.unwrap_or(""), kind, text.as_str())
 }
 
-/// The text for a word that is no number of its argument.
-fn range_text(alloc: Global, argument: NumberArgument, word: &str) -> Result<String, AllocError> {
-    let shown = argument.shown();
-    let (least, most) = argument.range();
-    format!(in alloc; "invalid value '{word}' for '{shown}': a whole number from {least} to {most}")
+/// The library's kind of such an error.
+fn kind_for(refusal: &Refusal<'_>) -> ErrorKind
+    ensures { IsNoCall result }
+{
+    match refusal {
+        Refusal::Memory => ErrorKind::OutOfMemory,
+        Refusal::Command => ErrorKind::MissingSubcommand,
+        Refusal::Lines => ErrorKind::MissingRequiredArgument,
+        Refusal::Both => ErrorKind::ArgumentConflict,
+        Refusal::Number(..) => ErrorKind::ValueValidation,
+    }
 }
 
 /// The error of that kind and text, with the usage of the command of that name; any other name stands for the whole program.

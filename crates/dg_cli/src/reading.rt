@@ -24,14 +24,15 @@ ghost use Rattle.dg_cli.specs.Telling.{Tells, least, most, name_of, rows_in};
 
 use clap::ArgMatches;
 use dg_invocation::{
-    GreedyTask, Invocation, MAX_CAPACITY, MAX_SEATS, MAX_TURNS, MAX_WORKERS, PartyTask, Question,
-    RankTask, ServeTask, SweepTask, Task,
+    ArgsFault, GreedyTask, Invocation, MAX_CAPACITY, MAX_SEATS, MAX_TURNS, MAX_WORKERS, PartyTask,
+    Question, RankTask, ServeTask, SweepTask, Task,
 };
 use dg_tokens::natural;
 use std::alloc::Global;
+use thiserror::Error;
 
 /// An argument that is a whole number of some range.
-#[derive(Clone, Copy)]
+#[derive(Clone, Copy, Debug)]
 pub(crate) enum NumberArgument {
     /// How many entries there may be.
     Capacity,
@@ -85,17 +86,22 @@ impl NumberArgument {
 }
 
 /// Why words that the library takes are refused.
-#[derive(Clone, Copy)]
+#[derive(Clone, Copy, Debug, Error)]
 pub(crate) enum Refusal<'a> {
     /// There is no command of that name with these arguments.
+    #[error("a command is missing")]
     Command,
     /// Memory is refused.
+    #[error("{}", ArgsFault::OutOfMemory)]
     Memory,
     /// The word is no number of the argument.
+    #[error("invalid value '{1}' for '{shown}': a whole number from {least} to {most}", shown = .0.shown(), least = .0.range().0, most = .0.range().1)]
     Number(NumberArgument, &'a str),
     /// There are workers, but no lines.
+    #[error("the following required arguments were not provided:\n  --lines")]
     Lines,
     /// Lines are both tables and amounts.
+    #[error("the argument '--lines' cannot be used with '--divisors <LINES>'")]
     Both,
 }
 

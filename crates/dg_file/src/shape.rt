@@ -10,6 +10,7 @@ use crate::fault::{FileFault, Shape};
 use serde_json::Value;
 use std::alloc::{AllocError, Global};
 use std::marker::Model;
+use thiserror::Error;
 
 /// What a table file says, before names, graph and amounts are judged.
 #[derive(Drop)]
@@ -70,11 +71,13 @@ pub fn value_of(alloc: Global, bytes: &[u8]) -> Result<Option<Value>, AllocError
 }
 
 /// Why a JSON value says nothing as a table file.
-#[derive(Clone, Copy)]
+#[derive(Clone, Copy, Debug, Error)]
 pub enum ShapeFault {
     /// A part of it has another shape than it should.
+    #[error(transparent)]
     Shape(Shape),
     /// Memory was refused.
+    #[error("{}", FileFault::OutOfMemory)]
     OutOfMemory,
 }
 

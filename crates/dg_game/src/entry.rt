@@ -6,6 +6,7 @@ ghost use Rattle.dg_game.specs.Requests.{asked};
 use dg_chips::{Divisor, Move, MoveFault};
 use dg_graph::{Graph, JoinFault};
 use dg_verdict::{RankVerdict, Verdict};
+use thiserror::Error;
 
 /// The most seats of a table: they are numbered from 1 up to this.
 pub const MAX_SEATS: u8 = 64;
@@ -89,21 +90,28 @@ pub enum Reply {
 }
 
 /// Why a move, a gift or a join is refused.
-#[derive(Clone, Copy, PartialEq, Eq)]
+#[derive(Clone, Copy, Debug, PartialEq, Eq, Error)]
 pub enum Refusal {
     /// It names a vertex that is not there.
+    #[error("refused vertex")]
     NoVertex,
     /// It fires the empty set.
+    #[error("refused empty")]
     Empty,
     /// Its script has another size than the graph.
+    #[error("refused script")]
     Script,
     /// The gift is 0, or not within 1,000,000.
+    #[error("refused gift")]
     Gift,
     /// It leaves an amount that is not within 1,000,000.
+    #[error("refused range")]
     Range,
     /// The join is of a vertex and itself.
+    #[error("refused loop")]
     Loop,
     /// 63 edges meet at a vertex of the join already.
+    #[error("refused valence")]
     Valence,
 }
 

@@ -26,12 +26,15 @@ pub enum GraphFault {
 }
 
 /// Why one more edge between two vertices is refused.
-#[derive(Clone, Copy, Debug, PartialEq, Eq)]
+#[derive(Clone, Copy, Debug, PartialEq, Eq, Error)]
 pub enum JoinFault {
     /// One of the two is not there.
+    #[error("the edge has no vertex")]
     NoVertex,
     /// The two are the same vertex.
+    #[error("the edge is a loop")]
     Loop,
     /// 63 edges meet at one of the two already.
+    #[error("valence of a vertex of the edge")]
     Valence,
 }

@@ -12,26 +12,30 @@ use crate::cuts::cut;
 use crate::number::seat;
 use dg_game::{Command, Step};
 use dg_tokens::Names;
-use std::fmt;
 use thiserror::Error;
 
 /// Why a line is refused.
 #[derive(Clone, Copy, Debug, PartialEq, Eq, Error)]
 pub enum LineFault {
     /// There is no space, or what stands before the first is no number from 1 to 64.
+    #[error("bad seat")]
     Seat,
     /// The first word is no command.
+    #[error("bad word")]
     Word,
     /// The command has another number of words, or a word is empty.
+    #[error("bad form")]
     Form,
     /// No vertex has the name, or the name was given before.
+    #[error("bad name")]
     Name,
     /// A number is not spelled as numbers are, or is out of range.
+    #[error("bad number")]
     Number,
 }
 
 impl LineFault {
-    /// The line that says so: `bad`, what is wrong, and a newline.
+    /// The line that answers such a line in a session: what is said of the fault, and a newline.
     pub fn line(self) -> &'static str
         ensures { result.now ≡ fault_text self }
     {
@@ -42,12 +46,6 @@ impl LineFault {
             LineFault::Name => "bad name\n",
             LineFault::Number => "bad number\n",
         }
-    }
-}
-
-impl fmt::Display for LineFault {
-    fn fmt<W: fmt::Write>(&self, f: &mut fmt::Formatter<W>) -> fmt::Result {
-        f.write_str(self.line().trim_end())
     }
 }
 

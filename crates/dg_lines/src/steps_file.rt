@@ -8,11 +8,13 @@ use crate::lines::Lines;
 use dg_game::Step;
 use dg_tokens::Names;
 use std::alloc::Allocator;
+use thiserror::Error;
 
 /// Why a schedule is refused.
-#[derive(Clone, Copy, Debug, PartialEq, Eq)]
+#[derive(Clone, Copy, Debug, PartialEq, Eq, Error)]
 pub enum StepsFault {
     /// The line, counted from 1, is refused.
+    #[error("line {line}: {fault}")]
     Line {
         /// The line, counted from 1.
         line: usize,
@@ -20,6 +22,7 @@ pub enum StepsFault {
         fault: LineFault,
     },
     /// Memory was refused.
+    #[error("out of memory")]
     OutOfMemory,
 }
 

@@ -9,13 +9,16 @@ use dg_game::{Entry, MAX_ENTRIES};
 use once_cell::race::OnceBox;
 use std::alloc::{AllocError, Global};
 use std::marker::Model;
+use thiserror::Error;
 
 /// Why there is no row of cells.
-#[derive(Clone, Copy, Debug, PartialEq, Eq)]
+#[derive(Clone, Copy, Debug, PartialEq, Eq, Error)]
 pub enum LogFault {
     /// It would have no cell, or more than 65,536.
+    #[error("number of cells")]
     Capacity,
     /// There is not enough memory.
+    #[error("out of memory")]
     OutOfMemory,
 }
 

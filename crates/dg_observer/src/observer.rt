@@ -8,11 +8,13 @@ use dg_game::{Entry, MAX_ENTRIES};
 use dg_log::{Log, Name, Receipt};
 use std::alloc::{AllocError, Global};
 use std::marker::Model;
+use thiserror::Error;
 
 /// Why an observer reads no further.
-#[derive(Clone, Copy, Debug, PartialEq, Eq)]
+#[derive(Clone, Copy, Debug, PartialEq, Eq, Error)]
 pub enum ObserverFault {
     /// Memory was refused.
+    #[error("out of memory")]
     OutOfMemory,
 }
 

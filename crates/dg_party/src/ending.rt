@@ -1,6 +1,8 @@
 //! What a party comes to, and why there is none.
 use dg_session::SessionEnd;
 use dg_system::Shortage;
+use dg_table::Fault;
+use thiserror::Error;
 
 /// What a party came to.
 #[derive(Drop)]
@@ -12,10 +14,12 @@ pub struct Played {
 }
 
 /// Why there is no party.
-#[derive(Clone, Copy, Debug, PartialEq, Eq)]
+#[derive(Clone, Copy, Debug, PartialEq, Eq, Error)]
 pub enum PartyRefusal {
     /// There is not enough memory, or a thread could not be started.
+    #[error(transparent)]
     Shortage(Shortage),
     /// The table was not closed.
+    #[error("{}", Fault::Log)]
     Log,
 }

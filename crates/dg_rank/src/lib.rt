@@ -15,6 +15,7 @@ mod reduced_trials;
 mod workers;
 
 pub use counting::{MAX_DEGREE, MAX_TRIALS, trial, trials};
+pub use dg_verdict::RankVerdict;
 pub use duals::has_rank;
 pub use numbers::{both_ranks, both_ranks_in_limits, rank};
 pub use rank_fault::RankFault;

@@ -17,22 +17,28 @@ use dg_game::{
     BLANK, Command, Entry, Finding, Game, LookData, MAX_ENTRIES, MAX_SEATS, Plain, Question, Step,
     judge_look_with_inverse, renew_inverse,
 };
-use dg_rank::trials;
+use dg_rank::{RankFault, trials};
 use dg_reduce::InverseLaplacian;
 use std::alloc::Allocator;
+use thiserror::Error;
 
-/// Why a schedule is not played. Steps are numbered from 0.
-#[derive(Clone, Copy, Debug, PartialEq, Eq)]
+/// Why a schedule is not played. Steps are numbered from 0; the texts count them from 1.
+#[derive(Clone, Copy, Debug, PartialEq, Eq, Error)]
 pub enum RehearseFault {
     /// The step's seat is not 1 to 64.
+    #[error("step {}: seat", .0.saturating_add(1))]
     Seat(usize),
     /// The history has no room for the step.
+    #[error("step {}: full", .0.saturating_add(1))]
     Full(usize),
     /// The step wants a look, and its seat keeps none.
+    #[error("step {}: no look", .0.saturating_add(1))]
     NoLook(usize),
     /// The step is a rank test of a degree above 1,000, or with more than 200,000 trials.
+    #[error("step {}: {}", .0.saturating_add(1), RankFault::TooMany)]
     TooMany(usize),
     /// There is not enough memory.
+    #[error("out of memory")]
     OutOfMemory,
 }
 

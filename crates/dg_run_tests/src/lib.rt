@@ -23,4 +23,6 @@ mod table_tests;
 #[cfg(test)]
 mod tables;
 #[cfg(test)]
+mod texts;
+#[cfg(test)]
 mod written;

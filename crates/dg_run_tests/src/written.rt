@@ -6,16 +6,21 @@ use dg_file::Names;
 use dg_game::{Refusal, Reply};
 use dg_graph::Graph;
 use dg_lines::reply_text;
+use dg_tokens::is_name;
 use dg_verdict::{RankVerdict, Verdict};
 use std::alloc::Global;
 use std::process::Abort;
 use std::test::Fail;
 
 // Refusals, and how they are written.
-static REFUSALS: [(Refusal, &str); 3] = [
+static REFUSALS: [(Refusal, &str); 7] = [
     (Refusal::NoVertex, "refused vertex"),
     (Refusal::Empty, "refused empty"),
     (Refusal::Script, "refused script"),
+    (Refusal::Gift, "refused gift"),
+    (Refusal::Range, "refused range"),
+    (Refusal::Loop, "refused loop"),
+    (Refusal::Valence, "refused valence"),
 ];
 
 #[test]
@@ -23,12 +28,14 @@ fn replies_are_written(rt: HostRuntime) -> Result<(), Fail> {
     let alloc = rt.alloc();
     let mut names = Names::new(alloc);
     for name in ["a", "b", "c"] {
-        if names.len() < 16 {
+        if is_name(name.as_bytes()) && names.len() < 16 {
             names.add(alloc, name)?;
         }
     }
     for (refusal, want) in &REFUSALS {
         is_written(&rt, alloc, &names, &Reply::Refused(*refusal), want)?;
+        let said = format!(in alloc; "{refusal}")?;
+        assert!(&rt; said.as_str() == *want, "at {want}");
     }
     large_numbers_are_written(&rt, alloc, &names)
 }

@@ -7,7 +7,7 @@ use dg_invocation::ArgsFault;
 use dg_session::SessionEnd;
 use dg_sweep::SweepEnd;
 use dg_system::{Shortage, SourceFault, WriteFailed};
-use dg_tasks::{TaskFault, call_text};
+use dg_tasks::TaskFault;
 use std::io::{self, Write};
 use thiserror::Error;
 
@@ -24,10 +24,10 @@ pub enum Fault {
     #[error(transparent)]
     Shortage(Shortage),
     /// The session ended before its input did.
-    #[error("{}", end_text(*.0))]
+    #[error(transparent)]
     Session(SessionEnd),
     /// Sessions of a party ended before their scripts did, of the seats that are named, in order.
-    #[error("{}", end_text(*.least))]
+    #[error("{least}")]
     Sessions {
         /// How that of the least such seat ended.
         least: SessionEnd,
@@ -35,16 +35,16 @@ pub enum Fault {
         all: Vec<(usize, SessionEnd)>,
     },
     /// A sweep ended before its input did.
-    #[error("{}", sweep_end_text(*.0))]
+    #[error(transparent)]
     Sweep(SweepEnd),
     /// A party has more than 64 scripts.
     #[error("too many seats")]
     Seats,
     /// The table was not closed.
-    #[error("history cell refused")]
+    #[error("{}", dg_table::Fault::Log)]
     History,
     /// The output takes no more bytes.
-    #[error("write fault")]
+    #[error("{}", WriteFailed)]
     Write,
 }
 
@@ -127,28 +127,6 @@ fn status_of_table(fault: dg_table::Fault) -> u8
     }
 }
 
-/// What is said of a session that ends so.
-fn end_text(end: SessionEnd) -> &'static str {
-    match end {
-        SessionEnd::Read => "read fault",
-        SessionEnd::Write => "write fault",
-        SessionEnd::LongLine => "long line",
-        SessionEnd::Turns => "too many lines",
-        SessionEnd::Table(fault) => call_text(fault),
-        SessionEnd::Memory => Shortage::OutOfMemory.text(),
-        SessionEnd::Spawn => Shortage::Spawn.text(),
-    }
-}
-
-/// What is said of a sweep that ends so.
-fn sweep_end_text(end: SweepEnd) -> &'static str {
-    match end {
-        SweepEnd::Read => "read fault",
-        SweepEnd::Write => "write fault",
-        SweepEnd::Shortage(shortage) => shortage.text(),
-    }
-}
-
 /// Writes what is said of a fault, and gives the exit status. That is one line, but after a refused command line as many
 /// as it takes, and for sessions of a party one for each. If they cannot be written the status is the same.
 pub fn report<F: Write>(fault: &Fault, faults: &mut F) -> u8
@@ -166,7 +144,7 @@ pub fn report<F: Write>(fault: &Fault, faults: &mut F) -> u8
 /// Writes a line for each session, with its seat and how it ended.
 fn report_seats<F: Write>(all: &[(usize, SessionEnd)], faults: &mut F) -> io::Result<()> {
     for (seat, end) in all {
-        writeln!(faults, "dollar: seat {seat}: {}", end_text(*end))?;
+        writeln!(faults, "dollar: seat {seat}: {end}")?;
     }
     Ok(())
 }

@@ -5,9 +5,11 @@ mod fault;
 mod parties;
 mod program;
 mod running;
-mod sessions;
+mod serving;
 mod sweeps;
 
+pub use dg_party::{PartyFault, sessions};
+pub use dg_system::{SourceFault, Sources};
 pub use fault::{Fault, report, status_of};
 pub use program::perform;
 pub use running::run;

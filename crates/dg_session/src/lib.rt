@@ -10,6 +10,7 @@ mod serving;
 mod speaking;
 mod taking;
 
+pub use dg_lines::{LineFault, parse_line, parse_step, reply_text};
 pub use ends::{MAX_LINE, MAX_LINES, READ_SIZE, SessionEnd};
 pub use laws::streams_are_cut_in_one_way;
 pub use line_format::LineFormat;

@@ -1,5 +1,4 @@
--- What is known of files and streams, and what the machine may lack.
-pub mod Shortages
+-- What is known of files and streams.
 pub mod Held
 pub mod AllHeld
 pub mod Streams

@@ -6,6 +6,7 @@ ghost use Rattle.dg_system.specs.Growth.{AppendsFront};
 use crate::retry::{retry_flush, retry_write};
 use std::io::Write;
 use std::marker::Model;
+use thiserror::Error;
 
 /// A writer, which remembers whether a write to it failed.
 #[derive(Drop)]
@@ -24,7 +25,8 @@ impl<O: Write> Model for Output<O> {
 }
 
 /// That a writer failed, or took no byte.
-#[derive(Clone, Copy)]
+#[derive(Clone, Copy, Debug, PartialEq, Eq, Error)]
+#[error("write fault")]
 pub struct WriteFailed;
 
 impl<O: Write> Output<O> {

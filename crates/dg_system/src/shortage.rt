@@ -1,30 +1,17 @@
 //! What the system may lack.
-ghost use Rattle.std.specs.Prelude.{◌≡◌};
-ghost use Rattle.dg_system.specs.Shortages.{shortage_text};
 
 use std::alloc::AllocError;
-use std::error::Error;
-use std::fmt;
+use thiserror::Error;
 
 /// What the system lacked: memory, or a thread.
-#[derive(Clone, Copy, Debug, PartialEq, Eq)]
+#[derive(Clone, Copy, Debug, PartialEq, Eq, Error)]
 pub enum Shortage {
     /// There is not enough memory.
+    #[error("out of memory")]
     OutOfMemory,
     /// A thread could not be started.
+    #[error("no thread")]
     Spawn,
-}
-
-impl Shortage {
-    /// What is said of it.
-    pub fn text(self) -> &'static str
-        ensures { result.now ≡ shortage_text self }
-    {
-        match self {
-            Shortage::OutOfMemory => "out of memory",
-            Shortage::Spawn => "no thread",
-        }
-    }
 }
 
 impl From<AllocError> for Shortage {
@@ -37,11 +24,3 @@ impl From<AllocError> for Shortage {
         Shortage::OutOfMemory
     }
 }
-
-impl fmt::Display for Shortage {
-    fn fmt<W: fmt::Write>(&self, f: &mut fmt::Formatter<W>) -> fmt::Result {
-        f.write_str(self.text())
-    }
-}
-
-impl Error for Shortage {}

@@ -4,6 +4,7 @@ ghost use Rattle.dg_system.specs.Held.{Held, MayHold, RefusesHeld, held_among, h
 ghost use Rattle.dg_system.specs.Streams.{MayGive, RefusesStream, stream_remaining};
 ghost use Rattle.std.specs.Option.{option_copied};
 
+use crate::shortage::Shortage;
 use crate::stream::Stream;
 use std::alloc::Global;
 use std::fs;
@@ -24,7 +25,7 @@ pub enum SourceFault {
     #[error("file too long")]
     TooLong,
     /// There is not enough memory.
-    #[error("out of memory")]
+    #[error("{}", Shortage::OutOfMemory)]
     OutOfMemory,
 }
 

@@ -23,7 +23,9 @@ use dg_graph::Graph;
 use dg_log::{Log, Name, Receipt, Row};
 use dg_reduce::InverseLaplacian;
 use std::alloc::Global;
+use std::fmt;
 use std::sync::{Mutex, Wait};
+use thiserror::Error;
 
 /// The table N: one game, that seats call from any thread, and the history of their calls.
 #[derive(Drop)]
@@ -36,7 +38,8 @@ pub struct Table<N: Name> {
 }
 
 /// Why a table is not closed. It goes on, and all comes back.
-#[derive(Drop)]
+#[derive(Drop, Error)]
+#[error("the table is not closed (missing seat: {missing}, 0 for none)")]
 pub struct CloseFault<N: Name> {
     /// The least seat that was not handed in, or 0 if all were. Then one of them is not admitted by the history under the
     /// lock, which only `Held::missing` can say, since that history has no name here.
@@ -45,6 +48,12 @@ pub struct CloseFault<N: Name> {
     pub table: Table<N>,
     /// The seats that were handed in.
     pub seats: Vec<Seat<N>>,
+}
+
+impl<N: Name> fmt::Debug for CloseFault<N> {
+    fn fmt<W: fmt::Write>(&self, f: &mut fmt::Formatter<W>) -> fmt::Result {
+        write!(f, "CloseFault {{ missing: {} }}", self.missing)
+    }
 }
 
 impl<N: Name> Table<N> {

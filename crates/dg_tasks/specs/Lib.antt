@@ -1,9 +1,7 @@
--- What a rehearsal, a judgement, a rank test and a greedy game print, and when they are refused;
--- what is said of a refused call.
+-- What a rehearsal, a judgement, a rank test and a greedy game print, and when they are refused.
 pub mod Rehearsals
 pub mod Judgements
 pub mod RankTests
 pub mod Games
 pub mod Refusals
 pub mod Tasks
-pub mod CallTexts

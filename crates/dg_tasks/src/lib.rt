@@ -9,7 +9,7 @@ mod rehearsing;
 mod table_source;
 mod tasks;
 
-pub use fault::{TaskFault, call_text};
+pub use fault::TaskFault;
 pub use printed::judgement;
 pub use ranks::{rank_answer, riemann_roch};
 pub use rehearsing::rehearsal;
