@@ -6,6 +6,7 @@ mod counting;
 mod duals;
 mod enumeration;
 mod first_loss;
+mod laws;
 mod numbers;
 mod partial;
 mod pieces;
@@ -16,6 +17,7 @@ mod workers;
 
 pub use counting::{MAX_DEGREE, MAX_TRIALS, trial, trials};
 pub use duals::has_rank;
+pub use laws::ranks_are_told_by_tests;
 pub use numbers::{both_ranks, both_ranks_in_limits, rank};
 pub use rank_fault::RankFault;
 pub use ranks::rank_at_least;
