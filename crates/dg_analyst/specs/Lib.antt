@@ -1,2 +1,3 @@
 -- Looks, and what is reckoned on them.
 pub mod Views
+pub mod Commits

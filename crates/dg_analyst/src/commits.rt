@@ -1,10 +1,10 @@
 //! Entering what was reckoned on a look.
 ghost use Rattle.std.specs.Prelude.{◌≡◌, length, IfOk, IfErr, MatchOption};
 ghost use Rattle.dg_verdict.specs.declared.verdict.Verdict.{Verdict as VerdictData};
-ghost use Rattle.dg_analyst.specs.Views.{IsJudged};
-ghost use Rattle.dg_table.specs.Faults.{RefusesCall};
+ghost use Rattle.dg_analyst.specs.Commits.{IsReckoned, IsCommitted, IsRankCommitted, RefusesCommit};
+ghost use Rattle.dg_analyst.specs.Views.{Found};
 ghost use Rattle.dg_table.specs.Seats.{Keeps};
-ghost use Rattle.dg_table.specs.Settled.{IsSettled, IsStale};
+ghost use Rattle.dg_table.specs.Settled.{IsStale};
 
 use crate::looks::Look;
 use crate::reckoning::{Reckoned, Tried};
@@ -31,10 +31,9 @@ pub fn commit<N: Name>(
     reckoned: Reckoned<N>,
 ) -> Result<Receipt<N>, (Reckoned<N>, Fault)>
     ensures settled { IfOk result
-        (λ r. IsSettled N.table reckoned.look.receipt
-        (Finding.Judged reckoned.verdict) r seat.old seat.new) }
-    ensures fault { IfErr result (λ e. (e.0 ≡ reckoned) × Keeps seat.old seat.new ×
-        RefusesCall N.table seat.new e.1) }
+        (λ r. IsCommitted N.table reckoned r seat.old seat.new) }
+    ensures fault { IfErr result
+        (λ e. (e.0 ≡ reckoned) × RefusesCommit N.table seat.old seat.new e.1) }
 {
     let finding = Finding::Judged(reckoned.verdict);
     let look = &reckoned.look;
@@ -45,8 +44,9 @@ pub fn commit<N: Name>(
 }
 
 /// Enters a question on a look as stale, as `commit` and `commit_rank` enter what was reckoned for it, if gifts, levies or joins
-/// were accepted since the look; so nothing need be reckoned on a look that is stale. `None`, and no entry, if none was. The
-/// look stays the caller's; the seat is told of it, and need not be the one that looked.
+/// were accepted since the look; so nothing need be reckoned on a look that is stale. `None` if none was; that is no event: no
+/// cell is set, and the seat knows what it knew. The look stays the caller's; the seat is told of it if there is an entry, and
+/// need not be the one that looked.
 ///
 /// It waits for the lock, twice if it makes an entry. Refused as `commit`; then the seat knows what it knew, and there is no
 /// entry.
@@ -61,14 +61,13 @@ pub fn commit_stale<N: Name>(
     ensures settled { IfOk result (λ found. MatchOption found
         (Keeps seat.old seat.new × (seat.new.met ≡ seat.old.met))
         (λ r. IsStale N.table look.now.receipt asks.now r seat.old seat.new)) }
-    ensures fault { IfErr result (λ f. Keeps seat.old seat.new ×
-        RefusesCall N.table seat.new f) }
+    ensures fault { IfErr result (RefusesCommit N.table seat.old seat.new) }
 {
     table.settle_stale(rt, alloc, seat, &look.receipt, &look.shown, asks)
 }
 
-/// Computes the verdict on a look and enters it, as `reckon_with_inverse` and `commit` do one after the other. The inverse is
-/// first made anew unless it may serve. The look stays the caller's.
+/// Computes the verdict on a look and enters it, as `reckon` and `commit` do one after the other. The inverse is first made
+/// anew unless it may serve; no verdict depends on it. The look stays the caller's.
 ///
 /// It waits and is refused as `commit`; then the seat knows what it knew, and there is no entry.
 pub fn commit_look<N: Name>(
@@ -79,11 +78,9 @@ pub fn commit_look<N: Name>(
     look: &Look<N>,
     inverse: &mut InverseLaplacian,
 ) -> Result<Receipt<N>, Fault>
-    ensures settled { (v : VerdictData) × IsJudged N.table.start.q look.now v ×
-        IfOk result (λ r. IsSettled N.table look.now.receipt
-        (Finding.Judged v) r seat.old seat.new) }
-    ensures fault { IfErr result (λ f. Keeps seat.old seat.new ×
-        RefusesCall N.table seat.new f) }
+    ensures settled { (found : Found VerdictData) × IsReckoned N.table.start.q look.now found ×
+        IfOk result (λ r. IsCommitted N.table found r seat.old seat.new) }
+    ensures fault { IfErr result (RefusesCommit N.table seat.old seat.new) }
 {
     let shown = &look.shown;
     let q = usize::from(look.q);
@@ -106,10 +103,9 @@ pub fn commit_rank<N: Name>(
     tried: Tried<N>,
 ) -> Result<Receipt<N>, (Tried<N>, Fault)>
     ensures settled { IfOk result
-        (λ r. IsSettled N.table tried.look.receipt
-        (Finding.Ranked tried.verdict) r seat.old seat.new) }
-    ensures fault { IfErr result (λ e. (e.0 ≡ tried) × Keeps seat.old seat.new ×
-        RefusesCall N.table seat.new e.1) }
+        (λ r. IsRankCommitted N.table tried r seat.old seat.new) }
+    ensures fault { IfErr result
+        (λ e. (e.0 ≡ tried) × RefusesCommit N.table seat.old seat.new e.1) }
 {
     let finding = Finding::Ranked(tried.verdict);
     let look = &tried.look;

@@ -2,11 +2,13 @@
 #![tactic(auto)]
 
 mod commits;
+mod laws;
 mod looking;
 mod looks;
 mod reckoning;
 
 pub use commits::{commit, commit_look, commit_rank, commit_stale};
+pub use laws::stale_looks_are_committed;
 pub use looking::look;
 pub use looks::Look;
 pub use reckoning::{Reckoned, Tried, reckon, reckon_with_inverse, try_rank};

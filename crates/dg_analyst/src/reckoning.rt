@@ -1,6 +1,7 @@
 //! What is reckoned on looks, with no table at hand.
 ghost use Rattle.std.specs.Prelude.{◌≡◌, MatchResult};
-ghost use Rattle.dg_analyst.specs.Views.{IsJudged, IsTried};
+ghost use Rattle.dg_analyst.specs.Commits.{IsReckoned};
+ghost use Rattle.dg_analyst.specs.Views.{IsTried};
 ghost use Rattle.dg_rank.specs.Ranks.{IsRankFault};
 ghost use Rattle.dg_game.specs.Look.{IsFoundFor};
 
@@ -91,8 +92,7 @@ impl<N: Name> Tried<N> {
 /// The verdict on the amounts that a look showed, on its graph, reckoned from the vertex of the start. It takes no lock,
 /// and needs no memory.
 pub fn reckon<N: Name>(look: Look<N>) -> Reckoned<N>
-    ensures look { result.look ≡ look }
-    ensures judged { IsJudged N.table.start.q look result.verdict }
+    ensures { IsReckoned N.table.start.q look result }
 {
     let inverse = InverseLaplacian::new(&look.shown.graph, usize::from(look.q));
     reckon_with_inverse(look, &inverse)
@@ -101,8 +101,7 @@ pub fn reckon<N: Name>(look: Look<N>) -> Reckoned<N>
 /// The verdict as `reckon` gives it, whatever inverse it is given: that of the look's table saves the time to make one anew,
 /// if no edge was added before the look.
 pub fn reckon_with_inverse<N: Name>(look: Look<N>, inverse: &InverseLaplacian) -> Reckoned<N>
-    ensures look { result.look ≡ look }
-    ensures judged { IsJudged N.table.start.q look result.verdict }
+    ensures { IsReckoned N.table.start.q look result }
 {
     let q = usize::from(look.q);
     let verdict = judge_with_inverse(&look.shown.graph, inverse, q, &look.shown.position);

@@ -2,11 +2,13 @@
 --   limits_count   within the limits there are as many as the numbering gives
 --   limits_trial   within the limits a number below that of all trials is the number of one
 --   past_above     past the limits of a degree are all above it
+--   past_within    no rank test is past the limits and within them
 --   some_trial     on one place or more there is some trial of each degree
 use Rattle.std.proofs.Common.{◌≡◌, ℕ, ◌<◌, ◌≤◌, inl, inr, arith}
 use Rattle.dg_rank.specs.declared.counting.TheConstants.{MAX_TRIALS}
 use Rattle.dg_rank.specs.Trials.{IsTrial, AreCounted, AnyTrial}
 use Rattle.dg_rank.specs.Limits.{IsWithinLimits, IsPastLimits}
+use Rattle.dg_rank.specs.Ranks.{IsWithin}
 use Rattle.dg_rank.specs.Numbering.{trial_count, nth_trial}
 use Rattle.dg_rank.proofs.Numbering.{numbered}
 use Rattle.dg_rank.proofs.CountedOnce.{counted_once}
@@ -35,3 +37,10 @@ past_above n j k some less (inl none) = inl none
 past_above n j k some less (inr (inl much)) = inr (inl much)
 past_above n j k some less (inr (inr (inl high))) = inr (inr (inl (omega arith)))
 past_above n j k some less (inr (inr (inr many))) = inr (inr (inr (more_trials n j k some less many)))
+
+pub past_within : (n k : ℕ) → IsPastLimits n k → IsWithin n k → ⊥
+past_within n k (inl none) (c, within) = omega (arith, none, within.some)
+past_within n k (inr (inl many)) (c, within) = omega (arith, many, within.few)
+past_within n k (inr (inr (inl large))) (c, within) = omega (arith, large, within.small)
+past_within n k (inr (inr (inr (d, more, counted)))) (c, within) =
+    omega (arith, more, within.limit, counted_once n k AnyTrial d c counted within.counted)

@@ -25,3 +25,4 @@ pub mod ReducedTrials
 pub mod DualTests
 pub mod TestDegrees
 pub mod RankByTests
+pub mod Ladder

@@ -3,6 +3,7 @@ pub mod Trials
 pub mod Limits
 pub mod Divisors
 pub mod Ranks
+pub mod Ladders
 -- Words of private functions: how trials are numbered, and what the search for a loss finds.
 pub mod Numbering
 pub mod Moves

@@ -43,8 +43,8 @@ pub fn both_ranks(graph: &Graph, q: usize, divisor: &Divisor) -> Option<(i64, i6
     Some((rank, rank - ranks_apart(graph, divisor)))
 }
 
-/// The rank of a divisor and that of its dual. `None` if a test past the limits would be needed, of the one or of the
-/// other, were each found by tests of its own.
+/// The rank of a divisor and that of its dual, as `rank_at_least` tells them for the degrees 0, 1, 2 and so on. `None` if a test
+/// past the limits would be needed, of the one or of the other, were each found by tests of its own.
 pub fn both_ranks_in_limits(graph: &Graph, q: usize, divisor: &Divisor) -> Option<(i64, i64)>
     requires size { divisor.now.size ≡ graph.now.size }
     requires vertex { q < graph.now.size }

@@ -1,14 +1,14 @@
 //! Rank tests.
-ghost use Rattle.std.specs.Prelude.{◌≡◌, ℕ, ◌<◌, ◌≤◌, ⊤, MatchOption, MatchResult};
+ghost use Rattle.std.specs.Prelude.{◌≡◌, ℕ, ◌<◌, ◌≤◌, ⊤, MatchOption};
 ghost use Rattle.dg_theory.specs.Multigraph.{Multigraph};
 ghost use Rattle.dg_theory.specs.Firing.{Amounts, AreEquivalent};
 ghost use Rattle.dg_chips.specs.Vector.{at};
-ghost use Rattle.dg_rank.specs.Limits.{IsPastLimits, IsWithinLimits};
+ghost use Rattle.dg_rank.specs.Limits.{IsWithinLimits};
 ghost use Rattle.dg_rank.specs.Trials.{IsTrial};
 ghost use Rattle.dg_rank.specs.Losses.{AreSmall, AllWin, IsFirstLossIn};
 ghost use Rattle.dg_verdict.specs.RankTests.{IsRankTest};
+ghost use Rattle.dg_rank.specs.Ladders.{AnswersRankTest};
 ghost use Rattle.dg_rank.specs.Ranks.{IsWithin, IsUnsettled};
-ghost use Rattle.dg_rank.specs.declared.rank_fault.RankFault.TheVariants.{TooMany};
 
 use crate::counting::trials;
 use crate::duals::{degree_left, loss_after, told_before};
@@ -32,9 +32,7 @@ pub fn rank_at_least(
 ) -> Result<RankVerdict, RankFault>
     requires size { divisor.now.size ≡ graph.now.size }
     requires vertex { q < graph.now.size }
-    ensures { MatchResult result
-        (λ x. IsWithin graph.now.size k × IsRankTest graph.now (at divisor.now) k x)
-        (λ e. (e ≡ TooMany) × IsPastLimits graph.now.size k) }
+    ensures { AnswersRankTest graph.now (at divisor.now) k result }
 {
     let size = graph.size();
     let Some(count) = trials(size, k) else {

@@ -17,7 +17,7 @@ use Rattle.std.proofs.Common.{◌≡◌, ◌≢◌, ℕ, inl, inr, List, [], ◌
 use Rattle.dg_chips.specs.Starts.{StartData}
 use Rattle.dg_rank.specs.Ranks.{IsWithin}
 use Rattle.dg_rank.specs.Limits.{IsPastLimits}
-use Rattle.dg_rank.proofs.CountedOnce.{counted_once}
+use Rattle.dg_rank.proofs.Counts.{past_within}
 use Rattle.dg_verdict.specs.declared.rank_verdict.RankVerdict.{RankVerdict}
 use Rattle.dg_verdict.specs.declared.rank_verdict.RankVerdict.TheVariants.{AtLeast, Below}
 use Rattle.dg_game.specs.Look.{degree_of, asked_for, asked_on}
@@ -129,18 +129,6 @@ rank_made {table} {look} {found} {k} {w} {v} {r} {x} {y} same tried settled =
 pub rank_within : {o : StartData} {look : LookView} {k : ℕ} → IsTaken o look → IsWithin look.shown.graph.size k
     → IsWithin o.graph.size k
 rank_within {k = k} taken within = subst (λ n. IsWithin n k) taken.vertices.0 within
-
-past_within : (n k : ℕ) → IsPastLimits n k → IsWithin n k → ⊥
-past_within n k prefix (c, within) = elim prefix [
-  | inl none ↦ omega (arith, none, within.some)
-  | inr more ↦ elim more [
-    | inl many ↦ omega (arith, many, within.few)
-    | inr last ↦ elim last [
-      | inl large ↦ omega (arith, large, within.small)
-      | inr counted ↦ omega (arith, counted.1, within.limit, counted_once n k _ counted.0 c counted.2 within.counted)
-    ]
-  ]
-]
 
 pub rank_past : {o : StartData} {look : LookView} {k : ℕ} → IsTaken o look → IsPastLimits look.shown.graph.size k
     → IsWithin o.graph.size k → ⊥

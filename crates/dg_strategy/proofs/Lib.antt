@@ -2,3 +2,5 @@
 pub mod Gained
 pub mod Turned
 pub mod Greedily
+pub mod SettledGreedily
+pub mod OneGame

@@ -1,4 +1,5 @@
 -- What a move or a claim of a strategy comes to.
+--   move_answered    a move that can be made is refused for the range alone, and counts no gift
 --   claim_won        a claim where nobody is in debt is won
 --   settler_moves    a settler's moves can be made
 --   strategy_turn    a turn by a choice whose moves can be made
@@ -28,8 +29,7 @@ use Rattle.dg_strategy.specs.Choices.{Choosing, GivesMoves, SettlesDebts, Borrow
 use Rattle.dg_strategy.specs.Plays.{IsTurnBy, IsMove, IsMadeOrPastRange, IsStrategyTurn, IsSettlerTurn}
 use Rattle.dg_log.specs.Tables.{TableData}
 
--- a move that can be made is refused for the range alone
-move_answered : (p : Position) (m : Move) (reply : Reply) → IsPlayable p.graph.size m → RepliesToMove p m reply →
+pub move_answered : (p : Position) (m : Move) (reply : Reply) → IsPlayable p.graph.size m → RepliesToMove p m reply →
     IsMadeOrPastRange reply × (gift_counted reply ≡ 0)
 move_answered p m (Moved d) playable replies = (tt, refl)
 move_answered p (Lend v) (Refused NoVertex) playable replies = absurd (omega (arith, playable, replies))

@@ -2,3 +2,4 @@
 pub mod Choices
 pub mod Plays
 pub mod Greedy
+pub mod GreedyLaws

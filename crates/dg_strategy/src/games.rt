@@ -14,7 +14,8 @@ use dg_chips::Move;
 use dg_game::{Entry, Game, Plain};
 
 /// Plays the next turn of a greedy game, and writes its entry: seat 1 lets the least vertex in debt borrow, or claims if nobody
-/// is in debt. The answer is whether it claims; the claim is won. The condition is that the history has room for one more entry.
+/// is in debt. The answer is whether it claims; the claim is won. So turns make what `settle_out` makes of the greedy settler,
+/// for the one seat of a new table. The condition is that the history has room for one more entry.
 pub fn greedy_turn(game: &mut Game, entry: &mut Entry) -> bool
     requires { game.old.entries < MAX_ENTRIES }
     ensures turn { (o : StartData) (H : List EntryData) → LeadsTo o H game.old → IsGreedyTurn o H entry.new result }

@@ -3,6 +3,7 @@
 
 mod choice;
 mod games;
+mod laws;
 mod least_debtor;
 mod playing;
 mod settler;
@@ -10,6 +11,7 @@ mod strategy;
 
 pub use choice::Choose;
 pub use games::greedy_turn;
+pub use laws::greedy_is_settling_out;
 pub use least_debtor::{LeastDebtor, greedy_settler};
 pub use playing::{Ended, play, settle_out};
 pub use settler::Settler;

@@ -7,9 +7,9 @@ returns-in_default g c = with_none c.in_default.is c.in_default.is (refl, refl, 
 
 pub returns-in-Ok : goal.returns-in-Ok
 returns-in-Ok g c =
-    let (verdict, judged, settled) = c.in-Ok.ensures.settled in
+    let (found, reckoned, committed) = c.in-Ok.ensures.settled in
     with_look c.in-Some.is
-    (entered (settled_made settled)
+    (entered (settled_made (rw reckoned.look at committed))
     (λ made after text enters. enters) (any_ok _ refl) c.say_entry.ensures)
 
 pub returns-in-Err : goal.returns-in-Err

@@ -21,8 +21,8 @@ pub returns-in-Err : goal.returns-in-Err
 returns-in-Err g c =
     let (same, tried) = c.in-Ok.ensures in
     with_look (sym c.take.ensures.value ∙ c.in-Some.is)
-    (call_refused (rank_within c.receipt-receipt.ensures.taken tried.within) c.in-Err.ensures.fault.1
-    c.in-Err.ensures.fault.2 refl)
+    (call_refused (rank_within c.receipt-receipt.ensures.taken tried.within) c.in-Err.ensures.fault.1.0
+    c.in-Err.ensures.fault.1.1 refl)
 
 pub returns-in-Ok-say : goal.returns-in-Ok-say
 returns-in-Ok-say g c =

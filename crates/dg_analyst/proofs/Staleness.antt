@@ -1,0 +1,44 @@
+-- What is entered on a look that is stale.
+--   settled_stale   a question on it is so entered as each finding that is asked for alike
+--   stale_is_committed, stale_rank_is_committed   as each verdict, and as each answer of the rank test
+use Rattle.std.proofs.Common.{◌≡◌, ℕ, ◌∷◌, [], ◌++◌, refl, sym, subst}
+use Rattle.dg_game.specs.History.{gifts_in}
+use Rattle.dg_game.specs.Look.{asked_for, asked_on, degree_of, KeepsFinding}
+use Rattle.dg_game.specs.declared.entry.Entry.{Entry}
+use Rattle.dg_game.specs.declared.entry.Reply.TheVariants.{Stale}
+use Rattle.dg_game.specs.declared.entry.Request.{Request}
+use Rattle.dg_game.specs.declared.finding.Finding.{Finding}
+use Rattle.dg_game.specs.declared.finding.Finding.TheVariants.{Judged, Ranked}
+use Rattle.dg_game.specs.declared.finding.Question.{Question}
+use Rattle.dg_game.specs.declared.finding.Question.TheVariants.{Judge, Rank}
+use Rattle.dg_log.specs.Tables.{TableData}
+use Rattle.dg_table.specs.Answered.{entering, IsEnteredAfter}
+use Rattle.dg_table.specs.Seats.{SeatView}
+use Rattle.dg_table.specs.Settled.{IsSettled, IsStale}
+use Rattle.dg_analyst.specs.Commits.{StaleIsCommitted, StaleRankIsCommitted}
+
+-- a stale entry keeps nothing of what was found
+keeps_nothing : (f : Finding) (n : ℕ) → KeepsFinding f (Stale n)
+keeps_nothing (Judged v) n = tt
+keeps_nothing (Ranked v) n = tt
+
+settled_stale : (table : TableData) (look : ℕ × Entry) (asks : Question) (f : Finding) (r : ℕ × Entry) (x y : SeatView) →
+    asked_on look.0 asks ≡ asked_for look.0 f → IsStale table look asks r x y → IsSettled table look f r x y
+settled_stale table look asks f r x y same (H, stale) = (
+  H,
+  record {
+    entered = subst (λ (q : Request). IsEnteredAfter table q (x.told ++ look ∷ []) (entering H r x y)) same stale.entered;
+    stands = stale.stands;
+    kept = subst (KeepsFinding f) (sym stale.stale) (keeps_nothing f (gifts_in H));
+    stale = (λ since. stale.stale, λ reply. stale.since);
+    carried = λ none. absurd (stale.since none);
+  },
+)
+
+pub stale_is_committed : StaleIsCommitted
+stale_is_committed table found r x y stale =
+    settled_stale table found.look.receipt Judge (Judged found.verdict) r x y refl stale
+
+pub stale_rank_is_committed : StaleRankIsCommitted
+stale_rank_is_committed table found r x y stale =
+    settled_stale table found.look.receipt (Rank (degree_of found.verdict)) (Ranked found.verdict) r x y refl stale
