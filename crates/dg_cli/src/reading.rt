@@ -29,6 +29,7 @@ use dg_invocation::{
 };
 use dg_tokens::natural;
 use std::alloc::Global;
+use std::fmt;
 use thiserror::Error;
 
 /// An argument that is a whole number of some range.
@@ -61,7 +62,7 @@ impl NumberArgument {
     }
 
     /// How the usage shows it.
-    pub(crate) fn shown(self) -> &'static str {
+    fn shown(self) -> &'static str {
         match self {
             NumberArgument::Capacity => "--cap <N>",
             NumberArgument::Workers => "--workers <N>",
@@ -72,7 +73,7 @@ impl NumberArgument {
     }
 
     /// The least number that it takes, and the greatest.
-    pub(crate) fn range(self) -> (u64, u64)
+    fn range(self) -> (u64, u64)
         ensures { (result.0 ≡ least self) × (result.1 ≡ most self) }
     {
         match self {
@@ -82,6 +83,18 @@ impl NumberArgument {
             NumberArgument::Degree => (0, u64::from(u32::MAX)),
             NumberArgument::Turns => (0, u64::from(MAX_TURNS)),
         }
+    }
+}
+
+/// How the usage shows it, and the numbers that it takes.
+impl fmt::Display for NumberArgument {
+    fn fmt<W: fmt::Write>(&self, f: &mut fmt::Formatter<W>) -> fmt::Result {
+        let (least, most) = self.range();
+        write!(
+            f,
+            "'{}': a whole number from {least} to {most}",
+            self.shown()
+        )
     }
 }
 
@@ -95,7 +108,7 @@ pub(crate) enum Refusal<'a> {
     #[error("{}", ArgsFault::OutOfMemory)]
     Memory,
     /// The word is no number of the argument.
-    #[error("invalid value '{1}' for '{shown}': a whole number from {least} to {most}", shown = .0.shown(), least = .0.range().0, most = .0.range().1)]
+    #[error("invalid value '{1}' for {0}")]
     Number(NumberArgument, &'a str),
     /// There are workers, but no lines.
     #[error("the following required arguments were not provided:\n  --lines")]

@@ -5,7 +5,7 @@ mod fault;
 mod parties;
 mod program;
 mod running;
-mod serving;
+mod serve;
 mod sweeps;
 
 pub use dg_party::{PartyFault, sessions};

@@ -5,7 +5,7 @@ ghost use Rattle.dg_server.specs.Streams.{IsOfInput, IsOfOutput};
 
 use crate::fault::Fault;
 use crate::parties::play_party;
-use crate::serving::serve_input;
+use crate::serve::serve_input;
 use crate::sweeps::sweep_file;
 use dg_invocation::Invocation;
 use dg_system::{Input, Output, Sources};

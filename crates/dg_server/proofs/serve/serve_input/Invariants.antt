@@ -1,6 +1,6 @@
 use Rattle.std.proofs.Common.{length}
 use Rattle.dg_log.specs.Tables.{table_of}
-use Rattle.dg_server.proofs.serving.serve_input.Given as goal
+use Rattle.dg_server.proofs.serve.serve_input.Given as goal
 
 -- A table is named by its row, its start and its number of seats.
 abbrev pub ghosts-serve_on : goal.ghosts-serve_on

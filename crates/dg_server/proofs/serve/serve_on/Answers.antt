@@ -2,7 +2,7 @@ use Rattle.std.proofs.Common.{rules, sym, subst}
 use Rattle.dg_table.specs.Opened.{AreFresh}
 use Rattle.dg_table.specs.Closing.{IsClosed}
 use Rattle.dg_server.proofs.Serving.{seats_back, served}
-use Rattle.dg_server.proofs.serving.serve_on.Goals as goal
+use Rattle.dg_server.proofs.serve.serve_on.Goals as goal
 
 pub returns-in-Ok-ended-clause-done : goal.returns-in-Ok-ended-clause-done
 returns-in-Ok-ended-clause-done g c = (
