@@ -4,6 +4,7 @@ pub mod Rehearsals
 pub mod Judgements
 pub mod RankTests
 pub mod Games
+pub mod OneText
 pub mod Refusals
 pub mod Tasks
 pub mod CallTexts
