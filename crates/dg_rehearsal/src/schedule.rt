@@ -56,7 +56,8 @@ pub struct Rehearsal {
 }
 
 /// Plays the steps one after another from the start, and gives the history: entry j has the seat and the request of
-/// step j. A commit enters the verdict on the last look of its seat, and uses the look up; so does a rank test.
+/// step j. A commit enters the verdict on the last look of its seat, and uses the look up; so does a rank test. The program
+/// plays its steps by `Rehearsal::play`, too, and keeps no history: what it prints is promised in the same words.
 ///
 /// Refused with `OutOfMemory`, and then step by step with `Seat` if a seat is not 1 to 64, with `Full` for the step
 /// of number 65,536, with `NoLook` if the seat of a commit or of a rank test keeps no look, and with `TooMany` if

@@ -1,3 +1,5 @@
 -- The lemmas that the proofs cite, over plain variables.
 pub mod UnderWay
 pub mod GreedyTurns
+pub mod OneReply
+pub mod OneText

@@ -3,5 +3,6 @@ pub mod Rehearsals
 pub mod Judgements
 pub mod RankTests
 pub mod Games
+pub mod OneText
 pub mod Refusals
 pub mod Tasks

@@ -3,6 +3,7 @@
 
 mod fault;
 mod games;
+mod laws;
 mod printed;
 mod ranks;
 mod rehearsing;
@@ -10,6 +11,7 @@ mod table_source;
 mod tasks;
 
 pub use fault::TaskFault;
+pub use laws::histories_have_one_text;
 pub use printed::judgement;
 pub use ranks::{rank_answer, riemann_roch};
 pub use rehearsing::rehearsal;

@@ -14,7 +14,8 @@ use dg_tokens::Names;
 use std::alloc::Global;
 
 /// The history of a schedule as text: a line for each entry, with its number, from 0 on, and the text of its reply. The
-/// history is the legal one that the steps make from the table's start.
+/// history is the legal one that the steps make from the table's start, as `rehearse` of `dg_rehearsal` does: it promises
+/// `IsRehearsal`, too, and `IsFirstFault` of a step that is refused.
 ///
 /// Refused with `Line` for the first line that spells no step; then for the first step that is refused, with `Full` if
 /// it is the step after 65,536 others, with `NoLook` if it wants a look while its seat keeps none, or with `StepTrials`
