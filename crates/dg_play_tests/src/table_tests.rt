@@ -31,7 +31,7 @@ pub(crate) enum TableTest<'a> {
     NoSeats,
     // Calls are made until the row is full.
     Calls(&'a Calls<'a>),
-    // Ten thousand calls are made, until the row is full.
+    // As many seats as there may be fill the longest history that there may be.
     Filled,
     // Calls are chosen at the position that they find.
     Turns,

@@ -15,6 +15,29 @@ pub(crate) fn amounts(numbers: &[i64]) -> Result<Divisor, Fail> {
     Ok(*triangle(numbers)?.divisor())
 }
 
+// As many vertices as a graph may have, in a row, with no dollar.
+pub(crate) fn path_of_sixteen() -> Result<Start, Fail> {
+    let edges = [
+        (0, 1, 1),
+        (1, 2, 1),
+        (2, 3, 1),
+        (3, 4, 1),
+        (4, 5, 1),
+        (5, 6, 1),
+        (6, 7, 1),
+        (7, 8, 1),
+        (8, 9, 1),
+        (9, 10, 1),
+        (10, 11, 1),
+        (11, 12, 1),
+        (12, 13, 1),
+        (13, 14, 1),
+        (14, 15, 1),
+    ];
+    let graph = Graph::new(16, &edges)?;
+    Ok(Start::new(graph, Divisor::new(&graph, &[0; 16])?, 0)?)
+}
+
 // The Petersen graph.
 pub(crate) fn petersen() -> Result<Graph, Fail> {
     let edges = [

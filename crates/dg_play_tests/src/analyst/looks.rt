@@ -2,7 +2,7 @@
 
 use crate::gates::Counts;
 use crate::table_tests::{TableTest, on_a_table};
-use crate::tables::{triangle, winnable};
+use crate::tables::{path_of_sixteen, triangle, winnable};
 use dg_analyst::{
     Look, Reckoned, Tried, commit, commit_look, commit_rank, commit_stale, look, reckon,
     reckon_with_inverse, try_rank,
@@ -26,6 +26,7 @@ fn findings_are_entered_on_what_is_found(rt: HostRuntime) -> Result<(), Fail> {
     let owing = triangle(&[2, -1, -1])?;
     let rich = triangle(&[1_000_000, 0, 0])?;
     let one = triangle(&[1, 0, 0])?;
+    let long = path_of_sixteen()?;
     let paid = Reply::Verdict(winnable(owing.graph(), &[0, 0, 0], &[0, 0, 0])?);
     let kept = Reply::Verdict(winnable(rich.graph(), &[0, 0, 0], &[1_000_000, 0, 0])?);
     for (start, test) in [
@@ -36,7 +37,7 @@ fn findings_are_entered_on_what_is_found(rt: HostRuntime) -> Result<(), Fail> {
         ),
         (&rich, TableTest::Judged(Plain::Gift(0, 1), kept)),
         (&one, TableTest::Ranked),
-        (&owing, TableTest::TooMuch),
+        (&long, TableTest::TooMuch),
         (&owing, TableTest::Drift),
     ] {
         on_a_table(&rt, rt.alloc(), 6, start, 2, test)?;
@@ -174,7 +175,8 @@ fn tried_by_two<N: Name, R: Threads + Wait + Abort>(
     Ok(tried)
 }
 
-// A rank test past the limits, of which there are 200,028 trials, gives the look back, and a verdict can still be entered on it.
+// On sixteen vertices there are 490,314 ways to lose eight dollars. A rank test with so many trials gives the look back, and a
+// verdict can still be entered on it.
 pub(crate) fn asks_too_much<N: Name, R: Threads + Wait + Abort>(
     rt: &R,
     alloc: Global,
@@ -183,7 +185,7 @@ pub(crate) fn asks_too_much<N: Name, R: Threads + Wait + Abort>(
     second: &mut Seat<N>,
 ) -> Result<(), Fail> {
     let taken = look(table, rt, alloc, first)?;
-    let taken = given_back(rt, taken, 631, 1, RankFault::TooMany)?;
+    let taken = given_back(rt, taken, 8, 1, RankFault::TooMany)?;
     let taken = given_back(rt, taken, 0, 17, RankFault::Workers)?;
     assert!(rt; taken.receipt().number() == 0 && first.calls() == 1);
     let reckoned = reckon_with_inverse(taken, table.inverse());

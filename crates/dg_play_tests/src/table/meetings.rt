@@ -68,6 +68,9 @@ fn many_seats_make_one_history(rt: HostRuntime) -> Result<(), Fail> {
     let analyst = (Player::Analyses, 500, 1_000);
     let lender = (Player::Lends(1), 1_000, 1_000);
     let joiner = (Player::Joins(0, 2), 1, 1);
+    let strategist = (Player::LendsFirst, 500, 500);
+    let opponent = (Player::BorrowsFirst, 500, 500);
+    let bystander = (Player::Analyses, 200, 400);
     let still = End::At(0, *even.divisor());
     let given = End::At(1, *triangle(&[0, 0, 1])?.divisor());
     for (cells, start, seats, players, end) in [
@@ -105,16 +108,17 @@ fn many_seats_make_one_history(rt: HostRuntime) -> Result<(), Fail> {
             End::At(1, *even.divisor()),
         ),
         (
+            1_400,
+            &even,
+            3,
+            [strategist, opponent, bystander].as_slice(),
+            still,
+        ),
+        (
             1_401,
             &even,
             4,
-            [
-                (Player::LendsFirst, 500, 500),
-                (Player::BorrowsFirst, 500, 500),
-                (Player::Analyses, 200, 400),
-                joiner,
-            ]
-            .as_slice(),
+            [strategist, opponent, bystander, joiner].as_slice(),
             End::Joined,
         ),
     ] {

@@ -39,7 +39,7 @@ fn is_winnable<N: Name>(
 }
 
 // The seat's look: its receipt, and what the seat keeps of it.
-pub(crate) fn look_at<N: Name>(
+fn look_at<N: Name>(
     rt: &impl Wait,
     alloc: Global,
     table: &Table<N>,
@@ -70,7 +70,7 @@ fn with_lending(shown: &LookData) -> Result<LookData, Fail>
 }
 
 // Enters the verdict on the look.
-pub(crate) fn settle<N: Name>(
+fn settle<N: Name>(
     rt: &impl Wait,
     alloc: Global,
     table: &Table<N>,
