@@ -6,7 +6,8 @@ import words
 from words import read
 
 HELP, FORMATS = "crates/dg_cli/src/help_texts.rt", "docs/formats.md"
-MODEL, BOARD, ANSWERS = "examples/party.py", "board/words.js", "python/dollar/answers.py"
+WEB = "python/dollar/board/web/"
+MODEL, BOARD, ANSWERS = "tests/model.py", WEB + "words.js", "python/dollar/answers.py"
 
 
 class Part:
@@ -76,8 +77,8 @@ def example_commands():
     def shape(line):
         return line.split(" ")[0] + " _" * line.count(" ")
     wanted = [shape(form) for form in words.command_forms()]
-    for path, begin in (("examples/class.py", "def line_of("), ("tests/browser/classes.py", "def line_of("), (MODEL, "def some_script("),
-                        ("tests/python/test_session.py", "def some_line(")):
+    for path, begin in (("tests/python/test_class.py", "def line_of("), ("tests/browser/classes.py", "def line_of("),
+                        ("tests/python/test_party.py", "def some_script("), ("tests/python/test_session.py", "def some_line(")):
         part = Part(path, begin, "\n\n\n")
         found = [(shape(line), place) for line, place in part.matches(r'"([a-z][^"]*)"')]
         yield from part.compare("line of the command", found, wanted, both=False)
@@ -125,14 +126,14 @@ def board_replies():
     for path, begin, end, form, more in (
             (BOARD, "function replyWords", "}[reply.kind]", r'(?<=[\s{])"?([a-z-]+)"?(?=: )', []),
             (BOARD, "function markOf", "};", r'(?<=[\s{])"?([a-z-]+)"?(?=: )', ["unread"]),
-            ("board/viewer.js", "const TELLING", "];", r'"([a-z-]+)"', ["unread"])):
+            (WEB + "viewer.js", "const TELLING", "];", r'"([a-z-]+)"', ["unread"])):
         part = Part(path, begin, end)
         yield from part.compare("kind of reply", part.matches(form), kinds + more)
     marks = re.findall(r'"([^"]+)"', Part(BOARD, "function markOf", "};").text.split("sign = {", 1)[-1].replace('"not-won":', ""))
-    shown = html.unescape(read("board/legend.html"))
+    shown = html.unescape(read(WEB + "legend.html"))
     for mark in sorted(set(json.loads('"%s"' % mark) for mark in marks) - {"\u00b7", "?"}):
         if "<b>%s</b>" % mark not in shown:
-            yield "board/legend.html: the mark %s is wanted" % mark
+            yield "%slegend.html: the mark %s is wanted" % (WEB, mark)
     part = Part(BOARD, "const CAUSES", "};")
     yield from part.compare("refusal", part.matches(r'(\w+): "'), [text.split(" ")[1] for text in words.refusals()])
 

@@ -379,7 +379,7 @@ def with_keeping(folder):
     ):
         before = text_of(kept, name)
         written(kept, name, text)
-        printed, said, status = script("play", "--no-browser", *words, stdin=subprocess.DEVNULL)
+        printed, said, status = script("board", "--no-browser", *words, stdin=subprocess.DEVNULL)
         expect((printed, status) == (b"", 1) and word in said and said.count("\n") == 1, "with another %s: %r" % (name, said))
         equal(text_of(kept, name), text, "a file of a game that is not gone on with")
         written(kept, name, before)

@@ -3,9 +3,9 @@ import contextlib, os, re, subprocess, sys
 
 TESTS = os.path.dirname(os.path.abspath(__file__))
 ROOT = os.path.dirname(os.path.dirname(TESTS))
-BOARD, EXAMPLES = os.path.join(ROOT, "board"), os.path.join(ROOT, "examples")
+BOARD, EXAMPLES, PACKAGE = (os.path.join(ROOT, folder) for folder in ("board", "examples", "python"))
 sys.dont_write_bytecode = True
-sys.path[:0] = [BOARD, EXAMPLES]
+sys.path[:0] = [PACKAGE]
 PATIENCE = 30
 results = []
 
@@ -40,10 +40,10 @@ def written(folder, name, text):
     return place
 
 
-def script(name, *words, **given):
-    """Runs a script of board/, and gives what it printed, what it said on standard error, and its status."""
+def script(*words, **given):
+    """Runs a command of the package, and gives what it printed, what it said on standard error, and its status."""
     done = subprocess.run(
-        [sys.executable, "-B", os.path.join(BOARD, name), *words],
+        [sys.executable, "-B", os.path.join(PACKAGE, "dollar"), *words],
         stdout=subprocess.PIPE,
         stderr=subprocess.PIPE,
         timeout=PATIENCE * 4,

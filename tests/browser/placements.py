@@ -1,9 +1,9 @@
 """Places: known graphs are found by their shape, whatever the vertices are called and in whatever order they stand."""
 import doctest, itertools, json, math, os, random, time
 
-import places as module
 from common import EXAMPLES, equal, expect, lines_of
-from places import places, places_of_text
+from dollar import places as module
+from dollar.places import places, places_of_text
 
 DRAW = random.Random(7)
 TIMES, MOST_SECONDS = 6, 1.0

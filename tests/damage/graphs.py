@@ -4,7 +4,7 @@ import itertools, json, resource
 
 from runs import Run, TRIANGLE
 from dollar import answer, flaw
-from party import Game
+from model import Game
 
 LIMIT, VALENCE, VERTICES, STACK = 1000000, 63, 16, 256 << 10
 

@@ -2,7 +2,7 @@
 import itertools, re, resource
 
 from runs import TRIANGLE, Run, refused
-from party import Game, judged
+from model import Game, judged
 from words import commands
 
 NAMES, LINES, ROOM = ["a", "b", "c"], 1000000, 16 << 20
@@ -21,7 +21,7 @@ def damaged_lines():
 
 
 def damaged_sessions(checks):
-    """A session of all these lines, whose answers are those of the model in examples/party.py."""
+    """A session of all these lines, whose answers are those of tests/model.py."""
     table = checks.put("triangle", TRIANGLE)
     lines = list(damaged_lines())
     run = checks.run("serve", table, typed="".join(line + "\n" for line in lines).encode("latin-1"))

@@ -7,7 +7,7 @@ import pytest
 from words import bad_texts, refusals, replies, sample
 
 import dollar
-from dollar import Entry, Fault, Refused, RiemannRoch, Table, Verdict, answer
+from dollar import Fault, Refused, RiemannRoch, Verdict, answer
 
 TRIANGLE = {"vertices": ["a", "b", "c"], "edges": [["a", "b", 1], ["b", "c", 1], ["a", "c", 1]], "amounts": [2, -1, -1], "q": "a"}
 LOOPING = dict(TRIANGLE, edges=[["a", "a", 1]])
@@ -137,17 +137,3 @@ def test_csv(tmp_path):
         assert (tmp_path / name).read_text() == wanted[name]
         assert len(list(csv.DictReader(io.StringIO(wanted[name])))) == 2
     assert dollar.to_csv([], str(tmp_path / "none")) == 0
-
-
-def test_what_was_there_before():
-    """Names of the module that this package was."""
-    with pytest.warns(DeprecationWarning):
-        table = dollar.table_of(Table([[0, 1], [1, 0]]), {"0": 1})
-    assert table["amounts"] == [1, 0]
-    with pytest.warns(DeprecationWarning):
-        lines = list(dollar.lines_answered("judge", [TRIANGLE, LOOPING]))
-    assert lines[0] == "winnable by a=0 b=-1 c=-1 to a=0 b=0 c=0" and isinstance(lines[1], Fault) and lines[1].table == 1
-    assert dollar.fault(b"dollar: read fault\n", 5).text == "read fault" and dollar.one_line("look") == b"look"
-    with pytest.raises(AttributeError):
-        dollar.nothing
-    assert isinstance(Entry("won"), dollar.Answer) and set(dollar.__all__) <= set(dir(dollar))

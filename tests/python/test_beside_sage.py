@@ -3,7 +3,7 @@ import random
 import re
 
 import pytest
-from conftest import ROOT
+from common import ROOT
 
 import dollar
 from dollar import Table

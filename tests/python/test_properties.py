@@ -6,7 +6,7 @@ import pytest
 hypothesis = pytest.importorskip("hypothesis")
 from hypothesis import given, settings
 from hypothesis import strategies as some
-from party import Game
+from model import Game
 
 import dollar
 from dollar import Table

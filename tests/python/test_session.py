@@ -11,8 +11,8 @@ import threading
 import time
 
 import pytest
-from conftest import ROOT
-from party import Bad, Game, parse, trials
+from common import ROOT
+from model import Bad, Game, parse, trials
 
 from dollar import Ended, Session, Table
 

@@ -7,7 +7,6 @@ import random
 import types
 
 import pytest
-from conftest import ROOT
 
 import dollar
 from dollar import Table
@@ -204,17 +203,8 @@ def test_frames_of_pandas():
     assert Table(frame, pandas.Series({"1": -1, "0": 3})) == Table([[0, 2], [2, 0]], [3, -1])
 
 
-def test_pictures_stand_as_the_board_has_them():
-    """The board's module is for all graphs, and a ring for where it is not."""
-    from dollar import drawing
-
+def test_pictures_stand_as_they_are_told():
     cube = dollar.example("cube")
-    board = ROOT / "board" / "places.py"
-    if board.is_file():
-        found = drawing.places_of()(list(cube.vertices), list(cube.edges))
-        assert found != drawing.ring(cube.vertices) and list(found) == list(cube.vertices)
-    else:
-        assert drawing.places_of() is drawing.ring
     given = {name: (float(place), 0.0) for place, name in enumerate(cube.vertices)}
     assert dollar.picture(cube, places=given) != cube._repr_svg_()
 

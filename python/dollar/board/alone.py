@@ -1,11 +1,13 @@
 """Playing alone: the page keeps the table and the steps, and each of its questions goes to the program."""
-import asyncio, contextlib, os, tempfile
+import asyncio
+import json
 
-from board import EXAMPLES, USUAL, layout, table_of, text_of
-from pages import asset, assembled
-from program import PATIENCE, program, spoken
-from replay import page
-from server import Nothing, Refused, as_json, same, text_in
+from dollar.board.pages import asset, page
+from dollar.board.replay import page as replay_page
+from dollar.board.server import Nothing, Refused, as_json, same, text_in
+from dollar.drawing import USUAL, layout
+from dollar.program import PATIENCE, call, fault_of
+from dollar.table import EXAMPLES, text_of
 
 MOST_TABLE, MOST_STEPS, MOST_BODY, MOST_TABLES = 1 << 21, 1 << 21, 1 << 24, 1 << 21
 AT_ONCE = 3
@@ -13,9 +15,8 @@ ASSETS = "page.css", "words.js", "board.js", "viewer.js", "hand.js", "page.js", 
 
 
 def examples():
-    """The tables of examples/, each as its text, by the names of their files."""
-    names = sorted(name for name in os.listdir(EXAMPLES) if name.endswith(".json"))
-    return {name: text_of(os.path.join(EXAMPLES, name)) for name in names}
+    """The tables that `dollar.example` names, each as its text, by the names of their files."""
+    return {file.name: text_of(file) for file in sorted(EXAMPLES.glob("*.json"))}
 
 
 class Alone:
@@ -24,7 +25,6 @@ class Alone:
     def __init__(self, secret, name, text, own=None):
         self.secret, self.name, self.text, self.own = secret, name, text, own
         self.turns = asyncio.Semaphore(AT_ONCE)
-        self.page = assembled("alone.html", {"title": "The dollar game"})
 
     async def answer(self, request):
         """What the server says to a request."""
@@ -33,7 +33,7 @@ class Alone:
         request.known()
         asked = request.method, request.parts[1]
         if asked == ("GET", ""):
-            return 200, "text/html", self.page
+            return page("alone.html")
         if asked == ("GET", "start"):
             return as_json(self.start())
         if asked == ("POST", "ask"):
@@ -45,7 +45,7 @@ class Alone:
 
     def start(self):
         """What the page begins with."""
-        table = table_of(self.text)
+        table = json.loads(self.text)
         return {"name": self.name, "table": self.text, "examples": examples(),
                 "layout": layout(table, table["amounts"] + USUAL, self.own)}
 
@@ -54,13 +54,13 @@ class Alone:
         command = text_in(given, "command", 16)
         table = text_in(given, "table", MOST_TABLE)
         if command in ("judge", "rr"):
-            return await run(command, table)
+            return await run(command, "--", table.encode())
         if command == "rank":
-            return await run("rank", table, words=[text_in(given, "degree", 12)])
+            return await run("rank", "--", table.encode(), text_in(given, "degree", 12))
         if command == "rehearse":
-            return await run("rehearse", table, text_in(given, "steps", MOST_STEPS))
+            return await run("rehearse", "--", table.encode(), text_in(given, "steps", MOST_STEPS).encode())
         if command == "judge --lines":
-            return await run("judge", text_in(given, "tables", MOST_TABLES), flags=["--lines"])
+            return await run("judge", "--lines", text_in(given, "tables", MOST_TABLES).encode())
         if command == "layout":
             return await self.layout(table, given)
         if command == "replay":
@@ -69,44 +69,28 @@ class Alone:
 
     async def layout(self, table, given):
         """The verdict on a table, and if there is one, the places of its vertices."""
-        said = await run("judge", table)
+        said = await run("judge", table.encode())
         if said["status"] == 0:
             own = text_in(given, "places", MOST_TABLE) if "places" in given else None
             try:
-                said["layout"] = layout(table_of(table), table_of(table)["amounts"] + USUAL, own)
+                made = json.loads(table)
+                said["layout"] = await asyncio.to_thread(layout, made, made["amounts"] + USUAL, own)
             except ValueError as error:
                 raise Refused(400, str(error)) from None
         return said
 
     async def replay(self, table, steps, name):
         """The page that shows the game again."""
-        said = await run("rehearse", table, steps)
+        said = await run("rehearse", table.encode(), steps.encode())
         if said["status"] == 0:
-            said["page"] = page(name, table, steps, said["out"])
+            said["page"] = await asyncio.to_thread(replay_page, name, table, steps, said["out"])
         return said
 
 
-async def run(command, *texts, flags=(), words=()):
-    """What the program says: its status, its answer and its fault. Each text stands in a file; words come after the files."""
-    with tempfile.TemporaryDirectory() as folder:
-        files = []
-        for number, text in enumerate(texts):
-            files.append(os.path.join(folder, str(number)))
-            with open(files[-1], "w", encoding="utf-8", newline="") as file:
-                file.write(text)
-        try:
-            child = await asyncio.create_subprocess_exec(
-                program(), command, *flags, "--", *files, *words, stdin=asyncio.subprocess.DEVNULL,
-                stdout=asyncio.subprocess.PIPE, stderr=asyncio.subprocess.PIPE)
-        except OSError as error:
-            return {"status": None, "out": "", "err": "the program can't be started: %s" % error}
-        try:
-            out, err = await asyncio.wait_for(child.communicate(), PATIENCE)
-        except asyncio.TimeoutError:
-            return {"status": None, "out": "", "err": "no answer for %d seconds" % PATIENCE}
-        finally:
-            if child.returncode is None:
-                with contextlib.suppress(ProcessLookupError):
-                    child.kill()
-                await child.wait()
-    return {"status": child.returncode, "out": out.decode(), "err": spoken(err.decode(errors="replace"))}
+async def run(*words):
+    """What the program says: its status, its answer and its fault. A word as bytes stands for a file."""
+    try:
+        out, said, status = await asyncio.to_thread(call, words, None, PATIENCE)
+    except OSError as error:
+        return {"status": None, "out": "", "err": str(error)}
+    return {"status": status, "out": out.decode(), "err": fault_of(said, status).text if status else ""}

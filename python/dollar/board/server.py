@@ -3,7 +3,13 @@
 Each connection brings one request and gets one answer. Whoever is slow, sends too much or sends nonsense is dropped. When there
 are too many connections of which it is not known whose they are, the oldest of them makes room. Whatever is asked without the
 secret, from another origin or for another host is answered alike: there is nothing here."""
-import asyncio, hmac, ipaddress, json, re, secrets, socket
+import asyncio
+import hmac
+import ipaddress
+import json
+import re
+import secrets
+import socket
 
 MOST_HEAD, MOST_HEADERS, MOST_STRANGERS = 8192, 64, 300
 TO_ASK, TO_SEND, TO_TAKE = 5.0, 8.0, 20.0

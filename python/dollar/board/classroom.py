@@ -1,12 +1,18 @@
 """A table for a class: one `dollar serve FILE --seats N` behind the pages of all. A click is a line, and what is drawn is what came
 back; each seat's lines are put to the program one after another, and all see each entry as it comes."""
-import asyncio, contextlib, functools, json, re, time
+import asyncio
+import contextlib
+import functools
+import importlib
+import json
+import re
+import time
 
-from board import USUAL, layout, table_of
-from pages import asset, assembled
-from program import PATIENCE, Fault, printed, program, spoken
-from replay import page
-from server import Nothing, Refused, as_json, new_secret, same, text_in
+from dollar.board.pages import asset, page
+from dollar.board.replay import page as replay_page
+from dollar.board.server import Nothing, Refused, as_json, new_secret, same, text_in
+from dollar.drawing import USUAL, layout
+from dollar.program import PATIENCE, Fault, command_line, fault_of, printed
 
 MOST_BODY, MOST_LINE, MOST_NAME, MOST_SEATS = 1 << 14, 1024, 24, 64
 # A seat may play so many lines at once, and then so many in a second; so many of its lines wait, and so many pages are open on it.
@@ -44,24 +50,25 @@ def clean(name):
 class Game:
     """The program at one end of a pipe, and what it has answered: the entries, each a seat, a line, an answer and who sat there."""
 
-    def __init__(self, place, seats, kept=None):
-        self.place, self.seats, self.kept, self.entries = place, seats, kept, list(kept.entries) if kept else []
+    def __init__(self, text, seats, kept=None):
+        self.text, self.seats, self.kept, self.entries = text, seats, kept, list(kept.entries) if kept else []
         self.child, self.turn, self.end = None, asyncio.Lock(), None
 
     async def start(self, ended):
-        """Starts the program, and has it play again all entries that there were. `ended` is called when it ends. Raises Fault if
-        the program answers them otherwise."""
+        """Starts the program, and has it play again all entries that there were. `ended` is called when it ends. Raises ValueError
+        if the program answers them otherwise."""
         async with self.turn:
-            self.child = await asyncio.create_subprocess_exec(
-                program(), "serve", "--seats", str(self.seats), "--", self.place,
-                stdin=asyncio.subprocess.PIPE, stdout=asyncio.subprocess.PIPE, stderr=asyncio.subprocess.PIPE,
-                start_new_session=True)
+            with contextlib.ExitStack() as until:
+                line, descriptors = command_line(["serve", self.text.encode(), "--seats", str(self.seats)], None, until)
+                self.child = await asyncio.create_subprocess_exec(
+                    *line, stdin=asyncio.subprocess.PIPE, stdout=asyncio.subprocess.PIPE, stderr=asyncio.subprocess.PIPE,
+                    start_new_session=True, pass_fds=descriptors)
             self.end = None
             for seat, line, answer, _ in self.entries:
                 if await self.answer("%d %s" % (seat, line)) != answer:
                     self.child.kill()
                     await self.child.wait()
-                    raise Fault("the program does not answer the lines of the game as it did", None)
+                    raise ValueError("the program does not answer the lines of the game as it did")
         return asyncio.ensure_future(self.watch(self.child, ended))
 
     async def watch(self, child, ended):
@@ -69,7 +76,7 @@ class Game:
         said = await child.stderr.read()
         status = await child.wait()
         if child is self.child:
-            self.end = {"status": status, "text": spoken(said.decode(errors="replace"))}
+            self.end = {"status": status, "text": fault_of(said, status).text}
             ended()
 
     async def answer(self, line):
@@ -111,17 +118,16 @@ class Game:
 class Classroom:
     """Answers the requests of pupils, who know one secret, and of the teacher, who knows another."""
 
-    def __init__(self, name, text, place, seats, own=None, kept=None):
+    def __init__(self, name, text, seats, own=None, kept=None):
         self.name, self.text, self.own, self.seats = name, text, own, seats
         self.secret, self.teacher = new_secret(), new_secret()
-        self.game, self.taken, self.paused, self.saved = Game(place, seats, kept), {}, False, 0
+        self.game, self.taken, self.paused, self.saved = Game(text, seats, kept), {}, False, 0
         self.news, self.changes, self.address, self.watching = None, 0, "", None
         # How many entries each seat has, also of those who sat there before.
         self.used = [0] * (seats + 1)
         for number, _, _, _ in self.game.entries:
             self.used[number] += 1
-        self.page = assembled("class.html", {"title": "The dollar game"})
-        table = table_of(text)
+        table = json.loads(text)
         self.layout = layout(table, table["amounts"] + USUAL, own)
 
     async def start(self):
@@ -164,7 +170,7 @@ class Classroom:
 
     def common_page(self, asked):
         if asked == "":
-            return 200, "text/html", self.page
+            return page("class.html")
         if asked in ASSETS:
             return asset(asked)
         raise Nothing
@@ -288,18 +294,21 @@ class Classroom:
             raise Refused(409, "The game goes on.")
         try:
             self.watching = await self.game.start(self.changed)
-        except (OSError, Fault) as error:
+        except (OSError, ValueError, Fault) as error:
             raise Refused(503, "The game can't be begun again: %s." % error) from None
 
     async def replay(self):
         """The page that shows the game."""
         steps, history = self.file("steps.txt"), self.file("history.txt")
-        loop = asyncio.get_running_loop()
         try:
-            lines = await loop.run_in_executor(None, printed, "rehearse", self.text.encode(), steps.encode())
-        except Fault as fault:
+            made = await asyncio.to_thread(self.page_of, steps, history)
+        except (Fault, TimeoutError) as fault:
             raise Refused(409, "The program does not play the game again: %s" % fault) from None
-        return as_json({"page": page(self.name, self.text, steps, lines, history, self.own)})
+        return as_json({"page": made})
+
+    def page_of(self, steps, history):
+        lines = printed("rehearse", self.text.encode(), steps.encode(), patience=PATIENCE)
+        return replay_page(self.name, self.text, steps, lines, history, self.own)
 
     def file(self, name):
         """The text of a file that is taken along."""
@@ -374,10 +383,10 @@ def event(kind, thing, number=None):
 def code_of(address):
     """The QR code of an address, as rows of 0 and 1, or None where there is no library that makes one."""
     with contextlib.suppress(ImportError):
-        import segno
+        segno = importlib.import_module("segno")
         return ["".join("1" if dot else "0" for dot in row) for row in segno.make(address, micro=False).matrix]
     with contextlib.suppress(ImportError):
-        import qrcode
+        qrcode = importlib.import_module("qrcode")
         code = qrcode.QRCode(border=0)
         code.add_data(address)
         return ["".join("1" if dot else "0" for dot in row) for row in code.get_matrix()]

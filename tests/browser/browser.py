@@ -5,7 +5,7 @@ NAMES = "chromium", "chromium-browser", "google-chrome", "chrome"
 PATIENCE = 30
 KEYS = {"ArrowLeft": 37, "ArrowUp": 38, "ArrowRight": 39, "ArrowDown": 40, "Home": 36, "End": 35, " ": 32, "Tab": 9, "Enter": 13,
         "Escape": 27}
-ALT, CTRL, SHIFT = 1, 2, 8
+CTRL, SHIFT = 2, 8
 
 
 def found():

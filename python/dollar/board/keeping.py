@@ -1,7 +1,9 @@
-"""Keeps the game of a class in a folder while it goes on, so that it outlasts the end of board/play."""
-import os, re, sys
+"""Keeps the game of a class in a folder while it goes on, so that it outlasts the end of the board's server."""
+import os
+import re
+import sys
 
-from board import text_of
+from dollar.table import text_of
 
 STEP = re.compile(r"([1-9][0-9]?) (.*)\Z")
 TABLE, STEPS, HISTORY = "table.json", "steps.txt", "history.txt"
@@ -52,7 +54,7 @@ class Kept:
                 file.write(text)
                 file.flush()
         except OSError as error:
-            print("board/play: %s: %s: the game is kept no more" % (self.folder, error.strerror), file=sys.stderr)
+            print("dollar board: %s: %s: the game is kept no more" % (self.folder, error.strerror), file=sys.stderr)
             self.files = []
 
     def is_kept(self):

@@ -6,9 +6,20 @@ vertices are called; all others are laid out by springs, and come out the same a
 
 An edge is two names, and what else stands in it is not looked at. x goes to the right and y down, about from -1 to 1. This module
 imports nothing of ours, so that other tools can take it as it is."""
-import itertools, math
+
+from __future__ import annotations
+
+import itertools
+import math
+from typing import Any, Collection, Dict, Iterable, Iterator, List, Mapping, Optional, Sequence, Set, Tuple
 
 __all__ = ["places", "places_of_text"]
+
+Point = Tuple[float, float]
+# The place of each vertex, by its name.
+Places = Dict[Any, Point]
+# For each vertex its neighbours.
+Near = Mapping[Any, Set[Any]]
 
 CUBE_SPOTS = ((-0.95, -0.35), (0.35, -0.35), (0.35, 0.95), (-0.95, 0.95),
               (-0.35, -0.95), (0.95, -0.95), (0.95, 0.35), (-0.35, 0.35))
@@ -19,7 +30,7 @@ LONGEST_ROW, LONGEST_LEG = 8, 6
 ROUNDS, CLOSE = 300, 0.13
 
 
-def places(vertices, edges):
+def places(vertices: Iterable[Any], edges: Iterable[Sequence[Any]]) -> Places:
     """The place (x, y) of each vertex of a graph, by its name."""
     names = list(vertices)
     if not names:
@@ -32,33 +43,33 @@ def places(vertices, edges):
     return rounded(names, best(names, near))
 
 
-def places_of_text(text, vertices):
+def places_of_text(text: str, vertices: Collection[str]) -> Places:
     """The places that a text gives, with a line 'name x y' for each vertex. A ValueError that says what is wrong, and in which
     line."""
-    found = {}
+    found: Places = {}
     for number, line in enumerate(text.splitlines(), 1):
         words = line.split()
         if not words:
             continue
         if len(words) != 3:
             raise ValueError("line %d of the places: 'name x y' is wanted" % number)
-        name, place = words[0], tuple(map(coordinate, words[1:]))
+        name, x, y = words[0], coordinate(words[1]), coordinate(words[2])
         if name not in vertices:
             raise ValueError("line %d of the places: no vertex has the name %.16s" % (number, name))
-        if None in place:
+        if x is None or y is None:
             raise ValueError("line %d of the places: x and y must be numbers from -1000000 to 1000000" % number)
         if name in found:
             raise ValueError("line %d of the places: %s has a place already" % (number, name))
-        if place in found.values():
+        if (x, y) in found.values():
             raise ValueError("line %d of the places: another vertex stands there" % number)
-        found[name] = place
+        found[name] = x, y
     missing = [name for name in vertices if name not in found]
     if missing:
         raise ValueError("the places have none for %s" % missing[0])
     return {name: found[name] for name in vertices}
 
 
-def coordinate(word):
+def coordinate(word: str) -> Optional[float]:
     """The number that a word is, or None."""
     try:
         number = float(word)
@@ -67,9 +78,9 @@ def coordinate(word):
     return number if abs(number) <= 1_000_000 else None
 
 
-def neighbours(names, edges):
+def neighbours(names: Iterable[Any], edges: Iterable[Sequence[Any]]) -> Dict[Any, Set[Any]]:
     """For each vertex the set of those to which an edge leads."""
-    near = {name: set() for name in names}
+    near: Dict[Any, Set[Any]] = {name: set() for name in names}
     for u, v, *_ in edges:
         if u != v and u in near and v in near:
             near[u].add(v)
@@ -77,32 +88,32 @@ def neighbours(names, edges):
     return near
 
 
-def rounded(names, found):
+def rounded(names: Iterable[Any], found: Places) -> Places:
     """The places in the order of the names, as short numbers."""
-    return {name: tuple(round(part, 4) + 0.0 for part in found[name]) for name in names}
+    return {name: (round(found[name][0], 4) + 0.0, round(found[name][1], 4) + 0.0) for name in names}
 
 
-def ring(names, start=-90.0, size=1.0):
+def ring(names: Sequence[Any], start: float = -90.0, size: float = 1.0) -> Places:
     """Places on a circle, clockwise from an angle in degrees; -90 is at the top."""
     turns = [math.radians(start + 360 * i / len(names)) for i in range(len(names))]
     return {name: (size * math.cos(turn), size * math.sin(turn)) for name, turn in zip(names, turns)}
 
 
-def row(names, y=0.0):
+def row(names: Sequence[Any], y: float = 0.0) -> Places:
     """Places from left to right."""
     middle = (len(names) - 1) / 2
     return {name: ((i - middle), y) for i, name in enumerate(names)}
 
 
-def count_of_edges(near):
+def count_of_edges(near: Near) -> int:
     return sum(map(len, near.values())) // 2
 
 
-def is_connected(names, near):
+def is_connected(names: Sequence[Any], near: Near) -> bool:
     return len(walk(names[0], near)) == len(names)
 
 
-def walk(first, near, without=()):
+def walk(first: Any, near: Mapping[Any, Iterable[Any]], without: Collection[Any] = ()) -> Dict[Any, int]:
     """The vertices that can be reached from one, each with its distance, nearest first."""
     far = {first: 0}
     for name in far_order(far):
@@ -112,7 +123,7 @@ def walk(first, near, without=()):
     return far
 
 
-def far_order(far):
+def far_order(far: Mapping[Any, int]) -> Iterator[Any]:
     """The keys of a dict that grows meanwhile."""
     done = 0
     while done < len(far):
@@ -122,14 +133,14 @@ def far_order(far):
 
 # The shapes. Each gives the places of all vertices, or None.
 
-def alone(names, near):
+def alone(names: Sequence[Any], near: Near) -> Optional[Places]:
     """One vertex, or two side by side."""
     if len(names) > 2:
         return None
     return {name: (2.0 * i - 1 if len(names) == 2 else 0.0, 0.0) for i, name in enumerate(names)}
 
 
-def path(names, near):
+def path(names: Sequence[Any], near: Near) -> Optional[Places]:
     """A path: a line, or one that runs to and fro if it is long."""
     ends = [name for name in names if len(near[name]) == 1]
     if len(ends) != 2 or any(len(near[name]) > 2 for name in names) or not is_connected(names, near):
@@ -146,7 +157,7 @@ def path(names, near):
     return found
 
 
-def chain(first, near):
+def chain(first: Any, near: Near) -> List[Any]:
     """The vertices of a path or a cycle in their order."""
     order = [first]
     while True:
@@ -156,21 +167,21 @@ def chain(first, near):
         order.append(ahead[0])
 
 
-def cycle(names, near):
+def cycle(names: Sequence[Any], near: Near) -> Optional[Places]:
     """A cycle: a ring, the first vertex at the top; one of four is a square."""
     if len(names) < 3 or any(len(near[name]) != 2 for name in names) or not is_connected(names, near):
         return None
     return ring(chain(names[0], near), -135 if len(names) == 4 else -90)
 
 
-def complete(names, near):
+def complete(names: Sequence[Any], near: Near) -> Optional[Places]:
     """A complete graph: a ring in the order of the names; four are a square."""
     if any(len(near[name]) != len(names) - 1 for name in names):
         return None
     return ring(names, -135 if len(names) == 4 else -90)
 
 
-def diamond(names, near):
+def diamond(names: Sequence[Any], near: Near) -> Optional[Places]:
     """A square with one diagonal, from the top on the left to the bottom on the right. The first vertex and the earlier of its
     neighbours on the square follow each other clockwise."""
     if len(names) != 4 or count_of_edges(near) != 5:
@@ -184,7 +195,7 @@ def diamond(names, near):
     return None
 
 
-def star_or_wheel(names, near):
+def star_or_wheel(names: Sequence[Any], near: Near) -> Optional[Places]:
     """One vertex in the middle that is joined to all others, which are joined to none else, or stand in a cycle."""
     for hub in names:
         others = [name for name in names if name != hub]
@@ -198,7 +209,7 @@ def star_or_wheel(names, near):
     return None
 
 
-def both_sides(names, near):
+def both_sides(names: Sequence[Any], near: Near) -> Optional[Places]:
     """A complete bipartite graph: two rows, with the first vertex above."""
     above = [name for name in names if name not in near[names[0]]]
     below = [name for name in names if name in near[names[0]]]
@@ -209,14 +220,14 @@ def both_sides(names, near):
     return {name: (2 * x / wide, 2 * y / wide) for name, (x, y) in found.items()}
 
 
-def tree(names, near):
+def tree(names: Sequence[Any], near: Near) -> Optional[Places]:
     """A tree: its middle at the top, and below each vertex those that hang on it."""
     if count_of_edges(near) != len(names) - 1 or not is_connected(names, near):
         return None
     top = min(names, key=lambda name: max(walk(name, near).values()))
     far, found, leaves = walk(top, near), {}, itertools.count()
 
-    def hang(name):
+    def hang(name: Any) -> float:
         below = [other for other in names if other in near[name] and far[other] > far[name]]
         across = [hang(other) for other in below]
         x = (across[0] + across[-1]) / 2 if across else float(next(leaves))
@@ -227,7 +238,7 @@ def tree(names, near):
     return centred(found)
 
 
-def known(names, near):
+def known(names: Sequence[Any], near: Near) -> Optional[Places]:
     """The cube, Petersen's graph, the grids and the prisms."""
     for lines, spots in models(len(names)):
         match = matching(lines, len(spots), names, near)
@@ -236,7 +247,7 @@ def known(names, near):
     return None
 
 
-def models(size):
+def models(size: int) -> Iterator[Any]:
     """The graphs of so many vertices that have places of their own: their edges and their places."""
     if size == 8:
         yield CUBE_LINES, CUBE_SPOTS
@@ -249,28 +260,29 @@ def models(size):
         yield prism(size // 2)
 
 
-def grid(wide, high):
+def grid(wide: int, high: int) -> Any:
     at = {(x, y): y * wide + x for y in range(high) for x in range(wide)}
     lines = [(i, at[next_]) for (x, y), i in at.items() for next_ in ((x + 1, y), (x, y + 1)) if next_ in at]
     return lines, [(2 * x / (wide - 1) - 1, (2 * y - high + 1) / (wide - 1)) for x, y in at]
 
 
-def prism(size):
+def prism(size: int) -> Any:
     lines = [(i, (i + 1) % size) for i in range(size)]
     lines += [(size + i, size + j) for i, j in lines] + [(i, size + i) for i in range(size)]
     return lines, [*ring(range(size)).values(), *ring(range(size), size=0.5).values()]
 
 
-def matching(lines, size, names, near):
+def matching(lines: Sequence[Any], size: int, names: Sequence[Any], near: Near) -> Optional[List[Any]]:
     """The names in an order in which the graph has just the edges of a model, or None. The first such order by the names."""
     if len(names) != size or count_of_edges(near) != len(lines):
         return None
     model = neighbours(range(size), lines)
     if sorted(map(len, model.values())) != sorted(map(len, near.values())):
         return None
-    order, given = list(walk(0, {i: sorted(model[i]) for i in model})), {}
+    order = list(walk(0, {i: sorted(model[i]) for i in model}))
+    given: Dict[int, Any] = {}
 
-    def place(number):
+    def place(number: int) -> bool:
         if number == size:
             return True
         spot = order[number]
@@ -292,13 +304,13 @@ SHAPES = alone, path, cycle, complete, diamond, star_or_wheel, both_sides, known
 
 # All other graphs.
 
-def best(names, near):
+def best(names: Sequence[Any], near: Near) -> Places:
     """Of a ring and of springs the places at which fewer vertices stand on edges of others, and then fewer edges cross."""
     choices = ring(names), springs(names, near)
     return min(choices, key=lambda found: (crowded(names, near, found), crossings(near, found)))
 
 
-def springs(names, near):
+def springs(names: Sequence[Any], near: Near) -> Places:
     """Places at which vertices are about as far apart as edges lead from one to the other: springs between all of them, which
     start in a ring and come to rest in so many rounds."""
     far = {name: walk(name, near) for name in names}
@@ -311,7 +323,7 @@ def springs(names, near):
     return centred(level(found))
 
 
-def pulled(name, found, far, apart):
+def pulled(name: Any, found: Places, far: Mapping[Any, int], apart: float) -> Point:
     """The place to which the springs of all others pull a vertex."""
     x, y, all_ = 0.0, 0.0, 0.0
     for other, (at_x, at_y) in found.items():
@@ -326,7 +338,7 @@ def pulled(name, found, far, apart):
     return x / all_, y / all_
 
 
-def level(found):
+def level(found: Places) -> Places:
     """The places turned so that the picture is wide and not high."""
     middle = [sum(place[i] for place in found.values()) / len(found) for i in (0, 1)]
     points = [(x - middle[0], y - middle[1]) for x, y in found.values()]
@@ -335,27 +347,27 @@ def level(found):
     return {name: (x * right + y * down, y * right - x * down) for name, (x, y) in zip(found, points)}
 
 
-def centred(found):
+def centred(found: Places) -> Places:
     """The places moved to the middle, with the greatest side from -1 to 1."""
     low, high = ([side(place[i] for place in found.values()) for i in (0, 1)] for side in (min, max))
     wide = max(high[0] - low[0], high[1] - low[1]) or 1.0
     return {name: ((2 * x - low[0] - high[0]) / wide, (2 * y - low[1] - high[1]) / wide) for name, (x, y) in found.items()}
 
 
-def lines_of(near):
+def lines_of(near: Near) -> List[Tuple[Any, Any]]:
     """Each edge once."""
     names = list(near)
     return [(u, v) for i, u in enumerate(names) for v in names[i + 1:] if v in near[u]]
 
 
-def crowded(names, near, found):
+def crowded(names: Sequence[Any], near: Near, found: Places) -> int:
     """How many vertices stand on an edge of others, or on each other, or nearly so."""
     aside = [(name, u, v) for u, v in lines_of(near) for name in names if name not in (u, v)]
     on_edges = sum(distance(found[name], found[u], found[v]) < CLOSE for name, u, v in aside)
     return on_edges + sum(math.dist(found[u], found[v]) < 2 * CLOSE for u, v in itertools.combinations(names, 2))
 
 
-def distance(point, one, other):
+def distance(point: Point, one: Point, other: Point) -> float:
     """How far a point is from the line between two others."""
     across, down = other[0] - one[0], other[1] - one[1]
     long = across ** 2 + down ** 2 or 1e-9
@@ -363,12 +375,12 @@ def distance(point, one, other):
     return math.hypot(point[0] - one[0] - part * across, point[1] - one[1] - part * down)
 
 
-def crossings(near, found):
+def crossings(near: Near, found: Places) -> int:
     """How many pairs of edges cross."""
-    def side(one, other, point):
+    def side(one: Point, other: Point, point: Point) -> float:
         return (other[0] - one[0]) * (point[1] - one[1]) - (other[1] - one[1]) * (point[0] - one[0])
 
-    def cross(u, v, w, z):
+    def cross(u: Any, v: Any, w: Any, z: Any) -> bool:
         a, b, c, d = (found[name] for name in (u, v, w, z))
         return side(a, b, c) * side(a, b, d) < -1e-9 and side(c, d, a) * side(c, d, b) < -1e-9
 

@@ -1,10 +1,9 @@
-#!/usr/bin/env python3
 """Judges the tables of a file, one on each line, on the workers of a Dask cluster, and writes a CSV file.
 
-    examples/sweep.py [--scheduler ADDRESS | --processes N] [--program PROGRAM] [--chunk LINES] FILE CSV
+    dollar sweep [--scheduler ADDRESS | --processes N] [--program PROGRAM] [--chunk LINES] FILE CSV
 
 The cluster is the one whose scheduler has the address, or one of N processes on this machine, by default as many as there are
-processors. PROGRAM is the program as the workers find it; by default the one of this clone. A worker hands each of its chunks, of
+processors. PROGRAM is the program as the workers find it; by default the one that is found here. A worker hands each of its chunks, of
 1,000 lines by default, to a `dollar judge --lines /dev/stdin`. Dask is the Python module `distributed`, in Debian the package
 python3-distributed.
 
@@ -16,16 +15,28 @@ terminal the number of rows is shown as it grows.
     >>> row(7, "winnable by a=0 b=-1 to a=0 b=1")
     [7, 'winnable', 'a=0 b=-1', 'a=0 b=1']
     >>> row(8, "refused no vertex q")
-    [8, 'refused no vertex q', '', '']"""
-import argparse, collections, csv, itertools, os, signal, subprocess, sys
+    [8, 'refused no vertex q', '', '']
+"""
 
-from driver import HERE, program_of, start
+from __future__ import annotations
+
+import argparse
+import collections
+import csv
+import importlib
+import itertools
+import os
+import signal
+import subprocess
+import sys
+from typing import Any, Deque, Iterable, Iterator, List
+
+from dollar.program import find_program
 
 HEADER = ["line", "answer", "script", "amounts"]
-PROGRAM = os.path.join(HERE, "..", "crates", "dollar", "out", "dollar")
 
 
-def judged(program, lines):
+def judged(program: str, lines: List[bytes]) -> List[str]:
     """The answers to some lines, by a run of the program on a worker."""
     done = subprocess.run([program, "judge", "--lines", "/dev/stdin"], input=b"".join(lines), stdout=subprocess.PIPE)
     if done.returncode:
@@ -33,7 +44,7 @@ def judged(program, lines):
     return done.stdout.decode().splitlines()
 
 
-def row(number, answer):
+def row(number: int, answer: str) -> List[Any]:
     """The row of the line with that number."""
     if answer.startswith("refused "):
         return [number, answer, "", ""]
@@ -42,7 +53,7 @@ def row(number, answer):
     return [number, word, script, amounts]
 
 
-def rows_kept(place):
+def rows_kept(place: str) -> int:
     """How many whole rows the file has; what follows the last of them is cut off."""
     if not os.path.exists(place):
         return 0
@@ -58,15 +69,15 @@ def rows_kept(place):
     return max(rows - 1, 0)
 
 
-def chunks(lines, size):
+def chunks(lines: Iterable[bytes], size: int) -> Iterator[List[bytes]]:
     """The lines, so many at once; each ends with a newline."""
     while chunk := [line.rstrip(b"\n") + b"\n" for line in itertools.islice(lines, size)]:
         yield chunk
 
 
-def answered(client, program, lines, size):
+def answered(client: Any, program: str, lines: Iterable[bytes], size: int) -> Iterator[str]:
     """The answers to the lines, in order. A few chunks for each thread of the cluster are under way at once."""
-    under_way = collections.deque()
+    under_way: Deque[Any] = collections.deque()
     most = 4 * max(sum(client.nthreads().values()), 1)
     for chunk in chunks(lines, size):
         under_way.append(client.submit(judged, program, chunk, pure=False, retries=3))
@@ -76,7 +87,7 @@ def answered(client, program, lines, size):
         yield from under_way.popleft().result()
 
 
-def sweep(client, words):
+def sweep(client: Any, words: argparse.Namespace) -> None:
     """Writes the rows that the CSV file does not have yet."""
     done = rows_kept(words.csv)
     with open(words.file, "rb") as lines, open(words.csv, "a", newline="") as file:
@@ -95,47 +106,48 @@ def sweep(client, words):
         print(file=sys.stderr)
 
 
-def no_interrupts():
+def no_interrupts() -> None:
     """Has a worker pay no heed to Ctrl-C, which at a terminal goes to all processes: it is this script that ends its workers."""
     signal.signal(signal.SIGINT, signal.SIG_IGN)
 
 
-def count(word):
+def count(word: str) -> int:
     """A number of processes or lines."""
     if not word.isdecimal() or int(word) == 0:
         raise argparse.ArgumentTypeError("a whole number from 1 on")
     return int(word)
 
 
-def words_of(arguments):
-    parser = argparse.ArgumentParser(description=__doc__.partition("\n")[0])
+def words_of(arguments: List[str]) -> argparse.Namespace:
+    text = (__doc__ or "").partition("\n    >>>")[0].split("\n\n", 2)
+    parser = argparse.ArgumentParser(prog="dollar sweep", description=text[0], epilog=text[2],
+                                     formatter_class=argparse.RawDescriptionHelpFormatter)
     where = parser.add_mutually_exclusive_group()
     where.add_argument("--scheduler", metavar="ADDRESS", help="the cluster to use")
     where.add_argument("--processes", metavar="N", type=count, default=os.cpu_count(), help="how many workers of its own")
-    parser.add_argument("--program", default=PROGRAM, type=os.path.abspath, help="the program, as the workers find it")
+    parser.add_argument("--program", help="the program, as the workers find it")
     parser.add_argument("--chunk", metavar="LINES", type=count, default=1_000, help="how many lines a worker takes at once")
     parser.add_argument("file", metavar="FILE")
     parser.add_argument("csv", metavar="CSV")
     return parser.parse_args(arguments)
 
 
-def main(arguments):
+def main(arguments: List[str]) -> int:
     words = words_of(arguments)
     with open(words.file, "rb"):
         pass
     try:
-        from distributed import Client, LocalCluster
+        dask = importlib.import_module("distributed")
     except ModuleNotFoundError as error:
         raise ValueError("this Python, %s, has %s" % (sys.executable, str(error).lower())) from error
 
     if words.scheduler:
-        with Client(words.scheduler) as client:
-            return sweep(client, words)
-    words.program = program_of([words.program])
-    with LocalCluster(n_workers=words.processes, threads_per_worker=1, dashboard_address=None) as cluster, Client(cluster) as client:
+        words.program = words.program or find_program()
+        with dask.Client(words.scheduler) as client:
+            sweep(client, words)
+        return 0
+    words.program = find_program(words.program)
+    with dask.LocalCluster(n_workers=words.processes, threads_per_worker=1, dashboard_address=None) as cluster, dask.Client(cluster) as client:
         client.run(no_interrupts)
-        return sweep(client, words)
-
-
-if __name__ == "__main__":
-    start(main, most=len(sys.argv))
+        sweep(client, words)
+    return 0
