@@ -3,12 +3,11 @@ verdict is checked by its definition, a rank test by making the trials."""
 import itertools
 import re
 
-# The commands, each with the words after it: V is a name, V,V,.. are names, V=x,V=x,.. names with a number each, x is a number of
-# dollars and k a degree. The numbers are within these limits.
-FORMS = {"lend": "V", "borrow": "V", "fire": "V,V,..", "script": "V=x,V=x,..", "gift": "V x", "join": "V V", "look": "", "claim": "",
-         "commit": "", "rank": "k"}
-LIMITS = {"V=x,V=x,..": (-10**9, 10**9), "x": (-2**63, 2**63 - 1), "k": (0, 2**32 - 1)}
-MOST_EDGES = 63
+from dollar.grammar import GRAMMAR, limit
+
+COMMANDS, KINDS = GRAMMAR["commands"], GRAMMAR["kinds"]
+MOST_EDGES, MOST_AMOUNT, MOST_GIFT = limit("dg_graph::MAX_VALENCE"), limit("dg_chips::MAX_AMOUNT"), limit("dg_game::MAX_GIFT")
+MOST_DEGREE, MOST_TRIALS = limit("dg_rank::MAX_DEGREE"), limit("dg_rank::MAX_TRIALS")
 
 
 class Bad(Exception):
@@ -18,9 +17,9 @@ class Bad(Exception):
 def parse(line, names):
     """The command of a line as a list: its word and what each word after it tells, names as vertices. Raises Bad."""
     word, *given = line.split(" ")
-    if word not in FORMS:
+    if word not in COMMANDS:
         raise Bad("bad word")
-    kinds = FORMS[word].split()
+    kinds = COMMANDS[word]
     if len(given) != len(kinds) or "" in given:
         raise Bad("bad form")
     named = [named_in(kind, text) for kind, text in zip(kinds, given)]
@@ -31,27 +30,42 @@ def parse(line, names):
 
 def named_in(kind, text):
     """The names in a word of the kind."""
-    if kind in ("x", "k"):
+    if kind in ("dollars", "degree"):
         return []
-    items = [text] if kind == "V" else text.split(",")
-    return [item.split("=")[0] for item in items] if "=" in kind else items
+    items = [text] if kind == "vertex" else text.split(",")
+    return [item.split("=")[0] for item in items] if kind == "script" else items
 
 
 def told(kind, text, vertices):
     """What a word of the kind tells, whose names are those of the vertices."""
     def number(digits):
-        least, most = LIMITS[kind]
-        if not re.fullmatch("0|-?[1-9][0-9]*", digits) or not least <= int(digits) <= most:
+        if not re.fullmatch("0|-?[1-9][0-9]*", digits) or not KINDS[kind]["least"] <= int(digits) <= KINDS[kind]["most"]:
             raise Bad("bad number")
         return int(digits)
 
-    if kind == "V":
+    if kind == "vertex":
         return vertices[0]
-    if kind == "V,V,..":
+    if kind == "vertices":
         return vertices
-    if kind == "V=x,V=x,..":
+    if kind == "script":
         return {v: number(item.partition("=")[2]) for v, item in zip(vertices, text.split(","))}
     return number(text)
+
+
+# A word of each kind, as somebody may draw it.
+DRAWN = {
+    "vertex": lambda rng, names: rng.choice(names),
+    "vertices": lambda rng, names: ",".join(rng.sample(names, rng.randint(1, 2))),
+    "script": lambda rng, names: ",".join("%s=%d" % (name, rng.randint(-2, 2)) for name in rng.sample(names, rng.randint(1, 2))),
+    "dollars": lambda rng, names: str(rng.randint(-2, 2)),
+    "degree": lambda rng, names: "1",
+}
+
+
+def some_command(rng, names):
+    """A line with a command of any kind; looks and what needs them come more often."""
+    word = rng.choice([*COMMANDS, "look", "commit"])
+    return " ".join([word, *(DRAWN[kind](rng, list(names)) for kind in COMMANDS[word])])
 
 
 class Game:
@@ -84,7 +98,7 @@ class Game:
         if word == "claim":
             return "won" if min(self.amounts) >= 0 else "not won"
         if word == "gift":
-            if not 1 <= abs(command[2]) <= 1000000:
+            if not 1 <= abs(command[2]) <= MOST_GIFT:
                 return "refused gift"
             after = list(self.amounts)
             after[command[1]] += command[2]
@@ -92,7 +106,7 @@ class Game:
             moved = [command[1]] if word in ("lend", "borrow") else command[1]
             lends = moved if word == "script" else dict.fromkeys(moved, -1 if word == "borrow" else 1)
             after = self.fired(self.amounts, [lends.get(v, 0) for v in range(self.size)])
-        if max(map(abs, after)) > 1000000:
+        if max(map(abs, after)) > MOST_AMOUNT:
             return "refused range"
         self.amounts = after
         if word == "gift":
@@ -180,7 +194,7 @@ def trials(size, degree):
     count = 1
     for i in range(1, size):
         count = count * (degree + i) // i
-    return count if degree <= 1000 and count <= 200000 else None
+    return count if degree <= MOST_DEGREE and count <= MOST_TRIALS else None
 
 
 def judged(script, names):

@@ -1,14 +1,23 @@
-"""The words of the program, as the code that is proved has them: the commands of the step language, the replies, what a session says
-of a line that is no entry, and the faults with their exit statuses. tools/lint compares the places that state them with this, and
-tests read it.
+#!/usr/bin/env python3
+"""The grammar of the program, read off the code that is proved: the commands of the step language, the replies, what a session says of a
+line that is no entry, the faults with their exit statuses, and the limits. It stands in python/dollar/grammar.json, which everything
+else reads; tools/lint compares it with the code.
 
-    python3 tools/words.py    prints them"""
-import os, re
+    tools/words.py            prints it
+    tools/words.py --write    writes it"""
+import functools
+import glob
+import json
+import os
+import re
+import sys
 
 TOP = os.path.dirname(os.path.dirname(os.path.abspath(__file__)))
 LINES, SESSION, SWEEP = "crates/dg_lines/specs/", "crates/dg_session/specs/", "crates/dg_sweep/specs/"
-COMMANDS, REPLIES, BAD = LINES + "Commands.antt", LINES + "Texts.antt", LINES + "LineFaults.antt"
+COMMANDS, KINDS_OF, REPLIES = LINES + "Commands.antt", LINES + "CommandWords.antt", LINES + "Texts.antt"
 LOOKS, FILE_FAULTS, STATUS = SESSION + "Saying.antt", SWEEP + "FaultTexts.antt", "crates/dg_server/specs/Status.antt"
+FAULT, LINE_FAULT = "crates/dg_server/src/fault.rt", "crates/dg_lines/src/line.rt"
+GRAMMAR = "python/dollar/grammar.json"
 # How a page shows a word after a command, by its kind.
 KINDS = {"vertex": "V", "vertices": "V,V,..", "script": "V=x,V=x,..", "degree": "k", "dollars": "x"}
 
@@ -18,6 +27,16 @@ def read(path):
         return file.read()
 
 
+def sources(crate):
+    """The files of a crate's code, or of all."""
+    return sorted(os.path.relpath(path, TOP) for path in glob.glob(os.path.join(TOP, "crates", crate, "src", "**", "*.rt"), recursive=True))
+
+
+def unread(path, what):
+    return ValueError("%s: %s is not written as tools/words.py reads it" % (path, what))
+
+
+@functools.lru_cache(maxsize=None)
 def equations(path):
     """The equations in a file of definitions: for each name what stands before and after the equals sign of each."""
     found = {}
@@ -43,7 +62,7 @@ def texts_by_variant(path, name):
         if word == "pairs":
             return ["P"]
         if word not in defined:
-            raise ValueError("%s: the part `%s` of a text is not written as tools/words.py reads it" % (path, part))
+            raise unread(path, "the part `%s` of a text" % part)
         return [text for _, body in defined[word] for text in whole(body)]
 
     def whole(body):
@@ -64,90 +83,139 @@ def commands():
     """The commands, each with the kinds of the words after it."""
     rows = [re.fullmatch(r'\(codes "(\w+)", (.*)\)', body) for _, body in equations(COMMANDS).get("row", [])]
     if not rows or None in rows:
-        raise ValueError("%s: the rows of commands are not written as tools/words.py reads them" % COMMANDS)
+        raise unread(COMMANDS, "a row of commands")
     return {row[1]: [kind for kind in row[2].split(" ∷ ") if kind != "[]"] for row in rows}
+
+
+def kinds():
+    """The kinds of words: how a page shows one, and the least and the most number that may stand in it."""
+    ranges = {}
+    for given, body in equations(KINDS_OF)["IsNumberFor"]:
+        bounds = re.fullmatch(r"IsNumberWithin \((.*)\) \((.*)\) text", body)
+        if not bounds:
+            raise unread(KINDS_OF, "IsNumberFor")
+        ranges[given.split(" ")[0]] = [value_of(bound) for bound in bounds.groups()]
+    found = {}
+    for kind in dict.fromkeys(kind for given in commands().values() for kind in given):
+        if kind not in KINDS:
+            raise ValueError("tools/words.py: KINDS has no form for words of the kind %s" % kind)
+        has_numbers = "[]" not in next(body for given, body in equations(KINDS_OF)["numbers_in"] if given.split(" ")[0] == kind)[:2]
+        least, most = ranges.get(kind, ranges["kind"])
+        found[kind] = {"form": KINDS[kind], **({"least": least, "most": most} if has_numbers else {})}
+    return found
+
+
+def value_of(bound):
+    """The number that a term of whole numbers stands for."""
+    text = re.sub(r"[A-Z_]{3,}", lambda name: limits()["dg_chips::" + name[0]].__str__(), bound)
+    text = re.sub(r"\bpos\b", "", text).replace("neg_ℤ", "-").replace("^", "**")
+    if re.search(r"[^\d\s()*+-]", text):
+        raise unread(KINDS_OF, "the bound `%s`" % bound)
+    return int(eval(text))
 
 
 def command_forms():
     """The commands as pages show them, as `gift V x`."""
-    unknown = {kind for kinds in commands().values() for kind in kinds} - KINDS.keys()
-    if unknown:
-        raise ValueError("tools/words.py: KINDS says of no page how it shows a word of the kind %s" % ", ".join(sorted(unknown)))
-    return [" ".join([word, *(KINDS[kind] for kind in kinds)]) for word, kinds in commands().items()]
-
-
-def replies():
-    """The texts of replies, as `given g P`."""
-    return texts(REPLIES, "text_of")
-
-
-def sample(form):
-    """A text of that form."""
-    return " ".join({"P": "a=2 b=-1", "g": "3", "k": "2"}.get(part, part) for part in form.split(" "))
-
-
-def refusals():
-    """The texts of the replies of a call that the game refuses."""
-    return texts(REPLIES, "refusal_text")
-
-
-def line_faults():
-    """What is said of a line that spells no step, in the order in which it is judged."""
-    return texts(BAD, "fault_text")
+    shown = kinds()
+    return [" ".join([word, *(shown[kind]["form"] for kind in given)]) for word, given in commands().items()]
 
 
 def bad_texts():
-    """All that a session says of a line that makes no entry."""
-    return list(dict.fromkeys(line_faults() + re.findall(r'codes "(bad \w+)\\n"', read(LOOKS))))
+    """All that a session says of a line that makes no entry, in the order in which a line is judged."""
+    return list(dict.fromkeys([text for text, _ in faults_of("LineFault", LINE_FAULT)] + re.findall(r'codes "(bad \w+)\\n"', read(LOOKS))))
 
 
-def file_faults():
-    """What is said of bytes that are no table, in answer to a line."""
-    return texts(FILE_FAULTS, "file_fault_text")
+def numbered(text):
+    """The text with # for each number, its letter or its name in braces."""
+    return re.sub(r"\{[^}]*\}|(?<![\w-])(?:[LSIiv]|\d[\d,]*)(?![\w,])", "#", text.strip())
 
 
-# Where each type of faults stands, and the functions that say what one means.
-TYPES = {"Shape": "dg_file/src/fault.rt", "FileFault": "dg_file/src/fault.rt", "GraphFault": "dg_graph/src/fault.rt",
-         "ChipFault": "dg_chips/src/divisor.rt", "SourceFault": "dg_system/src/sources.rt", "ArgsFault": "dg_invocation/src/parse_args.rt",
-         "TaskFault": "dg_tasks/src/fault.rt", "Fault": "dg_server/src/fault.rt", "LineFault": "dg_lines/src/line.rt"}
-SHORTAGE = "dg_system/src/shortage.rt"
-TELLERS = {"call_text": "dg_tasks/src/fault.rt", "end_text": "dg_server/src/fault.rt", "sweep_end_text": "dg_server/src/fault.rt"}
+def table_faults():
+    """What is said of bytes that are no table."""
+    return [numbered(text) for text in texts(FILE_FAULTS, "file_fault_text")]
 
 
-def variants(name):
-    """The variants of a type of faults: each with its text as the code has it, and the type of what it holds."""
-    text = re.sub(r"^ *//.*\n", "", read("crates/" + TYPES[name]), flags=re.M)
-    body = text[text.index("pub enum %s {" % name):]
-    body = body[:body.index("\n}")]
-    found = [(each[2], each[1], re.findall(r"\b([A-Z]\w+)", each[3] or ""))
-             for each in re.finditer(r"#\[error\((.*)\)\]\n    (\w+)(\([^\n]*\)|\s\{[^}]*\})?,", body)]
-    if not found or len(found) < body.count("#[error("):
-        raise ValueError("%s: the variants of %s are not written as tools/words.py reads them" % (TYPES[name], name))
-    return found
+@functools.lru_cache(maxsize=None)
+def without_comments(path):
+    return re.sub(r"^ *//.*\n", "", read(path), flags=re.M)
 
 
-def told(teller, status=None):
-    """The texts that a function has, each with the status where one of them is given for each variant."""
-    text = read("crates/" + TELLERS[teller])
-    body = text[text.index("fn %s(" % teller):]
-    body = body[:body.index("\n}")]
-    arm = r'\w+::(\w+)(?:\(\w+\))? => (?:"(.*)"|(\w+)\(fault\)|(Shortage::\w+|shortage)\.text\(\)),'
-    arms = re.findall(arm, body)
-    if not arms or len(arms) < body.count("=>"):
-        raise ValueError("%s: the arms of %s are not written as tools/words.py reads them" % (TELLERS[teller], teller))
-    for variant, literal, other, shortage in arms:
+def home_of(what, path):
+    """The file that has an item, as `enum Shortage` or `fn end_text`, if the file of the path uses it by its last word."""
+    word = what.split(" ")[1]
+    name = word.rpartition("::")[2]
+    item = re.compile(r"^ *pub (?:const )?%s %s\b|^fn %s\b" % (what.split(" ")[0], name, name), re.M)
+    if "::" not in word and item.search(without_comments(path)):
+        return path
+    uses = re.findall(r"^use (\w+)::(?:\{([^}]*)\}|(\w+));", without_comments(path), re.M)
+    crate = word.split("::")[0] if "::" in word else next(
+        (crate for crate, several, one in uses if name in re.findall(r"\w+", several + " " + one)), "crate")
+    crate = path.split("/")[1] if crate == "crate" else crate
+    return next((found for found in sources(crate) if item.search(without_comments(found))), None)
+
+
+def block(path, head):
+    """What stands in braces after a head."""
+    text = without_comments(path)
+    body = re.search(r"^( *)(?:pub )?%s\b[\s\S]*?\{\n" % re.escape(head), text, re.M)
+    if not body:
+        raise unread(path, "`%s`" % head)
+    return text[body.end():text.index("\n%s}" % body[1], body.end())]
+
+
+def variants(name, path):
+    """The variants of a type of faults: each with its text as the code has it, or None, and the types of what it holds by their names
+    or places."""
+    body = block(path, "enum %s" % name)
+    found = re.findall(r"(?:#\[error\(([^\n]*)\)\]\n *)?(?:#\[\w+\]\n *)*\b([A-Z]\w*)(?:\(([^\n]*)\)|\s*\{([^}]*)\})?,\n", body + "\n")
+    if not found or sum(bool(text) for text, *_ in found) < body.count("#[error("):
+        raise unread(path, "a variant of %s" % name)
+    for text, variant, held, fields in found:
+        places = enumerate(re.sub(r"#\[\w+\] ", "", held).split(", ")) if held else re.findall(r"(\w+): ([^\n]*),", fields)
+        yield variant, text or None, {str(place): kind for place, kind in places}
+
+
+def told(function, path, status):
+    """The texts that a function has for each variant, each with its status."""
+    arms = re.findall(r'(\w+)::(\w+)(?:\((\w+)\))? => (?:"(.*)"|(\w+)\(\w+\)|(\w+)(?:::(\w+))?\.text\(\)),', block(path, "fn " + function))
+    if not arms:
+        raise unread(path, "the function %s" % function)
+    for _, variant, _, literal, other, lacking, of in arms:
         number = status(variant) if callable(status) else status
-        if other:
-            yield from told(other, number)
-        elif shortage:
-            yield from ((lacking, number) for lacking in shortages(shortage.partition("::")[2]))
+        if literal:
+            yield literal.replace("\\n", ""), number
+        elif other:
+            yield from told(other, home_of("fn " + other, path), number)
         else:
-            yield literal, number
+            yield from ((text, each) for text, each in faults_of("Shortage", home_of("enum Shortage", path), number, of))
 
 
-def shortages(variant=""):
-    """What is said of what the system lacks: of one variant, or of each."""
-    return [text for name, text in re.findall(r'Shortage::(\w+) => "(.*)",', read("crates/" + SHORTAGE)) if variant in ("", name)]
+def faults_of(name, path, status=None, only=""):
+    """The faults of a type, each as its text and its exit status. Its text is its attribute's, or that of the function that tells it."""
+    all_of = list(variants(name, path))
+    if not any(text for _, text, _ in all_of):
+        teller = next((word for word in ("text", "line") if "fn %s(" % word in without_comments(path)), None)
+        if teller is None:
+            raise unread(path, "the text of %s" % name)
+        yield from ((text, status) for (variant, _, _), (text, _) in zip(all_of, told(teller, path, status)) if only in ("", variant))
+        return
+    for variant, text, held in all_of:
+        number = status(variant) if callable(status) else status
+        teller = text and re.search(r"\b(\w+)\(\*\.\w+\)", text)
+        literal = text and re.match(r'"([^"]*)"', text)
+        if only not in ("", variant) or not text:
+            continue
+        if teller:
+            yield from told(teller[1], home_of("fn " + teller[1], path), number)
+            continue
+        found = [("{0}" if text == "transparent" else literal[1], number)]
+        for place, kind in held.items():
+            inner = home_of("enum " + kind, path) if re.fullmatch(r"(?:\w+::)?[A-Z]\w+", kind) else None
+            if inner:
+                more = list(faults_of(kind.rpartition("::")[2], inner, number))
+                found = [(before.replace("{%s}" % place, after), each) for before, _ in found for after, each in more
+                         if "{%s}" % place in before] + [(before, each) for before, each in found if "{%s}" % place not in before]
+        yield from ((each, status_) for each, status_ in found if each != "{0}")
 
 
 def status_of(function, variant):
@@ -162,34 +230,38 @@ def status_of(function, variant):
     raise KeyError("%s of %s" % (function, variant))
 
 
-def faults_of(name="Fault", status=lambda variant: status_of("status", variant)):
-    """The faults of a type, each as its text and its exit status."""
-    if name == "LineFault":
-        yield from ((text, status) for text in line_faults())
-        return
-    for variant, text, held in variants(name):
-        number = status(variant) if callable(status) else status
-        literal = re.fullmatch(r'"([^"]*)"(?:, .*)?', text)
-        teller = re.search(r"(\w+)\(\*\.\w+\)", text)
-        if text == "transparent" and held[-1] == "Shortage":
-            yield from ((lacking, number) for lacking in shortages())
-        elif text == "transparent":
-            yield from faults_of(held[-1], number)
-        elif teller:
-            yield from told(teller[1], number)
-        elif literal[1] == "line {line}: {fault}":
-            yield from (("line {}: " + bad, each) for bad, each in faults_of("LineFault", number))
-        elif literal[1] != "{0}":
-            yield literal[1], number
-
-
 def faults():
     """The faults that end a run: the text of each, where # is a number, and its exit status."""
-    return sorted({(re.sub(r"\{\w*\}", "#", text), status) for text, status in faults_of()})
+    found = {numbered(text): status for text, status in faults_of("Fault", FAULT, lambda variant: status_of("status", variant))}
+    return dict(sorted(found.items()))
+
+
+@functools.lru_cache(maxsize=None)
+def limits():
+    """The public limits of the crates, by the crate and the name."""
+    found = {}
+    for path in sources("*"):
+        crate = path.split("/")[1]
+        if not crate.endswith("_tests"):
+            for name, value in re.findall(r"^pub const (\w+): \w+ = ([\w:]+?)(?: as \w+)?;", read(path), re.M):
+                found["%s::%s" % (crate, name)] = int(value.replace("_", "")) if value[0].isdigit() else value
+    return {name: found.get(value, value) for name, value in found.items()}
+
+
+def grammar():
+    """All of it."""
+    return {
+        "commands": commands(), "kinds": kinds(), "replies": texts(REPLIES, "text_of"), "refusals": texts(REPLIES, "refusal_text"),
+        "bad": bad_texts(), "tables": table_faults(), "faults": faults(), "limits": limits()}
+
+
+def grammar_text():
+    return json.dumps(grammar(), indent=1, ensure_ascii=False) + "\n"
 
 
 if __name__ == "__main__":
-    for what, found in (("commands", command_forms()), ("replies", replies()), ("bad", bad_texts()), ("tables", file_faults())):
-        print("%s: %s" % (what, "; ".join(found)))
-    for text, status in faults():
-        print("%d %s" % (status, text))
+    if sys.argv[1:] == ["--write"]:
+        with open(os.path.join(TOP, GRAMMAR), "w", encoding="utf-8") as file:
+            file.write(grammar_text())
+    else:
+        sys.stdout.write(grammar_text())

@@ -12,10 +12,11 @@ from typing import Any, Callable, NamedTuple, Optional, Tuple, Type, TypeVar
 
 from dollar.answers import Entry, numbered
 from dollar.commands import option
+from dollar.grammar import limit
 from dollar.program import Fault, Place, command_line, fault_of
 from dollar.table import members, whole
 
-LONGEST_LINE = 1024
+LONGEST_LINE = limit("dg_session::MAX_LINE")
 Got = TypeVar("Got")
 
 
@@ -49,7 +50,7 @@ def one_line(line: str) -> bytes:
     except UnicodeEncodeError:
         raise ValueError("a line has half of a character in it") from None
     if len(sent) > LONGEST_LINE:
-        raise ValueError("a line has more than 1024 bytes")
+        raise ValueError("a line has more than %d bytes" % LONGEST_LINE)
     return sent
 
 

@@ -11,6 +11,7 @@ from collections.abc import Mapping as AbstractMapping
 from typing import TYPE_CHECKING, Any, Callable, Dict, Iterable, Iterator, List, NamedTuple, Optional, Tuple, Union
 
 from dollar import drawing
+from dollar.grammar import limit
 from dollar.program import CLONE, Place
 
 if TYPE_CHECKING:
@@ -19,7 +20,7 @@ if TYPE_CHECKING:
 MEMBERS = ("vertices", "edges", "amounts", "q")
 NAME = re.compile(r"[A-Za-z0-9_]{1,16}", re.ASCII)
 # The program reads no further: a longer file is refused.
-MOST_BYTES, MOST_TEXT = 1048576, 1 << 26
+MOST_BYTES, MOST_TEXT = limit("dg_system::MAX_FILE"), 1 << 26
 EXAMPLES = CLONE / "examples"
 Edge = Tuple[str, str, int]
 

@@ -6,6 +6,11 @@ PATIENCE = 30
 KEYS = {"ArrowLeft": 37, "ArrowUp": 38, "ArrowRight": 39, "ArrowDown": 40, "Home": 36, "End": 35, " ": 32, "Tab": 9, "Enter": 13,
         "Escape": 27}
 CTRL, SHIFT = 2, 8
+# What a page's module exports, for the expressions of the tests; a page of one file has its viewer at the board.
+INSIDE = """addEventListener("load", async () => {
+  const script = document.querySelector("script[type=module][src]");
+  globalThis.inside = script ? await import(script.src) : { get viewer() { return document.getElementById("board").viewer; } };
+});"""
 
 
 def found():
@@ -42,6 +47,7 @@ class Browser:
         self.session = self.call("Target.attachToTarget", targetId=page, flatten=True)["sessionId"]
         for domain in "Page", "Runtime", "Network":
             self.call(domain + ".enable")
+        self.call("Page.addScriptToEvaluateOnNewDocument", source=INSIDE)
         return self
 
     def __exit__(self, *_):
@@ -90,8 +96,8 @@ class Browser:
                 return message["result"]
 
     def value(self, expression):
-        """The value of an expression in the page."""
-        got = self.call("Runtime.evaluate", expression=expression, returnByValue=True, awaitPromise=True)
+        """The value of an expression in the page, where it can name what the page's module exports."""
+        got = self.call("Runtime.evaluate", expression="with (globalThis.inside || {}) { %s }" % expression, returnByValue=True, awaitPromise=True)
         if "exceptionDetails" in got:
             raise ValueError("%s: %s" % (expression, got["exceptionDetails"]))
         return got["result"].get("value")

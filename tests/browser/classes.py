@@ -2,6 +2,7 @@
 import http.client, json, os, random, signal, socket, statistics, subprocess, sys, threading, time
 
 from common import BOARD, EXAMPLES, addresses, asked, equal, expect, played, script, text_of, written
+from model import some_command
 from visitors import Place, Pupil, opened
 
 PUPILS, LINES = 30, 100
@@ -18,32 +19,9 @@ TABLE = {
 
 def line_of(draw):
     """A line that a pupil may play."""
-    one, other = draw.choice(TABLE["vertices"]), draw.choice(TABLE["vertices"])
-    return draw.choice(
-        [
-            "look",
-            "look",
-            "commit",
-            "commit",
-            "rank 1",
-            "claim",
-            "lend " + one,
-            "borrow " + one,
-            "fire " + one,
-            "script %s=%d" % (one, draw.randint(-2, 2)),
-            "gift %s %d" % (one, draw.randint(-2, 2)),
-            "join %s %s" % (one, other),
-            "rank 5000",
-            "lend zoe",
-            "lent " + one,
-            "look now",
-            "",
-            "2 look",
-            "look\r",
-            "\u00e4" * 500,
-            "x" * 990,
-        ]
-    )
+    if draw.random() < 0.6:
+        return some_command(draw, TABLE["vertices"])
+    return draw.choice(["rank 5000", "lend zoe", "lent ann", "look now", "", "2 look", "look\r", "\u00e4" * 500, "x" * 990])
 
 
 def table_file(folder):

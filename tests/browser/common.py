@@ -5,7 +5,7 @@ TESTS = os.path.dirname(os.path.abspath(__file__))
 ROOT = os.path.dirname(os.path.dirname(TESTS))
 BOARD, EXAMPLES, PACKAGE = (os.path.join(ROOT, folder) for folder in ("board", "examples", "python"))
 sys.dont_write_bytecode = True
-sys.path[:0] = [PACKAGE]
+sys.path[:0] = [PACKAGE, os.path.join(ROOT, "tests")]
 PATIENCE = 30
 results = []
 

@@ -1,11 +1,14 @@
 """Pages of games that were played: at each step what stands on them is compared with the step and its printed line."""
-import math, os, time
+import math, os, re, time
 
 from common import EXAMPLES, equal, expect, lines_of, script, written
 from dollar import answer, edges, example, joined
+from dollar.grammar import GRAMMAR
 
 STORIES = ("village", "village_story"), ("houses", "tax_on_the_houses"), ("village", "roads_for_the_village")
 OTHERS = ("sixty_three_edges", "no_room_for_an_edge"), ("rich_triangle", "to_the_limit"), ("four_cycle", "clear_the_cycle")
+# The words of replies that have the amounts of all vertices.
+WITH_AMOUNTS = [form.split(" ")[0] for form in GRAMMAR["replies"] if re.fullmatch("[a-z]+( g)? P", form)]
 MOST_BYTES, WIDTHS = 100_000, (320, 360, 1280, 1920)
 LONGEST, OPENS_IN, STEPS_IN = 65536, 4.0, 0.25
 
@@ -75,7 +78,7 @@ def compare(shown, where, index, table, amounts, step, line):
         expect(shown["says"] == [[name, often(lent[name])] for name in names if lent.get(name)], where + ": others lend")
         expect(arrows_right(shown, table, lent), "%s: other arrows: %r" % (where, shown["arrows"]))
         expect(flow_words(table, lent) == shown["moves"], "%s: other dollars move: %r" % (where, shown["moves"]))
-    if reply[0] in (None, "moved", "given", "joined", "looked", "not won"):
+    if reply[0] in (None, "not won", *WITH_AMOUNTS):
         for name in debts:
             expect("%s owes %d" % (name, -amounts[name]) in shown["answer"], "%s: %s is not told to owe" % (where, name))
 
@@ -116,7 +119,7 @@ def states(table, steps, lines):
         reply = answer(line.split(" ", 1)[1])
         if reply[0] == "joined":
             table = dict(joined(table, *step.split(" ")[2:]), added=table.get("added", 0) + 1)
-        if reply[0] in ("moved", "given", "joined", "looked"):
+        if reply[0] in WITH_AMOUNTS:
             amounts = reply[-1]
         yield table, amounts, step, line
 

@@ -3,12 +3,12 @@ import itertools, re, resource
 
 from runs import TRIANGLE, Run, refused
 from model import Game, judged
-from words import commands
+from dollar.grammar import GRAMMAR
 
 NAMES, LINES, ROOM = ["a", "b", "c"], 1000000, 16 << 20
 # Words of each kind.
 WORDS = {"vertex": ["a", "b"], "vertices": ["a,b"], "script": ["a=1,c=-2"], "degree": ["1"], "dollars": ["5", "-12"]}
-FORMS = [" ".join([word, *given]) for word, kinds in commands().items() for given in itertools.product(*(WORDS[kind] for kind in kinds))]
+FORMS = [" ".join([word, *given]) for word, kinds in GRAMMAR["commands"].items() for given in itertools.product(*(WORDS[kind] for kind in kinds))]
 LONG, MANY = b"long line", b"too many lines"
 
 

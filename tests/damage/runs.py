@@ -4,7 +4,7 @@ import collections, os, resource, signal, subprocess, sys, tempfile
 HERE = os.path.dirname(os.path.abspath(__file__))
 ROOT = os.path.join(HERE, "..", "..")
 sys.dont_write_bytecode = True
-sys.path[:0] = [os.path.join(ROOT, folder) for folder in ("python", "tests", "tools")]
+sys.path[:0] = [os.path.join(ROOT, folder) for folder in ("python", "tests")]
 
 TRIANGLE = b'{"vertices":["a","b","c"],"edges":[["a","b",1],["b","c",1],["a","c",1]],"amounts":[2,-1,-1],"q":"a"}'
 WON = b"winnable by a=0 b=-1 c=-1 to a=0 b=0 c=0\n"

@@ -1,10 +1,9 @@
-"""What the tests share: the package of this clone, the model of the game in tests/model.py, and the words of the program, as
-tools/words.py reads them off the code."""
+"""What the tests share: the package of this clone, and the model of the game in tests/model.py."""
 import sys
 from pathlib import Path
 
 ROOT = Path(__file__).resolve().parents[2]
-sys.path[:0] = [str(ROOT / "python"), str(ROOT / "tests"), str(ROOT / "tools")]
+sys.path[:0] = [str(ROOT / "python"), str(ROOT / "tests")]
 import dollar
 
 

@@ -4,9 +4,9 @@ import io
 import pickle
 
 import pytest
-from words import bad_texts, refusals, replies, sample
 
 import dollar
+from dollar.grammar import GRAMMAR, sample
 from dollar import Fault, Refused, RiemannRoch, Verdict, answer
 
 TRIANGLE = {"vertices": ["a", "b", "c"], "edges": [["a", "b", 1], ["b", "c", 1], ["a", "c", 1]], "amounts": [2, -1, -1], "q": "a"}
@@ -23,7 +23,7 @@ TEXTS = [
     ("unwinnable by a=0 to a=-1", ("unwinnable", {"a": 0}, {"a": -1})),
     ("rank at least 0", ("rank at least", 0)), ("rank below 2 at a=0 b=2", ("rank below", 2, {"a": 0, "b": 2})),
     ("rank below 2000 at ?", ("rank below", 2000)),
-    *((word, (word,)) for word in refusals() + bad_texts()),
+    *((word, (word,)) for word in GRAMMAR["refusals"] + GRAMMAR["bad"]),
 ]
 
 
@@ -35,7 +35,7 @@ def test_texts(text, parts):
     assert pickle.loads(pickle.dumps(read)) == read
 
 
-@pytest.mark.parametrize("form", replies())
+@pytest.mark.parametrize("form", GRAMMAR["replies"])
 def test_each_reply(form):
     assert str(answer(sample(form))) == sample(form)
 

@@ -5,6 +5,7 @@ import threading
 import unittest
 
 from common import dollar
+from model import some_command
 
 PUPILS, LINES = 30, 20
 TABLE = dollar.Table({
@@ -17,12 +18,9 @@ TABLE = dollar.Table({
 
 def line_of(draw):
     """A line that a pupil may ask."""
-    one, other = draw.choice(TABLE.vertices), draw.choice(TABLE.vertices)
-    return draw.choice([
-        "look", "look", "commit", "commit", "rank 1", "claim", "lend " + one, "borrow " + one, "fire " + one,
-        "script %s=%d" % (one, draw.randint(-2, 2)), "gift %s %d" % (one, draw.randint(-2, 2)), "join %s %s" % (one, other),
-        "rank 5000", "lend zoe", "lent " + one, "look now",
-    ])
+    if draw.random() < 0.75:
+        return some_command(draw, TABLE.vertices)
+    return draw.choice(["rank 5000", "lend zoe", "lent ann", "look now"])
 
 
 def attend(session, seat, draw, lines):

@@ -12,7 +12,7 @@ import time
 
 import pytest
 from common import ROOT
-from model import Bad, Game, parse, trials
+from model import Bad, Game, parse, some_command, trials
 
 from dollar import Ended, Session, Table
 
@@ -56,10 +56,7 @@ class Model:
 
 def some_line(rng):
     """A line of a stranger: a good one, or a damaged one, or none at all."""
-    one, other = rng.choice("abcd"), rng.choice("abcd")
-    line = "%d %s" % (rng.randint(1, SEATS), rng.choice([
-        "look", "look", "commit", "rank 1", "claim", "lend " + one, "borrow " + one, "fire %s,%s" % (one, other), "rank 5000",
-        "script %s=%d" % (one, rng.randint(-2, 2)), "gift %s %d" % (one, rng.randint(-2, 2)), "join %s %s" % (one, one)]))
+    line = "%d %s" % (rng.randint(1, SEATS), rng.choice(["rank 5000", "fire a,a", *(some_command(rng, "abcd") for _ in range(8))]))
     kind = rng.random()
     if kind < 0.6:
         return line

@@ -11,7 +11,6 @@ from dollar.table import EXAMPLES, text_of
 
 MOST_TABLE, MOST_STEPS, MOST_BODY, MOST_TABLES = 1 << 21, 1 << 21, 1 << 24, 1 << 21
 AT_ONCE = 3
-ASSETS = "page.css", "words.js", "board.js", "viewer.js", "hand.js", "page.js", "ask.js", "edit.js", "alone.js"
 
 
 def examples():
@@ -39,7 +38,7 @@ class Alone:
         if asked == ("POST", "ask"):
             async with self.turns:
                 return as_json(await self.asked(await request.json(MOST_BODY)))
-        if request.method == "GET" and request.parts[1] in ASSETS:
+        if request.method == "GET":
             return asset(request.parts[1])
         raise Nothing
 

@@ -12,13 +12,13 @@ from dollar.board.pages import asset, page
 from dollar.board.replay import page as replay_page
 from dollar.board.server import Nothing, Refused, as_json, new_secret, same, text_in
 from dollar.drawing import USUAL, layout
+from dollar.grammar import limit
 from dollar.program import PATIENCE, Fault, command_line, fault_of, printed
 
-MOST_BODY, MOST_LINE, MOST_NAME, MOST_SEATS = 1 << 14, 1024, 24, 64
+MOST_BODY, MOST_LINE, MOST_NAME, MOST_SEATS = 1 << 14, limit("dg_session::MAX_LINE"), 24, limit("dg_game::MAX_SEATS")
 # A seat may play so many lines at once, and then so many in a second; so many of its lines wait, and so many pages are open on it.
 AT_ONCE, IN_A_SECOND, MOST_WAITING, MOST_PAGES = 60, 10.0, 4, 4
 BATCH, HEARTBEAT, UNUSED = 400, 15.0, 60.0
-ASSETS = "page.css", "words.js", "board.js", "viewer.js", "hand.js", "page.js", "class.js"
 FILES = {"table.json": "application/json", "steps.txt": "text/plain", "history.txt": "text/plain"}
 KEEP_OPEN = b": the game goes on\n\n"
 
@@ -171,9 +171,7 @@ class Classroom:
     def common_page(self, asked):
         if asked == "":
             return page("class.html")
-        if asked in ASSETS:
-            return asset(asked)
-        raise Nothing
+        return asset(asked)
 
     def begin(self, role):
         return {"role": role, "name": self.name, "table": self.text, "layout": self.layout, "seats": self.seats,

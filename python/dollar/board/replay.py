@@ -10,12 +10,12 @@ import json
 import re
 import sys
 
-from dollar.board.pages import filled, part
+from dollar.board.pages import filled, one_script, part
 from dollar.drawing import layout
 from dollar.program import printed
 from dollar.table import shown_name, text_of
 
-SCRIPTS = "words.js", "board.js", "viewer.js", "replay.js"
+SCRIPTS = "grammar.js", "words.js", "places.js", "board.js", "viewer.js", "replay.js"
 USAGE = """%(prog)s FILE STEPS > GAME.html            the history is what `dollar rehearse FILE STEPS` prints
        %(prog)s FILE STEPS HISTORY > GAME.html    the history is that of a file; the page says where the program prints another
        %(prog)s FILE --greedy TURNS > GAME.html   a game of `dollar greedy FILE TURNS`; its steps are those of the rule"""
@@ -60,7 +60,7 @@ def page(title, text, steps, lines, history=None, own=None):
         raise ValueError("no steps and no history have '<' in them")
     table = json.loads(text)
     amounts = [*table["amounts"], *(set(re.findall(r"=(-?\d+)", shown)))]
-    code = "\n%s" % "\n".join(map(part, SCRIPTS))
+    code = one_script(SCRIPTS)
     style = "\n" + part("page.css")
     policy = "default-src 'none'; script-src %s; style-src %s; img-src data:; base-uri 'none'; form-action 'none'" % (
         digest(code), digest(style))

@@ -1,9 +1,16 @@
-"use strict";
-
 /* Playing alone: the page keeps the table and the steps, and the program answers each question of it. */
 
+import { Questions } from "./ask.js";
+import { SVG, draw } from "./board.js";
+import { Editor } from "./edit.js";
+import { Hands } from "./hand.js";
+import { post, save, sure } from "./page.js";
+import { layoutOf, placesText } from "./places.js";
+import { Viewer, element } from "./viewer.js";
+import { Game, faultWords, linesOf } from "./words.js";
+
 const LOTS = 64;
-let table, fileName, examples, viewer, hands, questions, editor;
+export let table, fileName, examples, viewer, hands, questions, editor;
 let turn = Promise.resolve();
 
 /* What the program says to a question: its status, its answer and its fault. */
@@ -18,7 +25,7 @@ const stepsText = (length) => textOf(viewer.game.steps.slice(0, length).map(({ l
 
 /* Lines are played one after another, each on what came of the one before. */
 
-function play(line) {
+export function play(line) {
   turn = turn.then(() => playNow(line));
   return turn;
 }
@@ -69,7 +76,7 @@ async function kept() {
 
 /* Another table. What the program refuses is told, and nothing changes. */
 
-async function openTable(text, file, places) {
+export async function openTable(text, file, places) {
   const said = await ask({ command: "layout", table: text, ...(places === undefined ? {} : { places }) });
   if (said.status !== 0) return said.err;
   const { length } = viewer.game;

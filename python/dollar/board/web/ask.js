@@ -1,9 +1,11 @@
-"use strict";
-
 /* Questions about the board as it stands: whether it can be won, and its rank. Each goes to the program with a table made of the
    amounts and edges that are shown, and leaves no entry. */
 
-class Questions {
+import { still } from "./board.js";
+import { element, made } from "./viewer.js";
+import { answerOf, dollars, faultWords, linesOf, listed, lossWords, planned, replyOf, replyWords } from "./words.js";
+
+export class Questions {
   /* `ask` puts a question to the program, and `play` plays a line. */
   constructor(viewer, ask, play) {
     Object.assign(this, { viewer, ask, play, table: null, reply: null });

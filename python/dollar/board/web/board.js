@@ -1,12 +1,12 @@
-"use strict";
-
 /* Draws a board: circles for vertices with their dollars, lines for edges, and the dollars that move along them. */
 
-const SVG = "http://www.w3.org/2000/svg";
-const still = window.matchMedia("(prefers-reduced-motion: reduce)");
+import { dollars, flows } from "./words.js";
+
+export const SVG = "http://www.w3.org/2000/svg";
+export const still = window.matchMedia("(prefers-reduced-motion: reduce)");
 const TRAVEL = 1100;
 
-function draw(tag, given, parent, text) {
+export function draw(tag, given, parent, text) {
   const made = document.createElementNS(SVG, tag);
   for (const [name, value] of Object.entries(given)) made.setAttribute(name, value);
   if (text !== undefined) made.textContent = text;
@@ -18,13 +18,7 @@ function amountWords(name, amount) {
   return amount < 0 ? `${name} owes ${dollars(-amount)}` : `${name} has ${dollars(amount)}`;
 }
 
-/* A layout as the server gives it. */
-
-function layoutOf(given) {
-  return { ...given, places: new Map(Object.entries(given.places)), sizes: new Map(Object.entries(given.sizes)) };
-}
-
-class Board {
+export class Board {
   /* A board in an element <svg>. The layout says where the vertices stand; `hands` is true if they can be clicked. */
   constructor(svg, hands = false) {
     Object.assign(this, { svg, hands, layout: null, turn: 0, chosen: new Set(), burnt: [] });

@@ -1,11 +1,16 @@
-"use strict";
-
 /* The table of a class: a click is a line, and the board shows what came back. All pages see each entry as it comes. */
+
+import { draw } from "./board.js";
+import { Hands } from "./hand.js";
+import { post, save, sure } from "./page.js";
+import { layoutOf } from "./places.js";
+import { Viewer, element, made } from "./viewer.js";
+import { Game, faultWords } from "./words.js";
 
 const SOON = 16;
 const KEPT = `dollar ${location.pathname.replaceAll("-", "").toLowerCase()}`;
-let given, viewer, hands, source, me = null, state = null, waiting = [], frame = null, took = 0, stopped = false;
-const entries = new Map(), players = [];
+export let given, viewer, hands, source, me = null, state = null, waiting = [], frame = null, took = 0, stopped = false;
+export const entries = new Map(), players = [];
 
 /* A seat of one's own, which is kept over a reload. */
 
@@ -169,7 +174,7 @@ function notice(words) {
 
 /* What a seat plays. */
 
-async function play(line) {
+export async function play(line) {
   if (!me) return hands.tell("Take a seat first.");
   const got = await hands.patient(post("line", { key: me.key, line }));
   if (got.status === 404) return seek();

@@ -1,16 +1,13 @@
-"use strict";
-
 /* The editor: a draft of a table, on the board and in two lists. Whether it is a table says the program, when it is done. */
 
-const MOST_VERTICES = 16, ROOM = [620, 440];
+import { GRAMMAR } from "./grammar.js";
+import { freePlace, placesText } from "./places.js";
+import { element, made } from "./viewer.js";
+import { faultWords } from "./words.js";
 
-/* The lines `name x y` of the places of a layout. */
+const MOST_VERTICES = GRAMMAR.limits["dg_graph::MAX_VERTICES"], ROOM = [620, 440];
 
-function placesText(layout) {
-  return [...layout.places].map(([name, [x, y]]) => `${name} ${x} ${y}\n`).join("");
-}
-
-class Editor {
+export class Editor {
   /* `done` is called with the text of the table and the places, and gives what the program refuses, or null. */
   constructor(viewer, hands, done, find) {
     Object.assign(this, { viewer, hands, done, find, draft: null });
@@ -216,17 +213,8 @@ class Editor {
     const name = this.freeName();
     draft.vertices.push({ name, amount: 0 });
     layout.sizes.set(name, 11);
-    this.move(name, at || this.freePlace());
+    this.move(name, at || freePlace(layout));
     this.fill();
-  }
-
-  /* Of some places the one that is farthest from all vertices. */
-  freePlace() {
-    const { layout } = this.viewer.board, taken = [...layout.places.values()];
-    const parts = Array.from({ length: 9 }, (_, i) => (i + 1) / 10);
-    const spots = parts.flatMap((down) => parts.map((right) => [layout.width * right, layout.height * down]));
-    const room = ([x, y]) => Math.min(...taken.map(([u, v]) => Math.hypot(u - x, v - y)));
-    return spots.reduce((best, spot) => (room(spot) > room(best) ? spot : best));
   }
 
   removeVertex(name) {

@@ -1,10 +1,12 @@
-"use strict";
-
 /* What a hand does on the board and with the buttons, as lines of the program: a click on a is `lend a`. */
+
+import { draw } from "./board.js";
+import { vertexAhead, vertexAt } from "./places.js";
+import { element } from "./viewer.js";
 
 const LONG_PRESS = 550, FAR_ENOUGH = 9, PATIENT = 1000;
 
-class Hands {
+export class Hands {
   /* `play` is called with a line. */
   constructor(viewer, play) {
     Object.assign(this, { viewer, play, board: viewer.board, press: null, joining: null, other: null });
@@ -20,11 +22,9 @@ class Hands {
     return [at.x, at.y];
   }
 
-  vertexAt([x, y]) {
-    const reach = this.board.layout.radius + 9;
-    const all = [...this.board.layout.places].map(([name, [u, v]]) => [Math.hypot(u - x, v - y), name]);
-    const [far, name] = all.reduce((best, each) => (each[0] < best[0] ? each : best), [Infinity, null]);
-    return far <= reach ? name : null;
+  vertexAt(point) {
+    const { places, radius } = this.board.layout;
+    return vertexAt(places, point, radius + 9);
   }
 
   onBoard() {
@@ -112,7 +112,7 @@ class Hands {
       const name = event.target.dataset && event.target.dataset.name;
       if (name === undefined || event.altKey || event.ctrlKey || event.metaKey) return;
       const aside = { ArrowLeft: [-1, 0], ArrowRight: [1, 0], ArrowUp: [0, -1], ArrowDown: [0, 1] }[event.key];
-      if (aside) this.step(name, aside);
+      if (aside) this.board.focus(vertexAhead(this.board.layout.places, name, aside));
       else if (this.other) return;
       else if (event.key === "Enter") this.play(`${event.shiftKey ? "borrow" : "lend"} ${name}`);
       else if (event.key === " ") this.choose(name);
@@ -121,17 +121,6 @@ class Hands {
       else return;
       event.preventDefault();
     });
-  }
-
-  /* The focus goes to the vertex that is nearest in a direction. */
-  step(name, [right, down]) {
-    const [x, y] = this.board.place(name);
-    const ahead = [...this.board.layout.places].map(([other, [u, v]]) => {
-      const along = (u - x) * right + (v - y) * down, aside = Math.abs((u - x) * down) + Math.abs((v - y) * right);
-      return [along > 1 ? along + 2 * aside : Infinity, other];
-    });
-    const [far, other] = ahead.reduce((best, each) => (each[0] < best[0] ? each : best), [Infinity, null]);
-    if (far < Infinity) this.board.focus(other);
   }
 
   join(name) {

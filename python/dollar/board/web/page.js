@@ -1,12 +1,12 @@
-"use strict";
-
 /* What the pages with a server share: requests, a question to the reader, and files that are saved. */
+
+import { element, made } from "./viewer.js";
 
 const NO_ANSWER = "There is no answer from board/play: it may have ended, or the network is gone.";
 
 /* What the server says to a request: a thing, or its words if it refuses. */
 
-async function post(path, thing) {
+export async function post(path, thing) {
   try {
     const got = await fetch(path, { method: "POST", headers: { "Content-Type": "application/json" }, body: JSON.stringify(thing) });
     return got.ok ? await got.json() : { refused: await got.text(), status: got.status };
@@ -17,7 +17,7 @@ async function post(path, thing) {
 
 /* Asks whether something shall be done. */
 
-function sure(words) {
+export function sure(words) {
   const box = element("sure");
   box.querySelector("p").textContent = words;
   box.returnValue = "no";
@@ -25,7 +25,7 @@ function sure(words) {
   return new Promise((done) => box.addEventListener("close", () => done(box.returnValue === "yes"), { once: true }));
 }
 
-function save(file, text, kind = "text/plain") {
+export function save(file, text, kind = "text/plain") {
   const link = made("a");
   link.href = URL.createObjectURL(new Blob([text], { type: kind }));
   link.download = file;

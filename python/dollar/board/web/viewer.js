@@ -1,14 +1,12 @@
-"use strict";
-
 /* Walks through a game: the board, the step and its answer in words, a slider with marks, and the list of all lines. */
 
-const element = (id) => document.getElementById(id);
-const BETWEEN = 2200, LISTED = 400;
-const TELLING = [
-  "unread", "winnable", "unwinnable", "won", "refused", "stale", "rank", "joined", "given", "not-won", "looked", "moved",
-];
+import { Board, still } from "./board.js";
+import { commandWords, debtWords, flowWords, legendWords, markOf, mostTelling, often, planned, replyWords } from "./words.js";
 
-function made(tag, text, kind) {
+export const element = (id) => document.getElementById(id);
+const BETWEEN = 2200, LISTED = 400;
+
+export function made(tag, text, kind) {
   const part = document.createElement(tag);
   if (text !== undefined) part.textContent = text;
   if (kind) part.className = kind;
@@ -25,12 +23,13 @@ function tableRow(parent, cells, tag = "td") {
   parent.append(row);
 }
 
-class Viewer {
+export class Viewer {
   /* `flaws` has what the program prints, for each step that has another line; `who` says of a step who played it. */
   constructor(game, layout, { hands = false, flaws = {}, who = (seat) => `Seat ${seat}` } = {}) {
     Object.assign(this, { game, flaws, who, now: 0, timer: null, listed: [0, 0], afterShow: () => {} });
     this.board = new Board(document.querySelector("#board svg"), hands);
     this.board.layout = layout;
+    element("marks-legend").textContent = legendWords();
     this.bind();
   }
 
@@ -225,13 +224,7 @@ class Viewer {
   /* Marks stand where there is room: of steps that lie too near to each other, the one that tells most. */
   markedSteps() {
     const wide = element("marks").clientWidth, each = parseFloat(getComputedStyle(element("marks")).fontSize);
-    const places = Math.max(1, Math.floor(wide / each)), best = [], { replies } = this.game;
-    const telling = (index) => (this.flaws[index] !== undefined ? -1 : TELLING.indexOf(replies[index - 1].kind));
-    for (let index = 1; index <= replies.length; index++) {
-      const place = Math.floor(((index - 1) * places) / replies.length);
-      if (best[place] === undefined || telling(index) < telling(best[place])) best[place] = index;
-    }
-    return best.filter((index) => index !== undefined);
+    return mostTelling(this.game.replies, Math.max(1, Math.floor(wide / each)), this.flaws);
   }
 
   fillMarks() {
