@@ -518,32 +518,3 @@ def with_network(folder):
             "another address of it",
         )
         equal(Pupil(pupils, "ann", events=False).play("claim")[1], "0 not won", "a line from the network")
-
-
-def all_of(folder, pages=()):
-    """All tests of the table of a class; the first with pages in a browser, if there are any."""
-    for part in (
-        (lambda folder: of_many(folder, pages)),
-        with_network,
-        with_strangers,
-        with_commands,
-        with_deaths,
-        with_keeping,
-        with_full_history,
-        with_floods,
-        with_clicks,
-    ):
-        start = time.monotonic()
-        part(folder)
-        if os.environ.get("TOLD"):
-            print("%s: %.1f s" % (part.__name__.replace("<lambda>", "of_many"), time.monotonic() - start), flush=True)
-
-
-if __name__ == "__main__":
-    import tempfile
-    from common import results
-
-    with tempfile.TemporaryDirectory() as place_:
-        all_of(place_)
-    print("%d passed, %d failed" % (sum(results), len(results) - sum(results)))
-    sys.exit(not all(results))

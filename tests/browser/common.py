@@ -1,25 +1,17 @@
-"""What the tests of the pages share: counting what has held, and the program that is asked."""
-import contextlib, os, re, subprocess, sys
+"""What the tests of the pages share: files, and the board's server."""
+import contextlib
+import os
+import re
+import subprocess
+import sys
+
+from helpers import EXAMPLES, PACKAGE, ROOT, equal, expect, program
+
+__all__ = ["BOARD", "EXAMPLES", "PACKAGE", "addresses", "asked", "equal", "expect", "lines_of", "played", "script", "text_of", "written"]
 
 TESTS = os.path.dirname(os.path.abspath(__file__))
-ROOT = os.path.dirname(os.path.dirname(TESTS))
-BOARD, EXAMPLES, PACKAGE = (os.path.join(ROOT, folder) for folder in ("board", "examples", "python"))
-sys.dont_write_bytecode = True
-sys.path[:0] = [PACKAGE, os.path.join(ROOT, "tests")]
+BOARD, EXAMPLES, PACKAGE = os.path.join(ROOT, "board"), str(EXAMPLES), str(PACKAGE)
 PATIENCE = 30
-results = []
-
-
-def expect(held, what):
-    """Counts what has held, or says what has not."""
-    results.append(bool(held))
-    if not held:
-        print(what, flush=True)
-
-
-def equal(found, wanted, what):
-    """Counts whether two things are equal, and says how they differ."""
-    expect(found == wanted, "%s: found %.600r, wanted %.600r" % (what, found, wanted))
 
 
 def lines_of(name):
@@ -55,7 +47,7 @@ def script(*words, **given):
 def asked(command, *words):
     """What the program prints for a command, with its status and its fault, as the page would have it."""
     done = subprocess.run(
-        [os.environ["DOLLAR"], command, *words], stdin=subprocess.DEVNULL, stdout=subprocess.PIPE, stderr=subprocess.PIPE
+        [program(), command, *words], stdin=subprocess.DEVNULL, stdout=subprocess.PIPE, stderr=subprocess.PIPE
     )
     return done.stdout.decode(), done.stderr.decode(), done.returncode
 

@@ -367,23 +367,3 @@ def of_command_line(folder):
     equal(ann.play("commit")[0], 200, "the game after the first Ctrl-C")
     child.send_signal(signal.SIGINT)
     expect(child.wait(20) == 0 and child.stderr.read() == "", "the second Ctrl-C does not end it")
-
-
-def all_of(folder):
-    """All tests of requests that no page makes."""
-    for part in of_alone, of_silence, of_many:
-        start = time.monotonic()
-        part(folder)
-        if os.environ.get("TOLD"):
-            print("%s: %.1f s" % (part.__name__, time.monotonic() - start), flush=True)
-
-
-if __name__ == "__main__":
-    import tempfile
-    from common import results
-
-    with tempfile.TemporaryDirectory() as place_:
-        of_command_line(place_)
-        all_of(place_)
-    print("%d passed, %d failed" % (sum(results), len(results) - sum(results)))
-    sys.exit(not all(results))

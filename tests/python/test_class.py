@@ -2,9 +2,9 @@
 import random
 import signal
 import threading
-import unittest
 
-from common import dollar
+import dollar
+from helpers import Test
 from model import some_command
 
 PUPILS, LINES = 30, 20
@@ -59,7 +59,7 @@ def looks_kept(lines):
     return right
 
 
-class OfAClass(unittest.TestCase):
+class OfAClass(Test):
     def test_a_class_makes_one_history(self):
         lines, draws = [], {seat: random.Random(seat) for seat in range(1, PUPILS + 1)}
         session = TABLE.serve(PUPILS)

@@ -6,10 +6,8 @@ import os
 import random
 import re
 import subprocess
-import tempfile
-import unittest
 
-from common import program
+from helpers import Test, program
 from model import Game, judged
 
 SEATS, LINES = 64, 1024
@@ -77,14 +75,9 @@ class Play:
         self.steps.append("%d %s\n" % (seat, line))
 
 
-class OfAParty(unittest.TestCase):
-    def setUp(self):
-        folder = tempfile.TemporaryDirectory()
-        self.addCleanup(folder.cleanup)
-        self.folder = folder.name
-
+class OfAParty(Test):
     def put(self, name, text):
-        place = os.path.join(self.folder, name)
+        place = os.path.join(self.folder(), name)
         with open(place, "wb") as file:
             file.write(text)
         return place

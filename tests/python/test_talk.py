@@ -1,10 +1,8 @@
 """Sessions as docs/tools.md has them, line by line. The answers were worked out by hand."""
-import unittest
-
-from common import ROOT
 from dollar import Ended, Session
+from helpers import EXAMPLES, Test
 
-FILE = ROOT / "examples" / "triangle.json"
+FILE = EXAMPLES / "triangle.json"
 FULL = "dollar: the history is full"
 
 # The triangle, where a has 2 dollars, and b and c owe one each: when a lends, nobody is in debt any more. The commit uses the look up;
@@ -24,7 +22,7 @@ SEATS = [("1 look", "0 looked 0 a=2 b=-1 c=-1"), ("2 commit", "bad look"), ("3 l
          ("1 commit", "2 winnable by a=0 b=0 c=0 to a=0 b=0 c=0"), ("look", "bad seat")]
 
 
-class OfTalks(unittest.TestCase):
+class OfTalks(Test):
     def play(self, lines, end=(0, ""), **options):
         """Asks each line, and closes; an answer None stands for a line that ends the session."""
         session = Session(FILE, **options)

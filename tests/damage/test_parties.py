@@ -1,7 +1,7 @@
 """Sessions and parties whose lines and scripts are damaged, many or long."""
 import itertools, re, resource
 
-from runs import TRIANGLE, Run, refused
+from runs import TRIANGLE, Run, checked, refused
 from model import Game, judged
 from dollar.grammar import GRAMMAR
 
@@ -143,8 +143,4 @@ def large_parties(checks):
         checks.holds("64 scripts of %s: the memory" % what, peak < MEMORY << 20, peak)
 
 
-def check(checks):
-    damaged_sessions(checks)
-    many_lines(checks)
-    damaged_parties(checks)
-    large_parties(checks)
+load_tests = checked(damaged_sessions, many_lines, damaged_parties, large_parties)

@@ -2,7 +2,7 @@
 interrupted."""
 import array, fcntl, os, resource, shutil, signal, subprocess, tempfile, termios, threading, time
 
-from runs import PATIENCE, TRIANGLE, WON, Run, refused
+from runs import PATIENCE, TRIANGLE, WON, Run, checked, refused
 
 SESSION = b"look\nlend a\ncommit\ncommit\nlend z\ngift a 0\nclaim\n"
 ANSWERS = (b"0 looked 0 a=2 b=-1 c=-1\n1 moved a=0 b=0 c=0\n2 winnable by a=0 b=0 c=0 to a=0 b=0 c=0\nbad look\nbad name\n"
@@ -319,14 +319,4 @@ def ended_run(child, before=b""):
     return Run(child.returncode, before + output, faults)
 
 
-def check(checks):
-    outputs(checks)
-    broken_pipes(checks)
-    inputs(checks)
-    files(checks)
-    fifos(checks)
-    changing_files(checks)
-    threads(checks)
-    interrupts(checks)
-    unread_answers(checks)
-    file_limits(checks)
+load_tests = checked(outputs, broken_pipes, inputs, files, fifos, changing_files, threads, interrupts, unread_answers, file_limits)

@@ -2,7 +2,7 @@
 import concurrent.futures, resource
 
 from reader import Refused, table_of
-from runs import TRIANGLE, WON, Run, refused
+from runs import TRIANGLE, WON, Run, checked, refused
 from dollar import answer, flaw
 
 SIZE_LIMIT = 1048576
@@ -192,14 +192,10 @@ def damaged_lines(checks):
         checks.same("damaged lines, %s workers" % workers, run, checks.run("judge", "--lines", "--workers", workers, place))
     answers = run.output.split(b"\n")
     checks.same("damaged lines: the end", (0, b"", len(forms) + 1), (run.status, run.faults, len(answers)))
-    for (what, data), answer in zip(forms, answers):
+    for (what, data), said in zip(forms, answers):
         fault, table = expected_fault(data)
-        fine = answer == b"refused " + fault if fault else is_judged(table, Run(0, answer + b"\n", b""))
-        checks.holds("in a line, " + what, fine, answer)
+        fine = said == b"refused " + fault if fault else is_judged(table, Run(0, said + b"\n", b""))
+        checks.holds("in a line, " + what, fine, said)
 
 
-def check(checks):
-    small_damage(checks)
-    damaged_lines(checks)
-    large_files(checks)
-    single_bytes(checks)
+load_tests = checked(small_damage, damaged_lines, large_files, single_bytes)

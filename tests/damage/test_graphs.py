@@ -2,7 +2,7 @@
 whole numbers without bounds; each rank test by making all trials."""
 import itertools, json, resource
 
-from runs import Run, TRIANGLE
+from runs import TRIANGLE, Run, checked
 from dollar import answer, flaw
 from model import Game
 
@@ -180,8 +180,4 @@ def small_stacks(checks):
         checks.same("%s with a stack of 256 KiB" % " ".join(words), checks.run(*words), checks.run(*words, before=limited))
 
 
-def check(checks):
-    small_stacks(checks)
-    by_hand(checks)
-    verdicts(checks)
-    ranks(checks)
+load_tests = checked(small_stacks, by_hand, verdicts, ranks)
