@@ -1,14 +1,13 @@
 #!/usr/bin/env python3
-"""The gonality of a graph: the least degree of an effective divisor whose rank is at least 1. Whoever plays with so many
-dollars can place them so that any one dollar may be lost.
+"""The gonality of a graph: the least degree of an effective divisor whose rank is at least 1. Whoever plays with so many dollars can
+place them so that any one dollar may be lost.
 
-    examples/gonality.py [PROGRAM [FILE]]
+    examples/gonality.py FILE
 
-prints the gonality of the graph of each line of FILE, a table each; what it holds does not matter. Without a file it plays the
-examples below, and its last line is 'N passed, M failed'.
+prints the gonality of the graph of each line of FILE, a table each; what it holds does not matter.
 
-A divisor of rank at least 1 can be fired to one that is effective and has a dollar at q, so those alone are tried: for each
-degree one run of the program, over all of them as divisors of one table.
+A divisor of rank at least 1 can be fired to one that is effective and has a dollar at q, so those alone are tried: for each degree one
+run of the program, over all of them as divisors of one table.
 
     >>> gonality(graph(5, [(0, 1), (1, 2), (1, 3), (3, 4)])), gonality(graph(7, [(i, (i + 1) % 7) for i in range(7)]))
     (1, 2)
@@ -19,11 +18,14 @@ degree one run of the program, over all of them as divisors of one table.
     >>> gonality(dollar.example("cube")), gonality(dollar.example("petersen"))
     (4, 4)
 
-Trees have 1, cycles 2, complete graphs one less than vertices, two vertices joined more than once 2, complete bipartite graphs
-the lesser part, and the cube and Petersen's graph 4."""
-import doctest, itertools, json, os
+Trees have 1, cycles 2, complete graphs one less than vertices, two vertices joined more than once 2, complete bipartite graphs the
+lesser part, and the cube and Petersen's graph 4."""
+import itertools
+import json
+import os
+import sys
 
-from driver import program_of, start
+sys.path.insert(0, os.path.join(os.path.dirname(os.path.abspath(__file__)), "..", "python"))
 import dollar
 
 
@@ -48,17 +50,7 @@ def gonality(table):
                 if any(dollar.rank_all(table, 1, divisors=placed(table, degree), errors="raise")))
 
 
-def main(words):
-    os.environ["DOLLAR"] = program_of(words)
-    if words[1:]:
-        with open(words[1]) as file:
-            for line in file:
-                print(gonality(dollar.Table(json.loads(line))), flush=True)
-        return 0
-    failed, tried = doctest.testmod()
-    print("%d passed, %d failed" % (tried - failed, failed))
-    return failed > 0
-
-
 if __name__ == "__main__":
-    start(main, "[PROGRAM [FILE]]", 2)
+    with open(sys.argv[1]) as file:
+        for line in file:
+            print(gonality(dollar.Table(json.loads(line))), flush=True)

@@ -27,10 +27,9 @@ Tag: py3-none-any
 
 
 def sources():
-    """The files of the package, by the names that they have in it. Where vertices stand on pictures is told by a module of the board."""
-    files = [file for file in sorted((HERE / "dollar").iterdir()) if file.suffix in (".py", ".typed")]
-    files += [file for file in [HERE.parent / "board" / "places.py"] if file.is_file()]
-    return {"dollar/" + file.name: file.read_bytes() for file in files}
+    """The files of the package, by the names that they have in it."""
+    files = [file for file in sorted((HERE / "dollar").rglob("*")) if file.is_file() and file.suffix != ".pyc"]
+    return {file.relative_to(HERE).as_posix(): file.read_bytes() for file in files}
 
 
 def record_of(files):

@@ -1,12 +1,13 @@
-"""Places outside the proved code that state its words and its limits, each compared with the code. tools/lint prints what differs,
-with the file and the line, and what is wanted there."""
-import glob, html, json, os, re, sys
+"""Pages and texts that state the program's words and limits, each compared with the grammar that tools/words.py reads off the code.
+tools/lint prints what differs, with the file and the line, and what is wanted there. What is written in Python or JavaScript reads the
+grammar itself."""
+import glob
+import re
 
 import words
-from words import read
+from words import numbered, read
 
-HELP, FORMATS = "crates/dg_cli/src/help_texts.rt", "docs/formats.md"
-MODEL, BOARD, ANSWERS = "examples/party.py", "board/words.js", "python/dollar/answers.py"
+HELP, FORMATS, ANSWERS = "crates/dg_cli/src/help_texts.rt", "docs/formats.md", "python/dollar/answers.py"
 
 
 class Part:
@@ -58,113 +59,33 @@ def commands():
     text = re.sub(r"\s+", " ", part.text.split(": ", 1)[-1])
     found = [(form, part.place()) for form in re.split(r", (?=[a-z])| or ", text)]
     yield from part.compare("command", found, [form.replace("V=x,V=x,..", "V=x,..") for form in forms])
-    part = Part(MODEL, "FORMS = {", "}")
-    found = [(" ".join(pair.groups()).strip(), part.place(pair.start())) for pair in re.finditer(r'"(\w+)": "([^"]*)"', part.text)]
-    yield from part.compare("command", found, forms)
-    part = Part(BOARD, "function commandWords", "}[word]")
-    arms = list(re.finditer(r"^    (\w+): (.*(?:\n      .*)*)", part.text, re.M))
-    yield from part.compare("command", [(arm[1], part.place(arm.start())) for arm in arms], list(words.commands()))
-    for arm in arms:
-        count = len(words.commands().get(arm[1], []))
-        most = max([int(place) + 1 for place in re.findall(r"given\[(\d)\]", arm[2])], default=count)
-        if most != count and "script" not in arm[2]:
-            yield "%s: %s has %d words after it, and %d are told" % (part.place(arm.start()), arm[1], count, most)
 
 
-def example_commands():
-    """Lines that are drawn or played: one at least of each command, here with _ for each word after it."""
-    def shape(line):
-        return line.split(" ")[0] + " _" * line.count(" ")
-    wanted = [shape(form) for form in words.command_forms()]
-    for path, begin in (("examples/class.py", "def line_of("), ("tests/browser/classes.py", "def line_of("), (MODEL, "def some_script("),
-                        ("tests/python/test_session.py", "def some_line(")):
-        part = Part(path, begin, "\n\n\n")
-        found = [(shape(line), place) for line, place in part.matches(r'"([a-z][^"]*)"')]
-        yield from part.compare("line of the command", found, wanted, both=False)
+def played_commands():
+    """Rows: one at least with each command."""
     rows = "".join(read(path) for path in sorted(glob.glob("crates/dg_rows/data/*.txt")))
-    for form in wanted:
-        line = r"(?:^[<|] |\| |\\n)(?:\d+ )?%s(?:\\n|$| \|)" % form.replace("_", r"[^ \n\\|]+")
+    for word, kinds in words.commands().items():
+        line = r"(?:^[<|] |\| |\\n)(?:\d+ )?%s(?:\\n|$| \|)" % " ".join([word, *[r"[^ \n\\|]+"] * len(kinds)])
         if not re.search(line, rows, re.M):
-            yield "crates/dg_rows/data: a row with the command `%s` is wanted" % form
+            yield "crates/dg_rows/data: a row with the command `%s` is wanted" % word
 
 
 def replies():
     """Lists of the replies' forms, and of the refusals."""
-    forms, refusals = words.replies(), words.refusals()
+    given = words.grammar()
     part = Part(FORMATS, "| Reply | Text |", "\n\n")
     found = [(each, place) for text, place in part.matches(r"^\|[^|]*\|(.*)\|$") for each in re.findall(r"`([^`]*)`", text)]
-    yield from part.compare("reply", found, forms)
-    yield from Part(FORMATS).compare("refusal", Part(FORMATS).matches(r"`(refused \w+)`"), refusals)
-    part = Part(MODEL, "class Game", "\ndef trials(")
-    played = [form for form in forms if form not in ("refused vertex", "refused empty", "refused script")]
-    yield from part.compare("refusal", part.matches(r'"(refused \w+)"'), [form for form in played if form.startswith("refused")])
-    for form in played:
-        told = re.sub(r"\b[gk]\b", "%d", form.replace("P", "%s"))
-        if not any(text in part.text for text in (told, re.sub("%s$", '" +', told), re.sub("^(un)?winnable", "%swinnable", told))):
-            yield "%s: the model lacks the reply `%s`" % (part.place(), form)
-    with_amounts = [form.split(" ")[0] for form in forms if re.fullmatch("[a-z]+( g)? P", form)]
-    for begin, both in (("def states(", True), ("def compare(", False)):
-        part = Part("tests/browser/replays.py", begin, "\n\n\n")
-        found = [(word, place) for words_of, place in part.matches(r"reply\[0\] in \(([^)]*)\)")
-                 for word in re.findall(r'"([a-z]+)"', words_of)]
-        yield from part.compare("reply with amounts", found, with_amounts, both)
-    yield from board_replies()
-    yield from answers()
-
-
-def board_replies():
-    """The forms by which the board's script reads replies, and what it has for each kind of reply and for each refusal."""
-    part = Part(BOARD, "const FORMS", ".map(")
-    rows = list(re.finditer(r'\["([\w-]+)", ["`](.*?)["`], ', part.text))
-    kinds = list(dict.fromkeys(row[1] for row in rows))
-
-    def shown(form):
-        return re.sub(r"\bP\b", "${PAIRS}", re.sub(r"\b[gk]\b", r"(\\d+)", re.sub("^refused .*", r"refused (\\w+)", form)))
-    found = [(re.sub(r"\\+", r"\\", row[2]), part.place(row.start())) for row in rows]
-    yield from part.compare("reply", found, list(dict.fromkeys(map(shown, words.replies()))))
-    for path, begin, end, form, more in (
-            (BOARD, "function replyWords", "}[reply.kind]", r'(?<=[\s{])"?([a-z-]+)"?(?=: )', []),
-            (BOARD, "function markOf", "};", r'(?<=[\s{])"?([a-z-]+)"?(?=: )', ["unread"]),
-            ("board/viewer.js", "const TELLING", "];", r'"([a-z-]+)"', ["unread"])):
-        part = Part(path, begin, end)
-        yield from part.compare("kind of reply", part.matches(form), kinds + more)
-    marks = re.findall(r'"([^"]+)"', Part(BOARD, "function markOf", "};").text.split("sign = {", 1)[-1].replace('"not-won":', ""))
-    shown = html.unescape(read("board/legend.html"))
-    for mark in sorted(set(json.loads('"%s"' % mark) for mark in marks) - {"\u00b7", "?"}):
-        if "<b>%s</b>" % mark not in shown:
-            yield "board/legend.html: the mark %s is wanted" % mark
-    part = Part(BOARD, "const CAUSES", "};")
-    yield from part.compare("refusal", part.matches(r'(\w+): "'), [text.split(" ")[1] for text in words.refusals()])
-
-
-def answers():
-    """The forms by which the Python package reads answers: each reads something, and each answer is read."""
-    sys.path.insert(0, os.path.join(words.TOP, "python"))
-    try:
-        from dollar import answers as package
-    finally:
-        del sys.path[0]
+    yield from part.compare("reply", found, given["replies"])
+    yield from Part(FORMATS).compare("refusal", Part(FORMATS).matches(r"`(refused \w+)`"), given["refusals"])
     part = Part(ANSWERS, "`word` is `", "`gifts` is")
-    heads = [re.match("not won|rank at least|rank below|[a-z]+", form)[0] for form in words.replies()]
+    heads = [re.match("not won|rank at least|rank below|[a-z]+", form)[0] for form in given["replies"]]
     yield from part.compare("word of an answer", part.matches(r"`([a-z][a-z ]*)`(?! is)"), list(dict.fromkeys(heads + ["turns", "bad"])))
-    part = Part(ANSWERS, "FORMS = [", "\n\n\n")
-    texts = [words.sample(form) for form in words.replies()] + words.bad_texts() + ["turns"]
-    for text in texts:
-        try:
-            read_as = package.entry(text)
-        except ValueError:
-            yield "%s: a form is wanted that reads `%s`" % (part.place(), text)
-            continue
-        if str(read_as) != text:
-            yield "%s: `%s` is read as `%s`" % (part.place(), text, read_as)
-    for form in package.FORMS:
-        if not any(form.fullmatch(text) for text in texts):
-            yield "%s: the form %s reads no answer of the program" % (part.place(), form.pattern)
 
 
 def bad_texts():
     """What is said of lines that make no entry."""
-    bad, lines = words.bad_texts(), words.line_faults()
+    bad = words.bad_texts()
+    lines = [text for text in bad if "line #: " + text in words.faults()]
     part = Part(FORMATS, "A line that spells no step is refused with the first of these.", "\n\nIn an item")
     found = list(part.matches(r"^\| `(bad \w+)` \|"))
     yield from part.compare("fault of a line", found, lines)
@@ -177,35 +98,29 @@ def bad_texts():
             yield from part.compare("answer to a bad line", part.matches(r"`(bad [a-z]+)`"), bad)
         else:
             yield from part.unknown("answer to a bad line", part.matches(r"`(bad [a-z]+)`"), bad)
-    part = Part(MODEL)
-    yield from part.compare("answer to a bad line", part.matches(r'"(bad \w+)"'), [text for text in bad if text != "bad seat"])
-    for path in sorted(glob.glob("tests/*/*.py") + glob.glob("examples/*.py") + glob.glob("python/*/*.py")):
+    for path in sorted(glob.glob("tests/**/*.py", recursive=True) + glob.glob("python/**/*.py", recursive=True)):
         yield from Part(path).unknown("answer to a bad line", Part(path).matches(r"""["'](bad \w+)["']"""), bad)
 
 
 # The definitions of what is said of a table in answer to a line, and the enums whose #[error] says the same.
-SAID = {"shape_text": "Shape", "graph_text": "GraphFault", "chip_text": "ChipFault", "file_fault_text": "FileFault"}
+SAID = {"shape_text": ("Shape", "crates/dg_file/src/fault.rt"), "graph_text": ("GraphFault", "crates/dg_graph/src/fault.rt"),
+        "chip_text": ("ChipFault", "crates/dg_chips/src/divisor.rt"), "file_fault_text": ("FileFault", "crates/dg_file/src/fault.rt")}
 
 
 def told_twice():
     """Texts that stand in two places of the code and are compared here."""
-    return set(words.file_faults()) - {"out of memory"}
-
-
-def numbered(text):
-    """The text with # for each number, its letter or its name in braces."""
-    return re.sub(r"\{\w*\}|(?<![\w-])(?:[LSIiv]|\d[\d,]*)(?![\w,])", "#", text.strip())
+    return set(words.texts(words.FILE_FAULTS, "file_fault_text")) - {"out of memory"}
 
 
 def table_faults():
     """The faults of table files: each variant is told in an answer as on the fault line, on the page, and in the second reader."""
-    for name, enum in SAID.items():
+    for name, (enum, path) in SAID.items():
         part = Part(words.FILE_FAULTS, "abbrev pub %s" % name)
-        own = {variant: numbered(text.strip('"')) for variant, text, _ in words.variants(enum) if text != "transparent"}
+        own = {variant: numbered(text.strip('"')) for variant, text, _ in words.variants(enum, path) if text and text != "transparent"}
         for variant, text in words.texts_by_variant(words.FILE_FAULTS, name):
             if variant in own and numbered(text) != own[variant]:
                 yield "%s: %s::%s says `%s`, not `%s`" % (part.place(), enum, variant, own[variant], text)
-    of_files = {numbered(text) for text in told_twice()}
+    of_files = set(words.table_faults()) - {"out of memory"}
     part = Part(FORMATS, "The reader reports one fault, the first in this order.", "\n\nA number with a fraction")
     found = [(numbered(text), place) for text, place in part.matches(r"^\| `([^`|]*)` \|")]
     yield from part.compare("fault of a table file", found, of_files)
@@ -216,8 +131,8 @@ def table_faults():
 
 def fault_tables():
     """The tables of faults and exit statuses on pages."""
-    statuses, of_files = dict(words.faults()), {numbered(text) for text in told_twice()}
-    bad = {"line #: " + text for text in words.line_faults()}
+    statuses, of_files = words.faults(), set(words.table_faults()) - {"out of memory"}
+    bad = {text for text in statuses if text.startswith("line #: ")}
     wanted = {text: status for text, status in statuses.items() if text not in of_files | bad}
     wanted["line #:"], wanted["amount of vertex #"] = statuses[min(bad)], statuses["amount of vertex #"]
     part = Part(FORMATS, "| Text | Meaning, and what helps | Status |", "\n\n")
@@ -235,21 +150,10 @@ def fault_tables():
 
 
 def faults():
-    """Faults and exit statuses on pages, in the board's script and in the second reader of table files."""
+    """Faults and exit statuses on pages, and in the second reader of table files."""
     yield from table_faults()
     yield from fault_tables()
-    part = Part(BOARD, "const FAULTS", "\n];")
-    forms = [re.compile(form.replace(r"\/", "/")) for form, _ in part.matches(r"^  \[/(.*)/, ")]
-    # What a page of the board can meet.
-    ends = [text for text, _ in words.faults() if text.startswith(("step", "too many trials", "file too", "the history"))]
-    texts = [numbered(text).replace("#", "1") for text in [*told_twice(), *words.bad_texts(), *ends]]
-    for text in sorted(texts):
-        if not any(form.search(text) for form in forms):
-            yield "%s: a form is wanted that fits `%s`" % (part.place(), text)
-    for form in forms:
-        if not any(form.search(text) for text in texts):
-            yield "%s: the form /%s/ fits no fault of the program" % (part.place(), form.pattern)
-    statuses = sorted({"0"} | {str(status) for _, status in words.faults()})
+    statuses = sorted({"0"} | {str(status) for status in words.faults().values()})
     part = Part(HELP, "The status is\n", '"#;')
     yield from part.compare("exit status", part.matches(r"^    (\d)  "), statuses)
 
@@ -258,18 +162,9 @@ def faults():
 SAME = [("dg_sweep::MAX_LINE", "dg_system::MAX_FILE"), ("dg_game::MAX_GIFT", "dg_chips::MAX_AMOUNT")]
 
 
-def constants():
-    """The public constants of the crates, by the crate and the name."""
-    found = {"u32::MAX": str(2**32 - 1)}
-    for path in sorted(glob.glob("crates/*/src/**/*.rt", recursive=True)):
-        for name, value in re.findall(r"^pub const (\w+): \w+ = ([\w:]+?)(?: as \w+)?;", read(path), re.M):
-            found["%s::%s" % (path.split("/")[1], name)] = value.replace("_", "") if value[0].isdigit() else value
-    return {name: found.get(value, value) for name, value in found.items()}
-
-
 def limits():
     """Limits that pages, the help and models of the game state, as tools/limits.txt lists them."""
-    known = constants()
+    known = {"u32::MAX": str(2**32 - 1), **{name: str(number) for name, number in words.limits().items()}}
     for number, line in enumerate(read("tools/limits.txt").splitlines(), 1):
         if line.startswith("#"):
             continue
@@ -292,5 +187,11 @@ def limits():
             yield "%s: %s is %s, not %s" % (part.place(row.start()), row[2], known.get(row[2], "no constant"), row[1])
 
 
-CHECKS = {"command words": commands, "lines of commands": example_commands, "reply words": replies, "bad texts": bad_texts,
-          "faults": faults, "limits": limits}
+def grammar():
+    """The file of the grammar."""
+    if read(words.GRAMMAR) != words.grammar_text():
+        yield "%s is not what the code says: tools/words.py --write makes it anew" % words.GRAMMAR
+
+
+CHECKS = {"grammar": grammar, "command words": commands, "played commands": played_commands, "reply words": replies,
+          "bad texts": bad_texts, "faults": faults, "limits": limits}

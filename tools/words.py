@@ -1,14 +1,23 @@
-"""The words of the program, as the code that is proved has them: the commands of the step language, the replies, what a session says
-of a line that is no entry, and the faults with their exit statuses. tools/lint compares the places that state them with this, and
-tests read it.
+#!/usr/bin/env python3
+"""The grammar of the program, read off the code that is proved: the commands of the step language, the replies, what a session says of a
+line that is no entry, the faults with their exit statuses, and the limits. It stands in python/dollar/grammar.json, which everything
+else reads; tools/lint compares it with the code.
 
-    python3 tools/words.py    prints them"""
-import os, re
+    tools/words.py            prints it
+    tools/words.py --write    writes it"""
+import functools
+import glob
+import json
+import os
+import re
+import sys
 
 TOP = os.path.dirname(os.path.dirname(os.path.abspath(__file__)))
 LINES, SESSION, SWEEP = "crates/dg_lines/specs/", "crates/dg_session/specs/", "crates/dg_sweep/specs/"
-COMMANDS, REPLIES, BAD = LINES + "Commands.antt", LINES + "Texts.antt", LINES + "LineFaults.antt"
+COMMANDS, KINDS_OF, REPLIES = LINES + "Commands.antt", LINES + "CommandWords.antt", LINES + "Texts.antt"
 LOOKS, FILE_FAULTS, STATUS = SESSION + "Saying.antt", SWEEP + "FaultTexts.antt", "crates/dg_server/specs/Status.antt"
+FAULT, LINE_FAULT = "crates/dg_server/src/fault.rt", "crates/dg_lines/src/line.rt"
+GRAMMAR = "python/dollar/grammar.json"
 # How a page shows a word after a command, by its kind.
 KINDS = {"vertex": "V", "vertices": "V,V,..", "script": "V=x,V=x,..", "degree": "k", "dollars": "x"}
 
@@ -18,6 +27,16 @@ def read(path):
         return file.read()
 
 
+def sources(crate):
+    """The files of a crate's code, or of all."""
+    return sorted(os.path.relpath(path, TOP) for path in glob.glob(os.path.join(TOP, "crates", crate, "src", "**", "*.rt"), recursive=True))
+
+
+def unread(path, what):
+    return ValueError("%s: %s is not written as tools/words.py reads it" % (path, what))
+
+
+@functools.lru_cache(maxsize=None)
 def equations(path):
     """The equations in a file of definitions: for each name what stands before and after the equals sign of each."""
     found = {}
@@ -43,7 +62,7 @@ def texts_by_variant(path, name):
         if word == "pairs":
             return ["P"]
         if word not in defined:
-            raise ValueError("%s: the part `%s` of a text is not written as tools/words.py reads it" % (path, part))
+            raise unread(path, "the part `%s` of a text" % part)
         return [text for _, body in defined[word] for text in whole(body)]
 
     def whole(body):
@@ -64,73 +83,134 @@ def commands():
     """The commands, each with the kinds of the words after it."""
     rows = [re.fullmatch(r'\(codes "(\w+)", (.*)\)', body) for _, body in equations(COMMANDS).get("row", [])]
     if not rows or None in rows:
-        raise ValueError("%s: the rows of commands are not written as tools/words.py reads them" % COMMANDS)
+        raise unread(COMMANDS, "a row of commands")
     return {row[1]: [kind for kind in row[2].split(" ∷ ") if kind != "[]"] for row in rows}
+
+
+def kinds():
+    """The kinds of words: how a page shows one, and the least and the most number that may stand in it."""
+    ranges = {}
+    for given, body in equations(KINDS_OF)["IsNumberFor"]:
+        bounds = re.fullmatch(r"IsNumberWithin \((.*)\) \((.*)\) text", body)
+        if not bounds:
+            raise unread(KINDS_OF, "IsNumberFor")
+        ranges[given.split(" ")[0]] = [value_of(bound) for bound in bounds.groups()]
+    found = {}
+    for kind in dict.fromkeys(kind for given in commands().values() for kind in given):
+        if kind not in KINDS:
+            raise ValueError("tools/words.py: KINDS has no form for words of the kind %s" % kind)
+        has_numbers = "[]" not in next(body for given, body in equations(KINDS_OF)["numbers_in"] if given.split(" ")[0] == kind)[:2]
+        least, most = ranges.get(kind, ranges["kind"])
+        found[kind] = {"form": KINDS[kind], **({"least": least, "most": most} if has_numbers else {})}
+    return found
+
+
+def value_of(bound):
+    """The number that a term of whole numbers stands for."""
+    text = re.sub(r"[A-Z_]{3,}", lambda name: limits()["dg_chips::" + name[0]].__str__(), bound)
+    text = re.sub(r"\bpos\b", "", text).replace("neg_ℤ", "-").replace("^", "**")
+    if re.search(r"[^\d\s()*+-]", text):
+        raise unread(KINDS_OF, "the bound `%s`" % bound)
+    return int(eval(text))
 
 
 def command_forms():
     """The commands as pages show them, as `gift V x`."""
-    unknown = {kind for kinds in commands().values() for kind in kinds} - KINDS.keys()
-    if unknown:
-        raise ValueError("tools/words.py: KINDS says of no page how it shows a word of the kind %s" % ", ".join(sorted(unknown)))
-    return [" ".join([word, *(KINDS[kind] for kind in kinds)]) for word, kinds in commands().items()]
-
-
-def replies():
-    """The texts of replies, as `given g P`."""
-    return texts(REPLIES, "text_of")
-
-
-def sample(form):
-    """A text of that form."""
-    return " ".join({"P": "a=2 b=-1", "g": "3", "k": "2"}.get(part, part) for part in form.split(" "))
-
-
-def refusals():
-    """The texts of the replies of a call that the game refuses."""
-    return texts(REPLIES, "refusal_text")
-
-
-def line_faults():
-    """What is said of a line that spells no step, in the order in which it is judged."""
-    return texts(BAD, "fault_text")
+    shown = kinds()
+    return [" ".join([word, *(shown[kind]["form"] for kind in given)]) for word, given in commands().items()]
 
 
 def bad_texts():
-    """All that a session says of a line that makes no entry."""
-    return list(dict.fromkeys(line_faults() + re.findall(r'codes "(bad \w+)\\n"', read(LOOKS))))
+    """All that a session says of a line that makes no entry, in the order in which a line is judged."""
+    return list(dict.fromkeys([text for text, _ in faults_of("LineFault", LINE_FAULT)] + re.findall(r'codes "(bad \w+)\\n"', read(LOOKS))))
 
 
-def file_faults():
-    """What is said of bytes that are no table, in answer to a line."""
-    return texts(FILE_FAULTS, "file_fault_text")
+def numbered(text):
+    """The text with # for each number, its letter or its name in braces."""
+    return re.sub(r"\{[^}]*\}|(?<![\w-])(?:[LSIiv]|\d[\d,]*)(?![\w,])", "#", text.strip())
 
 
-# Where each type of faults stands. What a type is called where it stands beside another of that name comes first.
-TYPES = {"Fault": "dg_server/src/fault.rt", "dg_table::Fault": "dg_table/src/fault.rt", "TaskFault": "dg_tasks/src/fault.rt",
-         "FileFault": "dg_file/src/fault.rt", "Shape": "dg_file/src/fault.rt", "GraphFault": "dg_graph/src/fault.rt",
-         "ChipFault": "dg_chips/src/divisor.rt", "SourceFault": "dg_system/src/sources.rt", "Shortage": "dg_system/src/shortage.rt",
-         "WriteFailed": "dg_system/src/output.rt", "ArgsFault": "dg_invocation/src/parse_args.rt", "LineFault": "dg_lines/src/line.rt",
-         "StepsFault": "dg_lines/src/steps_file.rt", "RankFault": "dg_rank/src/rank_fault.rt",
-         "RehearseFault": "dg_rehearsal/src/schedule.rt", "SessionEnd": "dg_session/src/ends.rt", "SweepEnd": "dg_sweep/src/ends.rt"}
-WITHIN = {("SessionEnd", "Fault"): "dg_table::Fault"}
+def table_faults():
+    """What is said of bytes that are no table."""
+    return [numbered(text) for text in texts(FILE_FAULTS, "file_fault_text")]
 
 
-def variants(name):
-    """The variants of a type of faults: each with its text as the code has it, and the types of what it holds. A type without
-    variants has one, of no name."""
-    text = re.sub(r"^ *//.*\n", "", read("crates/" + TYPES[name]), flags=re.M)
-    word = name.rpartition("::")[2]
-    alone = re.search(r"#\[error\((.*)\)\]\npub struct %s;" % word, text)
+@functools.lru_cache(maxsize=None)
+def without_comments(path):
+    return re.sub(r"^ *//.*\n", "", read(path), flags=re.M)
+
+
+def home_of(what, path):
+    """The file that has an item, as `enum Shortage` or `fn end_text`, if the file of the path uses it by its last word."""
+    word = what.split(" ")[1]
+    name = word.rpartition("::")[2]
+    item = re.compile(r"^ *pub (?:const )?%s %s\b|^fn %s\b" % (what.split(" ")[0], name, name), re.M)
+    if "::" not in word and item.search(without_comments(path)):
+        return path
+    uses = re.findall(r"^use (\w+)::(?:\{([^}]*)\}|(\w+));", without_comments(path), re.M)
+    crate = word.split("::")[0] if "::" in word else next(
+        (crate for crate, several, one in uses if name in re.findall(r"\w+", several + " " + one)), "crate")
+    crate = path.split("/")[1] if crate == "crate" else crate
+    return next((found for found in sources(crate) if item.search(without_comments(found))), None)
+
+
+def block(path, head):
+    """What stands in braces after a head."""
+    text = without_comments(path)
+    body = re.search(r"^( *)(?:pub )?%s\b[\s\S]*?\{\n" % re.escape(head), text, re.M)
+    if not body:
+        raise unread(path, "`%s`" % head)
+    return text[body.end():text.index("\n%s}" % body[1], body.end())]
+
+
+def variants(name, path):
+    """The variants of a type of faults: each with its text as the code has it, and the types of what it holds by their names or places.
+    A type without variants has one, of no name."""
+    alone = re.search(r"#\[error\(([^\n]*)\)\]\npub struct %s;" % name, without_comments(path))
     if alone:
-        return [("", alone[1], [])]
-    body = text[text.index("pub enum %s {" % word):]
-    body = body[:body.index("\n}")]
-    found = [(each[2], each[1], re.findall(r"\b([A-Z]\w+)", each[3] or ""))
-             for each in re.finditer(r"#\[error\((.*)\)\]\n    (\w+)(\([^\n]*\)|\s\{[^}]*\})?,", body)]
+        return [("", alone[1], {})]
+    body = block(path, "enum %s" % name)
+    found = re.findall(r"#\[error\(([^\n]*)\)\]\n *([A-Z]\w*)(?:\(([^\n]*)\)|\s*\{([^}]*)\})?,\n", body + "\n")
     if not found or len(found) < body.count("#[error("):
-        raise ValueError("%s: the variants of %s are not written as tools/words.py reads them" % (TYPES[name], name))
-    return found
+        raise unread(path, "a variant of %s" % name)
+    places = [enumerate(held.split(", ")) if held else re.findall(r"(\w+): ([^\n]*),", fields) for _, _, held, fields in found]
+    return [(variant, text, {str(place): kind for place, kind in holds}) for (text, variant, *_), holds in zip(found, places)]
+
+
+def home_of_faults(name, path):
+    """The file that has a type of faults, if the name is one that the file of the path uses."""
+    if not re.fullmatch(r"(?:\w+::)?[A-Z]\w+", name):
+        return None
+    return home_of("enum " + name, path) or home_of("struct " + name, path)
+
+
+def shown(argument, held, path, status):
+    """What an argument of a fault's text shows, with its status: each text of the fault that it makes, or that the variant holds there; or
+    # for a number."""
+    made = re.match(r"[\w:]*", argument)[0]
+    for name, variant in ((made, None), made.rpartition("::")[::2]):
+        home = home_of_faults(name, path)
+        if home:
+            return list(faults_of(name.rpartition("::")[2], home, status, variant))
+    kind = held.get(argument.strip("{}"), "")
+    home = home_of_faults(kind, path)
+    return list(faults_of(kind.rpartition("::")[2], home, status)) if home else [("#", status)]
+
+
+def faults_of(name, path, status=None, only=None):
+    """The faults of a type, or of one variant of it: each as its text and its exit status."""
+    for variant, text, held in variants(name, path):
+        if only not in (None, variant):
+            continue
+        number = status(variant) if callable(status) else status
+        literal, rest = re.fullmatch(r'"([^"]*)"(?:, (.*))?', '"{0}"' if text == "transparent" else text).groups()
+        arguments = iter(re.split(r", (?![^{]*\})", rest or ""))
+        found = [("", number)]
+        for part in re.split(r"(\{\w*\})", literal):
+            after = shown(next(arguments) if part == "{}" else part, held, path, number) if part.startswith("{") else [(part, None)]
+            found = [(before + each, own if part.startswith("{") else old) for before, old in found for each, own in after]
+        if list(held.values()) != ["String"]:
+            yield from found
 
 
 def status_of(function, variant):
@@ -145,49 +225,38 @@ def status_of(function, variant):
     raise KeyError("%s of %s" % (function, variant))
 
 
-def shown(name, held, argument, status):
-    """What an argument of a fault's text shows, with its status: each text of the fault that it is or that the variant holds, or #
-    for a number."""
-    path = re.match(r"[\w:]*", argument)[0]
-    for type_name, variant in ((path, ""), path.rpartition("::")[::2]):
-        if type_name in TYPES:
-            return [(text, status) for text, _ in faults_of(type_name, status, variant)]
-    inner = [WITHIN.get((name, type_name), type_name) for type_name in held]
-    of_field = re.fullmatch(r"\{(fault|least)\}", argument) or argument == "transparent"
-    if of_field and inner and inner[0] in TYPES:
-        return list(faults_of(inner[0], status))
-    return [("#", status)]
-
-
-def faults_of(name="Fault", status=lambda variant: status_of("status", variant), only=None):
-    """The faults of a type, or of one variant of it: each as its text and its exit status."""
-    for variant, text, held in variants(name):
-        if only is not None and variant != only:
-            continue
-        number = status(variant) if callable(status) else status
-        if text == "transparent":
-            yield from shown(name, held, text, number)
-            continue
-        literal, rest = re.fullmatch(r'"([^"]*)"(?:, (.*))?', text).groups()
-        arguments = iter(re.split(r", (?![^{]*\})", rest or ""))
-        found = [("", number)]
-        for part in re.split(r"(\{\w*\})", literal):
-            if part.startswith("{"):
-                after = shown(name, held, next(arguments) if part == "{}" else part, number)
-                found = [(before + each, own) for before, _ in found for each, own in after]
-            else:
-                found = [(before + part, own) for before, own in found]
-        if literal != "{0}" or held != ["String"]:
-            yield from found
-
-
 def faults():
     """The faults that end a run: the text of each, where # is a number, and its exit status."""
-    return sorted(set(faults_of()))
+    found = {numbered(text): status for text, status in faults_of("Fault", FAULT, lambda variant: status_of("status", variant))}
+    return dict(sorted(found.items()))
+
+
+@functools.lru_cache(maxsize=None)
+def limits():
+    """The public limits of the crates, by the crate and the name."""
+    found = {}
+    for path in sources("*"):
+        crate = path.split("/")[1]
+        if not crate.endswith("_tests"):
+            for name, value in re.findall(r"^pub const (\w+): \w+ = ([\w:]+?)(?: as \w+)?;", read(path), re.M):
+                found["%s::%s" % (crate, name)] = int(value.replace("_", "")) if value[0].isdigit() else value
+    return {name: found.get(value, value) for name, value in found.items()}
+
+
+def grammar():
+    """All of it."""
+    return {
+        "commands": commands(), "kinds": kinds(), "replies": texts(REPLIES, "text_of"), "refusals": texts(REPLIES, "refusal_text"),
+        "bad": bad_texts(), "tables": table_faults(), "faults": faults(), "limits": limits()}
+
+
+def grammar_text():
+    return json.dumps(grammar(), indent=1, ensure_ascii=False) + "\n"
 
 
 if __name__ == "__main__":
-    for what, found in (("commands", command_forms()), ("replies", replies()), ("bad", bad_texts()), ("tables", file_faults())):
-        print("%s: %s" % (what, "; ".join(found)))
-    for text, status in faults():
-        print("%d %s" % (status, text))
+    if sys.argv[1:] == ["--write"]:
+        with open(os.path.join(TOP, GRAMMAR), "w", encoding="utf-8") as file:
+            file.write(grammar_text())
+    else:
+        sys.stdout.write(grammar_text())

@@ -26,7 +26,6 @@ All names:
 - `run`, `answer`, `history`: the lines that any command prints; what a line and a history say
 """
 
-from dollar import former
 from dollar.answers import (
     Answer, Entry, History, Party, RankTest, Refused, RefusedRankTest, RefusedRiemannRoch, RefusedVerdict, RiemannRoch, Verdict,
     answer, history, to_csv)
@@ -46,11 +45,3 @@ __all__ = [
     "find_program", "fired", "flaw", "greedy", "history", "joined", "judge", "judge_all", "party", "picture", "rank", "rank_all",
     "rehearse", "rr", "rr_all", "run", "to_csv",
 ]
-
-
-def __getattr__(name: str) -> object:
-    """The names that the module had before it was a package."""
-    if name in former.__all__:
-        found: object = getattr(former, name)
-        return found
-    raise AttributeError("module 'dollar' has no attribute %r" % name)

@@ -7,9 +7,10 @@ import re
 from collections.abc import Mapping as AbstractMapping
 from dataclasses import InitVar, dataclass, fields
 from html import escape
-from typing import IO, Any, Callable, Dict, Iterable, Iterator, List, Optional, Tuple, TypeVar, Union
+from typing import IO, Any, Callable, Dict, Iterable, Iterator, List, Optional, Pattern, Tuple, TypeVar, Union
 
 from dollar import checks, drawing
+from dollar.grammar import GRAMMAR
 from dollar.program import Fault
 
 Pairs = Dict[str, int]
@@ -362,15 +363,40 @@ def refusal(kind: Callable[..., Row], text: str, table: Optional[int]) -> Row:
     return row
 
 
-NUMBER = r"(?:0|-?[1-9]\d*)"
-AMOUNTS = r"(\w+={0}(?: \w+={0})*)".format(NUMBER)
-FORMS = [re.compile(form.replace("P", AMOUNTS).replace("N", r"(0|[1-9]\d*)"), re.ASCII) for form in (
-    "(moved) P", "(given|joined|looked) N P", "(won|not won)", "(winnable|unwinnable) by P to P", "(rank at least) N",
-    r"(rank below) N at (?:P|\?)", "(stale) N", r"(refused \w+)", r"(bad \w+)", "(turns)")]
+AMOUNTS, NATURAL = r"(\w+={0}(?: \w+={0})*)".format(r"(?:0|-?[1-9]\d*)"), r"(0|[1-9]\d*)"
+# How each part of a form is read; the amounts that a rank test lacks past the limits are a question mark.
+PARTS = {"P": AMOUNTS, "g": NATURAL, "k": NATURAL, "?": r"\?"}
+
+
+def form_of(text: str) -> Pattern[str]:
+    """What reads the texts of a form: its word, and then what stands for its numbers and amounts."""
+    found = re.fullmatch(r"(.*?)((?: by)?(?: [Pgk]\b.*)?)", text)
+    assert found is not None
+    return re.compile("(%s)%s" % (found[1], " ".join(PARTS.get(part, part) for part in found[2].split(" "))), re.ASCII)
+
+
+def forms() -> Dict[str, List[Pattern[str]]]:
+    """What reads each answer of the program, by the first word."""
+    found: Dict[str, List[Pattern[str]]] = {}
+    for text in [*GRAMMAR["replies"], "rank below k at ?", *GRAMMAR["bad"], "turns"]:
+        found.setdefault(text.split(" ")[0], []).append(form_of(text))
+    return found
+
+
+FORMS = forms()
 
 
 def no_answer(text: str) -> ValueError:
     return ValueError("no answer of the program: %r" % text)
+
+
+def parts_of(text: str) -> Tuple[str, ...]:
+    """The word of an answer, and the texts of its numbers and amounts."""
+    for form in FORMS.get(text.partition(" ")[0], ()):
+        found = form.fullmatch(text)
+        if found:
+            return found.groups()
+    raise no_answer(text)
 
 
 def entry(text: str, number: Optional[int] = None, seat: Optional[int] = None) -> Entry:
@@ -383,16 +409,11 @@ def entry(text: str, number: Optional[int] = None, seat: Optional[int] = None) -
         ...
     ValueError: no answer of the program: 'lent a'
     """
-    form = next((found for found in (form.fullmatch(text) for form in FORMS) if found), None)
-    if form is None:
-        raise no_answer(text)
-    word, *rest = form.groups()
+    word, *rest = parts_of(text)
     if word in ("winnable", "unwinnable"):
-        verdict = Verdict(word == "winnable", pairs_of(rest[0]), pairs_of(rest[1]))
-        return Entry(word, found=verdict, number=number, seat=seat)
+        return Entry(word, found=verdict_of(text), number=number, seat=seat)
     if word in ("rank at least", "rank below"):
-        loss = pairs_of(rest[1]) if rest[1:] and rest[1] else None
-        return Entry(word, found=RankTest(word == "rank at least", int(rest[0]), loss), number=number, seat=seat)
+        return Entry(word, found=rank_test_of(text), number=number, seat=seat)
     gifts = next((int(part) for part in rest if part.isdigit()), None)
     amounts = next((pairs_of(part) for part in rest if "=" in part), None)
     return Entry(word, gifts, amounts, number=number, seat=seat)
@@ -423,18 +444,18 @@ def history(lines: Iterable[str], with_seat: bool = False) -> History:
 
 def verdict_of(text: str, table: Any = None) -> Verdict:
     """The verdict with this text."""
-    found = entry(text).found
-    if not isinstance(found, Verdict):
+    word, *rest = parts_of(text)
+    if word not in ("winnable", "unwinnable"):
         raise no_answer(text)
-    return Verdict(found.winnable, found.script, found.reduced, table)
+    return Verdict(word == "winnable", pairs_of(rest[0]), pairs_of(rest[1]), table)
 
 
 def rank_test_of(text: str) -> RankTest:
     """The rank test with this text."""
-    found = entry(text).found
-    if not isinstance(found, RankTest):
+    word, *rest = parts_of(text)
+    if word not in ("rank at least", "rank below"):
         raise no_answer(text)
-    return found
+    return RankTest(word == "rank at least", int(rest[0]), pairs_of(rest[1]) if rest[1:] else None)
 
 
 def riemann_roch_of(words: List[str]) -> RiemannRoch:
@@ -445,8 +466,6 @@ def riemann_roch_of(words: List[str]) -> RiemannRoch:
     if degree is None or genus is None:
         raise no_answer(" ".join(words))
     return RiemannRoch(degree, genus, rank, dual)
-
-
 
 
 def cell(value: Any) -> Any:

@@ -8,7 +8,7 @@ from typing import Any, Iterable, List, Optional, Tuple, Union
 
 from dollar.answers import (
     Entry, History, Party, RankTest, RiemannRoch, Verdict, history, pairs_of, rank_test_of, riemann_roch_of, verdict_of)
-from dollar.program import Place, call, fault_of
+from dollar.program import Place, call, fault_of, printed
 from dollar.table import Table, members, whole
 
 Lines = Iterable[str]
@@ -36,7 +36,7 @@ def run(command: str, *given: Any, program: Optional[Place] = None) -> List[str]
     >>> run("rank", Table([[0, 1], [1, 0]], [2, -1]), 1, "--workers", 2)
     ['rank at least 1']
     """
-    return answered(program, command, *map(word_of, given))
+    return printed(command, *map(word_of, given), program=program).splitlines()
 
 
 def judge(table: Any, program: Optional[Place] = None) -> Verdict:
@@ -47,7 +47,7 @@ def judge(table: Any, program: Optional[Place] = None) -> Verdict:
     winnable by 0=0 1=-1 to 0=1 1=0
     """
     file = members(table)
-    line = "\n".join(answered(program, "judge", file))
+    line = printed("judge", file, program=program).rstrip("\n")
     return verdict_of(line, table if isinstance(table, Table) else Table(json.loads(file)))
 
 
@@ -59,7 +59,7 @@ def rank(table: Any, degree: int, program: Optional[Place] = None, *, workers: O
     RankTest(holds=False, degree=2, loss={'0': 0, '1': 2})
     """
     words = (str(whole(degree, "the degree")), *option("--workers", workers))
-    return rank_test_of("\n".join(answered(program, "rank", members(table), *words)))
+    return rank_test_of(printed("rank", members(table), *words, program=program).rstrip("\n"))
 
 
 def rr(table: Any, program: Optional[Place] = None) -> RiemannRoch:
@@ -69,17 +69,17 @@ def rr(table: Any, program: Optional[Place] = None) -> RiemannRoch:
     >>> rr(Table([[0, 1], [1, 0]], [2, -1]))
     RiemannRoch(degree=1, genus=0, rank=1, dual=-1)
     """
-    return riemann_roch_of(" ".join(answered(program, "rr", members(table))).split(" "))
+    return riemann_roch_of(printed("rr", members(table), program=program).split())
 
 
 def rehearse(table: Any, steps: Lines, program: Optional[Place] = None) -> History:
     """The history of these steps, each a seat and a command, as "1 lend a"."""
-    return history(answered(program, "rehearse", members(table), lines_text(steps)))
+    return history(printed("rehearse", members(table), lines_text(steps), program=program).splitlines())
 
 
 def greedy(table: Any, turns: int, program: Optional[Place] = None) -> History:
     """The history of a game in which the first vertex in debt borrows; the last is `won`, or `turns` where its turns were used up."""
-    lines = answered(program, "greedy", members(table), str(whole(turns, "the number of turns")))
+    lines = printed("greedy", members(table), str(whole(turns, "the number of turns")), program=program).splitlines()
     used_up = lines[-1:] == ["turns"]
     played = history(lines[:-1] if used_up else lines)
     return History([*played, Entry("turns")]) if used_up else played
@@ -88,8 +88,8 @@ def greedy(table: Any, turns: int, program: Optional[Place] = None) -> History:
 def party(table: Any, *scripts: Lines, cap: Optional[int] = None, program: Optional[Place] = None) -> Party:
     """What comes of scripts that are played at once, each a list of lines without seats. A session that ends early is told in
     `faults`; a Fault is raised where nothing was played."""
-    printed, said, status = call(["party", members(table), *map(lines_text, scripts), *option("--cap", cap)], program)
-    lines = printed.decode().splitlines()
+    out, said, status = call(["party", members(table), *map(lines_text, scripts), *option("--cap", cap)], program)
+    lines = out.decode().splitlines()
     if not lines:
         raise fault_of(said, status)
     first = next(at for at, line in enumerate(lines) if line.startswith("entries "))
@@ -107,11 +107,3 @@ def seat_fault(line: str) -> Tuple[int, str]:
 def option(name: str, number: Optional[int]) -> List[str]:
     """The words of an option, none where it is not given."""
     return [] if number is None else [name, str(whole(number, name))]
-
-
-def answered(program: Optional[Place], *words: Union[str, bytes]) -> List[str]:
-    """The lines that the program prints, or its Fault. A word as bytes stands for a file."""
-    printed, said, status = call(words, program)
-    if status:
-        raise fault_of(said, status)
-    return printed.decode().splitlines()

@@ -1,102 +1,270 @@
-"""Pictures of tables for notebooks."""
+"""Pictures of tables as SVG, and what the pages of the board need to draw theirs: where vertices stand, how large they are, and which
+text fits them."""
 
 from __future__ import annotations
 
-import importlib.util
+import itertools
 import math
-from functools import lru_cache
 from html import escape
-from pathlib import Path
-from typing import Any, Callable, Dict, Iterable, Iterator, Optional, Sequence, Tuple
+from typing import Any, Dict, Iterable, Iterator, List, Mapping, NamedTuple, Optional, Sequence, Tuple
 
 from dollar import checks
-from dollar.program import CLONE
+from dollar.places import Places, centred, places, places_of_text
 
-Places = Dict[str, Tuple[float, float]]
-MOST_STRANDS, SIZE, MARGIN = 8, 44, 46
-DEBT, FINE, FIRE, LINE = "#b3261e", "#2e6b34", "#b35900", "#667"
-
-
-def ring(vertices: Sequence[str], edges: Iterable[Any] = ()) -> Places:
-    """Places on a circle, the first at the top."""
-    if len(vertices) == 1:
-        return {vertices[0]: (0.0, 0.0)}
-    start = math.pi if len(vertices) == 2 else -math.pi / 2
-    turns = [start + 2 * math.pi * at / len(vertices) for at in range(len(vertices))]
-    return {name: (math.cos(turn), math.sin(turn)) for name, turn in zip(vertices, turns)}
-
-
-@lru_cache(maxsize=None)
-def places_of() -> Callable[[Any, Any], Places]:
-    """What tells where vertices stand: the board's module `places`, which lies in the clone and in what pip has installed, or else a
-    ring."""
-    for file in (Path(__file__).with_name("places.py"), CLONE / "board" / "places.py"):
-        spec = importlib.util.spec_from_file_location("dollar.places", file)
-        if file.is_file() and spec is not None and spec.loader is not None:
-            module = importlib.util.module_from_spec(spec)
-            spec.loader.exec_module(module)
-            found: Callable[[Any, Any], Places] = module.places
-            return found
-    return ring
+LEAST_ROUND, MOST_ROUND, APART, LEAST_SIZE = 21, 46, 38, 82
+NAME_AT, AMOUNT_AT, NAME_SIZE, AMOUNT_SIZE = -6, 10, 11, 16
+STRANDS, MARGIN, LINE_HIGH, ROW, LEAST_WIDE, EDGE = 8, 15, 18, 22, 296, 30
+DEBT, BURNING, ADDED, LINE = "#b3261e", "#b35900", "#1a66cc", "#667"
+# A board that is played on has room for amounts of so many digits from the start.
+USUAL = [-99, 999]
+WIDTHS = {**dict.fromkeys("mwMW", 1.0), **dict.fromkeys("fijlrtI-", 0.42), **dict.fromkeys("OQGDHNU", 0.8)}
+HATCH = ('<defs><pattern id="hatch" width="6" height="6" patternUnits="userSpaceOnUse" patternTransform="rotate(45)">'
+         '<path d="M0 0V6" stroke="#b3261e" stroke-opacity="0.45" stroke-width="1.3"/></pattern></defs>')
+PLATE = 'paint-order="stroke" stroke="%s" stroke-width="3" stroke-linejoin="round"'
+Point = Tuple[float, float]
 
 
-def strands(start: Tuple[float, float], end: Tuple[float, float], count: int, colour: str) -> Iterator[str]:
-    """The edges between two vertices: a line for each, or one thick line with their number where they are many."""
+class Frame(NamedTuple):
+    """One drawing of a table: its places and amounts, lines of text below it, the order in which vertices burn, the two ends of an edge
+    that was added, and a script."""
+
+    table: Any
+    places: Places
+    amounts: Mapping[str, int]
+    lines: Sequence[str] = ()
+    order: Sequence[str] = ()
+    added: Optional[Tuple[str, str]] = None
+    script: Optional[Mapping[str, int]] = None
+
+
+def width(text: object) -> float:
+    """How wide a text is at most, in letters' heights, in the fonts that are used for sans-serif."""
+    return sum(WIDTHS.get(letter, 0.7) for letter in str(text))
+
+
+def room(radius: float, reach: float) -> float:
+    """How wide a text may be in a circle of a radius, if it goes up or down from the middle as far as reach."""
+    return 2 * math.sqrt(max(0.0, (radius - 2) ** 2 - reach ** 2))
+
+
+def radius_for(names: Iterable[str], amounts: Iterable[object]) -> int:
+    """The radius for circles in which the names and the amounts can be read."""
+    wide = max((width(name) * 9 for name in names), default=0), max((width(amount) * 13 for amount in amounts), default=0)
+    wanted = max(math.hypot(wide[0] / 2, 14), math.hypot(wide[1] / 2, AMOUNT_AT)) + 2
+    return min(max(LEAST_ROUND, math.ceil(wanted)), MOST_ROUND)
+
+
+def fitted(text: object, wide: float, size: float) -> float:
+    """The size of letters, at most size, at which a text is no wider than this."""
+    return round(min(size, wide / max(width(text), 1)), 1)
+
+
+def name_size(name: str, radius: float) -> float:
+    """The size of letters at which a name fits its circle."""
+    return round(min(NAME_SIZE, room(radius, 14) / width(name)), 1)
+
+
+def amount_size(amount: int, radius: float) -> float:
+    """The size of digits at which an amount fits its circle."""
+    return round(min(AMOUNT_SIZE, room(radius, AMOUNT_AT) / width(amount)), 1)
+
+
+def span(found: Places, radius: float) -> float:
+    """By how much places are to be drawn apart for circles of this radius not to touch."""
+    points = list(found.values())
+    near = min((math.dist(x, y) for i, x in enumerate(points) for y in points[:i]), default=2.0)
+    return max(LEAST_SIZE, (2 * radius + APART) / near)
+
+
+def places_for(table: Any, own: Optional[str] = None) -> Places:
+    """The places of a table's vertices: those that a text gives, or else those that its graph has."""
+    if own is None:
+        return places(table["vertices"], table["edges"])
+    return centred(places_of_text(own, table["vertices"]))
+
+
+def layout(table: Any, amounts: Iterable[object], own: Optional[str] = None) -> Dict[str, Any]:
+    """Where a page has the vertices of a table, and how large they and their names are, if these amounts are to fit."""
+    names, found = table["vertices"], places_for(table, own)
+    radius = radius_for(names, amounts)
+    size = span(found, radius)
+    left, top = (min(place[axis] for place in found.values()) * size for axis in (0, 1))
+    right, low = (max(place[axis] for place in found.values()) * size for axis in (0, 1))
+    edge = radius + EDGE
+    wide = max(right - left + 2 * edge, 2 * (radius + 70))
+    return {
+        "radius": radius, "room": room(radius, AMOUNT_AT), "strands": STRANDS,
+        "width": round(wide), "height": round(low - top + 2 * edge),
+        "sizes": {name: name_size(name, radius) for name in names},
+        "places": {name: [round(x * size - (left + right) / 2 + wide / 2, 1), round(y * size - top + edge, 1)]
+                   for name, (x, y) in found.items()},
+    }
+
+
+def strands(start: Point, end: Point, count: int, colour: str, added: bool) -> Iterator[str]:
+    """The edges between two vertices: each a line, or one thick line with their number where they are many."""
     (x, y), (z, w) = start, end
-    drawn, long = 1 if count > MOST_STRANDS else count, math.dist(start, end) or 1.0
-    for at in range(drawn):
-        bow = (at - (drawn - 1) / 2) * min(36, 252 / drawn)
+    drawn, long = 1 if count > STRANDS else count, math.hypot(z - x, w - y)
+    for i in range(drawn):
+        bow = (i - (drawn - 1) / 2) * min(36, 252 / drawn)
         bent = (x + z) / 2 - bow * (w - y) / long, (y + w) / 2 + bow * (z - x) / long
         yield ('<path d="M%.1f %.1f Q%.1f %.1f %.1f %.1f" fill="none" stroke="%s" stroke-width="%s"/>'
-               % (x, y, *bent, z, w, colour, 1.8 if drawn == count else 5))
+               % (x, y, *bent, z, w, ADDED if added and i == 0 else colour, 1.8 if drawn == count else 5))
     if drawn < count:
-        yield '<text x="%.1f" y="%.1f" font-size="11">%d edges</text>' % ((x + z) / 2, (y + w) / 2 - 8, count)
+        yield ('<text x="%.1f" y="%.1f" font-size="11" fill="#223" %s>%d edges</text>'
+               % ((x + z) / 2, (y + w) / 2 - 8, PLATE % "#fff", count))
 
 
-def vertex(place: Tuple[float, float], name: str, amount: int, is_q: bool, lends: int, radius: float) -> Iterator[str]:
+def circles(x: float, y: float, r: int, debt: bool, burns: bool, is_q: bool) -> Iterator[str]:
+    """The circle of a vertex."""
+    fill, line = ("#fbd3cd", DEBT) if debt else ("#e6f2e6", "#2e6b34")
+    line, thick = (BURNING, 3) if burns else (line, 1.8)
+    if is_q:
+        yield '<circle cx="%.1f" cy="%.1f" r="%d" fill="#fff" stroke="%s" stroke-width="1.5"/>' % (x, y, r + 4, line)
+    yield '<circle cx="%.1f" cy="%.1f" r="%d" fill="%s" stroke="%s" stroke-width="%s"/>' % (x, y, r, fill, line, thick)
+    if debt:
+        yield '<circle cx="%.1f" cy="%.1f" r="%d" fill="url(#hatch)"/>' % (x, y, r)
+
+
+def badge(x: float, y: float, number: int) -> Iterator[str]:
+    """A number in the order of burning."""
+    yield '<circle cx="%.1f" cy="%.1f" r="9" fill="%s"/>' % (x, y, BURNING)
+    yield '<text x="%.1f" y="%.1f" font-size="12" font-weight="bold" fill="#fff">%d</text>' % (x, y + 4, number)
+
+
+def often(count: int) -> str:
+    """A number of a script in words."""
+    return "lends %d" % count if count > 0 else "borrows %d" % -count
+
+
+def vertex(place: Point, r: int, name: str, amount: int, burns: bool, is_q: bool, count: int) -> Iterator[str]:
     """A vertex with its name, its amount, and what a script has it lend."""
     x, y = place
-    line = DEBT if amount < 0 else FINE
-    if is_q:
-        yield '<circle cx="%.1f" cy="%.1f" r="%.1f" fill="#fff" stroke="%s"/>' % (x, y, radius + 4, line)
-    yield ('<circle cx="%.1f" cy="%.1f" r="%.1f" fill="%s" stroke="%s" stroke-width="1.8"/>'
-           % (x, y, radius, "#fbd3cd" if amount < 0 else "#e6f2e6", line))
-    yield '<text x="%.1f" y="%.1f" font-size="%.1f">%s</text>' % (x, y - 5, min(11.0, 3.2 * radius / len(name)), escape(name))
-    yield '<text x="%.1f" y="%.1f" font-size="14" font-weight="bold">%d</text>' % (x, y + 11, amount)
-    if lends:
-        word = "lends" if lends > 0 else "borrows"
-        yield '<text x="%.1f" y="%.1f" font-size="11" font-weight="bold">%s %d</text>' % (x, y + radius + 15, word, abs(lends))
+    plate = PLATE % "#fbd3cd" if amount < 0 else ""
+    yield from circles(x, y, r, amount < 0, burns, is_q)
+    yield ('<text x="%.1f" y="%.1f" font-size="%s" fill="#334" %s>%s</text>'
+           % (x, y + NAME_AT, name_size(name, r), plate, escape(name)))
+    yield ('<text x="%.1f" y="%.1f" font-size="%s" font-weight="bold" fill="#111" %s>%d</text>'
+           % (x, y + AMOUNT_AT, amount_size(amount, r), plate, amount))
+    if count:
+        yield ('<text x="%.1f" y="%.1f" font-size="11" font-weight="bold" fill="#223" %s>%s</text>'
+               % (x, y + r + 15, PLATE % "#fff", often(count)))
 
 
-def picture(table: Any, script: Optional[Dict[str, int]] = None, order: Sequence[str] = (),
+def drawn(middle: Point, wide: float, size: float, r: int, frame: Frame) -> Iterator[str]:
+    """One drawing of a table around a place: edges, one of them blue if it was added between two vertices, the vertices, and lines of
+    text below."""
+    table, edges = frame.table, checks.edges(frame.table)
+    place = {v: (middle[0] + size * x, middle[1] + size * y) for v, (x, y) in frame.places.items()}
+    number = {v: i + 1 for i, v in enumerate(frame.order)}
+    yield '<g font-family="sans-serif" text-anchor="middle">'
+    for u, v in itertools.combinations(table["vertices"], 2):
+        colour = BURNING if u in number and v in number else LINE
+        yield from strands(place[u], place[v], edges[u].get(v, 0), colour, (u, v) == frame.added)
+    for v in table["vertices"]:
+        yield from vertex(place[v], r, v, frame.amounts[v], v in number, v == table["q"], (frame.script or {}).get(v, 0))
+    for v in frame.order:
+        yield from badge(place[v][0] + 0.86 * r, place[v][1] - 0.86 * r, number[v])
+    for i, line in enumerate(frame.lines):
+        yield ('<text x="%.1f" y="%d" font-size="%s" fill="#223">%s</text>'
+               % (middle[0], middle[1] + size + r + MARGIN + LINE_HIGH * (i + 1), fitted(line, wide - 12, 13), escape(line)))
+    yield "</g>"
+
+
+def signs(frames: Sequence[Frame]) -> Iterator[Tuple[str, str]]:
+    """Which signs some frames have, each with its words."""
+    yield "q", "q: verdicts are reckoned from here"
+    for there, sign, words in ((any(amount < 0 for frame in frames for amount in frame.amounts.values()), "debt", "in debt"),
+                               (any(frame.order for frame in frames), "burnt", "burns, as number 1"),
+                               (any(frame.added for frame in frames), "added", "was added"),
+                               (any(frame.script for frame in frames), "script", "what the script says")):
+        if there:
+            yield sign, words
+
+
+def sign(kind: str, x: float, y: float) -> Iterator[str]:
+    """A small sign of the legend."""
+    if kind in ("q", "debt"):
+        yield from circles(x, y, 7, kind == "debt", False, kind == "q")
+    elif kind == "burnt":
+        yield from badge(x, y, 1)
+    elif kind == "added":
+        yield '<path d="M%.1f %.1fh24" stroke="%s" stroke-width="1.8"/>' % (x - 12, y, ADDED)
+    else:
+        yield '<text x="%.1f" y="%.1f" font-size="11" font-weight="bold" fill="#223">lends 1</text>' % (x, y + 4)
+
+
+def legend(frames: Sequence[Frame], wide: float) -> List[List[Tuple[str, float, float, str]]]:
+    """The rows of the legend: in each the signs, with their places from the left and their words."""
+    rows: List[List[Tuple[str, float, float, str]]] = [[]]
+    right = 6.0
+    for kind, words in signs(frames):
+        before = 54 if kind == "script" else 32
+        needed = before + width(words) * 11 + 8
+        if rows[-1] and right + needed > wide - 8:
+            rows.append([])
+            right = 6.0
+        rows[-1].append((kind, right + before / 2 - 2, right + before, words))
+        right += needed
+    return rows
+
+
+def pictured(title: str, frames: Sequence[Frame]) -> str:
+    """The SVG text for frames side by side."""
+    return "\n".join(parts_of(title, frames)) + "\n"
+
+
+def parts_of(title: str, frames: Sequence[Frame]) -> Iterator[str]:
+    r = radius_for((name for frame in frames for name in frame.table["vertices"]),
+                   (amount for frame in frames for amount in frame.amounts.values()))
+    size = max(span(frame.places, r) for frame in frames)
+    wide, high = max(2 * (size + r + MARGIN), LEAST_WIDE), 2 * (size + r + MARGIN)
+    rows = legend(frames, wide * len(frames))
+    foot = high + LINE_HIGH * (max(len(frame.lines) for frame in frames) + 1)
+    whole = wide * len(frames), foot + ROW * len(rows)
+    yield '<svg xmlns="http://www.w3.org/2000/svg" viewBox="0 0 %d %d" width="%d" height="%d" role="img">' % (*whole, *whole)
+    yield "<title>%s</title>" % escape(title)
+    yield HATCH
+    yield '<rect width="%d" height="%d" rx="8" fill="#fff"/>' % whole
+    for i, frame in enumerate(frames):
+        if i:
+            yield ('<path d="M%d %d h22 m-7 -6 l7 6 l-7 6" fill="none" stroke="#223" stroke-width="1.8"/>'
+                   % (wide * i - 11, high // 2))
+        yield from drawn((wide * i + wide / 2, high / 2), wide, size, r, frame)
+    yield '<g font-family="sans-serif">'
+    for i, row in enumerate(rows):
+        y = foot + ROW * i + 4
+        for kind, x, after, words in row:
+            yield '<g text-anchor="middle">%s</g>' % "".join(sign(kind, x, y))
+            yield '<text x="%.1f" y="%.1f" font-size="11" fill="#445">%s</text>' % (after, y + 4, words)
+    yield "</g>"
+    yield "</svg>"
+
+
+def held(table: Any) -> Dict[str, int]:
+    """The amounts of a table by the names of its vertices."""
+    return dict(zip(table["vertices"], table["amounts"]))
+
+
+def picture(table: Any, script: Optional[Mapping[str, int]] = None, order: Sequence[str] = (),
             places: Optional[Places] = None) -> str:
-    """A picture of a table as SVG: each vertex with its name and its dollars, red if it is in debt, and q with a double ring. Below a
-    vertex stands what the script has it lend or borrow; the numbers are the order in which vertices burn. `places` tells where the
-    vertices stand.
+    """A picture of a table as SVG: each vertex with its name and its dollars, red and hatched if it is in debt, and q with a double ring.
+    Below a vertex stands what the script has it lend or borrow; the numbers are the order in which vertices burn. `places` tells where
+    the vertices stand, x to the right and y down.
 
     >>> from dollar import Table
     >>> picture(Table([[0, 1], [1, 0]], [2, -1])).startswith("<svg ")
     True
     """
-    names, edges = list(table["vertices"]), [tuple(edge) for edge in table["edges"]]
-    found = places_of()(names, edges) if places is None else places
-    points = list(found.values())
-    near = min((math.dist(x, y) for at, x in enumerate(points) for y in points[:at]), default=2.0)
-    radius = max(21.0, 4.2 * max(len(str(amount)) for amount in table["amounts"]) + 4)
-    size = max(2 * SIZE, (2 * radius + SIZE) / near)
-    left, top = (min(point[axis] for point in points) * size - radius - MARGIN for axis in (0, 1))
-    right, low = (max(point[axis] for point in points) * size + radius + MARGIN for axis in (0, 1))
-    at = {name: (x * size - left, y * size - top) for name, (x, y) in found.items()}
-    parts = ['<svg xmlns="http://www.w3.org/2000/svg" width="%.0f" height="%.0f" viewBox="0 0 %.1f %.1f" font-family="sans-serif" '
-             'text-anchor="middle" fill="#112">' % (right - left, low - top, right - left, low - top)]
-    for u, near_u in checks.edges(table).items():
-        for v, count in near_u.items():
-            if names.index(u) < names.index(v):
-                parts.extend(strands(at[u], at[v], count, LINE))
-    for name, amount in zip(names, table["amounts"]):
-        parts.extend(vertex(at[name], name, amount, name == table["q"], (script or {}).get(name, 0), radius))
-    for number, name in enumerate(order, 1):
-        x, y = at[name][0] + 0.86 * radius, at[name][1] - 0.86 * radius
-        parts.append('<circle cx="%.1f" cy="%.1f" r="9" fill="%s"/>' % (x, y, FIRE))
-        parts.append('<text x="%.1f" y="%.1f" font-size="12" font-weight="bold" fill="#fff">%d</text>' % (x, y + 4, number))
-    return "".join([*parts, "</svg>"])
+    found = places_for(table) if places is None else centred(places)
+    return pictured("A table", [Frame(table, found, held(table), (), order, None, script)])
+
+
+def verdict_picture(name: str, table: Any, verdict: Any, own: Optional[str] = None) -> str:
+    """A picture of a table that has a name with the script of its verdict, and beside it of what that leads to, which all burns."""
+    word, script, reduced = verdict
+    says = ["all burns, in this order;", "it can be won" if word == "winnable" else "it can't be won"]
+    found = places_for(table, own)
+    return pictured("%s, %s by %s" % (name, word, " ".join("%s=%d" % pair for pair in script.items())), [
+        Frame(table, found, held(table), [name, "" if any(script.values()) else "no vertex need lend"], (), None, script),
+        Frame(table, found, reduced, says, checks.burnt(table, reduced))])

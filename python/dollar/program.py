@@ -16,6 +16,8 @@ Place = Union[str, "os.PathLike[str]"]
 
 # The folder of the clone that holds this package, if it lies in one; with the examples and the board it is installed likewise.
 CLONE = Path(__file__).resolve().parents[2]
+# How many seconds a page waits for an answer.
+PATIENCE = 120.0
 
 
 class Fault(Exception):
@@ -55,16 +57,17 @@ def is_clone(folder: Path) -> bool:
 
 
 @functools.lru_cache(maxsize=None)
-def script() -> str:
-    """The script `dollar` of the clone. If it has to build the program first, it says so on standard error."""
-    place = str(CLONE / "dollar")
-    subprocess.run([place, "--version"], stdin=subprocess.DEVNULL, stdout=subprocess.DEVNULL)
-    return place
+def built() -> str:
+    """The program of the clone, as its script `dollar` builds it; if it has to, it says so on standard error. The script is asked once, and
+    not at each call, because it looks at all sources."""
+    if subprocess.run([CLONE / "dollar", "--version"], stdin=subprocess.DEVNULL, stdout=subprocess.DEVNULL).returncode:
+        raise ProgramNotFound("%s has built no program" % (CLONE / "dollar"))
+    return str(CLONE / "crates" / "dollar" / "out" / "dollar")
 
 
 def find_program(program: Optional[Place] = None) -> str:
-    """The path of the program: the one that is given, or the one that the variable DOLLAR names, or the script of the clone
-    in which this package lies, or the `dollar` on the PATH.
+    """The path of the program: the one that is given, or the one that the variable DOLLAR names, or the one that is built in
+    the clone in which this package lies, or the `dollar` on the PATH.
 
     >>> find_program("/nowhere/dollar")
     Traceback (most recent call last):
@@ -78,33 +81,47 @@ def find_program(program: Optional[Place] = None) -> str:
                 raise ProgramNotFound("%s names %s, and no program is there" % (whence, os.fspath(given)))
             return os.path.abspath(found)
     if is_clone(CLONE):
-        return script()
+        return built()
     found = shutil.which("dollar")
     if not found:
         raise ProgramNotFound("there is no program `dollar` on the PATH; name it by the variable DOLLAR or the parameter `program`")
     return os.path.abspath(found)
 
 
-def open_files(files: Iterable[bytes], until: ExitStack) -> Tuple[List[str], List[int]]:
-    """Names by which a child can read files with these bytes, and the descriptors that it must be handed. The files have no
-    names of their own, so that none is left behind. Descriptors below 3 are the child's standard streams, even if they are closed
-    here."""
-    descriptors = []
-    for content in files:
-        file: IO[bytes] = until.enter_context(tempfile.TemporaryFile())
-        file.write(content)
-        file.flush()
-        descriptors.append(fcntl.fcntl(file, fcntl.F_DUPFD_CLOEXEC, 3))
-        until.callback(os.close, descriptors[-1])
-    return ["/dev/fd/%d" % descriptor for descriptor in descriptors], descriptors
+def command_line(words: Iterable[Union[str, bytes]], program: Optional[Place], until: ExitStack) -> Tuple[List[str], List[int]]:
+    """The command line of the program with these words, and the descriptors that the child must be handed. A word as bytes stands for
+    a file with these bytes, which has no name of its own, so that none is left behind. Descriptors below 3 are the child's standard
+    streams, even if they are closed here."""
+    line, descriptors = [find_program(program)], []
+    for word in words:
+        if isinstance(word, bytes):
+            file: IO[bytes] = until.enter_context(tempfile.TemporaryFile())
+            file.write(word)
+            file.flush()
+            descriptors.append(fcntl.fcntl(file, fcntl.F_DUPFD_CLOEXEC, 3))
+            until.callback(os.close, descriptors[-1])
+            word = "/dev/fd/%d" % descriptors[-1]
+        line.append(word)
+    return line, descriptors
 
 
-def call(words: Sequence[Union[str, bytes]], program: Optional[Place] = None) -> Tuple[bytes, bytes, int]:
-    """What the program prints and says, and its status. A word as bytes stands for a file with these bytes."""
+def call(words: Sequence[Union[str, bytes]], program: Optional[Place] = None,
+         patience: Optional[float] = None) -> Tuple[bytes, bytes, int]:
+    """What the program prints and says, and its status. A word as bytes stands for a file with these bytes. With `patience` it is
+    killed after so many seconds, and a TimeoutError raised."""
     with ExitStack() as until:
-        names, descriptors = open_files((word for word in words if isinstance(word, bytes)), until)
-        left = iter(names)
-        line = [next(left) if isinstance(word, bytes) else word for word in words]
-        done = subprocess.run([find_program(program), *line], stdin=subprocess.DEVNULL, stdout=subprocess.PIPE,
-                              stderr=subprocess.PIPE, pass_fds=descriptors)
+        line, descriptors = command_line(words, program, until)
+        try:
+            done = subprocess.run(line, stdin=subprocess.DEVNULL, stdout=subprocess.PIPE, stderr=subprocess.PIPE,
+                                  pass_fds=descriptors, timeout=patience)
+        except subprocess.TimeoutExpired:
+            raise TimeoutError("no answer for %s seconds" % patience) from None
     return done.stdout, done.stderr, done.returncode
+
+
+def printed(*words: Union[str, bytes], program: Optional[Place] = None, patience: Optional[float] = None) -> str:
+    """What the program prints, or its Fault. A word as bytes stands for a file with these bytes."""
+    out, said, status = call(words, program, patience)
+    if status:
+        raise fault_of(said, status)
+    return out.decode()

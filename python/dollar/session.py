@@ -12,10 +12,11 @@ from typing import Any, Callable, NamedTuple, Optional, Tuple, Type, TypeVar
 
 from dollar.answers import Entry, numbered
 from dollar.commands import option
-from dollar.program import Fault, Place, fault_of, find_program, open_files
+from dollar.grammar import limit
+from dollar.program import Fault, Place, command_line, fault_of
 from dollar.table import members, whole
 
-LONGEST_LINE = 1024
+LONGEST_LINE = limit("dg_session::MAX_LINE")
 Got = TypeVar("Got")
 
 
@@ -49,7 +50,7 @@ def one_line(line: str) -> bytes:
     except UnicodeEncodeError:
         raise ValueError("a line has half of a character in it") from None
     if len(sent) > LONGEST_LINE:
-        raise ValueError("a line has more than 1024 bytes")
+        raise ValueError("a line has more than %d bytes" % LONGEST_LINE)
     return sent
 
 
@@ -116,9 +117,9 @@ class Session:
         self.reads_seats = seats is not None
         words = [*option("--seats", seats), *option("--cap", cap), *option("--workers", workers), *map(str, options)]
         with ExitStack() as until:
-            names, descriptors = open_files([members(table)], until)
-            self.child = subprocess.Popen([find_program(program), "serve", *names, *words], stdin=subprocess.PIPE,
-                                          stdout=subprocess.PIPE, stderr=subprocess.PIPE, pass_fds=descriptors)
+            line, descriptors = command_line(["serve", members(table), *words], program, until)
+            self.child = subprocess.Popen(line, stdin=subprocess.PIPE, stdout=subprocess.PIPE, stderr=subprocess.PIPE,
+                                          pass_fds=descriptors)
         self.work: queue.SimpleQueue[Optional[Work]] = queue.SimpleQueue()
         threading.Thread(target=work_on, args=(self.work, self.child), daemon=True).start()
         weakref.finalize(self, self.work.put, None)

@@ -17,7 +17,7 @@ from dollar.answers import (
     RankTest, RefusedRankTest, RefusedRiemannRoch, RefusedVerdict, RiemannRoch, Row, Verdict, rank_test_of, refusal, riemann_roch_of,
     verdict_of)
 from dollar.commands import option
-from dollar.program import Fault, Place, fault_of, find_program, open_files
+from dollar.program import Fault, Place, command_line, fault_of
 from dollar.table import Table, iterate, iterate_divisors, one_line, whole
 
 AT_ONCE, PIECE, PATIENCE = 1 << 16, 1 << 16, 0.05
@@ -31,11 +31,9 @@ class Sweep:
     def __init__(self, words: Sequence[Union[str, bytes]], tables: Iterator[Tuple[Any, bytes]], program: Optional[Place]) -> None:
         self.said = tempfile.TemporaryFile()
         with ExitStack() as until:
-            names, descriptors = open_files((word for word in words if isinstance(word, bytes)), until)
-            left = iter(names)
-            line = [next(left) if isinstance(word, bytes) else word for word in words]
-            self.child = subprocess.Popen([find_program(program), *line], bufsize=0, stdin=subprocess.PIPE, stdout=subprocess.PIPE,
-                                          stderr=self.said, pass_fds=descriptors)
+            line, descriptors = command_line(words, program, until)
+            self.child = subprocess.Popen(line, bufsize=0, stdin=subprocess.PIPE, stdout=subprocess.PIPE, stderr=self.said,
+                                          pass_fds=descriptors)
         assert self.child.stdin is not None and self.child.stdout is not None
         self.input, self.output = self.child.stdin, self.child.stdout
         os.set_blocking(self.input.fileno(), False)

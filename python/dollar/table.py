@@ -11,6 +11,7 @@ from collections.abc import Mapping as AbstractMapping
 from typing import TYPE_CHECKING, Any, Callable, Dict, Iterable, Iterator, List, NamedTuple, Optional, Tuple, Union
 
 from dollar import drawing
+from dollar.grammar import limit
 from dollar.program import CLONE, Place
 
 if TYPE_CHECKING:
@@ -19,7 +20,8 @@ if TYPE_CHECKING:
 MEMBERS = ("vertices", "edges", "amounts", "q")
 NAME = re.compile(r"[A-Za-z0-9_]{1,16}", re.ASCII)
 # The program reads no further: a longer file is refused.
-MOST_BYTES = 1048576
+MOST_BYTES, MOST_TEXT = limit("dg_system::MAX_FILE"), 1 << 26
+EXAMPLES = CLONE / "examples"
 Edge = Tuple[str, str, int]
 
 
@@ -429,9 +431,23 @@ def one_line(thing: Any) -> bytes:
                     % type(thing).__name__)
 
 
+def text_of(file: Place) -> str:
+    """The text of a file. What is no UTF-8, or longer than any file of ours, is a ValueError."""
+    with open(file, encoding="utf-8", newline="") as opened:
+        text = opened.read(MOST_TEXT + 1)
+    if len(text) > MOST_TEXT:
+        raise ValueError("the file is too long")
+    return text
+
+
+def shown_name(file: Place) -> str:
+    """The name of a file, as it is shown; for bytes that are no letters there is a sign."""
+    return os.fsencode(os.path.basename(file)).decode(errors="replace")
+
+
 def example(name: str) -> Table:
     """The table of a file in the folder `examples`, of the clone or of the installed files in which this package lies."""
-    file = CLONE / "examples" / (name + ".json")
+    file = EXAMPLES / (name + ".json")
     if not file.is_file():
         raise FileNotFoundError("there is no example %s beside this package: %s" % (name, file))
     return Table.read(file)

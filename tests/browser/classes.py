@@ -2,6 +2,7 @@
 import http.client, json, os, random, signal, socket, statistics, subprocess, sys, threading, time
 
 from common import BOARD, EXAMPLES, addresses, asked, equal, expect, played, script, text_of, written
+from model import some_command
 from visitors import Place, Pupil, opened
 
 PUPILS, LINES = 30, 100
@@ -18,32 +19,9 @@ TABLE = {
 
 def line_of(draw):
     """A line that a pupil may play."""
-    one, other = draw.choice(TABLE["vertices"]), draw.choice(TABLE["vertices"])
-    return draw.choice(
-        [
-            "look",
-            "look",
-            "commit",
-            "commit",
-            "rank 1",
-            "claim",
-            "lend " + one,
-            "borrow " + one,
-            "fire " + one,
-            "script %s=%d" % (one, draw.randint(-2, 2)),
-            "gift %s %d" % (one, draw.randint(-2, 2)),
-            "join %s %s" % (one, other),
-            "rank 5000",
-            "lend zoe",
-            "lent " + one,
-            "look now",
-            "",
-            "2 look",
-            "look\r",
-            "\u00e4" * 500,
-            "x" * 990,
-        ]
-    )
+    if draw.random() < 0.6:
+        return some_command(draw, TABLE["vertices"])
+    return draw.choice(["rank 5000", "lend zoe", "lent ann", "look now", "", "2 look", "look\r", "\u00e4" * 500, "x" * 990])
 
 
 def table_file(folder):
@@ -379,7 +357,7 @@ def with_keeping(folder):
     ):
         before = text_of(kept, name)
         written(kept, name, text)
-        printed, said, status = script("play", "--no-browser", *words, stdin=subprocess.DEVNULL)
+        printed, said, status = script("board", "--no-browser", *words, stdin=subprocess.DEVNULL)
         expect((printed, status) == (b"", 1) and word in said and said.count("\n") == 1, "with another %s: %r" % (name, said))
         equal(text_of(kept, name), text, "a file of a game that is not gone on with")
         written(kept, name, before)
@@ -540,32 +518,3 @@ def with_network(folder):
             "another address of it",
         )
         equal(Pupil(pupils, "ann", events=False).play("claim")[1], "0 not won", "a line from the network")
-
-
-def all_of(folder, pages=()):
-    """All tests of the table of a class; the first with pages in a browser, if there are any."""
-    for part in (
-        (lambda folder: of_many(folder, pages)),
-        with_network,
-        with_strangers,
-        with_commands,
-        with_deaths,
-        with_keeping,
-        with_full_history,
-        with_floods,
-        with_clicks,
-    ):
-        start = time.monotonic()
-        part(folder)
-        if os.environ.get("TOLD"):
-            print("%s: %.1f s" % (part.__name__.replace("<lambda>", "of_many"), time.monotonic() - start), flush=True)
-
-
-if __name__ == "__main__":
-    import tempfile
-    from common import results
-
-    with tempfile.TemporaryDirectory() as place_:
-        all_of(place_)
-    print("%d passed, %d failed" % (sum(results), len(results) - sum(results)))
-    sys.exit(not all(results))

@@ -1,25 +1,17 @@
-"""What the tests of the pages share: counting what has held, and the program that is asked."""
-import contextlib, os, re, subprocess, sys
+"""What the tests of the pages share: files, and the board's server."""
+import contextlib
+import os
+import re
+import subprocess
+import sys
+
+from helpers import EXAMPLES, PACKAGE, ROOT, equal, expect, program
+
+__all__ = ["BOARD", "EXAMPLES", "PACKAGE", "addresses", "asked", "equal", "expect", "lines_of", "played", "script", "text_of", "written"]
 
 TESTS = os.path.dirname(os.path.abspath(__file__))
-ROOT = os.path.dirname(os.path.dirname(TESTS))
-BOARD, EXAMPLES = os.path.join(ROOT, "board"), os.path.join(ROOT, "examples")
-sys.dont_write_bytecode = True
-sys.path[:0] = [BOARD, EXAMPLES]
+BOARD, EXAMPLES, PACKAGE = os.path.join(ROOT, "board"), str(EXAMPLES), str(PACKAGE)
 PATIENCE = 30
-results = []
-
-
-def expect(held, what):
-    """Counts what has held, or says what has not."""
-    results.append(bool(held))
-    if not held:
-        print(what, flush=True)
-
-
-def equal(found, wanted, what):
-    """Counts whether two things are equal, and says how they differ."""
-    expect(found == wanted, "%s: found %.600r, wanted %.600r" % (what, found, wanted))
 
 
 def lines_of(name):
@@ -40,10 +32,10 @@ def written(folder, name, text):
     return place
 
 
-def script(name, *words, **given):
-    """Runs a script of board/, and gives what it printed, what it said on standard error, and its status."""
+def script(*words, **given):
+    """Runs a command of the package, and gives what it printed, what it said on standard error, and its status."""
     done = subprocess.run(
-        [sys.executable, "-B", os.path.join(BOARD, name), *words],
+        [sys.executable, "-B", os.path.join(PACKAGE, "dollar"), *words],
         stdout=subprocess.PIPE,
         stderr=subprocess.PIPE,
         timeout=PATIENCE * 4,
@@ -55,7 +47,7 @@ def script(name, *words, **given):
 def asked(command, *words):
     """What the program prints for a command, with its status and its fault, as the page would have it."""
     done = subprocess.run(
-        [os.environ["DOLLAR"], command, *words], stdin=subprocess.DEVNULL, stdout=subprocess.PIPE, stderr=subprocess.PIPE
+        [program(), command, *words], stdin=subprocess.DEVNULL, stdout=subprocess.PIPE, stderr=subprocess.PIPE
     )
     return done.stdout.decode(), done.stderr.decode(), done.returncode
 

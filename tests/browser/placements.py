@@ -1,9 +1,9 @@
 """Places: known graphs are found by their shape, whatever the vertices are called and in whatever order they stand."""
-import doctest, itertools, json, math, os, random, time
+import itertools, json, math, os, random, time
 
-import places as module
 from common import EXAMPLES, equal, expect, lines_of
-from places import places, places_of_text
+from dollar import places as module
+from dollar.places import places, places_of_text
 
 DRAW = random.Random(7)
 TIMES, MOST_SECONDS = 6, 1.0
@@ -155,11 +155,3 @@ def of_examples():
         "graphs that are not connected",
     )
     equal(places_of_text("b 1 2\n\na -1e3 .5\n", ["a", "b"]), {"a": (-1000.0, 0.5), "b": (1.0, 2.0)}, "places of a text")
-
-
-def all_of():
-    """All tests of places."""
-    failed, tried = doctest.testmod(module)
-    equal((failed, tried > 0), (0, True), "the examples in places.py")
-    for part in of_known, of_trees, of_others, of_examples:
-        part()

@@ -5,7 +5,7 @@ import json, os, random, re, time
 from browser import CTRL, SHIFT
 from common import EXAMPLES, asked, equal, expect, played, text_of, written
 
-READY = "document.readyState === 'complete' && typeof viewer === 'object' && Boolean(viewer)"
+READY = "document.readyState === 'complete' && Boolean(globalThis.inside && inside.viewer)"
 WIDTHS, RANDOM_LINES = (360, 1280, 1920), 80
 AT = "#board [data-name='%s']"
 
@@ -58,7 +58,7 @@ class Player:
         place = os.path.join(self.folder, name)
         if os.path.exists(place):
             os.remove(place)
-        self.value("for (const at of document.querySelectorAll('#tables details')) at.open = true")
+        self.value("document.querySelectorAll('#tables details').forEach((at) => { at.open = true; })")
         self.browser.click(button)
         end = time.monotonic() + 10
         while not os.path.exists(place):
@@ -376,7 +376,7 @@ def with_tables(player, folder):
         table = player.saved("#take-table", "table.json")
         equal(sum(json.loads(table)["amounts"]), 2, "the degree of a table drawn by lots")
         equal(asked("judge", written(folder, "lots.json", table))[0].split(" ")[0], kind, "a table drawn by lots")
-    player.value("document.getElementById('draw-degree').value = 5; document.getElementById('draw-kind').value = 'unwinnable'")
+    player.value("(document.getElementById('draw-degree').value = 5, document.getElementById('draw-kind').value = 'unwinnable')")
     browser.click("#draw-form button")
     browser.until("!document.getElementById('refused').hidden")
     expect(
@@ -388,7 +388,7 @@ def with_tables(player, folder):
 def with_editor(player):
     """A table is edited on the board and in lists, and saved as a file which the program takes."""
     browser = player.browser
-    player.value("hands.tell(''); void openTable(examples['triangle.json'], 'triangle.json')")
+    player.value("(hands.tell(''), void openTable(examples['triangle.json'], 'triangle.json'))")
     browser.until("fileName === 'triangle.json'")
     browser.click("#edit")
     browser.until("!document.getElementById('editor').hidden")
@@ -476,7 +476,7 @@ def in_sizes(player, folder):
         browser.media(prefers_reduced_motion="reduce", **features)
         for wide in WIDTHS + (640,):
             browser.size(wide, {360: 740, 1280: 800, 1920: 1080}.get(wide, 400))
-            player.value("for (const at of document.querySelectorAll('details')) at.open = true")
+            player.value("document.querySelectorAll('details').forEach((at) => { at.open = true; })")
             player.told("#ask-won")
             expect(player.value("document.documentElement.scrollWidth <= innerWidth"), "too wide at %d" % wide)
             small = player.value(
@@ -503,7 +503,7 @@ def with_focus(player):
     """Whoever goes on by Tab sees where he is, and comes to each control."""
     browser = player.browser
     browser.size(1280, 800)
-    player.value("for (const at of document.querySelectorAll('details')) at.open = true")
+    player.value("document.querySelectorAll('details').forEach((at) => { at.open = true; })")
     seen = []
     for _ in range(60):
         browser.press("Tab")

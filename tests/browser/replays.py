@@ -1,11 +1,14 @@
 """Pages of games that were played: at each step what stands on them is compared with the step and its printed line."""
-import math, os, time
+import math, os, re, time
 
 from common import EXAMPLES, equal, expect, lines_of, script, written
 from dollar import answer, edges, example, joined
+from dollar.grammar import GRAMMAR
 
 STORIES = ("village", "village_story"), ("houses", "tax_on_the_houses"), ("village", "roads_for_the_village")
 OTHERS = ("sixty_three_edges", "no_room_for_an_edge"), ("rich_triangle", "to_the_limit"), ("four_cycle", "clear_the_cycle")
+# The words of replies that have the amounts of all vertices.
+WITH_AMOUNTS = [form.split(" ")[0] for form in GRAMMAR["replies"] if re.fullmatch("[a-z]+( g)? P", form)]
 MOST_BYTES, WIDTHS = 100_000, (320, 360, 1280, 1920)
 LONGEST, OPENS_IN, STEPS_IN = 65536, 4.0, 0.25
 
@@ -13,8 +16,8 @@ LONGEST, OPENS_IN, STEPS_IN = 65536, 4.0, 0.25
 def page_of(folder, table, steps, *history):
     """The page of an example, and its place."""
     words = [os.path.join(EXAMPLES, table + ".json"), os.path.join(EXAMPLES, steps + ".txt"), *history]
-    page, said, status = script("replay.py", *words)
-    equal((status, said), (0, ""), "%s: replay.py" % steps)
+    page, said, status = script("replay", *words)
+    equal((status, said), (0, ""), "%s: replay" % steps)
     expect(len(page) < MOST_BYTES, "%s: the page has %d bytes" % (steps, len(page)))
     return written(folder, "%s%d.html" % (steps, len(history)), page.decode())
 
@@ -75,7 +78,7 @@ def compare(shown, where, index, table, amounts, step, line):
         expect(shown["says"] == [[name, often(lent[name])] for name in names if lent.get(name)], where + ": others lend")
         expect(arrows_right(shown, table, lent), "%s: other arrows: %r" % (where, shown["arrows"]))
         expect(flow_words(table, lent) == shown["moves"], "%s: other dollars move: %r" % (where, shown["moves"]))
-    if reply[0] in (None, "moved", "given", "joined", "looked", "not won"):
+    if reply[0] in (None, "not won", *WITH_AMOUNTS):
         for name in debts:
             expect("%s owes %d" % (name, -amounts[name]) in shown["answer"], "%s: %s is not told to owe" % (where, name))
 
@@ -116,7 +119,7 @@ def states(table, steps, lines):
         reply = answer(line.split(" ", 1)[1])
         if reply[0] == "joined":
             table = dict(joined(table, *step.split(" ")[2:]), added=table.get("added", 0) + 1)
-        if reply[0] in ("moved", "given", "joined", "looked"):
+        if reply[0] in WITH_AMOUNTS:
             amounts = reply[-1]
         yield table, amounts, step, line
 
@@ -195,8 +198,8 @@ def in_sizes(browser, steps):
 
 def shown_as(browser, folder, given, history):
     """Sees that the page of these arguments has this history, and finds no difference in it."""
-    page, said, status = script("replay.py", *given)
-    equal((status, said), (0, ""), "replay.py %s" % given)
+    page, said, status = script("replay", *given)
+    equal((status, said), (0, ""), "replay %s" % given)
     browser.open(written(folder, "page.html", page.decode()))
     equal(browser.value("viewer.game.replies.map((reply) => reply.line)"), history, "the history of %r" % given)
     equal(browser.value("viewer.flaws"), {}, "the flaws of %r" % given)
@@ -221,8 +224,8 @@ def of_long_game(browser, folder):
     asked = ["1 lend a", "1 borrow a"] * (LONGEST // 2)
     for place in 500, 60000:
         asked[place:place + 2] = ["2 look", "2 commit"]
-    page, said, status = script("replay.py", os.path.join(EXAMPLES, "triangle.json"), written(folder, "steps", "\n".join(asked)))
-    equal((status, said), (0, ""), "replay.py of %d steps" % LONGEST)
+    page, said, status = script("replay", os.path.join(EXAMPLES, "triangle.json"), written(folder, "steps", "\n".join(asked)))
+    equal((status, said), (0, ""), "replay of %d steps" % LONGEST)
     place, start = written(folder, "page.html", page.decode()), time.monotonic()
     browser.open(place)
     opened = time.monotonic() - start
@@ -272,8 +275,8 @@ def with_strange_names(browser, folder):
     table = written(folder, "t.json", '{"vertices": ["%s"], "edges": [["constructor", "__proto__", 1], ["__proto__", "2", 1],'
                     ' ["2", "1", 1], ["1", "toString", 1]], "amounts": [1, -1, 0, 2, 3], "q": "2"}' % '", "'.join(names))
     steps = written(folder, "s", "1 lend __proto__\n1 script 1=2,constructor=-1\n1 look\n1 commit\n")
-    page, said, status = script("replay.py", table, steps)
-    equal((status, said), (0, ""), "replay.py with strange names")
+    page, said, status = script("replay", table, steps)
+    equal((status, said), (0, ""), "replay with strange names")
     browser.open(written(folder, "page.html", page.decode()))
     for index in range(5):
         browser.value("viewer.go(%d)" % index)
@@ -292,15 +295,15 @@ def with_strangers(browser, folder):
     steps, history = written(folder, "s", "1 claim\n"), written(folder, "h", "0 won\n")
     for name, text in tables.items():
         for words in ([steps], [steps, history], ["--greedy", "3"]):
-            page, said, status = script("replay.py", written(folder, "t.json", text), *words)
-            expect((page, status) == (b"", 1) and said.count("\n") == 1 and said.startswith("replay.py: "),
-                   "replay.py with the table %s: %d, %r" % (name, status, said))
+            page, said, status = script("replay", written(folder, "t.json", text), *words)
+            expect((page, status) == (b"", 1) and said.count("\n") == 1 and said.startswith("dollar replay "),
+                   "replay with the table %s: %d, %r" % (name, status, said))
     table = os.path.join(EXAMPLES, "triangle.json")
     for words in ([table, written(folder, "s", "1 lend <b>\n")], [table, steps, written(folder, "h", "0 won\n1 won\n")],
                   [table, steps, written(folder, "h", "0 <script>\n")], ["/nowhere", steps], [table, "/nowhere"]):
-        page, said, status = script("replay.py", *words)
-        expect((page, status) == (b"", 1) and said.count("\n") == 1, "replay.py %s: %d, %r" % (words, status, said))
-    page, _, _ = script("replay.py", table, "/dev/stdin", input=b"1 lend a\n1 claim\n")
+        page, said, status = script("replay", *words)
+        expect((page, status) == (b"", 1) and said.count("\n") == 1, "replay %s: %d, %r" % (words, status, said))
+    page, _, _ = script("replay", table, "/dev/stdin", input=b"1 lend a\n1 claim\n")
     changed = page.decode().replace("<main>", '<main><script>window.pwned = 1</script><img src="x:" onerror="window.pwned = 2">')
     browser.open(written(folder, "page.html", changed))
     equal(browser.value("[viewer.game.length, window.pwned === undefined]"), [2, True], "a page with a script that is not its own")
@@ -310,13 +313,13 @@ def with_places(browser, folder):
     """The vertices stand where the lines of a file say."""
     places = written(folder, "places", "a 0 0\nb 100 0\n\nc 100 50\n")
     words = [os.path.join(EXAMPLES, "triangle.json"), os.path.join(EXAMPLES, "first_steps.txt")]
-    page, said, status = script("replay.py", "--places", places, *words)
-    equal((status, said), (0, ""), "replay.py with places")
+    page, said, status = script("replay", "--places", places, *words)
+    equal((status, said), (0, ""), "replay with places")
     browser.open(written(folder, "page.html", page.decode()))
     (_, ax, ay), (_, bx, by), (_, cx, cy) = browser.value(SHOWN)["at"]
     expect(ay == by and bx == cx and abs((cy - by) * 2 - (bx - ax)) <= 1, "the vertices stand elsewhere")
     for text in "a 0 0\nb 1 0\n", "a 0 0\nb 1 0\nc x 1\n", "a 0 0\nb 1 0\nc 1\n", "a 0 0\nb 0 0\nc 1 1\n", "d 0 0\n", "a nan 0\n":
-        for name, given in ("replay.py", words), ("draw.py", words[:1]):
+        for name, given in ("replay", words), ("draw", words[:1]):
             page, said, status = script(name, "--places", written(folder, "places", text), *given)
             expect((page, status) == (b"", 1) and said.count("\n") == 1,
                    "%s with the places %r: %d, %r" % (name, text, status, said))

@@ -10,7 +10,6 @@ SILENT, MOST_KEPT = 700, 350
 # A head has 5 seconds, a body 8, and a second goes by at the end.
 LATEST = 12.0
 MOST_MEMORY = 120_000
-BYTES = bytes(range(256))
 
 
 def honest(place, key, draw):
@@ -241,7 +240,7 @@ def of_alone(folder):
             printed, said, ended = asked(*words)
             equal(
                 (status, got["out"], got["status"], got["err"]),
-                (200, printed, ended, said.replace("dollar: ", "", 1).strip()),
+                (200, printed, ended, said.replace("dollar: ", "", 1).partition("\n")[0]),
                 "%r" % (given,),
             )
         for given in (
@@ -286,7 +285,7 @@ def of_alone(folder):
 def of_command_line(folder):
     """What board/play is given is refused in one line, and a terminal's Ctrl-D and Ctrl-C end it."""
     import pty, signal, subprocess
-    from common import BOARD
+    from common import BOARD, PACKAGE
 
     play = [sys.executable, "-B", os.path.join(BOARD, "play"), "--no-browser"]
     bad = written(folder, "bad.json", '{"vertices":["a","b"],"edges":[],"amounts":[0,0],"q":"a"}')
@@ -302,25 +301,25 @@ def of_command_line(folder):
         done = subprocess.run(play + words, capture_output=True, text=True, stdin=subprocess.DEVNULL, timeout=60)
         expect(
             (done.returncode, done.stdout) == (1, "")
-            and done.stderr.startswith("board/play: ")
+            and done.stderr.startswith("dollar board ")
             and done.stderr.count("\n") == 1,
             "board/play %s: %d, %r, %r" % (words, done.returncode, done.stdout, done.stderr),
         )
-    for script in ["draw.py", os.path.join(EXAMPLES, "cube.json")], [
-        "replay.py",
+    for words in ["draw", os.path.join(EXAMPLES, "cube.json")], [
+        "replay",
         os.path.join(EXAMPLES, "village.json"),
         os.path.join(EXAMPLES, "village_story.txt"),
     ]:
         one, other = os.pipe()
         os.close(one)
         done = subprocess.run(
-            [sys.executable, "-B", os.path.join(BOARD, script[0]), *script[1:]],
+            [sys.executable, "-B", os.path.join(PACKAGE, "dollar"), *words],
             stdout=other,
             stderr=subprocess.PIPE,
             timeout=60,
         )
         os.close(other)
-        equal((done.returncode, done.stderr), (1, b""), "%s whose reader has gone" % script[0])
+        equal((done.returncode, done.stderr), (1, b""), "%s whose reader has gone" % words[0])
     for words in (
         ["--seats", "0"],
         ["--seats", "65"],
@@ -368,23 +367,3 @@ def of_command_line(folder):
     equal(ann.play("commit")[0], 200, "the game after the first Ctrl-C")
     child.send_signal(signal.SIGINT)
     expect(child.wait(20) == 0 and child.stderr.read() == "", "the second Ctrl-C does not end it")
-
-
-def all_of(folder):
-    """All tests of requests that no page makes."""
-    for part in of_alone, of_silence, of_many:
-        start = time.monotonic()
-        part(folder)
-        if os.environ.get("TOLD"):
-            print("%s: %.1f s" % (part.__name__, time.monotonic() - start), flush=True)
-
-
-if __name__ == "__main__":
-    import tempfile
-    from common import results
-
-    with tempfile.TemporaryDirectory() as place_:
-        of_command_line(place_)
-        all_of(place_)
-    print("%d passed, %d failed" % (sum(results), len(results) - sum(results)))
-    sys.exit(not all(results))

@@ -5,11 +5,11 @@ from classes import program_of, taken
 from common import EXAMPLES, equal, expect, played, text_of
 from visitors import Place, opened
 
-READY = "document.readyState === 'complete' && typeof viewer === 'object' && Boolean(viewer)"
+READY = "document.readyState === 'complete' && Boolean(globalThis.inside && inside.viewer)"
 AT = "#board [data-name='%s']"
 WIDTHS = 360, 1280, 1920
 SEND = """(async () => {
-  const told = [];
+  const told = [], { post } = await import("./page.js");
   for (const line of %s) {
     let got = await post("line", { key: me.key, line });
     while (got.status === 429) {

@@ -1,10 +1,14 @@
-"""Runs of the program, and the count of what has held."""
-import collections, os, resource, signal, subprocess, sys, tempfile
+"""Runs of the program. What is expected comes from docs/formats.md and docs/tools.md: of table files by a second reader of them
+(reader.py), of answers by the checks in python/dollar and the model of the game in tests/model.py."""
+import collections
+import contextlib
+import os
+import resource
+import signal
+import subprocess
+import tempfile
 
-HERE = os.path.dirname(os.path.abspath(__file__))
-EXAMPLES, TOOLS = (os.path.join(HERE, "..", "..", name) for name in ("examples", "tools"))
-sys.dont_write_bytecode = True
-sys.path[:0] = [EXAMPLES, TOOLS]
+from helpers import equal, expect, program, tests_of
 
 TRIANGLE = b'{"vertices":["a","b","c"],"edges":[["a","b",1],["b","c",1],["a","c",1]],"amounts":[2,-1,-1],"q":"a"}'
 WON = b"winnable by a=0 b=-1 c=-1 to a=0 b=0 c=0\n"
@@ -21,22 +25,16 @@ def refused(text, status, output=b""):
 
 
 class Checks:
-    """The program, a folder for files, and the count of what has held."""
+    """The program, and a folder for files."""
 
-    def __init__(self, program, folder):
-        self.program, self.folder = program, folder
-        self.passed = self.failed = 0
+    def __init__(self, folder):
+        self.program, self.folder = program(), folder
 
     def same(self, what, expected, got):
-        """Counts a comparison, and says where it fails."""
-        if expected == got:
-            self.passed += 1
-        else:
-            self.failed += 1
-            print("%s\n  expected: %.300r\n  found:    %.300r" % (what, expected, got))
+        equal(got, expected, what)
 
     def holds(self, what, fine, told=""):
-        self.same(what, (True, ""), (bool(fine), "" if fine else told))
+        expect(fine, "%s: %.300r" % (what, told))
 
     def put(self, name, data):
         """The path of a file with these bytes."""
@@ -98,3 +96,15 @@ class Checks:
             else:
                 least = middle
         return most
+
+
+@contextlib.contextmanager
+def checks():
+    """What a test is given."""
+    with tempfile.TemporaryDirectory() as folder:
+        yield Checks(folder)
+
+
+def checked(*functions):
+    """The tests of a module: functions that are given `Checks`."""
+    return tests_of(*functions, given=checks)

@@ -2,14 +2,12 @@
 import random
 import re
 
-import pytest
-from conftest import ROOT
-
 import dollar
 from dollar import Table
+from helpers import ROOT, Test, each, needed
 
-sandpiles = pytest.importorskip("sage.sandpiles.all")
-sage_all = pytest.importorskip("sage.all")
+sandpiles = needed("sage.sandpiles.all")
+sage_all = needed("sage.all")
 
 
 def random_divisors(count, seed=1):
@@ -31,51 +29,6 @@ def by_name(divisor):
     return {str(vertex): int(amount) for vertex, amount in divisor.items()}
 
 
-def test_two_thousand_divisors():
-    divisors = list(random_divisors(2000))
-    wrong = []
-    for divisor, verdict, numbers in zip(divisors, dollar.judge_all(divisors), dollar.rr_all(divisors)):
-        rank = int(divisor.rank())
-        if (verdict.reduced, verdict.winnable, numbers.rank) != (by_name(divisor.q_reduced()), rank >= 0, rank):
-            wrong.append(divisor)
-    assert wrong == []
-
-
-def test_divisors_come_back():
-    for divisor in random_divisors(60, 2):
-        table = Table(divisor)
-        assert (table.divisor, table.q) == (by_name(divisor), str(divisor.sandpile().sink()))
-        back = table.to_sage()
-        assert Table(back) == table and int(back.rank()) == int(divisor.rank())
-        assert dollar.judge(divisor) == dollar.judge(table)
-
-
-def test_graphs():
-    petersen = sage_all.graphs.PetersenGraph()
-    table = Table(petersen, {0: sage_all.Integer(3), 5: -1})
-    assert len(table.edges) == 15 and table.divisor["0"] == 3 and table.divisor["5"] == -1
-    assert Table(sandpiles.Sandpile(petersen, 4)).q == "4"
-    several = sage_all.Graph([(0, 1), (0, 1), (1, 2)], multiedges=True)
-    assert Table(several).edges == (("0", "1", 2), ("1", "2", 1))
-    weighted = sage_all.Graph([(0, 1, 3)], weighted=True)
-    assert Table(weighted).edges == (("0", "1", 3),) and Table(sandpiles.Sandpile(weighted, 0)) == Table(weighted)
-    assert Table(sage_all.matrix([[0, 2], [2, 0]]), [1, 2]).edges == (("0", "1", 2),)
-
-
-def test_the_lines_of_the_page(monkeypatch):
-    page = (ROOT / "docs" / "tools.md").read_text(encoding="utf-8")
-    lines = re.findall(r"(?m)^    sage: (.*)\n(?:    (?!sage: )(.*)\n)?", page)
-    monkeypatch.chdir(ROOT)
-    names, shown = dict(vars(sage_all)), 0
-    for line, wanted in lines:
-        if wanted:
-            assert repr(eval(line, names)) == wanted
-            shown += 1
-        else:
-            exec(line, names)
-    assert shown == 2
-
-
 REFUSED = [
     (lambda: Table(sage_all.DiGraph([(0, 1)])), ValueError, "a directed graph"),
     (lambda: Table(sandpiles.Sandpile({0: {1: 1}, 1: {0: 2}}, 0)), ValueError, "from 0 to 1 there are 1 edges, and 2 back"),
@@ -88,7 +41,53 @@ REFUSED = [
 ]
 
 
-@pytest.mark.parametrize("call, error, text", REFUSED)
-def test_refused(call, error, text):
-    with pytest.raises(error, match=text):
-        call()
+class OfSage(Test):
+    def test_two_thousand_divisors(self):
+        divisors = list(random_divisors(2000))
+        wrong = []
+        for divisor, verdict, numbers in zip(divisors, dollar.judge_all(divisors), dollar.rr_all(divisors)):
+            rank = int(divisor.rank())
+            if (verdict.reduced, verdict.winnable, numbers.rank) != (by_name(divisor.q_reduced()), rank >= 0, rank):
+                wrong.append(divisor)
+        self.assertEqual(wrong, [])
+
+    def test_divisors_come_back(self):
+        for divisor in random_divisors(60, 2):
+            table = Table(divisor)
+            self.assertEqual((table.divisor, table.q), (by_name(divisor), str(divisor.sandpile().sink())))
+            back = table.to_sage()
+            self.assertEqual(Table(back), table)
+            self.assertEqual(int(back.rank()), int(divisor.rank()))
+            self.assertEqual(dollar.judge(divisor), dollar.judge(table))
+
+    def test_graphs(self):
+        petersen = sage_all.graphs.PetersenGraph()
+        table = Table(petersen, {0: sage_all.Integer(3), 5: -1})
+        self.assertEqual(len(table.edges), 15)
+        self.assertEqual(table.divisor["0"], 3)
+        self.assertEqual(table.divisor["5"], -1)
+        self.assertEqual(Table(sandpiles.Sandpile(petersen, 4)).q, "4")
+        several = sage_all.Graph([(0, 1), (0, 1), (1, 2)], multiedges=True)
+        self.assertEqual(Table(several).edges, (("0", "1", 2), ("1", "2", 1)))
+        weighted = sage_all.Graph([(0, 1, 3)], weighted=True)
+        self.assertEqual(Table(weighted).edges, (("0", "1", 3),))
+        self.assertEqual(Table(sandpiles.Sandpile(weighted, 0)), Table(weighted))
+        self.assertEqual(Table(sage_all.matrix([[0, 2], [2, 0]]), [1, 2]).edges, (("0", "1", 2),))
+
+    def test_the_lines_of_the_page(self):
+        page = (ROOT / "docs" / "tools.md").read_text(encoding="utf-8")
+        lines = re.findall(r"(?m)^    sage: (.*)\n(?:    (?!sage: )(.*)\n)?", page)
+        self.go_to(ROOT)
+        names, shown = dict(vars(sage_all)), 0
+        for line, wanted in lines:
+            if wanted:
+                self.assertEqual(repr(eval(line, names)), wanted)
+                shown += 1
+            else:
+                exec(line, names)
+        self.assertEqual(shown, 2)
+
+    @each(REFUSED)
+    def test_refused(self, call, error, text):
+        with self.assertRaisesRegex(error, text):
+            call()

@@ -1,15 +1,14 @@
 """Tables and answers of every kind, as hypothesis finds them."""
 import json
 
-import pytest
-
-hypothesis = pytest.importorskip("hypothesis")
-from hypothesis import given, settings
-from hypothesis import strategies as some
-from party import Game
-
 import dollar
 from dollar import Table
+from helpers import Test, needed
+from model import Game
+
+needed("hypothesis")
+from hypothesis import given, settings
+from hypothesis import strategies as some
 
 NAMES = some.from_regex(r"[A-Za-z0-9_]{1,16}", fullmatch=True)
 AMOUNTS = some.integers(-1_000_000, 1_000_000)
@@ -28,80 +27,8 @@ def tables(draw, most=6, amounts=AMOUNTS):
     return {"vertices": names, "edges": edges, "amounts": [draw(amounts) for _ in names], "q": draw(some.sampled_from(names))}
 
 
-@QUICK
-@given(tables())
-def test_a_table_is_what_it_was_made_of(given_table):
-    table = Table(given_table)
-    assert table.to_dict() == given_table and json.loads(table.to_json()) == given_table
-    assert Table(table) == table == Table(given_table, table.divisor) and hash(table) == hash(Table(given_table))
-    assert dict(table, amounts=[0] * len(table.vertices))["amounts"] == [0] * len(table.vertices)
-
-
-@QUICK
-@given(tables(), some.data())
-def test_other_amounts_make_another_table(given_table, data):
-    name = data.draw(some.sampled_from(given_table["vertices"]))
-    amount = data.draw(AMOUNTS)
-    table = Table(given_table, dict(Table(given_table).divisor, **{name: amount}))
-    assert (table == Table(given_table)) == (amount == Table(given_table).divisor[name])
-
-
-@QUICK
-@given(tables())
-def test_a_verdict_is_right_and_can_be_handed_back(given_table):
-    verdict = dollar.judge(given_table)
-    verdict.check()
-    assert dollar.answer(str(verdict)) == verdict
-    limits = all(abs(amount) <= 1_000_000 for amount in verdict.reduced.values())
-    if limits:
-        assert dollar.judge(Table(given_table, verdict.reduced)) == (verdict[0], dict.fromkeys(verdict.script, 0), verdict.reduced)
-
-
-@QUICK
-@given(tables(most=4, amounts=some.integers(-2, 3)), some.integers(0, 3))
-def test_rank_tests_by_all_trials(given_table, degree):
-    test = dollar.rank(given_table, degree)
-    assert Game(given_table).is_rank(str(test), degree)
-    assert dollar.answer(str(test)) == test
-
-
-@QUICK
-@given(some.dictionaries(NAMES, some.integers(), min_size=1), some.integers(0))
-def test_texts_are_read_as_they_are_printed(amounts, number):
-    for entry in (dollar.Entry("moved", amounts=amounts), dollar.Entry("given", number, amounts), dollar.Entry("stale", number)):
-        assert dollar.answer(str(entry)) == entry
-    for found in (dollar.Verdict(True, amounts, amounts), dollar.RankTest(False, number, amounts), dollar.RankTest(True, number)):
-        assert dollar.answer(str(found)) == found
-
-
-@QUICK
-@given(some.text(max_size=60))
-def test_no_text_is_taken_for_another(text):
-    try:
-        assert str(dollar.answer(text)) == text
-    except ValueError as error:
-        assert "no answer of the program" in str(error)
-
-
 GRAPH6 = some.integers(0, 9).flatmap(lambda size: some.tuples(some.just(size), some.lists(
     some.booleans(), min_size=size * (size - 1) // 2, max_size=size * (size - 1) // 2)))
-
-
-@QUICK
-@given(GRAPH6)
-def test_graph6(given_graph):
-    """By the definition of the format: the upper triangle column by column, six bits a letter."""
-    size, bits = given_graph
-    padded = bits + [False] * (-len(bits) % 6)
-    letters = [sum(bit << 5 - at for at, bit in enumerate(padded[start:start + 6])) for start in range(0, len(padded), 6)]
-    line = "".join(chr(63 + code) for code in [size, *letters])
-    if size == 0:
-        with pytest.raises(ValueError, match="there is no vertex"):
-            Table.graph6(line)
-        return
-    pairs = [(u, v) for v in range(size) for u in range(v)]
-    edges = tuple((str(u), str(v), 1) for (u, v), bit in zip(pairs, bits) if bit)
-    assert Table.graph6(line).edges == Table.graph6((">>graph6<<%s\n" % line).encode()).edges == edges
 
 
 JSON = some.recursive(some.none() | some.booleans() | some.integers(-3, 3) | some.floats() | some.text(max_size=3),
@@ -117,28 +44,96 @@ def taken_or_refused(thing, amounts=None):
     assert Table(json.loads(table.to_json())) == table
 
 
-@QUICK
-@given(JSON, JSON)
-def test_nonsense_is_taken_or_refused(thing, amounts):
-    taken_or_refused(thing)
-    taken_or_refused({"vertices": ["a", "b"], "edges": [["a", "b", 1]], "amounts": [0, 0], "q": "a"}, amounts)
+class OfProperties(Test):
+    @QUICK
+    @given(tables())
+    def test_a_table_is_what_it_was_made_of(self, given_table):
+        table = Table(given_table)
+        self.assertEqual(table.to_dict(), given_table)
+        self.assertEqual(json.loads(table.to_json()), given_table)
+        self.assertTrue(Table(table) == table == Table(given_table, table.divisor))
+        self.assertEqual(hash(table), hash(Table(given_table)))
+        self.assertEqual(dict(table, amounts=[0] * len(table.vertices))["amounts"], [0] * len(table.vertices))
 
+    @QUICK
+    @given(tables(), some.data())
+    def test_other_amounts_make_another_table(self, given_table, data):
+        name = data.draw(some.sampled_from(given_table["vertices"]))
+        amount = data.draw(AMOUNTS)
+        table = Table(given_table, dict(Table(given_table).divisor, **{name: amount}))
+        self.assertEqual(table == Table(given_table), amount == Table(given_table).divisor[name])
 
-@QUICK
-@given(some.fixed_dictionaries({"vertices": JSON | some.just(["a", "b"]), "edges": JSON | some.just([["a", "b", 1]]),
-                                "amounts": JSON | some.just([0, 0]), "q": JSON | some.just("a")}))
-def test_members_that_are_nonsense_are_taken_or_refused(members):
-    taken_or_refused(members)
+    @QUICK
+    @given(tables())
+    def test_a_verdict_is_right_and_can_be_handed_back(self, given_table):
+        verdict = dollar.judge(given_table)
+        verdict.check()
+        self.assertEqual(dollar.answer(str(verdict)), verdict)
+        limits = all(abs(amount) <= 1_000_000 for amount in verdict.reduced.values())
+        if limits:
+            self.assertEqual(dollar.judge(Table(given_table, verdict.reduced)), (verdict[0], dict.fromkeys(verdict.script, 0), verdict.reduced))
 
+    @QUICK
+    @given(tables(most=4, amounts=some.integers(-2, 3)), some.integers(0, 3))
+    def test_rank_tests_by_all_trials(self, given_table, degree):
+        test = dollar.rank(given_table, degree)
+        self.assertTrue(Game(given_table).is_rank(str(test), degree))
+        self.assertEqual(dollar.answer(str(test)), test)
 
-@QUICK
-@given(JSON)
-def test_a_sweep_over_nonsense(thing):
-    """What is no dict is a TypeError; what is one, whatever is in it, has a row."""
-    whole = {"vertices": ["a"], "edges": [], "amounts": [0], "q": "a"}
-    if not isinstance(thing, dict):
-        with pytest.raises(TypeError, match="table 1: "):
-            list(dollar.judge_all([whole, thing]))
-        return
-    first, second, third = dollar.judge_all([whole, thing, dict(whole, amounts=thing)])
-    assert first.winnable and isinstance(second, dollar.Refused) and isinstance(third, dollar.Refused)
+    @QUICK
+    @given(some.dictionaries(NAMES, some.integers(), min_size=1), some.integers(0))
+    def test_texts_are_read_as_they_are_printed(self, amounts, number):
+        for entry in (dollar.Entry("moved", amounts=amounts), dollar.Entry("given", number, amounts), dollar.Entry("stale", number)):
+            self.assertEqual(dollar.answer(str(entry)), entry)
+        for found in (dollar.Verdict(True, amounts, amounts), dollar.RankTest(False, number, amounts), dollar.RankTest(True, number)):
+            self.assertEqual(dollar.answer(str(found)), found)
+
+    @QUICK
+    @given(some.text(max_size=60))
+    def test_no_text_is_taken_for_another(self, text):
+        try:
+            self.assertEqual(str(dollar.answer(text)), text)
+        except ValueError as error:
+            self.assertIn("no answer of the program", str(error))
+
+    @QUICK
+    @given(GRAPH6)
+    def test_graph6(self, given_graph):
+        """By the definition of the format: the upper triangle column by column, six bits a letter."""
+        size, bits = given_graph
+        padded = bits + [False] * (-len(bits) % 6)
+        letters = [sum(bit << 5 - at for at, bit in enumerate(padded[start:start + 6])) for start in range(0, len(padded), 6)]
+        line = "".join(chr(63 + code) for code in [size, *letters])
+        if size == 0:
+            with self.assertRaisesRegex(ValueError, "there is no vertex"):
+                Table.graph6(line)
+            return
+        pairs = [(u, v) for v in range(size) for u in range(v)]
+        edges = tuple((str(u), str(v), 1) for (u, v), bit in zip(pairs, bits) if bit)
+        self.assertTrue(Table.graph6(line).edges == Table.graph6((">>graph6<<%s\n" % line).encode()).edges == edges)
+
+    @QUICK
+    @given(JSON, JSON)
+    def test_nonsense_is_taken_or_refused(self, thing, amounts):
+        taken_or_refused(thing)
+        taken_or_refused({"vertices": ["a", "b"], "edges": [["a", "b", 1]], "amounts": [0, 0], "q": "a"}, amounts)
+
+    @QUICK
+    @given(some.fixed_dictionaries({"vertices": JSON | some.just(["a", "b"]), "edges": JSON | some.just([["a", "b", 1]]),
+                                    "amounts": JSON | some.just([0, 0]), "q": JSON | some.just("a")}))
+    def test_members_that_are_nonsense_are_taken_or_refused(self, members):
+        taken_or_refused(members)
+
+    @QUICK
+    @given(JSON)
+    def test_a_sweep_over_nonsense(self, thing):
+        """What is no dict is a TypeError; what is one, whatever is in it, has a row."""
+        whole = {"vertices": ["a"], "edges": [], "amounts": [0], "q": "a"}
+        if not isinstance(thing, dict):
+            with self.assertRaisesRegex(TypeError, "table 1: "):
+                list(dollar.judge_all([whole, thing]))
+            return
+        first, second, third = dollar.judge_all([whole, thing, dict(whole, amounts=thing)])
+        self.assertTrue(first.winnable)
+        self.assertTrue(isinstance(second, dollar.Refused))
+        self.assertTrue(isinstance(third, dollar.Refused))

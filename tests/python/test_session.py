@@ -10,11 +10,9 @@ import sys
 import threading
 import time
 
-import pytest
-from conftest import ROOT
-from party import Bad, Game, parse, trials
-
 from dollar import Ended, Session, Table
+from helpers import PACKAGE, Test, each
+from model import Bad, Game, parse, some_command, trials
 
 TABLE = {
     "vertices": ["a", "b", "c", "d"],
@@ -56,10 +54,7 @@ class Model:
 
 def some_line(rng):
     """A line of a stranger: a good one, or a damaged one, or none at all."""
-    one, other = rng.choice("abcd"), rng.choice("abcd")
-    line = "%d %s" % (rng.randint(1, SEATS), rng.choice([
-        "look", "look", "commit", "rank 1", "claim", "lend " + one, "borrow " + one, "fire %s,%s" % (one, other), "rank 5000",
-        "script %s=%d" % (one, rng.randint(-2, 2)), "gift %s %d" % (one, rng.randint(-2, 2)), "join %s %s" % (one, one)]))
+    line = "%d %s" % (rng.randint(1, SEATS), rng.choice(["rank 5000", "fire a,a", *(some_command(rng, "abcd") for _ in range(8))]))
     kind = rng.random()
     if kind < 0.6:
         return line
@@ -79,23 +74,6 @@ def is_refused(line):
         return True
 
 
-def test_hostile_lines_leave_it_in_step():
-    rng, model, refused, wrong = random.Random(1), Model(), 0, []
-    with Table(TABLE).serve(SEATS) as session:
-        for _ in range(LINES):
-            line = some_line(rng)
-            try:
-                text = str(session.ask(line))
-            except ValueError:
-                assert is_refused(line), line
-                refused += 1
-                continue
-            assert not is_refused(line), line
-            if not model.is_answer(line, text):
-                wrong.append((line, text))
-    assert wrong == [] and refused > 500 and model.number > 5000
-
-
 class Interrupt(Exception):
     """What a signal raises in the middle of a call."""
 
@@ -113,129 +91,141 @@ def is_interrupted(session, seconds):
     return False
 
 
-def test_an_interrupt_leaves_no_answer_unread():
-    def interrupt(*_):
-        raise Interrupt
+class OfSessions(Test):
+    def test_hostile_lines_leave_it_in_step(self):
+        rng, model, refused, wrong = random.Random(1), Model(), 0, []
+        with Table(TABLE).serve(SEATS) as session:
+            for _ in range(LINES):
+                line = some_line(rng)
+                try:
+                    text = str(session.ask(line))
+                except ValueError:
+                    self.assertTrue(is_refused(line))
+                    refused += 1
+                    continue
+                self.assertFalse(is_refused(line))
+                if not model.is_answer(line, text):
+                    wrong.append((line, text))
+        self.assertEqual(wrong, [])
+        self.assertGreater(refused, 500)
+        self.assertGreater(model.number, 5000)
 
-    rng, interrupted = random.Random(2), 0
-    before = signal.signal(signal.SIGALRM, interrupt)
-    try:
-        with Session(TABLE) as session:
-            for number in range(3000):
-                interrupted += is_interrupted(session, rng.uniform(1e-6, 2e-4))
-                assert session.ask("claim").number == number
-    finally:
-        signal.signal(signal.SIGALRM, before)
-    assert interrupted > 20
+    def test_an_interrupt_leaves_no_answer_unread(self):
+        def interrupt(*_):
+            raise Interrupt
 
+        rng, interrupted = random.Random(2), 0
+        before = signal.signal(signal.SIGALRM, interrupt)
+        try:
+            with Session(TABLE) as session:
+                for number in range(3000):
+                    interrupted += is_interrupted(session, rng.uniform(1e-6, 2e-4))
+                    self.assertEqual(session.ask("claim").number, number)
+        finally:
+            signal.signal(signal.SIGALRM, before)
+        self.assertGreater(interrupted, 20)
 
-def test_threads_have_their_own_answers():
-    session, told = Session(TABLE, seats=8), collections.defaultdict(list)
+    def test_threads_have_their_own_answers(self):
+        session, told = Session(TABLE, seats=8), collections.defaultdict(list)
 
-    def attend(seat):
-        for _ in range(200):
-            told[seat].append(session.ask_seat(seat, "claim").number)
+        def attend(seat):
+            for _ in range(200):
+                told[seat].append(session.ask_seat(seat, "claim").number)
 
-    seats = [threading.Thread(target=attend, args=(seat,)) for seat in range(1, 9)]
-    for thread in seats:
-        thread.start()
-    for thread in seats:
-        thread.join()
-    assert session.close() == (0, "")
-    assert sorted(number for numbers in told.values() for number in numbers) == list(range(1600))
-    assert all(numbers == sorted(numbers) for numbers in told.values())
+        seats = [threading.Thread(target=attend, args=(seat,)) for seat in range(1, 9)]
+        for thread in seats:
+            thread.start()
+        for thread in seats:
+            thread.join()
+        self.assertEqual(session.close(), (0, ""))
+        self.assertEqual(sorted(number for numbers in told.values() for number in numbers), list(range(1600)))
+        self.assertTrue(all(numbers == sorted(numbers) for numbers in told.values()))
 
-
-def test_ends():
-    session = Session(TABLE, cap=1)
-    assert session.ask("claim") == ("not won",)
-    for _ in range(2):
-        with pytest.raises(Ended, match="the history is full") as caught:
+    def test_ends(self):
+        session = Session(TABLE, cap=1)
+        self.assertEqual(session.ask("claim"), ("not won",))
+        for _ in range(2):
+            with self.assertRaisesRegex(Ended, "the history is full") as caught:
+                session.ask("claim")
+            again = pickle.loads(pickle.dumps(caught.exception))
+            for ended in caught.exception, again:
+                self.assertEqual((ended.text, ended.status, ended.fault), ("the history is full", 3, "dollar: the history is full"))
+        self.assertTrue(session.close() == session.close() == (3, "dollar: the history is full"))
+        with self.assertRaisesRegex(Ended, "the history is full"):
+            with Session(TABLE, cap=1) as session:
+                session.ask_bytes(b"claim")
+                session.ask("claim")
+        # With a session that is refused from the start, the end of `with` tells it.
+        with self.assertRaisesRegex(Ended, "no vertex q"):
+            with Session(dict(TABLE, q="z")):
+                pass
+        with self.assertRaises(ZeroDivisionError):
+            with Session(dict(TABLE, q="z")):
+                1 / 0
+        session = Session(TABLE)
+        self.assertEqual(session.close(), (0, ""))
+        with self.assertRaisesRegex(Ended, "status 0"):
             session.ask("claim")
-        again = pickle.loads(pickle.dumps(caught.value))
-        for ended in caught.value, again:
-            assert (ended.text, ended.status, ended.fault) == ("the history is full", 3, "dollar: the history is full")
-    assert session.close() == session.close() == (3, "dollar: the history is full")
-    with pytest.raises(Ended, match="the history is full"):
-        with Session(TABLE, cap=1) as session:
-            session.ask_bytes(b"claim")
-            session.ask("claim")
-    # With a session that is refused from the start, the end of `with` tells it.
-    with pytest.raises(Ended, match="no vertex q"):
-        with Session(dict(TABLE, q="z")):
-            pass
-    with pytest.raises(ZeroDivisionError):
-        with Session(dict(TABLE, q="z")):
-            1 / 0
-    session = Session(TABLE)
-    assert session.close() == (0, "")
-    with pytest.raises(Ended, match="status 0"):
-        session.ask("claim")
 
-
-def test_a_killed_program_is_told():
-    session = Session(TABLE)
-    session.ask("look")
-    session.child.kill()
-    with pytest.raises(Ended):
-        for _ in range(100):
-            session.ask("look")
-    assert session.close() == (-signal.SIGKILL, "")
-
-
-def test_a_silent_program_is_killed(tmp_path):
-    program = tmp_path / "program"
-    program.write_text("#!/bin/sh\nexec sleep 60\n")
-    program.chmod(0o755)
-    session = Session(TABLE, patience=0.2, program=str(program))
-    began = time.monotonic()
-    with pytest.raises(TimeoutError, match="nothing for 0.2 seconds"):
+    def test_a_killed_program_is_told(self):
+        session = Session(TABLE)
         session.ask("look")
-    assert time.monotonic() - began < 5
-    assert session.close() == (-signal.SIGKILL, "nothing for 0.2 seconds, after which it was killed")
+        session.child.kill()
+        with self.assertRaises(Ended):
+            for _ in range(100):
+                session.ask("look")
+        self.assertEqual(session.close(), (-signal.SIGKILL, ""))
 
+    def test_a_silent_program_is_killed(self):
+        session = Session(TABLE, patience=0.2, program=self.script("#!/bin/sh\nexec sleep 60\n"))
+        began = time.monotonic()
+        with self.assertRaisesRegex(TimeoutError, "nothing for 0.2 seconds"):
+            session.ask("look")
+        self.assertLess(time.monotonic() - began, 5)
+        self.assertEqual(session.close(), (-signal.SIGKILL, "nothing for 0.2 seconds, after which it was killed"))
 
-def test_what_is_no_line():
-    with Session(TABLE, seats=2) as session:
-        for line in (7, b"look", None):
-            with pytest.raises(TypeError, match="a line is a text"):
-                session.ask(line)
-        for seat in ("1 look\n2", 1.5, None):
-            with pytest.raises(TypeError, match="a seat is no whole number"):
-                session.ask_seat(seat, "look")
-        with pytest.raises(ValueError, match="newline"):
-            session.ask_bytes(b"1 look\n1 look")
-        assert session.ask_seat(3, "look").word == "bad seat" and session.ask_seat(2, "look").number == 0
+    def test_what_is_no_line(self):
+        with Session(TABLE, seats=2) as session:
+            for line in (7, b"look", None):
+                with self.assertRaisesRegex(TypeError, "a line is a text"):
+                    session.ask(line)
+            for seat in ("1 look\n2", 1.5, None):
+                with self.assertRaisesRegex(TypeError, "a seat is no whole number"):
+                    session.ask_seat(seat, "look")
+            with self.assertRaisesRegex(ValueError, "newline"):
+                session.ask_bytes(b"1 look\n1 look")
+            self.assertEqual(session.ask_seat(3, "look").word, "bad seat")
+            self.assertEqual(session.ask_seat(2, "look").number, 0)
 
+    @each(["<&-", ">&-", "2>&-", "<&- >&- 2>&-"])
+    def test_standard_streams_may_be_closed(self, closed):
+        said = self.folder() / "said"
+        words = ("import dollar, sys; table = dollar.Table([[0, 1], [1, 0]], [2, -1]); session = table.serve(); "
+                 "texts = [str(dollar.judge(table)), str(next(dollar.judge_all([table]))), str(session.ask('claim'))]; "
+                 "open(sys.argv[1], 'w').write('|'.join(texts))")
+        done = subprocess.run(["sh", "-c", '"$0" -c "$1" "$2" ' + closed, sys.executable, words, str(said)], timeout=30,
+                              env=dict(os.environ, PYTHONPATH=str(PACKAGE)))
+        verdict = "winnable by 0=0 1=-1 to 0=1 1=0"
+        self.assertEqual(done.returncode, 0)
+        self.assertEqual(said.read_text(), "%s|%s|0 not won" % (verdict, verdict))
 
-@pytest.mark.parametrize("closed", ["<&-", ">&-", "2>&-", "<&- >&- 2>&-"])
-def test_standard_streams_may_be_closed(closed, tmp_path):
-    words = ("import dollar, sys; table = dollar.Table([[0, 1], [1, 0]], [2, -1]); session = table.serve(); "
-             "texts = [str(dollar.judge(table)), str(next(dollar.judge_all([table]))), str(session.ask('claim'))]; "
-             "open(sys.argv[1], 'w').write('|'.join(texts))")
-    done = subprocess.run(["sh", "-c", '"$0" -c "$1" "$2" ' + closed, sys.executable, words, str(tmp_path / "said")], timeout=30,
-                          env=dict(os.environ, PYTHONPATH=str(ROOT / "python")))
-    verdict = "winnable by 0=0 1=-1 to 0=1 1=0"
-    assert done.returncode == 0 and (tmp_path / "said").read_text() == "%s|%s|0 not won" % (verdict, verdict)
-
-
-def test_a_session_that_is_given_up_ends():
-    threads, sessions = threading.active_count(), [Session(TABLE) for _ in range(10)]
-    for session in sessions:
-        session.ask("claim")
-    children = ["/proc/%d" % session.child.pid for session in sessions]
-    del session, sessions
-    gc.collect()
-    until = time.monotonic() + 10
-    while (threading.active_count() > threads or any(map(os.path.exists, children))) and time.monotonic() < until:
-        time.sleep(0.01)
-    assert threading.active_count() <= threads and not any(map(os.path.exists, children))
-
-
-def test_nothing_is_left_behind():
-    before = len(os.listdir("/proc/self/fd"))
-    for _ in range(20):
-        with Session(TABLE) as session:
+    def test_a_session_that_is_given_up_ends(self):
+        threads, sessions = threading.active_count(), [Session(TABLE) for _ in range(10)]
+        for session in sessions:
             session.ask("claim")
-    time.sleep(0.1)
-    assert len(os.listdir("/proc/self/fd")) == before
+        children = ["/proc/%d" % session.child.pid for session in sessions]
+        del session, sessions
+        gc.collect()
+        until = time.monotonic() + 10
+        while (threading.active_count() > threads or any(map(os.path.exists, children))) and time.monotonic() < until:
+            time.sleep(0.01)
+        self.assertLessEqual(threading.active_count(), threads)
+        self.assertFalse(any(map(os.path.exists, children)))
+
+    def test_nothing_is_left_behind(self):
+        before = len(os.listdir("/proc/self/fd"))
+        for _ in range(20):
+            with Session(TABLE) as session:
+                session.ask("claim")
+        time.sleep(0.1)
+        self.assertEqual(len(os.listdir("/proc/self/fd")), before)

@@ -6,11 +6,12 @@ import sys
 import threading
 import time
 import types
+from unittest import mock
 
-import pytest
 
 import dollar
 from dollar import Fault, Refused, Table
+from helpers import Test, each
 
 PAIR = Table([[0, 2], [2, 0]])
 
@@ -27,113 +28,105 @@ def verdict_by_hand(table):
     return ("winnable" if first + 2 * lent >= 0 else "unwinnable", {"0": 0, "1": lent}, {"0": first + 2 * lent, "1": second - 2 * lent})
 
 
-@pytest.mark.parametrize("workers", [None, 1, 4, 16])
-def test_many_tables_in_order(workers):
-    count = 20_000
-    verdicts = dollar.judge_all(pairs(count), workers=workers)
-    assert all(verdict == verdict_by_hand(table) for verdict, table in itertools.zip_longest(verdicts, pairs(count)))
-
-
-def test_no_tables():
-    assert list(dollar.judge_all([])) == [] == list(dollar.rr_all(iter(())))
-
-
-def test_tables_without_end():
-    verdicts = dollar.judge_all(itertools.cycle(pairs(77)))
-    wanted = map(verdict_by_hand, itertools.cycle(pairs(77)))
-    assert all(verdict == right for verdict, right in itertools.islice(zip(verdicts, wanted), 500))
-    verdicts.close()
-
-
-def test_tables_are_taken_in_the_thread_of_the_caller():
-    base = sqlite3.connect(":memory:")
-    base.execute("create table tables (first integer, second integer)")
-    base.executemany("insert into tables values (?, ?)", [(place % 5, -place % 3) for place in range(1000)])
-    rows = base.execute("select first, second from tables")
-    degrees = [numbers.degree for numbers in dollar.rr_all(Table(PAIR, row) for row in rows)]
-    assert degrees == [place % 5 + -place % 3 for place in range(1000)]
-
-
-def test_a_slow_source_is_answered_as_it_goes():
-    taken = []
-
-    def slowly():
-        for place in range(6):
-            taken.append(place)
-            yield Table(PAIR, [place, 0])
-            time.sleep(0.15)
-
-    first = next(dollar.rr_all(slowly()))
-    assert first.degree == 0 and len(taken) < 6
-
-
-def test_an_error_of_the_source_comes_after_the_answers_before_it():
-    def broken():
-        yield from pairs(3)
-        raise KeyError("no more")
-
-    got = []
-    with pytest.raises(KeyError, match="no more"):
-        for verdict in dollar.judge_all(broken()):
-            got.append(verdict)
-    assert got == [verdict_by_hand(table) for table in pairs(3)]
-
-
-def test_refused_tables_are_raised_where_that_is_wanted():
-    tables = [PAIR, Table(PAIR, {"0": 1000001}), PAIR]
-    rows = list(dollar.judge_all(tables))
-    assert isinstance(rows[1], Refused) and rows[1].refused == "amount of vertex 0" and rows[0] == rows[2]
-    with pytest.raises(Fault, match="amount of vertex 0") as caught:
-        list(dollar.judge_all(tables, errors="raise"))
-    assert caught.value.table == 1 and not isinstance(caught.value, Refused)
-
-
-def test_a_command_line_that_is_refused_is_a_fault():
-    with pytest.raises(Fault, match="invalid value"):
-        list(dollar.rank_all(pairs(100_000), 2 ** 40))
-    with pytest.raises(Fault, match="invalid value"):
-        list(dollar.judge_all(pairs(3), workers=17))
-
-
-def test_rank_tests_past_the_limits():
-    path = Table([[0, 1], [1, 0]])
-    assert list(dollar.rank_all([Table(path, [20, 0]), Table(path, [0, 5])], 2000)) == [("rank below", 2000)] * 2
-
-
 def descriptors():
     return len(os.listdir("/proc/self/fd"))
 
 
-def test_a_sweep_that_is_left_leaves_nothing_behind():
-    before, threads = descriptors(), threading.active_count()
-    for _ in range(20):
-        sweep = dollar.judge_all(itertools.cycle(pairs(77)))
-        next(sweep)
-        sweep.close()
-    assert (descriptors(), threading.active_count()) == (before, threads)
+class OfSweeps(Test):
+    @each([None, 1, 4, 16])
+    def test_many_tables_in_order(self, workers):
+        count = 20_000
+        verdicts = dollar.judge_all(pairs(count), workers=workers)
+        self.assertTrue(all(verdict == verdict_by_hand(table) for verdict, table in itertools.zip_longest(verdicts, pairs(count))))
 
+    def test_no_tables(self):
+        self.assertTrue(list(dollar.judge_all([])) == [] == list(dollar.rr_all(iter(()))))
 
-def test_a_program_that_ends_early_is_a_fault(tmp_path):
-    program = tmp_path / "program"
-    program.write_text("#!/bin/sh\nread line\necho 'winnable by 0=0 1=0 to 0=0 1=0'\necho 'dollar: out of memory' >&2\nexit 4\n")
-    program.chmod(0o755)
-    got = []
-    with pytest.raises(Fault, match="out of memory") as caught:
-        for verdict in dollar.judge_all(pairs(50_000), str(program)):
-            got.append(verdict)
-    assert len(got) == 1 and caught.value.status == 4
+    def test_tables_without_end(self):
+        verdicts = dollar.judge_all(itertools.cycle(pairs(77)))
+        wanted = map(verdict_by_hand, itertools.cycle(pairs(77)))
+        self.assertTrue(all(verdict == right for verdict, right in itertools.islice(zip(verdicts, wanted), 500)))
+        verdicts.close()
 
+    def test_tables_are_taken_in_the_thread_of_the_caller(self):
+        base = sqlite3.connect(":memory:")
+        base.execute("create table tables (first integer, second integer)")
+        base.executemany("insert into tables values (?, ?)", [(place % 5, -place % 3) for place in range(1000)])
+        rows = base.execute("select first, second from tables")
+        degrees = [numbers.degree for numbers in dollar.rr_all(Table(PAIR, row) for row in rows)]
+        self.assertEqual(degrees, [place % 5 + -place % 3 for place in range(1000)])
 
-def test_progress(monkeypatch):
-    monkeypatch.setitem(sys.modules, "tqdm.auto", None)
-    with pytest.warns(UserWarning, match="tqdm is not here"):
-        assert len(list(dollar.judge_all(pairs(3), progress=True))) == 3
-    seen = []
+    def test_a_slow_source_is_answered_as_it_goes(self):
+        taken = []
 
-    def bar(tables, unit):
-        for table in tables:
-            seen.append(table)
-            yield table
+        def slowly():
+            for place in range(6):
+                taken.append(place)
+                yield Table(PAIR, [place, 0])
+                time.sleep(0.15)
 
-    monkeypatch.setitem(sys.modules, "tqdm.auto", types.SimpleNamespace(tqdm=bar))
-    assert len(list(dollar.judge_all(pairs(3), progress=True))) == len(seen) == 3
+        first = next(dollar.rr_all(slowly()))
+        self.assertEqual(first.degree, 0)
+        self.assertLess(len(taken), 6)
+
+    def test_an_error_of_the_source_comes_after_the_answers_before_it(self):
+        def broken():
+            yield from pairs(3)
+            raise KeyError("no more")
+
+        got = []
+        with self.assertRaisesRegex(KeyError, "no more"):
+            for verdict in dollar.judge_all(broken()):
+                got.append(verdict)
+        self.assertEqual(got, [verdict_by_hand(table) for table in pairs(3)])
+
+    def test_refused_tables_are_raised_where_that_is_wanted(self):
+        tables = [PAIR, Table(PAIR, {"0": 1000001}), PAIR]
+        rows = list(dollar.judge_all(tables))
+        self.assertTrue(isinstance(rows[1], Refused))
+        self.assertEqual(rows[1].refused, "amount of vertex 0")
+        self.assertEqual(rows[0], rows[2])
+        with self.assertRaisesRegex(Fault, "amount of vertex 0") as caught:
+            list(dollar.judge_all(tables, errors="raise"))
+        self.assertEqual(caught.exception.table, 1)
+        self.assertFalse(isinstance(caught.exception, Refused))
+
+    def test_a_command_line_that_is_refused_is_a_fault(self):
+        with self.assertRaisesRegex(Fault, "invalid value"):
+            list(dollar.rank_all(pairs(100_000), 2 ** 40))
+        with self.assertRaisesRegex(Fault, "invalid value"):
+            list(dollar.judge_all(pairs(3), workers=17))
+
+    def test_rank_tests_past_the_limits(self):
+        path = Table([[0, 1], [1, 0]])
+        self.assertEqual(list(dollar.rank_all([Table(path, [20, 0]), Table(path, [0, 5])], 2000)), [("rank below", 2000)] * 2)
+
+    def test_a_sweep_that_is_left_leaves_nothing_behind(self):
+        before, threads = descriptors(), threading.active_count()
+        for _ in range(20):
+            sweep = dollar.judge_all(itertools.cycle(pairs(77)))
+            next(sweep)
+            sweep.close()
+        self.assertEqual((descriptors(), threading.active_count()), (before, threads))
+
+    def test_a_program_that_ends_early_is_a_fault(self):
+        program = self.script("#!/bin/sh\nread line\necho 'winnable by 0=0 1=0 to 0=0 1=0'\necho 'dollar: out of memory' >&2\nexit 4\n")
+        got = []
+        with self.assertRaisesRegex(Fault, "out of memory") as caught:
+            for verdict in dollar.judge_all(pairs(50_000), program):
+                got.append(verdict)
+        self.assertEqual(len(got), 1)
+        self.assertEqual(caught.exception.status, 4)
+
+    def test_progress(self):
+        with mock.patch.dict(sys.modules, {"tqdm.auto": None}), self.assertWarnsRegex(UserWarning, "tqdm is not here"):
+            self.assertEqual(len(list(dollar.judge_all(pairs(3), progress=True))), 3)
+        seen = []
+
+        def bar(tables, unit):
+            for table in tables:
+                seen.append(table)
+                yield table
+
+        with mock.patch.dict(sys.modules, {"tqdm.auto": types.SimpleNamespace(tqdm=bar)}):
+            self.assertTrue(len(list(dollar.judge_all(pairs(3), progress=True))) == len(seen) == 3)

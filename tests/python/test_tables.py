@@ -6,11 +6,10 @@ import pickle
 import random
 import types
 
-import pytest
-from conftest import ROOT
 
 import dollar
 from dollar import Table
+from helpers import Test, each, needed
 
 PATH = {"vertices": ["a", "b", "c"], "edges": [["a", "b", 1], ["b", "c", 2]], "amounts": [2, -1, 0], "q": "b"}
 
@@ -18,85 +17,6 @@ PATH = {"vertices": ["a", "b", "c"], "edges": [["a", "b", 1], ["b", "c", 2]], "a
 def connected_graphs(networkx, most=7):
     """All connected graphs of up to so many vertices."""
     return [graph for graph in networkx.graph_atlas_g()[1:] if len(graph) <= most and networkx.is_connected(graph)]
-
-
-def test_all_small_graphs_come_back_from_networkx():
-    networkx = pytest.importorskip("networkx")
-    graphs = connected_graphs(networkx)
-    assert len(graphs) == 1 + 1 + 2 + 6 + 21 + 112 + 853
-    for graph in graphs:
-        table = Table(graph, {node: node - 2 for node in graph}, max(graph))
-        back = table.to_networkx()
-        assert {frozenset(map(int, edge)) for edge in back.edges()} == {frozenset(edge) for edge in graph.edges}
-        assert back.number_of_edges() == graph.number_of_edges()
-        assert [back.nodes[str(node)]["amount"] for node in graph] == [node - 2 for node in graph]
-        assert Table(back, table.divisor, table.q) == table
-        assert Table.graph6(networkx.to_graph6_bytes(graph), table.divisor, table.q) == table
-        matrix = [[int(graph.has_edge(u, v)) for v in graph] for u in graph]
-        assert Table(matrix, list(table.amounts), table.q) == table
-        assert Table(json.loads(table.to_json())) == table == pickle.loads(pickle.dumps(table)) == eval(repr(table))
-
-
-def test_the_program_reads_what_a_table_says():
-    networkx = pytest.importorskip("networkx")
-    graphs = connected_graphs(networkx)
-    tables = [Table(graph, {node: (node * 7 + place) % 9 - 3 for node in graph}) for place, graph in enumerate(graphs)]
-    for graph, table, numbers in zip(graphs, tables, dollar.rr_all(tables)):
-        assert numbers.degree == sum(table.amounts)
-        assert numbers.genus == graph.number_of_edges() - len(graph) + 1
-    for table, verdict in zip(tables, dollar.judge_all(tables)):
-        verdict.check()
-        again = dollar.judge(Table(table, verdict.reduced)) if len(table.vertices) == 7 and table.amounts[0] == 2 else None
-        assert again is None or (set(again.script.values()) == {0} and again.reduced == verdict.reduced)
-
-
-def test_edges_of_multigraphs_are_counted():
-    networkx = pytest.importorskip("networkx")
-    rng = random.Random(1)
-    for _ in range(200):
-        graph, counts = networkx.MultiGraph(), {}
-        graph.add_nodes_from("abcde")
-        for _ in range(rng.randint(4, 12)):
-            u, v = rng.sample("abcde", 2)
-            weight = rng.choice([None, 1, 2, 3])
-            graph.add_edge(u, v, **({} if weight is None else {"weight": weight}))
-            counts[frozenset((u, v))] = counts.get(frozenset((u, v)), 0) + (weight or 1)
-        table = Table(graph)
-        assert {frozenset(edge[:2]): edge[2] for edge in table.edges} == counts
-        assert table.to_networkx().number_of_edges() == sum(counts.values())
-
-
-def test_a_file_comes_back(tmp_path):
-    table = Table(PATH)
-    assert table.to_dict() == PATH
-    table.write(tmp_path / "table.json")
-    assert Table.read(tmp_path / "table.json") == table
-    assert dollar.judge(str(tmp_path / "table.json")) == dollar.judge(table) == dollar.judge(PATH)
-    with pytest.raises(FileNotFoundError, match="missing.json"):
-        dollar.judge(str(tmp_path / "missing.json"))
-    for text, error, said in (("{", ValueError, "Expecting"), ("[" * 100_000, ValueError, "recursion"), ("\ud800", ValueError, "utf-8"),
-                              (json.dumps(dict(PATH, amounts=[1, 2, 0.5])), TypeError, "the amount of vertex c is no whole number: 0.5")):
-        (tmp_path / "bad.json").write_bytes(text.encode("utf-8", "surrogatepass"))
-        with pytest.raises(error, match="bad.json: .*" + said):
-            Table.read(tmp_path / "bad.json")
-
-
-def test_amounts_are_by_vertex_or_by_name():
-    graph = types.SimpleNamespace(nodes=[0, 1, 2], edges=[(0, 1), (1, 2), (2, 1)])
-    assert Table(graph, {0: 1, "2": 5}, 2).to_dict() == {
-        "vertices": ["0", "1", "2"], "edges": [["0", "1", 1], ["1", "2", 2]], "amounts": [1, 0, 5], "q": "2"}
-    grid = types.SimpleNamespace(nodes=[(0, 0), (0, 1)], edges=[((0, 0), (0, 1))])
-    named = Table(grid, {(0, 1): 4, "r0c0": -1}, (0, 1), names=lambda vertex: "r%dc%d" % vertex)
-    assert (named.divisor, named.q) == ({"r0c0": -1, "r0c1": 4}, "r0c1")
-
-
-def test_an_answer_can_be_handed_back():
-    networkx = pytest.importorskip("networkx")
-    graph = networkx.cycle_graph(4)
-    verdict = dollar.judge(Table(graph, {0: -2, 1: 0, 2: 3, 3: 0}))
-    # Degree 1 before, and so after.
-    assert sum(Table(graph, verdict.reduced).amounts) == 1
-    assert dollar.judge(Table(graph, verdict.reduced)).reduced == verdict.reduced
 
 
 def directed(*edges):
@@ -175,58 +95,121 @@ REFUSED = [
 ]
 
 
-@pytest.mark.parametrize("call, error, text", REFUSED)
-def test_refused(call, error, text):
-    with pytest.raises(error, match=text):
-        call()
+class OfTables(Test):
+    def test_all_small_graphs_come_back_from_networkx(self):
+        networkx = needed("networkx")
+        graphs = connected_graphs(networkx)
+        self.assertEqual(len(graphs), 1 + 1 + 2 + 6 + 21 + 112 + 853)
+        for graph in graphs:
+            table = Table(graph, {node: node - 2 for node in graph}, max(graph))
+            back = table.to_networkx()
+            self.assertEqual({frozenset(map(int, edge)) for edge in back.edges()}, {frozenset(edge) for edge in graph.edges})
+            self.assertEqual(back.number_of_edges(), graph.number_of_edges())
+            self.assertEqual([back.nodes[str(node)]["amount"] for node in graph], [node - 2 for node in graph])
+            self.assertEqual(Table(back, table.divisor, table.q), table)
+            self.assertEqual(Table.graph6(networkx.to_graph6_bytes(graph), table.divisor, table.q), table)
+            matrix = [[int(graph.has_edge(u, v)) for v in graph] for u in graph]
+            self.assertEqual(Table(matrix, list(table.amounts), table.q), table)
+            self.assertTrue(Table(json.loads(table.to_json())) == table == pickle.loads(pickle.dumps(table)) == eval(repr(table)))
 
+    def test_the_program_reads_what_a_table_says(self):
+        networkx = needed("networkx")
+        graphs = connected_graphs(networkx)
+        tables = [Table(graph, {node: (node * 7 + place) % 9 - 3 for node in graph}) for place, graph in enumerate(graphs)]
+        for graph, table, numbers in zip(graphs, tables, dollar.rr_all(tables)):
+            self.assertEqual(numbers.degree, sum(table.amounts))
+            self.assertEqual(numbers.genus, graph.number_of_edges() - len(graph) + 1)
+        for table, verdict in zip(tables, dollar.judge_all(tables)):
+            verdict.check()
+            again = dollar.judge(Table(table, verdict.reduced)) if len(table.vertices) == 7 and table.amounts[0] == 2 else None
+            self.assertTrue(again is None or (set(again.script.values()) == {0} and again.reduced == verdict.reduced))
 
-def test_numbers_that_are_whole_are_taken():
-    numpy = pytest.importorskip("numpy")
-    table = Table(numpy.array([[0, 2], [2, 0]]), numpy.array([3, -1]))
-    assert table == Table([[0, 2], [2, 0]], [3, -1])
-    assert json.loads(table.to_json())["amounts"] == [3, -1]
-    given = {"vertices": ["a", "b"], "edges": [["a", "b", numpy.uint8(2)]], "amounts": [numpy.int64(3), numpy.int16(-1)], "q": "a"}
-    assert dollar.judge(given) == dollar.judge(Table(given)) == next(dollar.judge_all([given]))
-    for wrong in (numpy.float32(1.7), numpy.float64(2.0), numpy.bool_(True)):
-        with pytest.raises(TypeError):
-            Table(PAIR, {0: wrong})
-    with pytest.raises(TypeError, match="table 0: "):
-        list(dollar.judge_all([dict(given, amounts=[numpy.float32(1.7), 0])]))
-    # A float of numpy's that is one of Python's goes as it is, and is refused by the program.
-    row, = dollar.judge_all([dict(given, amounts=[numpy.float64(2.0), 0])])
-    assert row.refused == "shape of amounts"
+    def test_edges_of_multigraphs_are_counted(self):
+        networkx = needed("networkx")
+        rng = random.Random(1)
+        for _ in range(200):
+            graph, counts = networkx.MultiGraph(), {}
+            graph.add_nodes_from("abcde")
+            for _ in range(rng.randint(4, 12)):
+                u, v = rng.sample("abcde", 2)
+                weight = rng.choice([None, 1, 2, 3])
+                graph.add_edge(u, v, **({} if weight is None else {"weight": weight}))
+                counts[frozenset((u, v))] = counts.get(frozenset((u, v)), 0) + (weight or 1)
+            table = Table(graph)
+            self.assertEqual({frozenset(edge[:2]): edge[2] for edge in table.edges}, counts)
+            self.assertEqual(table.to_networkx().number_of_edges(), sum(counts.values()))
 
+    def test_a_file_comes_back(self):
+        folder = self.folder()
+        table = Table(PATH)
+        self.assertEqual(table.to_dict(), PATH)
+        table.write(folder / "table.json")
+        self.assertEqual(Table.read(folder / "table.json"), table)
+        self.assertTrue(dollar.judge(str(folder / "table.json")) == dollar.judge(table) == dollar.judge(PATH))
+        with self.assertRaisesRegex(FileNotFoundError, "missing.json"):
+            dollar.judge(str(folder / "missing.json"))
+        for text, error, said in (("{", ValueError, "Expecting"), ("[" * 100_000, ValueError, "recursion"), ("\ud800", ValueError, "utf-8"),
+                                  (json.dumps(dict(PATH, amounts=[1, 2, 0.5])), TypeError, "the amount of vertex c is no whole number: 0.5")):
+            (folder / "bad.json").write_bytes(text.encode("utf-8", "surrogatepass"))
+            with self.assertRaisesRegex(error, "bad.json: .*" + said):
+                Table.read(folder / "bad.json")
 
-def test_frames_of_pandas():
-    pandas = pytest.importorskip("pandas")
-    frame = pandas.DataFrame([[0, 2], [2, 0]])
-    assert Table(frame, pandas.Series({"1": -1, "0": 3})) == Table([[0, 2], [2, 0]], [3, -1])
+    def test_amounts_are_by_vertex_or_by_name(self):
+        graph = types.SimpleNamespace(nodes=[0, 1, 2], edges=[(0, 1), (1, 2), (2, 1)])
+        self.assertEqual(Table(graph, {0: 1, "2": 5}, 2).to_dict(), {
+            "vertices": ["0", "1", "2"], "edges": [["0", "1", 1], ["1", "2", 2]], "amounts": [1, 0, 5], "q": "2"})
+        grid = types.SimpleNamespace(nodes=[(0, 0), (0, 1)], edges=[((0, 0), (0, 1))])
+        named = Table(grid, {(0, 1): 4, "r0c0": -1}, (0, 1), names=lambda vertex: "r%dc%d" % vertex)
+        self.assertEqual((named.divisor, named.q), ({"r0c0": -1, "r0c1": 4}, "r0c1"))
 
+    def test_an_answer_can_be_handed_back(self):
+        networkx = needed("networkx")
+        graph = networkx.cycle_graph(4)
+        verdict = dollar.judge(Table(graph, {0: -2, 1: 0, 2: 3, 3: 0}))
+        # Degree 1 before, and so after.
+        self.assertEqual(sum(Table(graph, verdict.reduced).amounts), 1)
+        self.assertEqual(dollar.judge(Table(graph, verdict.reduced)).reduced, verdict.reduced)
 
-def test_pictures_stand_as_the_board_has_them():
-    """The board's module is for all graphs, and a ring for where it is not."""
-    from dollar import drawing
+    @each(REFUSED)
+    def test_refused(self, call, error, text):
+        with self.assertRaisesRegex(error, text):
+            call()
 
-    cube = dollar.example("cube")
-    board = ROOT / "board" / "places.py"
-    if board.is_file():
-        found = drawing.places_of()(list(cube.vertices), list(cube.edges))
-        assert found != drawing.ring(cube.vertices) and list(found) == list(cube.vertices)
-    else:
-        assert drawing.places_of() is drawing.ring
-    given = {name: (float(place), 0.0) for place, name in enumerate(cube.vertices)}
-    assert dollar.picture(cube, places=given) != cube._repr_svg_()
+    def test_numbers_that_are_whole_are_taken(self):
+        numpy = needed("numpy")
+        table = Table(numpy.array([[0, 2], [2, 0]]), numpy.array([3, -1]))
+        self.assertEqual(table, Table([[0, 2], [2, 0]], [3, -1]))
+        self.assertEqual(json.loads(table.to_json())["amounts"], [3, -1])
+        given = {"vertices": ["a", "b"], "edges": [["a", "b", numpy.uint8(2)]], "amounts": [numpy.int64(3), numpy.int16(-1)], "q": "a"}
+        self.assertTrue(dollar.judge(given) == dollar.judge(Table(given)) == next(dollar.judge_all([given])))
+        for wrong in (numpy.float32(1.7), numpy.float64(2.0), numpy.bool_(True)):
+            with self.assertRaises(TypeError):
+                Table(PAIR, {0: wrong})
+        with self.assertRaisesRegex(TypeError, "table 0: "):
+            list(dollar.judge_all([dict(given, amounts=[numpy.float32(1.7), 0])]))
+        # A float of numpy's that is one of Python's goes as it is, and is refused by the program.
+        row, = dollar.judge_all([dict(given, amounts=[numpy.float64(2.0), 0])])
+        self.assertEqual(row.refused, "shape of amounts")
 
+    def test_frames_of_pandas(self):
+        pandas = needed("pandas")
+        frame = pandas.DataFrame([[0, 2], [2, 0]])
+        self.assertEqual(Table(frame, pandas.Series({"1": -1, "0": 3})), Table([[0, 2], [2, 0]], [3, -1]))
 
-def test_pictures():
-    from xml.dom import minidom
+    def test_pictures_stand_as_they_are_told(self):
+        cube = dollar.example("cube")
+        given = {name: (float(place), 0.0) for place, name in enumerate(cube.vertices)}
+        self.assertNotEqual(dollar.picture(cube, places=given), cube._repr_svg_())
 
-    for name in ("cube", "petersen", "banana", "triangle", "million_path", "sixty_three_edges"):
-        table = dollar.example(name)
-        for picture in (table._repr_svg_(), dollar.judge(table)._repr_svg_()):
-            texts = [node.firstChild.data for node in minidom.parseString(picture).getElementsByTagName("text")]
-            assert set(table.vertices) <= set(texts) and {str(amount) for amount in table.amounts} <= set(texts)
-    # On the triangle b and c borrow once each.
-    assert dollar.judge(dollar.example("triangle"))._repr_svg_().count(">borrows 1<") == 2
-    assert dollar.answer("winnable by a=0 to a=0")._repr_svg_() is None
+    def test_pictures(self):
+        from xml.dom import minidom
+
+        for name in ("cube", "petersen", "banana", "triangle", "million_path", "sixty_three_edges"):
+            table = dollar.example(name)
+            for picture in (table._repr_svg_(), dollar.judge(table)._repr_svg_()):
+                texts = [node.firstChild.data for node in minidom.parseString(picture).getElementsByTagName("text")]
+                self.assertLessEqual(set(table.vertices), set(texts))
+                self.assertLessEqual({str(amount) for amount in table.amounts}, set(texts))
+        # On the triangle b and c borrow once each.
+        self.assertEqual(dollar.judge(dollar.example("triangle"))._repr_svg_().count(">borrows 1<"), 2)
+        self.assertIsNone(dollar.answer("winnable by a=0 to a=0")._repr_svg_())

@@ -1,0 +1,67 @@
+"""What the package does from a command line.
+
+    python3 -m dollar board [FILE]           a board to play on, in a browser, for one player or for a class
+    python3 -m dollar draw FILE              a picture of a table and of its verdict
+    python3 -m dollar replay FILE STEPS      a page that shows a game
+    python3 -m dollar sweep FILE CSV         the verdicts on the tables of a file, on the workers of a Dask cluster
+
+Each tells more with --help. In a clone where the package is not installed, `python3 python/dollar` does the same."""
+
+import argparse
+import importlib
+import os
+import sys
+
+if not __package__:
+    # Python was given the folder, and not the name of the package.
+    sys.dont_write_bytecode = True
+    sys.path[0] = os.path.dirname(os.path.dirname(os.path.abspath(__file__)))
+
+from dollar.commands import judge
+from dollar.drawing import verdict_picture
+from dollar.program import Fault
+from dollar.table import shown_name, text_of
+
+COMMANDS = {"board": "dollar.board.play", "replay": "dollar.board.replay", "sweep": "dollar.cluster"}
+
+
+def draw(words: "list[str]") -> int:
+    """Prints the picture of a table."""
+    reader = argparse.ArgumentParser(
+        prog="dollar draw", usage="%(prog)s [--places PLACES] FILE > PICTURE.svg",
+        description="Draws a table and its verdict. A vertex has its name and its dollars; one in debt is red and hatched, and q has a "
+        "double ring. Below a vertex stands what the script has it lend or borrow. What burns is orange, with its number in the order.")
+    reader.add_argument("--places", metavar="PLACES",
+                        help="the vertices stand where the lines 'name x y' of this file say; x goes to the right, and y down")
+    reader.add_argument("file", metavar="FILE")
+    given = reader.parse_args(words)
+    own = None if given.places is None else text_of(given.places)
+    verdict = judge(given.file)
+    sys.stdout.write(verdict_picture(shown_name(given.file), verdict.judged(), verdict, own))
+    return 0
+
+
+def main(words: "list[str]") -> int:
+    if words in (["-h"], ["--help"]):
+        print(__doc__)
+        return 0
+    if not words or words[0] not in ("draw", *COMMANDS):
+        print(__doc__, file=sys.stderr)
+        return 2
+    try:
+        command = draw if words[0] == "draw" else importlib.import_module(COMMANDS[words[0]]).main
+        status: int = command(words[1:])
+        sys.stdout.flush()
+        return status
+    except BrokenPipeError:
+        os.dup2(os.open(os.devnull, os.O_WRONLY), sys.stdout.fileno())
+        return 1
+    except (OSError, ValueError, TypeError, RecursionError, Fault) as error:
+        print("dollar %s: %s" % (" ".join(words), " ".join(str(error).split())), file=sys.stderr)
+        return 1
+    except KeyboardInterrupt:
+        return 130
+
+
+if __name__ == "__main__":
+    sys.exit(main(sys.argv[1:]))

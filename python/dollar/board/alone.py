@@ -1,0 +1,95 @@
+"""Playing alone: the page keeps the table and the steps, and each of its questions goes to the program."""
+import asyncio
+import json
+
+from dollar.board.pages import asset, page
+from dollar.board.replay import page as replay_page
+from dollar.board.server import Nothing, Refused, as_json, same, text_in
+from dollar.drawing import USUAL, layout
+from dollar.program import PATIENCE, call, fault_of
+from dollar.table import EXAMPLES, text_of
+
+MOST_TABLE, MOST_STEPS, MOST_BODY, MOST_TABLES = 1 << 21, 1 << 21, 1 << 24, 1 << 21
+AT_ONCE = 3
+
+
+def examples():
+    """The tables that `dollar.example` names, each as its text, by the names of their files."""
+    return {file.name: text_of(file) for file in sorted(EXAMPLES.glob("*.json"))}
+
+
+class Alone:
+    """Answers the requests of the page for one player. The program judges each table and each step."""
+
+    def __init__(self, secret, name, text, own=None):
+        self.secret, self.name, self.text, self.own = secret, name, text, own
+        self.turns = asyncio.Semaphore(AT_ONCE)
+
+    async def answer(self, request):
+        """What the server says to a request."""
+        if not same(request.parts[0], self.secret) or len(request.parts) != 2:
+            raise Nothing
+        request.known()
+        asked = request.method, request.parts[1]
+        if asked == ("GET", ""):
+            return page("alone.html")
+        if asked == ("GET", "start"):
+            return as_json(self.start())
+        if asked == ("POST", "ask"):
+            async with self.turns:
+                return as_json(await self.asked(await request.json(MOST_BODY)))
+        if request.method == "GET":
+            return asset(request.parts[1])
+        raise Nothing
+
+    def start(self):
+        """What the page begins with."""
+        table = json.loads(self.text)
+        return {"name": self.name, "table": self.text, "examples": examples(),
+                "layout": layout(table, table["amounts"] + USUAL, self.own)}
+
+    async def asked(self, given):
+        """What the program says to a question of the page, or a thing that is made of a table that it takes for one."""
+        command = text_in(given, "command", 16)
+        table = text_in(given, "table", MOST_TABLE)
+        if command in ("judge", "rr"):
+            return await run(command, "--", table.encode())
+        if command == "rank":
+            return await run("rank", "--", table.encode(), text_in(given, "degree", 12))
+        if command == "rehearse":
+            return await run("rehearse", "--", table.encode(), text_in(given, "steps", MOST_STEPS).encode())
+        if command == "judge --lines":
+            return await run("judge", "--lines", text_in(given, "tables", MOST_TABLES).encode())
+        if command == "layout":
+            return await self.layout(table, given)
+        if command == "replay":
+            return await self.replay(table, text_in(given, "steps", MOST_STEPS), text_in(given, "name", 200))
+        raise Refused(400, "there is no such question")
+
+    async def layout(self, table, given):
+        """The verdict on a table, and if there is one, the places of its vertices."""
+        said = await run("judge", table.encode())
+        if said["status"] == 0:
+            own = text_in(given, "places", MOST_TABLE) if "places" in given else None
+            try:
+                made = json.loads(table)
+                said["layout"] = await asyncio.to_thread(layout, made, made["amounts"] + USUAL, own)
+            except ValueError as error:
+                raise Refused(400, str(error)) from None
+        return said
+
+    async def replay(self, table, steps, name):
+        """The page that shows the game again."""
+        said = await run("rehearse", table.encode(), steps.encode())
+        if said["status"] == 0:
+            said["page"] = await asyncio.to_thread(replay_page, name, table, steps, said["out"])
+        return said
+
+
+async def run(*words):
+    """What the program says: its status, its answer and its fault. A word as bytes stands for a file."""
+    try:
+        out, said, status = await asyncio.to_thread(call, words, None, PATIENCE)
+    except OSError as error:
+        return {"status": None, "out": "", "err": str(error)}
+    return {"status": status, "out": out.decode(), "err": fault_of(said, status).text if status else ""}

@@ -1,0 +1,93 @@
+"""Makes a page that shows a game: the board, and a slider over the history of its steps.
+
+The page is one file for a browser, and asks no network for anything. The table, the steps and the history are in it unchanged. The
+page draws them and knows no rule of the game."""
+import argparse
+import base64
+import hashlib
+import html
+import json
+import re
+import sys
+
+from dollar.board.pages import filled, one_script, part
+from dollar.drawing import layout
+from dollar.program import printed
+from dollar.table import shown_name, text_of
+
+SCRIPTS = "grammar.js", "words.js", "places.js", "board.js", "viewer.js", "replay.js"
+USAGE = """%(prog)s FILE STEPS > GAME.html            the history is what `dollar rehearse FILE STEPS` prints
+       %(prog)s FILE STEPS HISTORY > GAME.html    the history is that of a file; the page says where the program prints another
+       %(prog)s FILE --greedy TURNS > GAME.html   a game of `dollar greedy FILE TURNS`; its steps are those of the rule"""
+
+
+def in_page(text):
+    """A text as it stands within an element <script> that is no script: JSON, in which an escape stands for what would end it."""
+    return text.replace("<", "\\u003c")
+
+
+def digest(text):
+    """What a page's policy calls a script or a style of this text."""
+    return "'sha256-%s'" % base64.b64encode(hashlib.sha256(text.encode()).digest()).decode()
+
+
+def greedy_game(text, turns):
+    """The steps of a greedy game, as its rule has them, and what is printed of its history."""
+    table = json.loads(text)
+    lines = printed("greedy", text.encode(), turns).splitlines(keepends=True)
+    lines = lines[:-1] if lines[-1:] == ["turns\n"] else lines
+    amounts, steps = table["amounts"], []
+    for line in lines:
+        poor = [name for name, amount in zip(table["vertices"], amounts) if amount < 0]
+        steps.append("1 borrow %s\n" % poor[0] if poor else "1 claim\n")
+        amounts = [int(amount) for amount in re.findall(r"=(-?\d+)", line)] or amounts
+    return "".join(steps), "".join(lines)
+
+
+def differences(lines, given):
+    """For each line, counted from 1, in which a given history is another than what the program prints, what is printed."""
+    lines, given = lines.splitlines(), given.splitlines()
+    if len(lines) != len(given):
+        raise ValueError("%d answers to %d steps" % (len(given), len(lines)))
+    return {number: line for number, (line, other) in enumerate(zip(lines, given), 1) if line != other}
+
+
+def page(title, text, steps, lines, history=None, own=None):
+    """The text of the page for a table, steps, and what the program prints of them, or another history that was given."""
+    shown = lines if history is None else history
+    flaws = differences(lines, shown)
+    if any("<" in word for word in (steps, shown)):
+        raise ValueError("no steps and no history have '<' in them")
+    table = json.loads(text)
+    amounts = [*table["amounts"], *(set(re.findall(r"=(-?\d+)", shown)))]
+    code = one_script(SCRIPTS)
+    style = "\n" + part("page.css")
+    policy = "default-src 'none'; script-src %s; style-src %s; img-src data:; base-uri 'none'; form-action 'none'" % (
+        digest(code), digest(style))
+    return filled("replay.html", {
+        "title": html.escape(title), "policy": policy, "style": part("page.css"), "table": in_page(text), "steps": steps,
+        "printed": shown, "layout": in_page(json.dumps(layout(table, amounts, own))), "flaws": in_page(json.dumps(flaws)),
+        "script": code})
+
+
+def main(words):
+    """Prints the page that the words of a command line ask for."""
+    reader = argparse.ArgumentParser(prog="dollar replay", usage=USAGE, description=__doc__.partition("\n\n")[0], epilog=__doc__.partition("\n\n")[2])
+    reader.add_argument("--greedy", metavar="TURNS", help=argparse.SUPPRESS)
+    reader.add_argument("--places", metavar="PLACES",
+                        help="the vertices stand where the lines 'name x y' of this file say; x goes to the right, and y down")
+    reader.add_argument("files", nargs="+", metavar="FILE", help=argparse.SUPPRESS)
+    given = reader.parse_args(words)
+    if len(given.files) not in ((1,) if given.greedy else (2, 3)):
+        reader.error("a table, and either steps or --greedy is wanted")
+    file, *others = given.files
+    own = None if given.places is None else text_of(given.places)
+    text = text_of(file)
+    printed("judge", text.encode())
+    if given.greedy:
+        title, (steps, history) = "greedy", greedy_game(text, given.greedy)
+    else:
+        title, steps, history = shown_name(others[0]), text_of(others[0]), text_of(others[1]) if others[1:] else None
+    lines = printed("rehearse", text.encode(), steps.encode())
+    sys.stdout.write(page("%s, %s" % (shown_name(file), title), text, steps, lines, history, own))
+    return 0

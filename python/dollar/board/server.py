@@ -1,0 +1,264 @@
+"""A small web server for the pages: it answers those who know a secret, and holds against those who don't.
+
+Each connection brings one request and gets one answer. Whoever is slow, sends too much or sends nonsense is dropped. When there
+are too many connections of which it is not known whose they are, the oldest of them makes room. Whatever is asked without the
+secret, from another origin or for another host is answered alike: there is nothing here."""
+import asyncio
+import hmac
+import ipaddress
+import json
+import re
+import secrets
+import socket
+
+MOST_HEAD, MOST_HEADERS, MOST_STRANGERS = 8192, 64, 300
+TO_ASK, TO_SEND, TO_TAKE = 5.0, 8.0, 20.0
+TOKEN = re.compile(r"[A-Za-z0-9!#$%&'*+.^_`|~-]{1,64}\Z")
+VALUE = re.compile(r"[\t -~]*\Z")
+TARGET = re.compile(r"(GET|POST) (/[A-Za-z0-9/._~?=&-]*) HTTP/1\.[01]\Z")
+POLICY = ("default-src 'none'; script-src 'self'; style-src 'self'; img-src 'self' data:; connect-src 'self'; "
+          "base-uri 'none'; form-action 'none'; frame-ancestors 'none'")
+ALWAYS = {
+    "Content-Security-Policy": POLICY, "X-Content-Type-Options": "nosniff", "X-Frame-Options": "DENY",
+    "Referrer-Policy": "no-referrer", "Cross-Origin-Resource-Policy": "same-origin", "Cross-Origin-Opener-Policy": "same-origin",
+    "Cache-Control": "no-store", "Connection": "close",
+}
+REASONS = {200: "OK", 400: "Bad Request", 404: "Not Found", 409: "Conflict", 413: "Content Too Large", 429: "Too Many Requests",
+           503: "Service Unavailable"}
+HOST = re.compile(r"(\[[0-9a-f:.]+\]|[^:\[\]]+)(?::([0-9]{1,5}))?\Z")
+ANY = "0.0.0.0", "::"
+LETTERS, LONG = "abcdefghijkmnpqrstuvwxyz23456789", 26
+
+
+def new_secret():
+    """A secret of 130 bits, as it stands in an address: in groups of letters and digits that are not easily taken for others."""
+    letters = "".join(secrets.choice(LETTERS) for _ in range(LONG))
+    return "-".join(letters[i:i + 4] for i in range(0, LONG, 4))
+
+
+def same(given, secret):
+    """Whether a text is the secret, in a time that does not tell how much of it is right. Capitals and dashes don't count."""
+    return hmac.compare_digest(given.replace("-", "").lower().encode(), secret.replace("-", "").encode())
+
+
+def address_of(host):
+    """The address at which others find a server that listens on a host: on 0.0.0.0 that of this machine in its network."""
+    if host not in ANY:
+        return host
+    with socket.socket(socket.AF_INET6 if host == "::" else socket.AF_INET, socket.SOCK_DGRAM) as probe:
+        try:
+            # No packet is sent: this only asks the system which of its addresses it would send from.
+            probe.connect(("2001:db8::1" if host == "::" else "192.0.2.1", 9))
+            return probe.getsockname()[0]
+        except OSError:
+            return "::1" if host == "::" else "127.0.0.1"
+
+
+class Refused(Exception):
+    """A request that gets a status and words in place of what it asked."""
+
+    def __init__(self, status, words):
+        super().__init__(status, words)
+        self.status, self.words = status, words
+
+
+class Nothing(Refused):
+    """What all get who must not learn more."""
+
+    def __init__(self):
+        super().__init__(404, "there is nothing here")
+
+
+class Request:
+    """What was asked: the method, the parts of the path, what stands after `?`, and a way to read the body."""
+
+    def __init__(self, method, target, headers, reader, known):
+        path, _, query = target.partition("?")
+        self.method, self.parts, self.headers, self.reader = method, path.split("/")[1:], headers, reader
+        # To be called once it is known whose the request is.
+        self.known = known
+        self.query = dict(pair.partition("=")[::2] for pair in query.split("&") if pair)
+
+    async def json(self, most):
+        """The body, an object of JSON with at most so many bytes."""
+        length = self.headers.get("content-length", "")
+        if not re.match(r"[0-9]{1,9}\Z", length):
+            raise Refused(400, "the length of the request is missing")
+        if int(length) > most:
+            raise Refused(413, "the request is too long")
+        if self.headers.get("content-type", "").partition(";")[0].strip().lower() != "application/json":
+            raise Refused(400, "the request is no JSON")
+        data = await asyncio.wait_for(self.reader.readexactly(int(length)), TO_SEND)
+        try:
+            given = json.loads(data.decode())
+        except (ValueError, RecursionError):
+            raise Refused(400, "the request is no JSON") from None
+        if not isinstance(given, dict):
+            raise Refused(400, "the request is no object")
+        return given
+
+
+def text_in(given, name, most):
+    """A text of a request, of at most so many letters. Raises Refused where there is none."""
+    text = given.get(name)
+    if not isinstance(text, str) or len(text) > most:
+        raise Refused(400, "'%s' is no text of at most %d letters" % (name, most))
+    try:
+        text.encode()
+    except UnicodeEncodeError:
+        raise Refused(400, "'%s' has letters that are none" % name) from None
+    return text
+
+
+class Server:
+    """Serves on an address and a port, 0 for any that is free. `answer` is asked for each request of this host and origin, and
+    gives a status, a kind of content, and bytes, or a function: that gets a future, which is done when the other side has gone, and
+    gives an iterator over bytes that come by and by."""
+
+    def __init__(self, answer, address, port=0, names=()):
+        self.answer, self.address, self.port, self.names = answer, address, port, {name.lower() for name in names}
+        self.strangers, self.tasks, self.listener = {}, set(), None
+
+    async def start(self):
+        self.listener = await asyncio.start_server(self.serve, self.address, self.port, limit=MOST_HEAD, backlog=256)
+        self.port = self.listener.sockets[0].getsockname()[1]
+
+    async def stop(self):
+        self.listener.close()
+        for task in list(self.tasks):
+            task.cancel()
+        await asyncio.gather(*self.tasks, return_exceptions=True)
+
+    async def serve(self, reader, writer):
+        """One connection, from its request to its end."""
+        task = asyncio.current_task()
+        self.tasks.add(task)
+        writer.transport.set_write_buffer_limits(high=0)
+        self.make_room(task, writer)
+        try:
+            await self.exchange(task, reader, writer)
+        except (asyncio.TimeoutError, asyncio.IncompleteReadError, asyncio.CancelledError, OSError):
+            pass
+        finally:
+            self.strangers.pop(task, None)
+            self.tasks.discard(task)
+            if writer.transport.get_write_buffer_size():
+                writer.transport.abort()
+            writer.close()
+
+    def make_room(self, task, writer):
+        """Takes a connection of a stranger, and drops the oldest of them if there are too many."""
+        self.strangers[task] = writer
+        if len(self.strangers) > MOST_STRANGERS:
+            oldest = next(iter(self.strangers))
+            self.strangers.pop(oldest).transport.abort()
+            oldest.cancel()
+
+    async def exchange(self, task, reader, writer):
+        try:
+            request = await asyncio.wait_for(self.request(reader, writer, lambda: self.strangers.pop(task, None)), TO_ASK)
+            status, kind, content = await self.answer(request)
+        except asyncio.LimitOverrunError:
+            status, kind, content = 404, "text/plain", Nothing().words.encode()
+        except Refused as refused:
+            status, kind, content = refused.status, "text/plain", refused.words.encode()
+        whole = isinstance(content, bytes)
+        writer.write(head(status, kind, len(content) if whole else None))
+        if whole:
+            writer.write(content)
+            await drained(writer)
+        else:
+            gone = asyncio.ensure_future(reader.read(1))
+            pieces = content(gone)
+            try:
+                async for piece in pieces:
+                    writer.write(piece)
+                    await drained(writer)
+            finally:
+                gone.cancel()
+                await pieces.aclose()
+                await asyncio.gather(gone, return_exceptions=True)
+        self.make_room(task, writer)
+        await self.end(reader, writer)
+
+    async def end(self, reader, writer):
+        """Ends the answer, and lets go of what the other side still sends, so that it may read the answer."""
+        if writer.can_write_eof():
+            writer.write_eof()
+        await asyncio.wait_for(self.swallow(reader), 1.0)
+
+    async def swallow(self, reader):
+        left = 1 << 20
+        while left > 0:
+            got = await reader.read(MOST_HEAD)
+            if not got:
+                return
+            left -= len(got)
+
+    async def request(self, reader, writer, known):
+        """The request of a connection. Raises Refused where it is none for this host from this origin."""
+        data = await reader.readuntil(b"\r\n\r\n")
+        try:
+            first, *lines = data[:-4].decode("ascii").split("\r\n")
+        except UnicodeDecodeError:
+            raise Nothing from None
+        target = TARGET.match(first)
+        headers = headers_of(lines)
+        if not target or "transfer-encoding" in headers or not self.is_here(headers.get("host"), writer):
+            raise Nothing
+        method = target.group(1)
+        origin = headers.get("origin")
+        if (method == "POST" and origin is None) or origin not in (None, "http://" + headers["host"]):
+            raise Nothing
+        if headers.get("sec-fetch-site", "none") not in ("none", "same-origin") and headers.get("sec-fetch-dest") != "document":
+            raise Nothing
+        return Request(method, target.group(2), headers, reader, known)
+
+    def is_here(self, host, writer):
+        """Whether a Host names this server: by the address that was called, or by a name that was given to it."""
+        found = HOST.match((host or "").lower())
+        if not found or int(found.group(2) or 80) != self.port:
+            return False
+        name = found.group(1)
+        called = ipaddress.ip_address(writer.get_extra_info("sockname")[0].partition("%")[0])
+        if name in self.names or (name == "localhost" and called.is_loopback):
+            return True
+        try:
+            return ipaddress.ip_address(name.strip("[]")) == called
+        except ValueError:
+            return False
+
+
+def headers_of(lines):
+    """The headers by their names in small letters. Raises Refused where a line is none, or one comes twice."""
+    if len(lines) > MOST_HEADERS:
+        raise Nothing
+    headers = {}
+    for line in lines:
+        name, colon, value = line.partition(":")
+        if not colon or not TOKEN.match(name) or not VALUE.match(value) or name.lower() in headers:
+            raise Nothing
+        headers[name.lower()] = value.strip(" \t")
+    return headers
+
+
+def head(status, kind, length):
+    """The head of an answer; without a length it goes on until the connection ends."""
+    lines = ["HTTP/1.1 %d %s" % (status, REASONS[status]), "Content-Type: %s; charset=utf-8" % kind]
+    lines += ["%s: %s" % pair for pair in ALWAYS.items()]
+    lines += [] if length is None else ["Content-Length: %d" % length]
+    return ("\r\n".join(lines) + "\r\n\r\n").encode()
+
+
+async def drained(writer):
+    """Waits until the other side has taken what was written, and drops it if that takes too long."""
+    try:
+        await asyncio.wait_for(writer.drain(), TO_TAKE)
+    except asyncio.TimeoutError:
+        writer.transport.abort()
+        raise
+
+
+def as_json(thing, status=200):
+    """An answer of JSON."""
+    return status, "application/json", json.dumps(thing).encode()

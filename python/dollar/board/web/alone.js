@@ -1,0 +1,216 @@
+/* Playing alone: the page keeps the table and the steps, and the program answers each question of it. */
+
+import { Questions } from "./ask.js";
+import { SVG, draw } from "./board.js";
+import { Editor } from "./edit.js";
+import { Hands } from "./hand.js";
+import { post, save, sure } from "./page.js";
+import { layoutOf, placesText } from "./places.js";
+import { Viewer, element } from "./viewer.js";
+import { Game, faultWords, linesOf } from "./words.js";
+
+const LOTS = 64;
+export let table, fileName, examples, viewer, hands, questions, editor;
+let turn = Promise.resolve();
+
+/* What the program says to a question: its status, its answer and its fault. */
+
+async function ask(question) {
+  const said = await post("ask", question);
+  return said.refused ? { status: said.status, out: "", err: said.refused } : said;
+}
+
+const textOf = (lines) => lines.map((line) => `${line}\n`).join("");
+const stepsText = (length) => textOf(viewer.game.steps.slice(0, length).map(({ line }) => line));
+
+/* Lines are played one after another, each on what came of the one before. */
+
+export function play(line) {
+  turn = turn.then(() => playNow(line));
+  return turn;
+}
+
+async function playNow(line) {
+  const { game, now } = viewer;
+  if (line.includes("\n")) return hands.tell("A line has no newline in it.");
+  const dropped = game.length - now;
+  if (dropped && !(await sure(`Going on from here drops the ${dropped} steps that follow. Shall they go?`))) return null;
+  const step = `${element("seat").value} ${line}`;
+  const said = await hands.patient(ask({ command: "rehearse", table, steps: `${stepsText(now)}${step}\n` }));
+  if (said.status !== 0) return hands.tell(faultWords(said.err), `dollar: ${said.err}`);
+  const printed = linesOf(said.out);
+  game.cut(now);
+  game.add(step, printed[now]);
+  hands.tell("");
+  hands.unchoose();
+  questions.clear();
+  viewer.reset(game, now + 1);
+  keep();
+  return null;
+}
+
+/* The game outlasts a reload of the page. */
+
+const KEPT = `dollar ${location.pathname}`;
+
+function keep() {
+  const kept = { table, fileName, steps: stepsText(viewer.game.length), places: placesText(viewer.board.layout) };
+  try {
+    sessionStorage.setItem(KEPT, JSON.stringify(kept));
+  } catch {
+    /* A browser that keeps nothing, or not so much: then the game lasts as long as the page. */
+  }
+}
+
+/* What was kept, with what the program prints of it, or null. */
+async function kept() {
+  try {
+    const before = JSON.parse(sessionStorage.getItem(KEPT));
+    const placed = await ask({ command: "layout", table: before.table, places: before.places });
+    const said = await ask({ command: "rehearse", table: before.table, steps: before.steps });
+    return placed.status === 0 && said.status === 0 ? { ...before, layout: placed.layout, printed: said.out } : null;
+  } catch {
+    return null;
+  }
+}
+
+/* Another table. What the program refuses is told, and nothing changes. */
+
+export async function openTable(text, file, places) {
+  const said = await ask({ command: "layout", table: text, ...(places === undefined ? {} : { places }) });
+  if (said.status !== 0) return said.err;
+  const { length } = viewer.game;
+  if (length && !(await sure(`The ${length} steps of this game go with its table. Shall they go?`))) return null;
+  [table, fileName] = [text, file];
+  begin(layoutOf(said.layout));
+  keep();
+  return null;
+}
+
+function begin(layout) {
+  const game = new Game(JSON.parse(table));
+  element("title").textContent = document.title = `The dollar game: ${fileName}`;
+  if (viewer) {
+    hands.forget();
+    hands.names(game.names);
+    questions.clear();
+    viewer.reset(game, 0, layout);
+  } else {
+    viewer = new Viewer(game, layout, { hands: true });
+    hands = new Hands(viewer, play);
+    questions = new Questions(viewer, ask, play);
+    editor = new Editor(viewer, hands, (text, places) => openTable(text, fileName, places), find);
+    viewer.filled(0);
+    viewer.afterShow = () => questions.clear();
+  }
+}
+
+/* A table's verdict and the places that its graph has. */
+
+async function find(text) {
+  const said = await ask({ command: "layout", table: text });
+  return said.layout ? { ...said, layout: layoutOf(said.layout) } : said;
+}
+
+async function openFile(file) {
+  if (!file) return;
+  if (file.size > 1 << 20) return hands.tell(faultWords("file too long"), "dollar: file too long");
+  told(await openTable(await file.text(), file.name));
+}
+
+function told(fault) {
+  hands.tell(fault === null ? "" : faultWords(fault), fault === null ? "" : `dollar: ${fault}`);
+}
+
+/* Other dollars, drawn by lots, of which the program says which can be won. */
+
+async function drawLots(degree, kind) {
+  const now = viewer.game.tableAt(viewer.now);
+  const tables = Array.from({ length: LOTS }, () => ({ ...now, amounts: lots(now.vertices.length, degree) }));
+  const said = await ask({ command: "judge --lines", table, tables: textOf(tables.map((each) => JSON.stringify(each))) });
+  if (said.status !== 0) return told(said.err);
+  const at = linesOf(said.out).findIndex((line) => (kind ? line.startsWith(`${kind} `) : /^(un)?winnable /.test(line)));
+  if (at < 0) return hands.tell(`Of ${LOTS} that were drawn none ${kind === "unwinnable" ? "can't" : "can"} be won.`);
+  told(await openTable(`${JSON.stringify(tables[at], null, 1)}\n`, fileName, placesText(viewer.board.layout)));
+  return null;
+}
+
+function lots(count, degree) {
+  const amounts = Array.from({ length: count }, () => Math.floor(Math.random() * 7) - 3);
+  const each = Math.trunc((degree - amounts.reduce((sum, amount) => sum + amount, 0)) / count);
+  const spread = amounts.map((amount) => amount + each);
+  let left = degree - spread.reduce((sum, amount) => sum + amount, 0);
+  for (; left !== 0; left -= Math.sign(left)) spread[Math.floor(Math.random() * count)] += Math.sign(left);
+  return spread;
+}
+
+/* Take along. */
+
+function picture() {
+  const svg = viewer.board.svg.cloneNode(true), { width, height } = viewer.board.layout;
+  for (const [key, value] of Object.entries({ xmlns: SVG, width, height })) svg.setAttribute(key, value);
+  for (const at of svg.querySelectorAll(".reach, .drawn")) at.remove();
+  const rules = [...document.styleSheets].flatMap((sheet) => [...sheet.cssRules]).map((rule) => rule.cssText);
+  const colours = rules.find((rule) => rule.startsWith(":root")).replace("light dark", "light");
+  const drawing = rules.filter((rule) => rule.startsWith("svg ")).join("\n").replaceAll("svg ", "");
+  svg.prepend(draw("style", {}, svg, `${colours}\n${drawing}`));
+  return new XMLSerializer().serializeToString(svg);
+}
+
+async function takePage() {
+  const said = await ask({ command: "replay", table, steps: stepsText(viewer.game.length), name: fileName });
+  if (said.status === 0) save("game.html", said.page, "text/html");
+  else told(said.err);
+}
+
+function bindTaking() {
+  const on = (id, act) => element(id).addEventListener("click", act);
+  on("take-table", () => save("table.json", table));
+  on("take-steps", () => save("steps.txt", stepsText(viewer.game.length)));
+  on("take-now", () => save("now.json", questions.now()));
+  on("take-places", () => save("places.txt", placesText(viewer.board.layout)));
+  on("take-picture", () => save("board.svg", picture(), "image/svg+xml"));
+  on("take-page", takePage);
+  on("print", () => window.print());
+}
+
+function bindTables() {
+  element("example").append(...Object.keys(examples).map((file) => new Option(file, file)));
+  element("example").addEventListener("change", async (event) => {
+    const file = event.target.value;
+    event.target.value = "";
+    if (file) told(await openTable(examples[file], file));
+  });
+  element("open").addEventListener("change", async (event) => {
+    await openFile(event.target.files[0]);
+    event.target.value = "";
+  });
+  document.addEventListener("dragover", (event) => event.preventDefault());
+  document.addEventListener("drop", (event) => {
+    event.preventDefault();
+    openFile(event.dataTransfer.files[0]);
+  });
+  element("edit").addEventListener("click", () => editor.open());
+  element("draw-form").addEventListener("submit", (event) => {
+    event.preventDefault();
+    drawLots(Number(element("draw-degree").value), element("draw-kind").value);
+  });
+}
+
+async function start() {
+  const given = await (await fetch("start")).json();
+  ({ table, examples, name: fileName } = given);
+  element("seat").replaceChildren(...Array.from({ length: 64 }, (_, i) => new Option(i + 1, i + 1)));
+  const before = await kept();
+  if (before) ({ table, fileName } = before);
+  begin(layoutOf((before || given).layout));
+  if (before) {
+    const printed = linesOf(before.printed), { game } = viewer;
+    linesOf(before.steps).forEach((line, i) => game.add(line, printed[i]));
+    viewer.reset(game, game.length);
+  }
+  bindTaking();
+  bindTables();
+}
+
+start();

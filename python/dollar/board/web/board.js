@@ -1,0 +1,161 @@
+/* Draws a board: circles for vertices with their dollars, lines for edges, and the dollars that move along them. */
+
+import { dollars, flows } from "./words.js";
+
+export const SVG = "http://www.w3.org/2000/svg";
+export const still = window.matchMedia("(prefers-reduced-motion: reduce)");
+const TRAVEL = 1100;
+
+export function draw(tag, given, parent, text) {
+  const made = document.createElementNS(SVG, tag);
+  for (const [name, value] of Object.entries(given)) made.setAttribute(name, value);
+  if (text !== undefined) made.textContent = text;
+  parent.append(made);
+  return made;
+}
+
+function amountWords(name, amount) {
+  return amount < 0 ? `${name} owes ${dollars(-amount)}` : `${name} has ${dollars(amount)}`;
+}
+
+export class Board {
+  /* A board in an element <svg>. The layout says where the vertices stand; `hands` is true if they can be clicked. */
+  constructor(svg, hands = false) {
+    Object.assign(this, { svg, hands, layout: null, turn: 0, chosen: new Set(), burnt: [] });
+  }
+
+  place(name) {
+    return this.layout.places.get(name);
+  }
+
+  /* Draws a state of a game, with words below vertices. Whoever had the focus keeps it. */
+  show(state, q, says = new Map()) {
+    this.turn++;
+    const held = this.svg.contains(document.activeElement) ? document.activeElement.dataset.name : null;
+    this.svg.replaceChildren();
+    this.svg.setAttribute("viewBox", `0 0 ${this.layout.width} ${this.layout.height}`);
+    this.label(state.amounts);
+    this.signs();
+    this.edges(state);
+    for (const [name, amount] of state.amounts) this.vertex(name, amount, name === q, says.get(name));
+    this.burnt.forEach((name, i) => this.badge(name, i + 1));
+    if (held) this.focus(held);
+  }
+
+  focus(name) {
+    const found = [...this.svg.querySelectorAll(".vertex")].find((at) => at.dataset.name === name);
+    if (found) found.focus({ preventScroll: true });
+  }
+
+  label(amounts) {
+    this.svg.setAttribute("aria-label", `The board: ${[...amounts].map(([name, amount]) => `${name} ${amount}`).join(", ")}`);
+  }
+
+  signs() {
+    const given = { id: "hatch", width: 6, height: 6, patternUnits: "userSpaceOnUse", patternTransform: "rotate(45)" };
+    const hatch = draw("pattern", given, draw("defs", {}, this.svg));
+    draw("path", { d: "M0 0 V6" }, hatch);
+  }
+
+  strands(u, v, count) {
+    const [x, y] = this.place(u), [z, w] = this.place(v), long = Math.hypot(z - x, w - y) || 1;
+    const drawn = count > this.layout.strands ? 1 : count;
+    return Array.from({ length: drawn }, (_, i) => {
+      const bow = (i - (drawn - 1) / 2) * Math.min(36, 252 / drawn);
+      const bent = [(x + z) / 2 - (bow * (w - y)) / long, (y + w) / 2 + (bow * (z - x)) / long];
+      const middle = [(x + z) / 4 + bent[0] / 2, (y + w) / 4 + bent[1] / 2];
+      return { path: `M${x} ${y} Q${bent[0]} ${bent[1]} ${z} ${w}`, middle };
+    });
+  }
+
+  edges(state) {
+    for (const [key, count] of state.edges) {
+      const strands = this.strands(...key.split(" "), count), added = state.added.get(key) || 0;
+      strands.forEach(({ path, middle }, i) => {
+        const kind = `edge${count > strands.length ? " many" : ""}${i >= strands.length - added ? " added" : ""}`;
+        draw("path", { class: kind, d: path, "data-pair": key }, this.svg);
+        if (count > strands.length) this.words(middle[0], middle[1] - 8, `${count} edges`);
+      });
+    }
+  }
+
+  vertex(name, amount, isQ, says) {
+    const [x, y] = this.place(name), r = this.layout.radius;
+    const kinds = ["vertex", amount < 0 && "debt", this.chosen.has(name) && "chosen", this.burnt.includes(name) && "burnt"];
+    const group = draw("g", { class: kinds.filter(Boolean).join(" "), "data-name": name }, this.svg);
+    if (this.hands) {
+      const label = `${amountWords(name, amount)}${isQ ? ", q" : ""}${says ? `, ${says}` : ""}`;
+      const given = { tabindex: 0, role: "button", "aria-label": label, "aria-pressed": this.chosen.has(name) };
+      for (const [key, value] of Object.entries(given)) group.setAttribute(key, value);
+      draw("circle", { class: "reach", cx: x, cy: y, r: r + 9 }, group);
+    }
+    if (isQ) draw("circle", { class: "ring", cx: x, cy: y, r: r + 4 }, group);
+    draw("circle", { class: "round", cx: x, cy: y, r }, group);
+    draw("circle", { class: "hatch", cx: x, cy: y, r }, group);
+    draw("text", { class: "name inside", x, y: y - 6, "font-size": this.layout.sizes.get(name) }, group, name);
+    const size = Math.min(16, this.layout.room / (0.7 * String(amount).length));
+    draw("text", { class: "amount inside", x, y: y + 10, "font-size": size, "font-weight": "bold" }, group, amount);
+    if (says) this.words(x, y + r + 17, says, group);
+  }
+
+  words(x, y, text, parent = this.svg) {
+    draw("text", { class: "says plated", x, y }, parent, text);
+  }
+
+  badge(name, number) {
+    const [x, y] = this.place(name), r = this.layout.radius;
+    const group = draw("g", { class: "badge" }, this.svg);
+    draw("circle", { cx: x + 0.86 * r, cy: y - 0.86 * r, r: 10 }, group);
+    draw("text", { x: x + 0.86 * r, y: y - 0.86 * r + 4, "font-size": 12 }, group, number);
+  }
+
+  /* The ways that dollars take in a move, which run from who lends. */
+  ways(state, script) {
+    return flows(state.edges, script).flatMap(({ from, key, each, count }) => {
+      const drawn = [...this.svg.querySelectorAll("path.edge")].filter((path) => path.dataset.pair === key);
+      const label = drawn.length < count ? each * count : each;
+      return drawn.map((path) => ({ path, label, back: key.split(" ")[0] !== from, length: path.getTotalLength() }));
+    });
+  }
+
+  pointOn({ path, back, length }, part) {
+    return path.getPointAtLength(length * (back ? 1 - part : part));
+  }
+
+  arrows(state, script) {
+    for (const way of this.ways(state, script)) {
+      const place = this.pointOn(way, 0.62), ahead = this.pointOn(way, 0.64);
+      const turn = (Math.atan2(ahead.y - place.y, ahead.x - place.x) * 180) / Math.PI;
+      const transform = `translate(${place.x} ${place.y}) rotate(${turn})`;
+      draw("path", { class: "arrow", d: "M8 0 L-5 6 L-5 -6 Z", transform }, this.svg);
+      if (way.label > 1) this.words(place.x, place.y - 9, way.label);
+    }
+  }
+
+  coins(state, script) {
+    return this.ways(state, script).map((way) => {
+      const coin = draw("g", { class: "coin" }, this.svg), text = String(way.label);
+      draw("circle", { r: Math.max(8, 3 + 3.4 * text.length) }, coin);
+      draw("text", { y: 4, "font-size": 11 }, coin, text);
+      return { way, coin };
+    });
+  }
+
+  /* Lets the dollars of a move go along the edges of the state before it, and then calls `rest`. */
+  travel(before, after, q, says, script, rest) {
+    this.show(before, q, says);
+    this.label(after.amounts);
+    const turn = this.turn, coins = this.coins(before, script), start = performance.now();
+    const move = (time) => {
+      if (turn !== this.turn) return;
+      const part = Math.min(1, Math.max(0, (time - start) / TRAVEL));
+      if (part === 1) return rest();
+      for (const { way, coin } of coins) {
+        const { x, y } = this.pointOn(way, part);
+        coin.setAttribute("transform", `translate(${x} ${y})`);
+      }
+      requestAnimationFrame(move);
+    };
+    move(start);
+  }
+}

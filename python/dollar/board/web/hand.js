@@ -1,0 +1,189 @@
+/* What a hand does on the board and with the buttons, as lines of the program: a click on a is `lend a`. */
+
+import { draw } from "./board.js";
+import { vertexAhead, vertexAt } from "./places.js";
+import { element } from "./viewer.js";
+
+const LONG_PRESS = 550, FAR_ENOUGH = 9, PATIENT = 1000;
+
+export class Hands {
+  /* `play` is called with a line. */
+  constructor(viewer, play) {
+    Object.assign(this, { viewer, play, board: viewer.board, press: null, joining: null, other: null });
+    this.onBoard();
+    this.onKeys();
+    this.onForms();
+    this.names(viewer.game.names);
+  }
+
+  /* Where a pointer is, in the picture's own measure. */
+  point(event) {
+    const at = new DOMPoint(event.clientX, event.clientY).matrixTransform(this.board.svg.getScreenCTM().inverse());
+    return [at.x, at.y];
+  }
+
+  vertexAt(point) {
+    const { places, radius } = this.board.layout;
+    return vertexAt(places, point, radius + 9);
+  }
+
+  onBoard() {
+    const { svg } = this.board;
+    svg.addEventListener("pointerdown", (event) => this.down(event));
+    svg.addEventListener("pointermove", (event) => this.move(event));
+    svg.addEventListener("pointerup", (event) => this.up(event));
+    svg.addEventListener("pointercancel", () => this.drop());
+    svg.addEventListener("contextmenu", (event) => event.preventDefault());
+    // A finger on a vertex does not scroll the page; beside the vertices it does, but for an editor's.
+    svg.addEventListener("touchstart", (event) => {
+      if (this.other || this.vertexAt(this.point(event.touches[0])) !== null) event.preventDefault();
+    }, { passive: false });
+  }
+
+  down(event) {
+    this.drop();
+    const at = this.point(event), name = this.vertexAt(at);
+    if (event.button !== 0 || (name === null && !this.other)) return;
+    event.preventDefault();
+    this.board.svg.setPointerCapture(event.pointerId);
+    this.press = { at, name, start: [event.clientX, event.clientY], moved: false, done: false };
+    if (name !== null) this.board.focus(name);
+    if (name !== null && !this.other) this.press.timer = setTimeout(() => this.long(), LONG_PRESS);
+  }
+
+  long() {
+    this.press.done = true;
+    this.play(`borrow ${this.press.name}`);
+  }
+
+  move(event) {
+    const { press } = this;
+    if (!press || press.done) return;
+    press.moved = press.moved || Math.hypot(event.clientX - press.start[0], event.clientY - press.start[1]) > FAR_ENOUGH;
+    if (!press.moved) return;
+    clearTimeout(press.timer);
+    if (this.other && this.other.drag) return this.other.drag(press, this.point(event));
+    if (press.name !== null) this.line(this.board.place(press.name), this.point(event));
+  }
+
+  line([x, y], [z, w]) {
+    this.clearLine();
+    draw("path", { class: "drawn", d: `M${x} ${y} L${z} ${w}` }, this.board.svg);
+  }
+
+  clearLine() {
+    for (const at of this.board.svg.querySelectorAll(".drawn")) at.remove();
+  }
+
+  up(event) {
+    const { press } = this, to = press && this.vertexAt(this.point(event));
+    this.drop();
+    if (!press || press.done) return;
+    if (this.other) return this.other.up(press, this.point(event), to);
+    if (press.moved) {
+      if (to !== null && to !== press.name) this.play(`join ${press.name} ${to}`);
+    } else if (event.ctrlKey || event.metaKey || element("choosing").checked) {
+      this.choose(press.name);
+    } else {
+      this.play(`${event.shiftKey ? "borrow" : "lend"} ${press.name}`);
+    }
+  }
+
+  drop() {
+    if (this.press) clearTimeout(this.press.timer);
+    this.press = null;
+    this.clearLine();
+  }
+
+  choose(name) {
+    const { chosen } = this.board;
+    if (!chosen.delete(name)) chosen.add(name);
+    element("fire").disabled = chosen.size === 0;
+    this.viewer.rest();
+  }
+
+  unchoose() {
+    this.board.chosen.clear();
+    element("fire").disabled = true;
+  }
+
+  onKeys() {
+    this.board.svg.addEventListener("keydown", (event) => {
+      const name = event.target.dataset && event.target.dataset.name;
+      if (name === undefined || event.altKey || event.ctrlKey || event.metaKey) return;
+      const aside = { ArrowLeft: [-1, 0], ArrowRight: [1, 0], ArrowUp: [0, -1], ArrowDown: [0, 1] }[event.key];
+      if (aside) this.board.focus(vertexAhead(this.board.layout.places, name, aside));
+      else if (this.other) return;
+      else if (event.key === "Enter") this.play(`${event.shiftKey ? "borrow" : "lend"} ${name}`);
+      else if (event.key === " ") this.choose(name);
+      else if (event.key === "j") this.join(name);
+      else if (event.key === "Escape") this.escape();
+      else return;
+      event.preventDefault();
+    });
+  }
+
+  join(name) {
+    if (this.joining === null || this.joining === name) {
+      this.joining = this.joining === name ? null : name;
+      this.tell(this.joining === null ? "" : `An edge from ${name}: go to the other vertex and press j again.`);
+    } else {
+      const from = this.joining;
+      this.joining = null;
+      this.play(`join ${from} ${name}`);
+    }
+  }
+
+  /* Forgets what was chosen and begun. */
+  forget() {
+    this.joining = null;
+    this.unchoose();
+    this.tell("");
+  }
+
+  escape() {
+    this.forget();
+    this.viewer.rest();
+  }
+
+  onForms() {
+    const on = (id, words) => element(id).addEventListener(id.endsWith("-form") ? "submit" : "click", (event) => {
+      event.preventDefault();
+      this.play(words());
+    });
+    const value = (id) => element(id).value;
+    on("fire", () => `fire ${this.viewer.game.names.filter((name) => this.board.chosen.has(name)).join(",")}`);
+    on("claim", () => "claim");
+    on("look", () => "look");
+    on("commit", () => "commit");
+    on("gift-form", () => `gift ${value("gift-to")} ${value("gift-amount")}`);
+    on("join-form", () => `join ${value("join-from")} ${value("join-to")}`);
+    on("rank-form", () => `rank ${value("rank-degree")}`);
+    on("line-form", () => value("line-in"));
+  }
+
+  names(names) {
+    for (const id of ["gift-to", "join-from", "join-to"]) {
+      element(id).replaceChildren(...names.map((name) => new Option(name, name)));
+    }
+    if (names.length > 1) element("join-to").selectedIndex = 1;
+  }
+
+  /* What is promised, and a word if that takes its time. */
+  async patient(promise) {
+    const timer = setTimeout(() => this.tell("The answer is not there yet."), PATIENT);
+    try {
+      return await promise;
+    } finally {
+      clearTimeout(timer);
+    }
+  }
+
+  /* Says why a line was not taken, with the program's own words. */
+  tell(words, own = "") {
+    const box = element("refused");
+    box.hidden = !words;
+    box.querySelector("span").textContent = words;
+    box.querySelector("code").textContent = own;
+  }
+}

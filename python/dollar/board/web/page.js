@@ -1,0 +1,34 @@
+/* What the pages with a server share: requests, a question to the reader, and files that are saved. */
+
+import { element, made } from "./viewer.js";
+
+const NO_ANSWER = "There is no answer from board/play: it may have ended, or the network is gone.";
+
+/* What the server says to a request: a thing, or its words if it refuses. */
+
+export async function post(path, thing) {
+  try {
+    const got = await fetch(path, { method: "POST", headers: { "Content-Type": "application/json" }, body: JSON.stringify(thing) });
+    return got.ok ? await got.json() : { refused: await got.text(), status: got.status };
+  } catch {
+    return { refused: NO_ANSWER, status: null };
+  }
+}
+
+/* Asks whether something shall be done. */
+
+export function sure(words) {
+  const box = element("sure");
+  box.querySelector("p").textContent = words;
+  box.returnValue = "no";
+  box.showModal();
+  return new Promise((done) => box.addEventListener("close", () => done(box.returnValue === "yes"), { once: true }));
+}
+
+export function save(file, text, kind = "text/plain") {
+  const link = made("a");
+  link.href = URL.createObjectURL(new Blob([text], { type: kind }));
+  link.download = file;
+  link.click();
+  setTimeout(() => URL.revokeObjectURL(link.href), 10000);
+}

@@ -1,0 +1,14 @@
+/* The page of a game that was played: its table, steps and history stand in the page. */
+
+import { layoutOf } from "./places.js";
+import { Viewer, element } from "./viewer.js";
+import { Game, linesOf } from "./words.js";
+
+const read = (id) => element(id).textContent;
+const game = new Game(JSON.parse(read("table")));
+const printed = linesOf(read("printed"));
+linesOf(read("steps")).forEach((line, i) => game.add(line, printed[i]));
+const viewer = new Viewer(game, layoutOf(JSON.parse(read("layout"))), { flaws: JSON.parse(read("flaws")) });
+viewer.filled(0);
+// For who looks at the page from its console.
+element("board").viewer = viewer;

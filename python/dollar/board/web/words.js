@@ -1,0 +1,272 @@
+/* Reads lines of steps and of histories, and says them in words. What a line says is what is shown: there is no rule of the game
+   here that would tell what follows from it. Names are keys of maps, for a vertex may be called `constructor`, or 2 before 1. */
+
+import { GRAMMAR } from "./grammar.js";
+
+/* The kinds of replies, those that tell most first: the mark of each, what the legend says of it, and its words. */
+
+export const KINDS = {
+  unread: { mark: "?", words: () => "" },
+  winnable: { mark: "\u2713", legend: "can be won, or is won", words: ({ reduced }, _, q) =>
+    `It can be won: the script clears all debts, and then ${q} has ${reduced.get(q)}.` },
+  unwinnable: { mark: "\u2717", legend: "can't be won, or is not", words: ({ reduced }, _, q) =>
+    `It can't be won: the script clears all debts but that of ${q}, which owes ${-reduced.get(q)}.` },
+  won: { mark: "\u2713", words: () => "Won: nobody is in debt." },
+  refused: { mark: "!", legend: "refused", words: ({ cause }) => `Refused: ${CAUSES[cause] || cause}. Nothing changes.` },
+  stale: { mark: "~", legend: "stale", words: ({ gifts }) =>
+    `Stale: a gift, a levy or a new edge came after its look (${gifts} in all by now).` },
+  rank: { mark: "r", legend: "rank test", words: ({ degree, loss }) =>
+    (loss ? `The rank is below ${degree}: without ${lossWords(loss)} it can't be won.`
+      : `The rank is at least ${degree}: wherever ${dollars(degree)} are lost, it can still be won.`) },
+  joined: { mark: "=", legend: "edge added", words: ({ gifts }, amounts) => `It counts as change number ${gifts}. ${debtWords(amounts)}` },
+  given: { mark: "+", legend: "gift", levy: "\u2212", words: ({ gifts }, amounts) =>
+    `It counts as change number ${gifts}. ${debtWords(amounts)}` },
+  "not-won": { mark: "\u2717", words: (_, amounts) => `Not won. ${debtWords(amounts)}` },
+  looked: { mark: "o", legend: "look", words: ({ gifts }, amounts) =>
+    `It sees the board after ${gifts} gifts, levies and new edges. ${debtWords(amounts)}` },
+  moved: { mark: "\u00b7", words: (_, amounts) => debtWords(amounts) },
+};
+
+/* What stands for the parts of a reply's form, and what they are called: g changes and k dollars that are lost, P amounts. */
+
+const PARTS = { P: String.raw`(\w+=-?\d+(?: \w+=-?\d+)*)`, g: String.raw`(\d+)`, k: String.raw`(\d+)` };
+const AMOUNTS = { winnable: ["script", "reduced"], unwinnable: ["script", "reduced"], rank: ["loss"] };
+
+function formOf(text) {
+  const kind = /^(not won|rank|refused|\w+)/.exec(text)[1].replace(" ", "-"), amounts = [...(AMOUNTS[kind] || ["amounts"])];
+  if (kind === "refused") return [kind, /^refused (\w+)$/, ["cause"]];
+  const parts = text.split(" "), named = { g: () => "gifts", k: () => "degree", P: () => amounts.shift() };
+  const form = new RegExp(`^${parts.map((part) => PARTS[part] || part).join(" ")}$`);
+  return [kind, form, parts.filter((part) => PARTS[part]).map((part) => named[part]())];
+}
+
+const FORMS = GRAMMAR.replies.map(formOf);
+
+export function stepOf(line) {
+  const [seat, word, ...given] = line.split(" ");
+  const step = { line, seat, word, given, script: null };
+  if (word === "lend") step.script = new Map([[given[0], 1]]);
+  if (word === "borrow") step.script = new Map([[given[0], -1]]);
+  if (word === "fire") step.script = new Map(given[0].split(",").map((name) => [name, 1]));
+  if (word === "script") step.script = pairsOf(given[0].split(","));
+  return step;
+}
+
+export function pairsOf(texts) {
+  return new Map(texts.map((text) => text.split("=")).map(([name, amount]) => [name, Number(amount)]));
+}
+
+export function answerOf(line) {
+  for (const [kind, form, fields] of FORMS) {
+    const found = form.exec(line);
+    if (found) return Object.assign({ line, kind }, Object.fromEntries(fields.map((field, i) => [field, valueOf(found[i + 1])])));
+  }
+  return { line, kind: "unread" };
+}
+
+export function replyOf(line) {
+  const found = /^\d+ (.*)$/.exec(line);
+  return { ...(found ? answerOf(found[1]) : { kind: "unread" }), line };
+}
+
+function valueOf(text) {
+  if (text.includes("=")) return pairsOf(text.split(" "));
+  return /^\d+$/.test(text) ? Number(text) : text;
+}
+
+export function linesOf(text) {
+  return text.split("\n").slice(0, text.endsWith("\n") ? -1 : undefined);
+}
+
+/* A game: a table, the steps, and what was printed of them. The board after each step is the one that the line has. */
+
+export class Game {
+  constructor(table) {
+    this.table = table;
+    this.names = table.vertices;
+    const edges = new Map();
+    for (const [u, v, count] of table.edges) edges.set(this.pairKey(u, v), (edges.get(this.pairKey(u, v)) || 0) + count);
+    const amounts = new Map(this.names.map((name, i) => [name, table.amounts[i]]));
+    this.steps = [];
+    this.replies = [];
+    this.states = [{ edges, added: new Map(), amounts }];
+  }
+
+  get length() {
+    return this.steps.length;
+  }
+
+  pairKey(u, v) {
+    return this.names.indexOf(u) < this.names.indexOf(v) ? `${u} ${v}` : `${v} ${u}`;
+  }
+
+  add(stepLine, replyLine) {
+    const step = stepOf(stepLine), reply = replyOf(replyLine);
+    this.states.push(this.stateAfter(this.states[this.length], step, reply));
+    this.steps.push(step);
+    this.replies.push(reply);
+  }
+
+  stateAfter(before, step, reply) {
+    if (!reply.amounts) return before;
+    if (reply.kind !== "joined") return { ...before, amounts: reply.amounts };
+    const key = this.pairKey(...step.given), one = (counts) => new Map([...counts, [key, (counts.get(key) || 0) + 1]]);
+    return { edges: one(before.edges), added: one(before.added), amounts: reply.amounts };
+  }
+
+  cut(length) {
+    this.steps.length = this.replies.length = length;
+    this.states.length = length + 1;
+  }
+
+  /* The table as it stands after so many steps. */
+  tableAt(index) {
+    const { edges, amounts } = this.states[index];
+    return { vertices: this.names, edges: [...edges].map(([key, count]) => [...key.split(" "), count]),
+      amounts: this.names.map((name) => amounts.get(name)), q: this.table.q };
+  }
+}
+
+/* What goes along the edges in a move, for the arrows and coins: its vertices lend so often along each of their edges, and what two
+   ends send each other cancels. */
+
+export function flows(edges, script) {
+  const times = (name) => script.get(name) || 0;
+  const all = [...edges].map(([key, count]) => ({ pair: key.split(" "), key, count }));
+  const between = all.map(({ pair: [u, v], key, count }) => ({ u, v, key, count, each: times(u) - times(v) }));
+  return between.filter(({ each }) => each !== 0).map((flow) =>
+    flow.each > 0 ? { ...flow, from: flow.u, to: flow.v } : { ...flow, from: flow.v, to: flow.u, each: -flow.each });
+}
+
+/* Words. */
+
+export const dollars = (count) => (count === 1 ? "1 dollar" : `${count} dollars`);
+
+export function listed(words) {
+  return words.length < 2 ? words.join("") : `${words.slice(0, -1).join(", ")} and ${words[words.length - 1]}`;
+}
+
+export function often(count) {
+  if (count === 0) return "neither";
+  return count > 0 ? `lends ${count}` : `borrows ${-count}`;
+}
+
+export function planned(count) {
+  return count > 0 ? `to lend ${count}` : `to borrow ${-count}`;
+}
+
+const COMMANDS = {
+  lend: ([name]) => `${name} lends`,
+  borrow: ([name]) => `${name} borrows`,
+  fire: ([names]) => (names.includes(",") ? `${listed(names.split(","))} lend, all at once` : `${names} lends`),
+  script: (_, script) => `${listed([...script].map(([name, count]) => `${name} ${often(count)}`))}, all at once`,
+  gift: ([name, amount]) => (amount.startsWith("-") ? `a levy of ${dollars(-amount)} at ${name}`
+    : `a gift of ${dollars(Number(amount))} to ${name}`),
+  join: ([u, v]) => `one edge more between ${u} and ${v}`,
+  claim: () => "claims that nobody is in debt",
+  look: () => "looks",
+  commit: () => "enters the verdict on its look",
+  rank: ([degree]) => `enters the rank test of degree ${degree} on its look`,
+};
+
+export function commandWords({ word, given, script }) {
+  return COMMANDS[word] ? COMMANDS[word](given, script) : word;
+}
+
+export function flowWords(edges, script) {
+  const told = flows(edges, script).map(({ from, to, each, count }) => `${each * count} from ${from} to ${to}`);
+  return told.length ? `Dollars along the edges: ${listed(told)}.` : "No dollar goes along an edge.";
+}
+
+function debtsOf(amounts) {
+  return [...amounts.keys()].filter((name) => amounts.get(name) < 0);
+}
+
+export function debtWords(amounts) {
+  const told = debtsOf(amounts).map((name) => `${name} owes ${-amounts.get(name)}`);
+  return told.length ? `In debt: ${listed(told)}.` : "Nobody is in debt.";
+}
+
+export function lossWords(loss) {
+  return listed([...loss].filter(([, count]) => count > 0).map(([name, count]) => `${dollars(count)} at ${name}`)) || "nothing";
+}
+
+const { limits } = GRAMMAR;
+const MOST_EDGES = limits["dg_graph::MAX_VALENCE"];
+
+export const CAUSES = {
+  range: "an amount would go past a million dollars", gift: "a gift of nothing is none", loop: "an edge needs two ends",
+  valence: `no vertex may have more than ${MOST_EDGES} edges`, vertex: "no such vertex", empty: "no vertex is named",
+  script: "no such script",
+};
+
+export function replyWords(reply, amounts, q) {
+  return KINDS[reply.kind].words(reply, amounts, q);
+}
+
+export function markOf(step, reply) {
+  const { mark, levy } = KINDS[reply.kind];
+  return levy && step.given[1] && step.given[1].startsWith("-") ? levy : mark;
+}
+
+const TELLING = Object.keys(KINDS);
+
+/* The steps whose marks are shown if there is room for so many: of those in one place the one that tells most, and first of all one
+   whose line is another than the program prints. */
+export function mostTelling(replies, places, flaws = {}) {
+  const best = [], telling = (index) => (flaws[index] !== undefined ? -1 : TELLING.indexOf(replies[index - 1].kind));
+  for (let index = 1; index <= replies.length; index++) {
+    const place = Math.floor(((index - 1) * places) / replies.length);
+    if (best[place] === undefined || telling(index) < telling(best[place])) best[place] = index;
+  }
+  return best.filter((index) => index !== undefined);
+}
+
+/* What the marks mean, in a line. */
+export function legendWords() {
+  const told = Object.values(KINDS).filter(({ legend }) => legend).flatMap(({ mark, legend, levy }) =>
+    [`${mark} ${legend}`, ...(levy ? [`${levy} levy`] : [])]);
+  return `Marks: ${told.join(", ")}; a dot is a move.`;
+}
+
+/* What the program refuses, in words for who has not read its pages. A # in a text is a number, counted from 0. */
+
+export const FAULTS = {
+  "not JSON": "This is no table file: its text is not JSON. Look for a comma or a bracket that is missing or too many.",
+  "shape of top": "A table needs just these four: vertices, edges, amounts and q.",
+  "shape of vertices": "The vertices have to be a list of names.",
+  "shape of edges": "The edges have to be a list.",
+  "shape of edge #": (i) => `Edge ${i + 1} of the list has to be two names and a number of edges, at most 255.`,
+  "shape of amounts": "The amounts have to be a list of whole numbers.",
+  "shape of q": "q has to be the name of a vertex.",
+  "number of vertices": `A table has 1 to ${limits["dg_graph::MAX_VERTICES"]} vertices.`,
+  "name of vertex #": (i) => `The name of vertex ${i + 1} is none: `
+    + `a name has 1 to ${limits["dg_tokens::MAX_NAME"]} letters from a to z or A to Z, digits or _.`,
+  "vertex # named twice": (i) => `Vertex ${i + 1} has the name of an earlier one.`,
+  "edge # has no vertex": (i) => `Edge ${i + 1} of the list leads to a vertex that is not there.`,
+  "edge # is a loop": (i) => `Edge ${i + 1} of the list leads from a vertex to itself.`,
+  "edge # is empty": (i) => `Edge ${i + 1} of the list is there 0 times.`,
+  "valence of vertex #": (i) => `Vertex ${i + 1} has more than ${MOST_EDGES} edges.`,
+  "not connected": "Some vertices can't be reached from the others: an edge is missing.",
+  "number of amounts": "There have to be as many amounts as vertices.",
+  "amount of vertex #": (i) => `The amount of vertex ${i + 1} is out of range: a million dollars, or a million owed, is the most.`,
+  "no vertex q": "q is the name of no vertex.",
+  "out of memory": "There is not enough memory.",
+  "bad seat": "That is no seat.",
+  "bad word": "That is no command.",
+  "bad form": "The command has too many words or too few, or a space too many.",
+  "bad name": "It names a vertex that is not there, or one twice.",
+  "bad number": "A number in it is none, or out of range.",
+  "bad look": "This seat has not looked since its last verdict. It looks first.",
+  "bad trials": "That rank test is too large.",
+  "the history is full": `The history is full: it has ${limits["dg_game::MAX_ENTRIES"]} entries.`,
+  "file too long": "The file has more than a megabyte.",
+  "too many trials": "That rank test is too large.",
+  "no look": "This seat has not looked since its last verdict. It looks first.",
+  "full": `The history is full: it has ${limits["dg_game::MAX_ENTRIES"]} entries.`,
+};
+
+export function faultWords(text) {
+  const said = text.replace(/^(line|step) \d+: /, ""), words = FAULTS[said.replace(/\d+/, "#")];
+  return (typeof words === "function" ? words(Number(/\d+/.exec(said)[0])) : words) || "The program has refused this.";
+}

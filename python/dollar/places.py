@@ -1,0 +1,387 @@
+"""Where the vertices of a graph stand on a picture. Known graphs stand as people draw them, found by their shape whatever their
+vertices are called; all others are laid out by springs, and come out the same at each run.
+
+    >>> places(["a", "b"], [["a", "b", 3]])
+    {'a': (-1.0, 0.0), 'b': (1.0, 0.0)}
+
+An edge is two names, and what else stands in it is not looked at. x goes to the right and y down, about from -1 to 1. This module
+imports nothing of ours, so that other tools can take it as it is."""
+
+from __future__ import annotations
+
+import itertools
+import math
+from typing import Any, Collection, Dict, Iterable, Iterator, List, Mapping, Optional, Sequence, Set, Tuple
+
+__all__ = ["places", "places_of_text"]
+
+Point = Tuple[float, float]
+# The place of each vertex, by its name.
+Places = Dict[Any, Point]
+# For each vertex its neighbours.
+Near = Mapping[Any, Set[Any]]
+
+CUBE_SPOTS = ((-0.95, -0.35), (0.35, -0.35), (0.35, 0.95), (-0.95, 0.95),
+              (-0.35, -0.95), (0.95, -0.95), (0.95, 0.35), (-0.35, 0.35))
+CUBE_LINES = ((0, 1), (1, 2), (2, 3), (3, 0), (4, 5), (5, 6), (6, 7), (7, 4), (0, 4), (1, 5), (2, 6), (3, 7))
+PETERSEN_LINES = ((0, 1), (1, 2), (2, 3), (3, 4), (4, 0), (5, 7), (7, 9), (9, 6), (6, 8), (8, 5),
+                  (0, 5), (1, 6), (2, 7), (3, 8), (4, 9))
+LONGEST_ROW, LONGEST_LEG = 8, 6
+ROUNDS, CLOSE = 300, 0.13
+
+
+def places(vertices: Iterable[Any], edges: Iterable[Sequence[Any]]) -> Places:
+    """The place (x, y) of each vertex of a graph, by its name."""
+    names = list(vertices)
+    if not names:
+        return {}
+    near = neighbours(names, edges)
+    for shape in SHAPES:
+        found = shape(names, near)
+        if found:
+            return rounded(names, found)
+    return rounded(names, best(names, near))
+
+
+def places_of_text(text: str, vertices: Collection[str]) -> Places:
+    """The places that a text gives, with a line 'name x y' for each vertex. A ValueError that says what is wrong, and in which
+    line."""
+    found: Places = {}
+    for number, line in enumerate(text.splitlines(), 1):
+        words = line.split()
+        if not words:
+            continue
+        if len(words) != 3:
+            raise ValueError("line %d of the places: 'name x y' is wanted" % number)
+        name, x, y = words[0], coordinate(words[1]), coordinate(words[2])
+        if name not in vertices:
+            raise ValueError("line %d of the places: no vertex has the name %.16s" % (number, name))
+        if x is None or y is None:
+            raise ValueError("line %d of the places: x and y must be numbers from -1000000 to 1000000" % number)
+        if name in found:
+            raise ValueError("line %d of the places: %s has a place already" % (number, name))
+        if (x, y) in found.values():
+            raise ValueError("line %d of the places: another vertex stands there" % number)
+        found[name] = x, y
+    missing = [name for name in vertices if name not in found]
+    if missing:
+        raise ValueError("the places have none for %s" % missing[0])
+    return {name: found[name] for name in vertices}
+
+
+def coordinate(word: str) -> Optional[float]:
+    """The number that a word is, or None."""
+    try:
+        number = float(word)
+    except ValueError:
+        return None
+    return number if abs(number) <= 1_000_000 else None
+
+
+def neighbours(names: Iterable[Any], edges: Iterable[Sequence[Any]]) -> Dict[Any, Set[Any]]:
+    """For each vertex the set of those to which an edge leads."""
+    near: Dict[Any, Set[Any]] = {name: set() for name in names}
+    for u, v, *_ in edges:
+        if u != v and u in near and v in near:
+            near[u].add(v)
+            near[v].add(u)
+    return near
+
+
+def rounded(names: Iterable[Any], found: Places) -> Places:
+    """The places in the order of the names, as short numbers."""
+    return {name: (round(found[name][0], 4) + 0.0, round(found[name][1], 4) + 0.0) for name in names}
+
+
+def ring(names: Sequence[Any], start: float = -90.0, size: float = 1.0) -> Places:
+    """Places on a circle, clockwise from an angle in degrees; -90 is at the top."""
+    turns = [math.radians(start + 360 * i / len(names)) for i in range(len(names))]
+    return {name: (size * math.cos(turn), size * math.sin(turn)) for name, turn in zip(names, turns)}
+
+
+def row(names: Sequence[Any], y: float = 0.0) -> Places:
+    """Places from left to right."""
+    middle = (len(names) - 1) / 2
+    return {name: ((i - middle), y) for i, name in enumerate(names)}
+
+
+def count_of_edges(near: Near) -> int:
+    return sum(map(len, near.values())) // 2
+
+
+def is_connected(names: Sequence[Any], near: Near) -> bool:
+    return len(walk(names[0], near)) == len(names)
+
+
+def walk(first: Any, near: Mapping[Any, Iterable[Any]], without: Collection[Any] = ()) -> Dict[Any, int]:
+    """The vertices that can be reached from one, each with its distance, nearest first."""
+    far = {first: 0}
+    for name in far_order(far):
+        for other in near[name]:
+            if other not in far and other not in without:
+                far[other] = far[name] + 1
+    return far
+
+
+def far_order(far: Mapping[Any, int]) -> Iterator[Any]:
+    """The keys of a dict that grows meanwhile."""
+    done = 0
+    while done < len(far):
+        yield next(itertools.islice(far, done, None))
+        done += 1
+
+
+# The shapes. Each gives the places of all vertices, or None.
+
+def alone(names: Sequence[Any], near: Near) -> Optional[Places]:
+    """One vertex, or two side by side."""
+    if len(names) > 2:
+        return None
+    return {name: (2.0 * i - 1 if len(names) == 2 else 0.0, 0.0) for i, name in enumerate(names)}
+
+
+def path(names: Sequence[Any], near: Near) -> Optional[Places]:
+    """A path: a line, or one that runs to and fro if it is long."""
+    ends = [name for name in names if len(near[name]) == 1]
+    if len(ends) != 2 or any(len(near[name]) > 2 for name in names) or not is_connected(names, near):
+        return None
+    order = chain(ends[0], near)
+    if len(order) <= LONGEST_ROW:
+        return {name: (2 * x / (len(order) - 1), y) for name, (x, y) in row(order).items()}
+    legs = math.ceil(len(order) / LONGEST_LEG)
+    long, found = math.ceil(len(order) / legs), {}
+    for i, name in enumerate(order):
+        leg, at = divmod(i, long)
+        at = long - 1 - at if leg % 2 else at
+        found[name] = (2 * at / (long - 1) - 1, (leg - (legs - 1) / 2) * 2 / (long - 1) * 1.2)
+    return found
+
+
+def chain(first: Any, near: Near) -> List[Any]:
+    """The vertices of a path or a cycle in their order."""
+    order = [first]
+    while True:
+        ahead = [name for name in near if name in near[order[-1]] and name not in order]
+        if not ahead:
+            return order
+        order.append(ahead[0])
+
+
+def cycle(names: Sequence[Any], near: Near) -> Optional[Places]:
+    """A cycle: a ring, the first vertex at the top; one of four is a square."""
+    if len(names) < 3 or any(len(near[name]) != 2 for name in names) or not is_connected(names, near):
+        return None
+    return ring(chain(names[0], near), -135 if len(names) == 4 else -90)
+
+
+def complete(names: Sequence[Any], near: Near) -> Optional[Places]:
+    """A complete graph: a ring in the order of the names; four are a square."""
+    if any(len(near[name]) != len(names) - 1 for name in names):
+        return None
+    return ring(names, -135 if len(names) == 4 else -90)
+
+
+def diamond(names: Sequence[Any], near: Near) -> Optional[Places]:
+    """A square with one diagonal, from the top on the left to the bottom on the right. The first vertex and the earlier of its
+    neighbours on the square follow each other clockwise."""
+    if len(names) != 4 or count_of_edges(near) != 5:
+        return None
+    across = [name for name in names if len(near[name]) == 3]
+    beside = [name for name in names if len(near[name]) == 2]
+    for corners in ((across[0], beside[0], across[1], beside[1]), (across[0], beside[1], across[1], beside[0])):
+        at = corners.index(names[0])
+        if names.index(corners[(at + 1) % 4]) < names.index(corners[at - 1]):
+            return ring(corners, -135)
+    return None
+
+
+def star_or_wheel(names: Sequence[Any], near: Near) -> Optional[Places]:
+    """One vertex in the middle that is joined to all others, which are joined to none else, or stand in a cycle."""
+    for hub in names:
+        others = [name for name in names if name != hub]
+        if len(others) < 3 or len(near[hub]) != len(others):
+            continue
+        around = {name: near[name] - {hub} for name in others}
+        if not any(around.values()):
+            return dict(ring(others), **{hub: (0.0, 0.0)})
+        if all(len(each) == 2 for each in around.values()) and is_connected(others, around):
+            return dict(ring(chain(others[0], around)), **{hub: (0.0, 0.0)})
+    return None
+
+
+def both_sides(names: Sequence[Any], near: Near) -> Optional[Places]:
+    """A complete bipartite graph: two rows, with the first vertex above."""
+    above = [name for name in names if name not in near[names[0]]]
+    below = [name for name in names if name in near[names[0]]]
+    if min(len(above), len(below)) < 2 or any(near[v] != set(below if v in above else above) for v in names):
+        return None
+    wide = max(len(above), len(below)) - 1
+    found = dict(row(above, -0.75 * wide / 2), **row(below, 0.75 * wide / 2))
+    return {name: (2 * x / wide, 2 * y / wide) for name, (x, y) in found.items()}
+
+
+def tree(names: Sequence[Any], near: Near) -> Optional[Places]:
+    """A tree: its middle at the top, and below each vertex those that hang on it."""
+    if count_of_edges(near) != len(names) - 1 or not is_connected(names, near):
+        return None
+    top = min(names, key=lambda name: max(walk(name, near).values()))
+    far, found, leaves = walk(top, near), {}, itertools.count()
+
+    def hang(name: Any) -> float:
+        below = [other for other in names if other in near[name] and far[other] > far[name]]
+        across = [hang(other) for other in below]
+        x = (across[0] + across[-1]) / 2 if across else float(next(leaves))
+        found[name] = (x, 1.2 * far[name])
+        return x
+
+    hang(top)
+    return centred(found)
+
+
+def known(names: Sequence[Any], near: Near) -> Optional[Places]:
+    """The cube, Petersen's graph, the grids and the prisms."""
+    for lines, spots in models(len(names)):
+        match = matching(lines, len(spots), names, near)
+        if match:
+            return dict(zip(match, spots))
+    return None
+
+
+def models(size: int) -> Iterator[Any]:
+    """The graphs of so many vertices that have places of their own: their edges and their places."""
+    if size == 8:
+        yield CUBE_LINES, CUBE_SPOTS
+    if size == 10:
+        yield PETERSEN_LINES, [*ring(range(5)).values(), *ring(range(5), size=0.5).values()]
+    for high in range(2, 5):
+        if size % high == 0 and size // high >= max(high, 3):
+            yield grid(size // high, high)
+    if size % 2 == 0 and size >= 6:
+        yield prism(size // 2)
+
+
+def grid(wide: int, high: int) -> Any:
+    at = {(x, y): y * wide + x for y in range(high) for x in range(wide)}
+    lines = [(i, at[next_]) for (x, y), i in at.items() for next_ in ((x + 1, y), (x, y + 1)) if next_ in at]
+    return lines, [(2 * x / (wide - 1) - 1, (2 * y - high + 1) / (wide - 1)) for x, y in at]
+
+
+def prism(size: int) -> Any:
+    lines = [(i, (i + 1) % size) for i in range(size)]
+    lines += [(size + i, size + j) for i, j in lines] + [(i, size + i) for i in range(size)]
+    return lines, [*ring(range(size)).values(), *ring(range(size), size=0.5).values()]
+
+
+def matching(lines: Sequence[Any], size: int, names: Sequence[Any], near: Near) -> Optional[List[Any]]:
+    """The names in an order in which the graph has just the edges of a model, or None. The first such order by the names."""
+    if len(names) != size or count_of_edges(near) != len(lines):
+        return None
+    model = neighbours(range(size), lines)
+    if sorted(map(len, model.values())) != sorted(map(len, near.values())):
+        return None
+    order = list(walk(0, {i: sorted(model[i]) for i in model}))
+    given: Dict[int, Any] = {}
+
+    def place(number: int) -> bool:
+        if number == size:
+            return True
+        spot = order[number]
+        for name in names:
+            fits = name not in given.values() and len(near[name]) == len(model[spot]) and all(
+                (other in model[spot]) == (given[other] in near[name]) for other in order[:number])
+            if fits:
+                given[spot] = name
+                if place(number + 1):
+                    return True
+                del given[spot]
+        return False
+
+    return [given[spot] for spot in range(size)] if place(0) else None
+
+
+SHAPES = alone, path, cycle, complete, diamond, star_or_wheel, both_sides, known, tree
+
+
+# All other graphs.
+
+def best(names: Sequence[Any], near: Near) -> Places:
+    """Of a ring and of springs the places at which fewer vertices stand on edges of others, and then fewer edges cross."""
+    choices = ring(names), springs(names, near)
+    return min(choices, key=lambda found: (crowded(names, near, found), crossings(near, found)))
+
+
+def springs(names: Sequence[Any], near: Near) -> Places:
+    """Places at which vertices are about as far apart as edges lead from one to the other: springs between all of them, which
+    start in a ring and come to rest in so many rounds."""
+    far = {name: walk(name, near) for name in names}
+    apart = max(max(each.values()) for each in far.values()) + 1
+    start = ring(names, size=apart / 2)
+    # A little out of round, so that no symmetry keeps the springs from coming to rest elsewhere.
+    found = {name: (x * (1 + 0.01 * i), y * (1 + 0.007 * i)) for i, (name, (x, y)) in enumerate(start.items())}
+    for _ in range(ROUNDS):
+        found = {name: pulled(name, found, far[name], apart) for name in names}
+    return centred(level(found))
+
+
+def pulled(name: Any, found: Places, far: Mapping[Any, int], apart: float) -> Point:
+    """The place to which the springs of all others pull a vertex."""
+    x, y, all_ = 0.0, 0.0, 0.0
+    for other, (at_x, at_y) in found.items():
+        if other == name:
+            continue
+        wanted = far.get(other, apart)
+        off_x, off_y = found[name][0] - at_x, found[name][1] - at_y
+        long, weight = math.hypot(off_x, off_y) or 1e-9, 1 / wanted ** 2
+        x += weight * (at_x + wanted * off_x / long)
+        y += weight * (at_y + wanted * off_y / long)
+        all_ += weight
+    return x / all_, y / all_
+
+
+def level(found: Places) -> Places:
+    """The places turned so that the picture is wide and not high."""
+    middle = [sum(place[i] for place in found.values()) / len(found) for i in (0, 1)]
+    points = [(x - middle[0], y - middle[1]) for x, y in found.values()]
+    turn = math.atan2(2 * sum(x * y for x, y in points), sum(x * x - y * y for x, y in points)) / 2
+    right, down = math.cos(turn), math.sin(turn)
+    return {name: (x * right + y * down, y * right - x * down) for name, (x, y) in zip(found, points)}
+
+
+def centred(found: Places) -> Places:
+    """The places moved to the middle, with the greatest side from -1 to 1."""
+    low, high = ([side(place[i] for place in found.values()) for i in (0, 1)] for side in (min, max))
+    wide = max(high[0] - low[0], high[1] - low[1]) or 1.0
+    return {name: ((2 * x - low[0] - high[0]) / wide, (2 * y - low[1] - high[1]) / wide) for name, (x, y) in found.items()}
+
+
+def lines_of(near: Near) -> List[Tuple[Any, Any]]:
+    """Each edge once."""
+    names = list(near)
+    return [(u, v) for i, u in enumerate(names) for v in names[i + 1:] if v in near[u]]
+
+
+def crowded(names: Sequence[Any], near: Near, found: Places) -> int:
+    """How many vertices stand on an edge of others, or on each other, or nearly so."""
+    aside = [(name, u, v) for u, v in lines_of(near) for name in names if name not in (u, v)]
+    on_edges = sum(distance(found[name], found[u], found[v]) < CLOSE for name, u, v in aside)
+    return on_edges + sum(math.dist(found[u], found[v]) < 2 * CLOSE for u, v in itertools.combinations(names, 2))
+
+
+def distance(point: Point, one: Point, other: Point) -> float:
+    """How far a point is from the line between two others."""
+    across, down = other[0] - one[0], other[1] - one[1]
+    long = across ** 2 + down ** 2 or 1e-9
+    part = min(1.0, max(0.0, ((point[0] - one[0]) * across + (point[1] - one[1]) * down) / long))
+    return math.hypot(point[0] - one[0] - part * across, point[1] - one[1] - part * down)
+
+
+def crossings(near: Near, found: Places) -> int:
+    """How many pairs of edges cross."""
+    def side(one: Point, other: Point, point: Point) -> float:
+        return (other[0] - one[0]) * (point[1] - one[1]) - (other[1] - one[1]) * (point[0] - one[0])
+
+    def cross(u: Any, v: Any, w: Any, z: Any) -> bool:
+        a, b, c, d = (found[name] for name in (u, v, w, z))
+        return side(a, b, c) * side(a, b, d) < -1e-9 and side(c, d, a) * side(c, d, b) < -1e-9
+
+    return sum(cross(u, v, w, z) for (u, v), (w, z) in itertools.combinations(lines_of(near), 2) if len({u, v, w, z}) == 4)

@@ -1,0 +1,103 @@
+/* Tests of what the pages' modules do without a page: words, marks and places. `failures` gives what does not hold. */
+
+import { GRAMMAR } from "./grammar.js";
+import { freePlace, layoutOf, placesText, vertexAhead, vertexAt } from "./places.js";
+import {
+  CAUSES, FAULTS, Game, KINDS, answerOf, commandWords, faultWords, flows, legendWords, linesOf, markOf, mostTelling, replyOf, replyWords, stepOf,
+} from "./words.js";
+
+const failures_ = [];
+const AMOUNTS = new Map([["a", 2], ["b", -1]]);
+const TABLE = { vertices: ["b", "a", "2"], edges: [["b", "a", 2], ["a", "2", 1]], amounts: [1, -1, 0], q: "b" };
+
+function plain(thing) {
+  return JSON.stringify(thing, (_, value) => (value instanceof Map ? [...value] : value));
+}
+
+function equal(found, wanted, what) {
+  if (plain(found) !== plain(wanted)) failures_.push(`${what}: found ${plain(found)}, wanted ${plain(wanted)}`);
+}
+
+function sample(form, parts) {
+  return form.split(" ").map((part) => (part in parts ? parts[part] : part)).join(" ");
+}
+
+/* Each form of the grammar is read, and has a mark and words. */
+function replies() {
+  for (const form of GRAMMAR.replies) {
+    const text = sample(form, { P: "a=2 b=-1", g: 3, k: 2 }), reply = replyOf(`7 ${text}`);
+    equal([reply.line, reply.kind === "unread"], [`7 ${text}`, false], `the reply ${text}`);
+    equal(Boolean(replyWords(reply, AMOUNTS, "a") && markOf(stepOf("1 gift a 1"), reply)), true, `the words and the mark of ${text}`);
+    for (const [part, field] of [["g", "gifts"], ["k", "degree"]]) {
+      if (form.split(" ").includes(part)) equal(reply[field], { g: 3, k: 2 }[part], `${field} of ${text}`);
+    }
+  }
+  const moved = answerOf("moved a=2 b=-1"), verdict = answerOf("unwinnable by a=0 b=1 to a=-3 b=0"), loss = answerOf("rank below 1 at a=0 b=1");
+  equal([moved.kind, moved.amounts], ["moved", AMOUNTS], "the amounts of a move");
+  equal([verdict.script, verdict.reduced], [new Map([["a", 0], ["b", 1]]), new Map([["a", -3], ["b", 0]])], "the two lists of a verdict");
+  equal([loss.kind, loss.degree, loss.loss], ["rank", 1, new Map([["a", 0], ["b", 1]])], "the loss of a rank test");
+  equal(replyWords(loss, AMOUNTS, "a"), "The rank is below 1: without 1 dollar at b it can't be won.", "the words of a loss");
+  for (const text of ["", "moved", "moved a", "won ", "refused", "stale x", "lent a"]) equal(answerOf(text).kind, "unread", `what is no reply: ${text}`);
+  equal(replyOf("moved a=1").kind, "unread", "a reply without its number");
+  equal(Object.keys(CAUSES).sort(), GRAMMAR.refusals.map((text) => text.split(" ")[1]).sort(), "the causes of refusals");
+}
+
+function commands() {
+  const words = { vertex: "a", vertices: "a,b", script: "a=1,b=-2", degree: "2", dollars: "-3" };
+  for (const [word, kinds] of Object.entries(GRAMMAR.commands)) {
+    const line = [word, ...kinds.map((kind) => words[kind])].join(" "), said = commandWords(stepOf(`12 ${line}`));
+    equal([stepOf(`12 ${line}`).seat, said !== word, said.includes("undefined")], ["12", true, false], `the words of ${line}`);
+  }
+  equal(commandWords(stepOf("1 fire a,b")), "a and b lend, all at once", "the words of a firing");
+  equal(commandWords(stepOf("1 gift a -3")), "a levy of 3 dollars at a", "the words of a levy");
+}
+
+function faults() {
+  const met = [...GRAMMAR.tables, ...GRAMMAR.bad, ...Object.keys(GRAMMAR.faults)];
+  for (const text of [...GRAMMAR.tables, ...GRAMMAR.bad, "the history is full", "file too long", "too many trials"]) {
+    equal(faultWords(text.replace("#", "4")) === faultWords("?"), false, `the words of ${text}`);
+  }
+  for (const text of Object.keys(FAULTS)) equal(met.includes(text) || met.includes(`step #: ${text}`), true, `the text ${text} is one of the program`);
+  equal(faultWords("edge 0 is a loop"), "Edge 1 of the list leads from a vertex to itself.", "a fault with its number");
+}
+
+function marks() {
+  equal(markOf(stepOf("1 gift a -1"), { kind: "given" }), "\u2212", "the mark of a levy");
+  for (const { mark, legend } of Object.values(KINDS)) {
+    if (legend) equal(legendWords().includes(`${mark} ${legend}`), true, `the legend of ${mark}`);
+  }
+  const kinds = ["moved", "moved", "winnable", "moved", "given", "moved"].map((kind) => ({ kind }));
+  equal(mostTelling(kinds, 2), [3, 5], "the marks in two places");
+  equal(mostTelling(kinds, 2, { 4: "0 won" }), [3, 4], "a mark of a line that is another");
+  equal(mostTelling(kinds, 100), [1, 2, 3, 4, 5, 6], "marks with room for all");
+  equal(mostTelling([], 5), [], "no marks");
+}
+
+function games() {
+  const game = new Game(TABLE);
+  equal([...game.states[0].amounts.keys()], TABLE.vertices, "the order of the names");
+  game.add("1 lend b", "0 moved b=-1 a=1 2=0");
+  game.add("1 join 2 a", "1 joined 1 b=-1 a=1 2=0");
+  equal(game.tableAt(1), { ...TABLE, amounts: [-1, 1, 0] }, "a table in a game");
+  equal(game.tableAt(2).edges, [["b", "a", 2], ["a", "2", 2]], "an edge that was added");
+  equal(flows(game.states[0].edges, stepOf("1 lend a").script).map(({ from, to, each, count }) => [from, to, each, count]),
+    [["a", "b", 1, 2], ["a", "2", 1, 1]], "where dollars go");
+  equal(flows(game.states[0].edges, stepOf("1 fire a,b").script).length, 1, "no dollar goes between two that lend");
+  game.cut(1);
+  equal([game.length, game.states.length, game.replies.length], [1, 2, 1], "a game that was cut");
+  equal([linesOf("a\nb\n"), linesOf("a\nb")], [["a", "b"], ["a", "b"]], "lines of texts");
+}
+
+function places() {
+  const layout = layoutOf({ places: { a: [0, 0], b: [100, 0], 1: [100, 80] }, sizes: {}, width: 100, height: 100 });
+  equal(placesText(layout).split("\n").sort(), ["", "1 100 80", "a 0 0", "b 100 0"], "the lines of places");
+  equal([vertexAt(layout.places, [95, 4], 20), vertexAt(layout.places, [50, 40], 20)], ["b", null], "the vertex at a point");
+  const ahead = ([name, way]) => vertexAhead(layout.places, name, way);
+  equal([["a", [1, 0]], ["b", [0, 1]], ["1", [-1, 0]], ["a", [-1, 0]]].map(ahead), ["b", "1", "a", null], "the vertex ahead");
+  equal(freePlace(layout), [10, 90], "a free place");
+}
+
+export function failures() {
+  for (const part of [replies, commands, faults, marks, games, places]) part();
+  return failures_;
+}

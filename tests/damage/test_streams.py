@@ -1,0 +1,322 @@
+"""Runs whose files and streams are not what they should be: closed, full, without end, gone in mid-answer, not read, or
+interrupted."""
+import array, fcntl, os, resource, shutil, signal, subprocess, tempfile, termios, threading, time
+
+from runs import PATIENCE, TRIANGLE, WON, Run, checked, refused
+
+SESSION = b"look\nlend a\ncommit\ncommit\nlend z\ngift a 0\nclaim\n"
+ANSWERS = (b"0 looked 0 a=2 b=-1 c=-1\n1 moved a=0 b=0 c=0\n2 winnable by a=0 b=0 c=0 to a=0 b=0 c=0\nbad look\nbad name\n"
+           b"3 refused gift\n4 won\n")
+WRITE, READ, THREAD = (refused(text, status) for text, status in ((b"write fault", 5), (b"read fault", 5), (b"no thread", 4)))
+NOBODY = 65534
+
+# All losses of seven dollars are tried on this table, the complete graph on 16 vertices, and each of them can be borne.
+NAMES = "abcdefghijklmnop"
+SLOW = ('{"vertices":[%s],"edges":[%s],"amounts":[7,7,7,6,6,6,7,6,7,6,7,6,7,6,6,7],"q":"a"}' % (
+    ",".join('"%s"' % name for name in NAMES),
+    ",".join('["%s","%s",1]' % (u, v) for i, v in enumerate(NAMES) for u in NAMES[:i]))).encode()
+
+
+def commands(checks):
+    """A run of each command that prints something, with its words."""
+    table, steps = checks.put("triangle", TRIANGLE), checks.put("steps", b"1 lend a\n")
+    return table, steps, [
+        ("judge", table), ("rank", table, "1"), ("rr", table), ("greedy", table, "3"), ("rehearse", table, steps),
+        ("party", table, checks.put("script", b"claim\n")), ("--help",), ("--version",)]
+
+
+def outputs(checks):
+    """Standard output or standard error is closed, or full."""
+    table, _, runs = commands(checks)
+    for words in runs:
+        checks.same("%s, output closed" % words[0], WRITE, checks.run(*words, before=lambda: os.close(1), stdout=None))
+        with open("/dev/full", "wb") as full:
+            checks.same("%s, output full" % words[0], WRITE, checks.run(*words, stdout=full))
+    session = checks.put("session", SESSION)
+    with open(session, "rb") as typed:
+        checks.same("serve, output closed", WRITE, checks.run("serve", table, stdin=typed, before=lambda: os.close(1), stdout=None))
+    with open(session, "rb") as typed, open("/dev/full", "wb") as full:
+        checks.same("serve, output full", WRITE, checks.run("serve", table, stdin=typed, stdout=full))
+    # What is said of a fault may be lost, and the status is the same.
+    missing = os.path.join(checks.folder, "missing")
+    with open("/dev/full", "wb") as full:
+        checks.same("faults full", Run(5, b"", b""), checks.run("judge", missing, stderr=full))
+        checks.same("an answer, faults full", Run(0, WON, b""), checks.run("judge", table, stderr=full))
+    checks.same("faults closed", Run(5, b"", b""), checks.run("judge", missing, before=lambda: os.close(2), stderr=None))
+    checks.same("an answer, faults closed", Run(0, WON, b""), checks.run("judge", table, before=lambda: os.close(2), stderr=None))
+
+
+def broken_pipes(checks):
+    """The reader of a pipe goes away: before the answer, in the middle of one that is longer than a pipe, and between two
+    answers of a session. It is a write fault, whether or not the signal for it is ignored; what was read is a beginning."""
+    table = checks.put("triangle", TRIANGLE)
+    steps = checks.put("long_steps", b"1 claim\n" * 65536)
+    whole = b"".join(b"%d not won\n" % i for i in range(65536))
+    for name, before in (("", None), (", signal ignored", lambda: signal.signal(signal.SIGPIPE, signal.SIG_IGN))):
+        for taken in (0, 1, 10, 5000):
+            child = checks.start("rehearse", table, steps, before=before)
+            got = child.stdout.read(taken)
+            child.stdout.close()
+            faults = child.stderr.read()
+            run = Run(child.wait(), got, faults)
+            child.stderr.close()
+            checks.same("a reader that takes %d bytes%s" % (taken, name), WRITE._replace(output=whole[:taken]), run)
+        child = checks.start("serve", table, before=before, stdin=subprocess.PIPE, bufsize=0)
+        child.stdin.write(b"look\n")
+        got = child.stdout.readline()
+        child.stdout.close()
+        child.stdin.write(b"claim\n")
+        faults = child.stderr.read()
+        child.stdin.close()
+        child.stderr.close()
+        checks.same("a session whose reader goes away%s" % name, WRITE._replace(output=ANSWERS[:len(got)]), Run(child.wait(), got, faults))
+
+
+def inputs(checks):
+    """Standard input is closed, a folder, or has nothing yet and does not wait."""
+    table, _, runs = commands(checks)
+    for words in runs[:6]:
+        checks.same("%s, input closed" % words[0], checks.run(*words), checks.run(*words, before=lambda: os.close(0), stdin=None))
+    checks.same("serve, input closed", READ, checks.run("serve", table, before=lambda: os.close(0), stdin=None))
+    folder = os.open(checks.folder, os.O_RDONLY)
+    checks.same("serve, a folder as input", READ, checks.run("serve", table, stdin=folder))
+    os.close(folder)
+    checks.same("judge /dev/stdin, input closed", READ, checks.run("judge", "/dev/stdin", before=lambda: os.close(0), stdin=None))
+    ready, end = os.pipe()
+    os.set_blocking(ready, False)
+    os.write(end, b"claim\n")
+    checks.same("serve, an input that does not wait", READ._replace(output=b"0 not won\n"), checks.run("serve", table, stdin=ready))
+    os.close(ready)
+    os.close(end)
+
+
+def files(checks):
+    """A folder, a device without end, an empty one, and a file that is not there or may not be read, as each of the files."""
+    table, steps, _ = commands(checks)
+    folder, missing = checks.folder, os.path.join(checks.folder, "missing")
+    circle = os.path.join(folder, "circle")
+    os.symlink(circle, circle)
+    for what, path, run in (
+            ("a folder", folder, READ), ("no file", missing, READ), ("a file below a file", os.path.join(table, "below"), READ),
+            ("a link to itself", circle, READ), ("a name of 300 letters", os.path.join(folder, "x" * 300), READ), ("no name", "", READ),
+            ("zeros without end", "/dev/zero", refused(b"file too long", 3)),
+            ("numbers without end", "/dev/urandom", refused(b"file too long", 3)),
+            ("a file whose reads fail", "/proc/self/mem", READ)):
+        checks.same("%s as FILE" % what, run, checks.run("judge", path))
+        checks.same("%s as STEPS" % what, run, checks.run("rehearse", table, path))
+        checks.same("%s as SCRIPT" % what, run, checks.run("party", table, steps, path))
+    checks.same("nothing as FILE", refused(b"not JSON", 3), checks.run("judge", "/dev/null"))
+    checks.same("nothing as STEPS", Run(0, b"", b""), checks.run("rehearse", table, "/dev/null"))
+    with open("/dev/zero", "rb") as zeros:
+        checks.same("zeros without end as a session", refused(b"long line", 3), checks.run("serve", table, stdin=zeros))
+    # A file is read to its end where that is now.
+    checks.same("a file of the system, of unknown length", refused(b"not JSON", 3), checks.run("judge", "/proc/self/status"))
+
+
+def fifos(checks):
+    """A FIFO is read as it is written: in parts, with nothing in it, and with more than a file may have."""
+    steps = checks.put("steps", b"1 lend a\n")
+    fifo = os.path.join(checks.folder, "fifo")
+    os.mkfifo(fifo)
+    for what, parts, wanted in (
+            ("in one part", [TRIANGLE], Run(0, WON, b"")), ("byte by byte", [bytes([byte]) for byte in TRIANGLE], Run(0, WON, b"")),
+            ("with nothing in it", [], refused(b"not JSON", 3)), ("cut off", [TRIANGLE[:50]], refused(b"not JSON", 3)),
+            ("with too much", [b" " * 65536] * 17, refused(b"file too long", 3))):
+        child = checks.start("judge", fifo)
+        try:
+            with open(fifo, "wb", buffering=0) as end:
+                for part in parts:
+                    end.write(part)
+                    time.sleep(0.001)
+        except BrokenPipeError:
+            pass
+        output, faults = child.communicate(timeout=60)
+        checks.same("a FIFO %s" % what, wanted, Run(child.returncode, output, faults))
+    child = checks.start("rehearse", checks.put("triangle", TRIANGLE), fifo)
+    with open(fifo, "wb") as end, open(steps, "rb") as file:
+        end.write(file.read())
+    output, faults = child.communicate(timeout=60)
+    checks.same("steps from a FIFO", Run(0, b"0 moved a=0 b=0 c=0\n", b""), Run(child.returncode, output, faults))
+
+
+def changing_files(checks):
+    """A file is cut, written anew and made longer while it is read, again and again. What comes is the whole answer to one of
+    the texts, or the fault of a cut one, and never a mixture."""
+    poor = TRIANGLE.replace(b"[2,-1,-1]", b"[1,-1,-1]")
+    lost = b"unwinnable by a=0 b=-1 c=-1 to a=-1 b=0 c=0\n"
+    path, done = checks.put("changing", TRIANGLE.rjust(300000)), threading.Event()
+
+    def change():
+        while not done.is_set():
+            for text in (TRIANGLE.rjust(300000), poor.rjust(290000), poor.ljust(900000), TRIANGLE[:60], TRIANGLE.ljust(1100000)):
+                with open(path, "r+b") as file:
+                    file.truncate(0 if len(text) < 300000 else len(text))
+                    file.write(text)
+    allowed = {Run(0, WON, b""), Run(0, lost, b""), refused(b"not JSON", 3), refused(b"file too long", 3)}
+    changing = threading.Thread(target=change)
+    changing.start()
+    try:
+        for turn in range(100):
+            run = checks.run("judge", path)
+            checks.holds("a file that changes, %d" % turn, run in allowed, run)
+    finally:
+        done.set()
+        changing.join()
+
+
+def without_threads():
+    """Leaves this process no room for a thread. Who may start as many as he likes becomes somebody who may not."""
+    if os.geteuid() == 0:
+        os.setgroups([])
+        os.setgid(NOBODY)
+        os.setuid(NOBODY)
+    resource.setrlimit(resource.RLIMIT_NPROC, (0, 0))
+
+
+def are_threads_refused():
+    """Whether a process is refused a thread so."""
+    child = os.fork()
+    if child == 0:
+        try:
+            without_threads()
+            threading.Thread(target=int).start()
+        except RuntimeError:
+            os._exit(1)
+        finally:
+            os._exit(0)
+    return os.waitstatus_to_exitcode(os.waitpid(child, 0)[1]) == 1
+
+
+def threads(checks):
+    """There is no room for a thread. The program lies where whoever has none may read it."""
+    table, script = checks.put("triangle", TRIANGLE), checks.put("script", b"claim\n")
+    os.chmod(checks.folder, 0o755)
+    own, checks.program = checks.program, shutil.copy(checks.program, os.path.join(checks.folder, "program"))
+    if are_threads_refused() and checks.run("judge", table, before=without_threads) == Run(0, WON, b""):
+        checks.same("party of two without threads", THREAD, checks.run("party", table, script, script, before=without_threads))
+        checks.same("party of one without threads", THREAD, checks.run("party", table, script, before=without_threads))
+        for workers in ("1", "4", "16"):
+            checks.same("rank with %s workers without threads" % workers, THREAD,
+                        checks.run("rank", table, "1", "--workers", workers, before=without_threads))
+        told = b"0 looked 0 a=2 b=-1 c=-1\nbad trials\n"
+        checks.same("serve without threads", THREAD._replace(output=told), checks.run(
+            "serve", table, typed=b"look\nrank 631\nrank 1\nclaim\n", before=without_threads))
+    else:
+        print("left out: runs without room for a thread, for want of a limit on processes that refuses one")
+    checks.program = own
+
+
+def interrupts(checks):
+    """An interrupt ends a run at once, without a word: nothing is printed of an answer that is not whole yet, and a session
+    has written its answers in whole lines."""
+    table, slow = checks.put("triangle", TRIANGLE), checks.put("slow", SLOW)
+    steps = checks.put("ranks", b"1 look\n1 rank 7\n" * 20000)
+    fifo = os.path.join(checks.folder, "silent")
+    os.mkfifo(fifo)
+    for number in (signal.SIGINT, signal.SIGTERM):
+        ended = Run(-number, b"", b"")
+        for words in (("rank", slow, "7"), ("rank", slow, "7", "--workers", "4")):
+            interrupted_ranks(checks, number, words)
+        for what, words in (("rehearse", ("rehearse", slow, steps)), ("judge that waits for a FIFO", ("judge", fifo))):
+            child = checks.start(*words)
+            time.sleep(0.3)
+            child.send_signal(number)
+            checks.same("%s, interrupted" % what, ended, ended_run(child))
+        child = checks.start("serve", table, stdin=subprocess.PIPE, bufsize=0)
+        child.stdin.write(SESSION)
+        got = b"".join(child.stdout.readline() for _ in ANSWERS.splitlines())
+        child.stdin.write(b"look\nran")
+        got += child.stdout.readline()
+        child.send_signal(number)
+        checks.same("a session, interrupted", ended._replace(output=ANSWERS + b"5 looked 0 a=0 b=0 c=0\n"), ended_run(child, got))
+        child = checks.start("serve", slow, stdin=subprocess.PIPE, bufsize=0)
+        child.stdin.write(b"claim\n")
+        got = child.stdout.readline()
+        child.stdin.write(b"look\nrank 7\n" * 2500)
+        time.sleep(0.1)
+        child.send_signal(number)
+        checks.same("a session, interrupted in rank tests", ended._replace(output=b"0 won\n"), ended_run(child, got))
+
+
+def interrupted_ranks(checks, number, words):
+    """Rank tests that are interrupted sooner or later: each is over, or has printed nothing, or had printed its whole answer and
+    was not over yet."""
+    whole, ended, endings = Run(0, b"rank at least 7\n", b""), Run(-number, b"", b""), set()
+    for turn in range(40):
+        child = checks.start(*words)
+        time.sleep(turn / 2000)
+        child.send_signal(number)
+        endings.add(ended_run(child))
+    allowed = {whole, ended, ended._replace(output=whole.output)}
+    checks.holds("%s, interrupted" % " ".join(words), ended in endings and endings <= allowed, endings)
+
+
+def waits(output):
+    """Waits until nothing more comes into a pipe that nobody reads, and tells how much is in it."""
+    held, until, seen = array.array("i", [0]), time.monotonic() + PATIENCE, []
+    while time.monotonic() < until and (len(seen) < 10 or seen[-10] != seen[-1] or seen[-1] == 0):
+        time.sleep(0.03)
+        fcntl.ioctl(output, termios.FIONREAD, held)
+        seen.append(held[0])
+    return seen[-1]
+
+
+LOOKS, TURNS, TABLES = 20000, 65536, 20000
+
+
+def long_answers(checks):
+    """Runs whose answers are longer than a pipe holds: the words, a file for the input or None, and all that they print."""
+    table, circle = checks.put("triangle", TRIANGLE), checks.put("poor", TRIANGLE.replace(b"[2,-1,-1]", b"[-1,1,0]"))
+    looks, steps = checks.put("looks", b"look\n" * LOOKS), checks.put("look_steps", b"1 look\n" * LOOKS)
+    tables = checks.put("tables", (TRIANGLE + b"\n") * TABLES)
+    seen = b"".join(b"%d looked 0 a=2 b=-1 c=-1\n" % entry for entry in range(LOOKS))
+    seat = b"".join(b"%d 1 looked 0 a=2 b=-1 c=-1\n" % entry for entry in range(LOOKS))
+    # The first in debt borrows, and after three turns all is as it was: -1 1 0, then 1 0 -1, then 0 -1 1.
+    turns = b"".join(b"%d moved %s\n" % (turn, (b"a=1 b=0 c=-1", b"a=0 b=-1 c=1", b"a=-1 b=1 c=0")[turn % 3]) for turn in range(TURNS))
+    return [
+        (("serve", table), looks, seen), (("serve", table, "--seats", "1"), steps, seen), (("rehearse", table, steps), None, seen),
+        (("party", table, looks), None, seat), (("greedy", circle, str(TURNS)), None, turns),
+        (("judge", "--lines", tables), None, WON * TABLES), (("rank", "--lines", tables, "0"), None, b"rank at least 0\n" * TABLES),
+        (("rr", "--lines", tables), None, b"degree 0 genus 1 rank 0 dual 0\n" * TABLES)]
+
+
+def unread_answers(checks):
+    """A reader that waits while the program is interrupted gets a beginning of the answers, which may end within a line, and no
+    word of a fault."""
+    cut = 0
+    for words, given, whole in long_answers(checks):
+        for number in (signal.SIGINT, signal.SIGTERM):
+            with open(given or os.devnull, "rb") as typed:
+                child = checks.start(*words, stdin=typed)
+                held = waits(child.stdout)
+                child.send_signal(number)
+                run = ended_run(child)
+            what = "%s, interrupted, whose reader waits" % " ".join(words[:2] if words[1] == "--lines" else words[:1])
+            checks.same(what, (-number, b""), (run.status, run.faults))
+            checks.holds("%s: the output" % what, held <= len(run.output) < len(whole) and whole.startswith(run.output), len(run.output))
+            cut += not run.output.endswith(b"\n")
+    checks.holds("an output that is cut within a line", cut > 0)
+
+
+def file_limits(checks):
+    """A file that may not grow: the signal for it ends the program without a word, and where that is ignored the end is a write
+    fault; the file has the first bytes of the answer either way."""
+    words, _, whole = long_answers(checks)[2]
+    for name, action, status, faults in (("", signal.SIG_DFL, -signal.SIGXFSZ, b""), (", signal ignored", signal.SIG_IGN, WRITE.status, WRITE.faults)):
+        def limited():
+            signal.signal(signal.SIGXFSZ, action)
+            resource.setrlimit(resource.RLIMIT_FSIZE, (1000, 1000))
+
+        with tempfile.TemporaryFile() as output:
+            run = checks.run(*words, before=limited, stdout=output)
+            output.seek(0)
+            checks.same("an output that may have 1,000 bytes%s" % name, Run(status, whole[:1000], faults), run._replace(output=output.read()))
+
+
+def ended_run(child, before=b""):
+    """How a run ends that has printed something before."""
+    output, faults = child.communicate(timeout=PATIENCE)
+    return Run(child.returncode, before + output, faults)
+
+
+load_tests = checked(outputs, broken_pipes, inputs, files, fifos, changing_files, threads, interrupts, unread_answers, file_limits)

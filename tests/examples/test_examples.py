@@ -1,0 +1,50 @@
+"""The examples: each line of runs.txt prints its file NAME.out, and README.md lists it; each other file is named there or in docs/."""
+import doctest
+import importlib.util
+import re
+import subprocess
+import sys
+
+from helpers import EXAMPLES, ROOT, Test, each, program
+
+RUNS = [tuple(line.split(" ", 3)) for line in (EXAMPLES / "runs.txt").read_text().splitlines()]
+PAGES = "".join(page.read_text() for page in [EXAMPLES / "README.md", *sorted((ROOT / "docs").glob("*.md"))])
+
+
+def script(name):
+    """A script of the examples as a module."""
+    spec = importlib.util.spec_from_file_location(name, EXAMPLES / (name + ".py"))
+    module = importlib.util.module_from_spec(spec)
+    spec.loader.exec_module(module)
+    return module
+
+
+class OfExamples(Test):
+    @each(RUNS)
+    def test_a_run(self, command, table, name, more=""):
+        """`rehearse` takes the schedule NAME.txt, and `serve` reads it. Since the scripts of a `party` are played at once, only the
+        lines below the history are compared."""
+        steps = str(EXAMPLES / (name + ".txt"))
+        files = [steps] if command == "rehearse" else [str(EXAMPLES / (script + ".txt")) for script in more.split()] if command == "party" else []
+        words = [command, str(EXAMPLES / table), *files, *([more] if command in ("rank", "greedy") else [])]
+        with open(steps if command == "serve" else "/dev/null") as typed:
+            printed = subprocess.run([program(), *words], stdin=typed, stdout=subprocess.PIPE, text=True).stdout
+        if command == "party":
+            printed = re.sub(r"(?m)^\d.*\n", "", printed)
+        self.assertEqual(printed, (EXAMPLES / (name + ".out")).read_text())
+        shown = re.sub(r"\.json|\.txt", "", " ".join(words).replace(str(EXAMPLES) + "/", ""))
+        self.assertIn("`%s`" % (shown + (" < " + name if command == "serve" else "")), (EXAMPLES / "README.md").read_text())
+
+    def test_each_file_is_named(self):
+        named = {word for run in RUNS for word in re.split(r"[ .]", " ".join(run))}
+        for file in EXAMPLES.iterdir():
+            if file.suffix in (".json", ".txt", ".py") and file.name != "runs.txt" and not (file.suffix != ".py" and file.stem in named):
+                self.assertIn(file.name, PAGES)
+
+    def test_a_talk(self):
+        said = subprocess.run([sys.executable, "-B", EXAMPLES / "talk.py"], stdout=subprocess.PIPE, text=True).stdout
+        # First b borrows, the earlier of two who owe a dollar, and then c, who owes two after that.
+        self.assertEqual(said.split("\n"), ["borrow b     0 moved a=1 b=1 c=-2", "borrow c     1 moved a=0 b=0 c=0", "claim        2 won", ""])
+
+    def test_gonalities(self):
+        self.assertEqual(doctest.testmod(script("gonality"))[0], 0)

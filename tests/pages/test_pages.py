@@ -1,0 +1,74 @@
+"""Every command that README.md, docs/ and the help show is run, and what it prints is compared with what stands below it.
+
+A command is an indented line `$ ./dollar WORD ..`, or another line of bash that has `./dollar` in it. What it prints are the lines below
+it that are indented as far; where the first of these is `..`, as many of its last lines as stand below that. What stands below `>>>` is
+compared with what Python prints, and what stands below 'From `FILE`:' with that file. In the help a command is `$ dollar WORD ..`, and
+is run in a folder which has the files that this help shows: the table that every help has to show, and what stands below a line `$ cat
+FILE`."""
+import doctest
+import re
+import subprocess
+import sys
+import textwrap
+import xml.dom.minidom
+
+from helpers import EXAMPLES, PACKAGE, ROOT, Test, each, program
+
+PAGES = [ROOT / "README.md", *sorted((ROOT / "docs").glob("*.md")), EXAMPLES / "README.md"]
+DRAW = [sys.executable, "-B", PACKAGE / "dollar", "draw"]
+
+
+def shown(text, word):
+    """The commands that a text shows, which begin so, each with the lines below it."""
+    for found in re.finditer(r"(?m)^( {4,})\$ (%s .*)\n((?:\1[^ \n].*\n|\1 .*\n)*)" % word, text):
+        below = re.split(r"(?m)^%s\$ " % found[1], found[3])[0]
+        yield found[2], "".join(line[len(found[1]):] + "\n" for line in below.splitlines())
+
+
+def help_of(*words):
+    return subprocess.run([program(), *words, "--help"], stdin=subprocess.DEVNULL, stdout=subprocess.PIPE, text=True).stdout
+
+
+class OfPages(Test):
+    def play(self, command, wanted, folder):
+        """Runs a command in a folder; where it shows a file, makes that."""
+        if command.startswith("cat "):
+            (folder / command[4:]).write_text(wanted)
+            return
+        last = None
+        if wanted.startswith("..\n"):
+            wanted = wanted[3:]
+            last = -wanted.count("\n")
+        said = subprocess.run(["bash", "-c", 'dollar() { "$0" "$@"; }; eval "$1"', program(), command.replace("./dollar", "dollar")],
+                              cwd=folder, stdin=subprocess.DEVNULL, stdout=subprocess.PIPE, stderr=subprocess.STDOUT, text=True).stdout
+        self.assertEqual("".join(said.splitlines(keepends=True)[last:]), wanted, command)
+
+    @each(PAGES)
+    def test_a_page(self, page):
+        for command, wanted in shown(page.read_text(), r"(?:|.* )\./dollar"):
+            self.play(command, wanted, ROOT)
+        for path, quoted in re.findall(r"(?m)^From `(.+)`:\n\n((?:    .*\n)+)", page.read_text()):
+            self.assertIn("\n" + re.sub("(?m)^    ", "", quoted), "\n" + (ROOT / path).read_text())
+
+    @each([page for page in PAGES if re.search("(?m)^ *>>> ", page.read_text())])
+    def test_the_python_of_a_page(self, page):
+        self.go_to(ROOT)
+        self.assertEqual(doctest.testfile(str(page), module_relative=False)[0], 0)
+
+    @each([(), *((name,) for name in re.findall(r"(?m)^  ([a-z]+) ", help_of().partition("Commands:")[2].partition("\n\n")[0]) if name != "help")])
+    def test_a_help(self, *words):
+        text, folder = help_of(*words), self.folder()
+        table = re.search(r"(?m)^( *)\{\n(?:.*\n)*?\1\}\n", text)
+        (folder / "triangle.json").write_text(textwrap.dedent(table[0]))
+        self.assertEqual(textwrap.dedent(table[0]), (EXAMPLES / "triangle.json").read_text())
+        self.assertLessEqual(max(map(len, text.splitlines())), 80)
+        commands = list(shown(text, "(?:dollar|cat)"))
+        self.assertTrue(commands)
+        for command, wanted in commands:
+            self.play(command, wanted, folder)
+
+    def test_a_table_of_ones_own_is_drawn(self):
+        xml.dom.minidom.parseString(self.holds([*DRAW, EXAMPLES / "houses.json"]))
+        for words in [], [EXAMPLES / "houses.json", EXAMPLES / "cube.json"], ["--nothing"]:
+            done = subprocess.run([*DRAW, *words], stdout=subprocess.PIPE, stderr=subprocess.DEVNULL)
+            self.assertEqual((done.returncode, done.stdout), (2, b""))

@@ -1,0 +1,62 @@
+"""The package as a whole: installed by pip for each Python that is here, with its examples and its types."""
+import glob
+import importlib.util
+import os
+import shutil
+import subprocess
+import sys
+
+from helpers import EXAMPLES, PACKAGE, Test, each
+
+VERSIONS = ["3.9", "3.10", "3.11", "3.12", "3.13"]
+DOCTESTS = """
+import doctest, importlib, pkgutil, dollar
+modules = [dollar, *(importlib.import_module(each.name) for each in pkgutil.walk_packages(dollar.__path__, "dollar."))]
+failed, tried = map(sum, zip(*map(doctest.testmod, modules)))
+assert tried > 50 and not failed, (tried, failed)
+"""
+
+
+def has(python, module):
+    look = "import importlib.util, sys; sys.exit(importlib.util.find_spec(%r) is None)" % module
+    return subprocess.run([python, "-c", look]).returncode == 0
+
+
+def pythons():
+    """The Pythons that are here, those of pyenv among them, by their versions."""
+    found = {}
+    kept = os.path.join(os.environ.get("PYENV_ROOT", os.path.expanduser("~/.pyenv")), "versions", "*", "bin", "python3")
+    for name in [sys.executable, *("python" + version for version in VERSIONS), *sorted(glob.glob(kept)), "/usr/bin/python3"]:
+        if shutil.which(name):
+            said = subprocess.run([name, "-c", "import sys; print('%d.%d' % sys.version_info[:2])"], stdout=subprocess.PIPE,
+                                  stderr=subprocess.DEVNULL, text=True).stdout.strip()
+            if said and said not in found:
+                found[said] = name
+    return found
+
+
+class OfThePackage(Test):
+    @each(VERSIONS)
+    def test_pip_installs_it_and_its_examples_hold(self, version):
+        python = pythons().get(version)
+        if python is None:
+            self.skipTest("Python %s, which is not here" % version)
+        place = str(PACKAGE)
+        if has(python, "pip"):
+            place = str(self.folder())
+            # pip leaves its own build/ in a folder that it installs.
+            copy = shutil.copytree(PACKAGE, self.folder() / "python", ignore=shutil.ignore_patterns("__pycache__"))
+            self.holds([python, "-B", "-m", "pip", "install", "--quiet", "--disable-pip-version-check", "--no-index", "--no-deps",
+                        "--target", place, copy])
+        self.holds([python, "-B", "-c", DOCTESTS], cwd="/", env=dict(os.environ, PYTHONPATH=place))
+
+    def test_the_types(self):
+        if importlib.util.find_spec("mypy") is None:
+            self.skipTest("the types, for want of mypy")
+        self.holds([sys.executable, "-m", "mypy", "--config-file", PACKAGE / "pyproject.toml", "--cache-dir", self.folder(), PACKAGE / "dollar"])
+
+    def test_nothing_is_unused(self):
+        linter = next((words for words in (["ruff", "check"], ["pyflakes"]) if importlib.util.find_spec(words[0])), None)
+        if linter is None:
+            self.skipTest("the look for slips, for want of ruff and pyflakes")
+        self.holds([sys.executable, "-m", *linter, PACKAGE, PACKAGE.parent / "tests", *EXAMPLES.glob("*.py")])
