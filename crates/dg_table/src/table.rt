@@ -186,7 +186,8 @@ impl<N: Name> Table<N> {
 
     /// Enters a question on the look of a receipt as stale, as `settle` enters each finding on it, if gifts, levies or joins were
     /// accepted since; so nothing need be reckoned on a look that is stale. The seat is told of the look. The condition is that
-    /// the data is that of the look, whatever its drift. `None`, and no entry, if none was accepted before it had the lock.
+    /// the data is that of the look, whatever its drift. `None` if none was accepted before it had the lock; that is no event: no
+    /// cell is set, and the seat knows what it knew.
     ///
     /// It waits for the lock, twice if it makes an entry. Refused as `settle`.
     pub fn settle_stale(

@@ -8,32 +8,30 @@ pub returns-in-Ok-ended-clause-done : goal.returns-in-Ok-ended-clause-done
 returns-in-Ok-ended-clause-done g c = (
   c.in-Ok-ended.field-0,
   served (record {
-    rest = c.serve_seats-ended.new.reader.remaining;
+    rest = c.serve_opened-ended.new.input.remaining;
     seats = c.deref_mut.result.now;
     fresh = subst (AreFresh c.args.seats) (sym c.deref_mut.ensures.value) c.in-Ok.ensures;
-    after = c.serve_seats-ended.new.seats;
-    session = rw (← c.requires.table, ← c.names.ensures.value)
-        c.in-Ok-ended.ensures.session;
-  }) c.in-Ok-close.history.pen.entries c.serve_seats-ended.ensures.session.numbers
+    after = c.serve_opened-ended.new.seats;
+    session = rw (← c.requires.table) c.in-Ok-ended.ensures.session;
+  }) c.in-Ok-close.history.pen.entries c.serve_opened-ended.ensures.session.numbers
       (rw (← c.requires.table)
       (subst (λ ys. IsClosed g.N.Name.table ys
       c.in-Ok-close.history.pen.entries)
-      (seats_back c.in-Ok.opened.1.len c.deref_mut.result.now c.serve_seats-ended.new.seats _ (search rules)
-      c.serve_seats-ended.ensures.session.numbers) c.in-Ok-close.ensures.0)),
+      (seats_back c.in-Ok.opened.1.len c.deref_mut.result.now c.serve_opened-ended.new.seats _ (search rules)
+      c.serve_opened-ended.ensures.session.numbers) c.in-Ok-close.ensures.0)),
 )
 
 pub returns-in-Ok-close-clause-early : goal.returns-in-Ok-close-clause-early
 returns-in-Ok-close-clause-early g c =
     served (record {
-      rest = c.serve_seats-ended.new.reader.remaining;
+      rest = c.serve_opened-ended.new.input.remaining;
       seats = c.deref_mut.result.now;
       fresh = subst (AreFresh c.args.seats) (sym c.deref_mut.ensures.value) c.in-Ok.ensures;
-      after = c.serve_seats-ended.new.seats;
-      session = rw (← c.requires.table, ← c.names.ensures.value)
-          c.in-Err-ended.ensures.session;
-    }) c.in-Ok-close.history.pen.entries c.serve_seats-ended.ensures.session.numbers
+      after = c.serve_opened-ended.new.seats;
+      session = rw (← c.requires.table) c.in-Err-ended.ensures.session;
+    }) c.in-Ok-close.history.pen.entries c.serve_opened-ended.ensures.session.numbers
     (rw (← c.requires.table)
     (subst (λ ys. IsClosed g.N.Name.table ys
     c.in-Ok-close.history.pen.entries)
-    (seats_back c.in-Ok.opened.1.len c.deref_mut.result.now c.serve_seats-ended.new.seats _ (search rules)
-    c.serve_seats-ended.ensures.session.numbers) c.in-Ok-close.ensures.0))
+    (seats_back c.in-Ok.opened.1.len c.deref_mut.result.now c.serve_opened-ended.new.seats _ (search rules)
+    c.serve_opened-ended.ensures.session.numbers) c.in-Ok-close.ensures.0))
