@@ -1,5 +1,5 @@
 //! What is reckoned on looks, with no table at hand.
-ghost use Rattle.std.specs.Prelude.{◌≡◌, MatchResult};
+ghost use Rattle.std.specs.Prelude.{◌≡◌, MatchResult, IfErr};
 ghost use Rattle.dg_analyst.specs.Commits.{IsReckoned};
 ghost use Rattle.dg_analyst.specs.Views.{IsTried};
 ghost use Rattle.dg_rank.specs.Ranks.{IsRankFault};
@@ -8,7 +8,7 @@ ghost use Rattle.dg_game.specs.Look.{IsFoundFor};
 use crate::looks::Look;
 use dg_game::Finding;
 use dg_log::Name;
-use dg_rank::{Gate, RankFault, rank_with};
+use dg_rank::{Gate, OpenGate, RankFault, rank_at_least, rank_with};
 use dg_reduce::InverseLaplacian;
 use dg_verdict::{RankVerdict, Verdict, judge_with_inverse};
 use std::marker::Model;
@@ -136,5 +136,44 @@ pub fn try_rank<N: Name, R: Threads + Wait, G: Gate>(
     ) {
         Ok(verdict) => Ok(Tried { look, verdict }),
         Err(fault) => Err((look, fault)),
+    }
+}
+
+/// The rank test of degree k as `try_rank` makes it with one worker and no gate, by the thread that calls: it waits for
+/// nothing, and needs no memory.
+///
+/// Refused with `TooMany` alone. The look comes back.
+pub fn try_rank_alone<N: Name>(look: Look<N>, k: u32) -> Result<Tried<N>, (Look<N>, RankFault)>
+    ensures tried { MatchResult result
+        (λ t. (t.look ≡ look) × IsTried look k 1 t.verdict)
+        (λ e. (e.0 ≡ look) × IsRankFault look.shown.graph.size k 1 e.1) }
+    ensures too_many { IfErr result (λ e. e.1 ≡ RankFault.TooMany) }
+{
+    let position = &look.shown.position;
+    match rank_at_least(&look.shown.graph, usize::from(look.q), position, k) {
+        Ok(verdict) => Ok(Tried { look, verdict }),
+        Err(_) => Err((look, RankFault::TooMany)),
+    }
+}
+
+/// The rank test of degree k as `try_rank` makes it with so many workers and no gate. One worker is the thread that calls, so
+/// none is started.
+///
+/// Refused as `try_rank`. The look comes back.
+pub fn try_rank_by<N: Name, R: Threads + Wait>(
+    rt: &R,
+    look: Look<N>,
+    k: u32,
+    workers: u32,
+) -> Result<Tried<N>, (Look<N>, RankFault)>
+    ensures tried { MatchResult result
+        (λ t. (t.look ≡ look) × IsTried look k workers t.verdict)
+        (λ e. (e.0 ≡ look) × IsRankFault look.shown.graph.size k workers e.1) }
+    ensures alone { workers ≡ 1 → IfErr result (λ e. e.1 ≡ RankFault.TooMany) }
+{
+    if workers == 1 {
+        try_rank_alone(look, k)
+    } else {
+        try_rank(rt, look, k, workers, &OpenGate)
     }
 }

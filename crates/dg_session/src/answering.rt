@@ -8,11 +8,11 @@ ghost use Rattle.dg_session.specs.SoFar.{heard, speaker, Tells, Hears, Obeys};
 
 use crate::ends::SessionEnd;
 use crate::line_format::LineFormat;
-use dg_analyst::{Look, commit_look, commit_rank, commit_stale, look, try_rank};
+use dg_analyst::{Look, commit_look, commit_rank, commit_stale, look, try_rank_by};
 use dg_game::{Command, Plain, Question};
 use dg_lines::{parse_line, push_entry};
 use dg_log::{Name, Receipt};
-use dg_rank::{OpenGate, RankFault, trials};
+use dg_rank::{RankFault, trials};
 use dg_reduce::InverseLaplacian;
 use dg_table::{Seat, Table};
 use dg_tokens::Names;
@@ -283,7 +283,7 @@ fn try_kept<N: Name, R: Threads + Wait>(
         return said.say(b"bad look\n");
     };
     let _receipt = look.receipt();
-    match try_rank(shared.rt, look, k, shared.workers, &OpenGate) {
+    match try_rank_by(shared.rt, look, k, shared.workers) {
         Ok(tried) => match commit_rank(shared.table, shared.rt, shared.alloc, seat, tried) {
             Ok(receipt) => said.say_entry(shared.table, shared.names, &receipt),
             Err((_, fault)) => Err(SessionEnd::Table(fault)),

@@ -1,6 +1,8 @@
 //! Rank tests that are printed, and both sides of Riemann-Roch.
-ghost use Rattle.std.specs.Prelude.{◌≡◌, ℤ, ◌++◌, IfOk, IfErr, OnOk};
-ghost use Rattle.dg_rank.specs.Ranks.{MayHaveWorkers};
+ghost use Rattle.std.specs.Prelude.{◌≡◌, ℤ, ◌++◌, IfOk, IfErr, OnOk, MatchResult};
+ghost use Rattle.dg_chips.specs.Vector.{at};
+ghost use Rattle.dg_verdict.specs.RankTests.{IsRankTest};
+ghost use Rattle.dg_rank.specs.Ranks.{IsWithin, MayHaveWorkers, IsRankFault};
 ghost use Rattle.dg_tasks.specs.RankTests.{IsRankAnswer, RefusesRank, number_line, riemann_roch_text, IsRiemannRoch, RefusesRiemannRoch};
 
 use crate::fault::TaskFault;
@@ -8,7 +10,7 @@ use crate::printed::reply_line;
 use dg_chips::{Start, dual};
 use dg_file::TableFile;
 use dg_game::Reply;
-use dg_rank::{OpenGate, RankFault, both_ranks_in_limits, rank_with};
+use dg_rank::{OpenGate, RankFault, RankVerdict, both_ranks_in_limits, rank_at_least, rank_with};
 use dg_system::Shortage;
 use itoa::Buffer;
 use std::alloc::{AllocError, Allocator, Global};
@@ -17,8 +19,9 @@ use std::thread::Threads;
 
 /// Whether the rank of a table's amounts is at least k, as text: the text of a reply, and a newline.
 ///
-/// The trials are shared among so many workers; the condition is 1 to 16. Refused with `TooMany` if the test is past the
-/// limits, and with `Shortage` if a thread could not be started, or at the growth that was refused.
+/// The trials are shared among so many workers; the condition is 1 to 16. One worker is the thread that calls. Refused with
+/// `TooMany` if the test is past the limits, and with `Shortage` if a thread could not be started, or at the growth that was
+/// refused.
 pub fn rank_answer<R: Threads + Wait>(
     rt: &R,
     alloc: Global,
@@ -31,10 +34,7 @@ pub fn rank_answer<R: Threads + Wait>(
         (λ text. IsRankAnswer table.now.start k table.now.names text.items) }
     ensures refused { IfErr result (RefusesRank table.now.start.graph.size k) }
 {
-    let start = table.start();
-    let q = usize::from(start.q());
-    let (graph, divisor) = (start.graph(), start.divisor());
-    let verdict = match rank_with(rt, graph, q, divisor, k, workers, &OpenGate) {
+    let verdict = match tested_by(rt, table.start(), k, workers) {
         Ok(verdict) => verdict,
         Err(RankFault::TooMany) => return Err(TaskFault::TooMany),
         Err(RankFault::Workers) => unreachable!(),
@@ -44,6 +44,26 @@ pub fn rank_answer<R: Threads + Wait>(
     match reply_line(alloc, &Reply::Rank(verdict), table.names()) {
         Ok(text) => Ok(text),
         Err(_) => Err(TaskFault::Shortage(Shortage::OutOfMemory)),
+    }
+}
+
+/// The rank test of degree k for the amounts of a start, by so many workers: one is the thread that calls.
+fn tested_by<R: Threads + Wait>(
+    rt: &R,
+    start: &Start,
+    k: u32,
+    workers: u32,
+) -> Result<RankVerdict, RankFault>
+    ensures { MatchResult result
+        (λ x. IsWithin start.now.graph.size k × IsRankTest start.now.graph (at start.now.divisor) k x)
+        (IsRankFault start.now.graph.size k workers) }
+{
+    let q = usize::from(start.q());
+    let (graph, divisor) = (start.graph(), start.divisor());
+    if workers == 1 {
+        rank_at_least(graph, q, divisor, k)
+    } else {
+        rank_with(rt, graph, q, divisor, k, workers, &OpenGate)
     }
 }
 

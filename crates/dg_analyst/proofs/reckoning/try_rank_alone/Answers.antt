@@ -1,0 +1,8 @@
+use Rattle.std.proofs.Common.{◌≡◌, refl, ap}
+use Rattle.dg_analyst.specs.Views.{LookView}
+use Rattle.dg_analyst.proofs.reckoning.try_rank_alone.Goals as goal
+
+pub returns-in-Err-clause-tried : goal.returns-in-Err-clause-tried
+returns-in-Err-clause-tried g c =
+    let shown : c.look.inside.shown ≡ c.args.look.shown = ap (λ (x : LookView). x.shown) c.look.view_is in
+    (refl, rw shown at c.in-Err.ensures.1)
