@@ -23,7 +23,7 @@ use Rattle.dg_chips.specs.declared.moves.Move.{Move}
 use Rattle.dg_chips.specs.declared.moves.Move.TheVariants.{Borrow}
 use Rattle.dg_game.specs.History.{position_after, gifts_in}
 use Rattle.dg_game.specs.Legal.{IsLegal}
-use Rattle.dg_game.specs.MoveReplies.{RefusesMove, RepliesToMove}
+use Rattle.dg_game.specs.MoveReplies.{RepliesToMove}
 use Rattle.dg_game.specs.Position.{Position, Shows}
 use Rattle.dg_game.specs.Replies.{Replies, RepliesAt}
 use Rattle.dg_game.specs.Step.{after_reply}

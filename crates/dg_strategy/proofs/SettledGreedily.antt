@@ -10,12 +10,11 @@
 --   last_asked      how the last entry of a greedy history is asked for
 --   claim_at_end    the claim at the end of a legal and greedy history is won
 --   settling_out_is_greedy   a greedy game is made
-use Rattle.std.proofs.Common.{◌≡◌, ℕ, ◌+◌, ◌<◌, ◌≤◌, Ok, List, [], ◌∷◌, ◌++◌, length, map, take, slice_get, Some, Option, None, arith, refl, sym, ap, subst, ◌∙◌, append_assoc, append-nil, length-append}
+use Rattle.std.proofs.Common.{◌≡◌, ℕ, ◌+◌, ◌<◌, List, [], ◌∷◌, ◌++◌, length, map, Some, Option, None, arith, refl, sym, ap, subst, ◌∙◌, append_assoc, append-nil}
 use Rattle.std.specs.List.{FoldsTo, enumerate_from}
 use Rattle.std.proofs.Math.Seq.{take-append_seam}
 use Rattle.std.proofs.lemmas.Option.{slice_get_within}
 use Rattle.dg_theory.specs.Firing.{IsEffective}
-use Rattle.dg_chips.specs.Vector.{at}
 use Rattle.dg_chips.specs.Starts.{StartData}
 use Rattle.dg_chips.specs.declared.moves.Move.{Move}
 use Rattle.dg_game.specs.History.{position_after}
@@ -33,10 +32,9 @@ use Rattle.dg_table.specs.Seats.{SeatView, AreSeated, entries_of}
 use Rattle.dg_table.specs.Turns.{request_for}
 use Rattle.dg_table.proofs.Entries.{enumerate_from-more, entries_enumerated, own_alone}
 use Rattle.dg_strategy.specs.Choices.{BorrowsAtLeast}
-use Rattle.dg_strategy.specs.Greedy.{IsGreedyCall, AreGreedy, AllMoves, EndsSo}
-use Rattle.dg_strategy.specs.GreedyLaws.{LeastDebtors, IsAloneAt, HasGreedyGame, SettlingOutIsGreedy}
-use Rattle.dg_strategy.specs.Plays.{IsMove, AreMoves, IsTurnBy, IsSettlerTurn, Gains, Plays}
-use Rattle.dg_strategy.specs.declared.playing.Ended.{Ended}
+use Rattle.dg_strategy.specs.Greedy.{IsGreedyCall, AreGreedy, AllMoves}
+use Rattle.dg_strategy.specs.GreedyLaws.{LeastDebtors, IsAloneAt, SettlingOutIsGreedy}
+use Rattle.dg_strategy.specs.Plays.{AreMoves, IsTurnBy, IsSettlerTurn, Gains}
 use Rattle.dg_strategy.specs.declared.playing.Ended.TheVariants.{Settled, Turns}
 use Rattle.dg_strategy.proofs.Turned.{claim_won}
 

@@ -3,13 +3,13 @@
 --   pairs_same      amounts that agree on the vertices have the same pairs
 --   move_once, gift_once, join_once, look_once, claim_once, judge_once, rank_once   so it is of replies to each request
 --   reply_once      and to any
-use Rattle.std.proofs.Common.{◌≡◌, ◌≢◌, ℕ, ◌+◌, ◌<◌, ◌≤◌, ◌⊎◌, inl, inr, Bool, true, false, List, [], ◌∷◌, ◌++◌, length, codes, arith, refl, sym, ap, subst, ◌∙◌}
+use Rattle.std.proofs.Common.{◌≡◌, ◌≢◌, ℕ, ◌+◌, ◌<◌, ◌≤◌, ◌⊎◌, inl, inr, Bool, true, false, List, [], ◌∷◌, ◌++◌, length, codes, arith, refl, sym, ap, ◌∙◌}
 use Rattle.std.specs.Prelude.{◌↔◌, decimal}
 use Rattle.std.proofs.lemmas.Bool.{false≢true}
 use Rattle.std.proofs.lemmas.Int.{ints}
-use Rattle.std.proofs.Math.IntN.{ℤ, pos, ◌+ℤ◌}
-use Rattle.dg_theory.specs.Multigraph.{Multigraph, IsMultigraph}
-use Rattle.dg_theory.specs.Firing.{Amounts, AgreeOn, AreEquivalent, fired, IsEffective}
+use Rattle.std.proofs.Math.IntN.{ℤ}
+use Rattle.dg_theory.specs.Multigraph.{Multigraph}
+use Rattle.dg_theory.specs.Firing.{Amounts, AgreeOn, IsEffective}
 use Rattle.dg_theory.specs.Play.{IsWinnable}
 use Rattle.dg_theory.proofs.ConstantLaws.{same_by_constant}
 use Rattle.dg_theory.proofs.Equivalence.{equivalent-sym, equivalent-trans}
@@ -19,7 +19,7 @@ use Rattle.dg_graph.specs.Graph.{IsGraph}
 use Rattle.dg_graph.proofs.SetLaws.{in_set-none}
 use Rattle.dg_graph.specs.Sets.{in_set}
 use Rattle.dg_chips.specs.Vector.{Vector, at}
-use Rattle.dg_chips.specs.Moves.{script_of, NamesNoVertex, IsEmptySet, HasOtherSize, IsPlayable}
+use Rattle.dg_chips.specs.Moves.{NamesNoVertex, IsEmptySet, HasOtherSize, IsPlayable}
 use Rattle.dg_chips.specs.Applied.{IsAfterMove}
 use Rattle.dg_chips.specs.declared.moves.Move.{Move}
 use Rattle.dg_chips.specs.declared.moves.Move.TheVariants.{Lend, Borrow, Fire, Script}
