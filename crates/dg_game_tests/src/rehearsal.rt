@@ -72,13 +72,16 @@ fn no_seat_looks(rt: &impl Abort, start: &Start, seat: u8) {
     assert!(rt; came == Err(RehearseFault::Seat(0)));
 }
 
-// If a history is full, the seat of the next step is judged first.
+// A history has room for 65,536 entries. If it is full, the seat of the next step is judged first.
 #[test]
-fn seats_come_before_the_length(rt: HostRuntime) -> Result<(), Fail> {
+fn histories_have_a_length(rt: HostRuntime) -> Result<(), Fail> {
     let start = start(triangle()?, &[2, -1, -1], 0)?;
     let mut steps = vec![in rt.alloc(); claim(1); MAX_ENTRIES]?;
-    steps.push(claim(0))?;
-    no_seat_claims(&rt, rt.alloc(), &start, &steps, MAX_ENTRIES);
+    steps.push(claim(1))?;
+    let fault = rehearse(rt.alloc(), &start, &steps).err();
+    assert!(&rt; fault == Some(RehearseFault::Full(65_536)));
+    steps[MAX_ENTRIES] = claim(0);
+    no_seat_claims(&rt, rt.alloc(), &start, &steps, 65_536);
     Ok(())
 }
 

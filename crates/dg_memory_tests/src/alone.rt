@@ -2,7 +2,7 @@
 
 use crate::acts::of_rank;
 use crate::outcomes::{Outcome, done_if, tell};
-use crate::tables::triangle;
+use crate::tables::{nothing_to_do, triangle};
 use dg_chips::{Divisor, Move};
 use dg_file::{Names, TableFile};
 use dg_game::{Command, Entry, Plain, Reply, Step};
@@ -25,7 +25,7 @@ enum Call {
     RankWith,
 }
 
-// A look, a move after which nobody is in debt, and a claim.
+// A look, a move after which nobody is in debt, and a commit of the verdict on the look.
 const STEPS: [Step; 3] = [
     Step {
         seat: 1,
@@ -37,11 +37,11 @@ const STEPS: [Step; 3] = [
     },
     Step {
         seat: 1,
-        command: Command::Call(Plain::Claim),
+        command: Command::Commit,
     },
 ];
 
-const TEXT: &[u8] = b"1 look\n2 lend a\n1 claim\n";
+const TEXT: &[u8] = b"1 look\n2 lend a\n1 commit\n";
 
 static CALLS: [(&str, Call); 4] = [
     ("parse_steps", Call::ParseSteps),
@@ -108,7 +108,7 @@ fn parsed(alloc: Global, names: &Names) -> Outcome {
 
 fn rehearsed(alloc: Global, file: &TableFile) -> Result<Outcome, Fail> {
     match rehearse(alloc, file.start(), &STEPS) {
-        Ok(history) => Ok(done_if(is_won(history.as_slice(), file)?)),
+        Ok(history) => Ok(done_if(is_paid(history.as_slice(), file)?)),
         Err(RehearseFault::OutOfMemory) => Ok(Outcome::Memory),
         Err(_) => Ok(Outcome::Wrong),
     }
@@ -122,20 +122,25 @@ fn written(alloc: Global, file: &TableFile) -> Outcome {
     }
 }
 
+// On the triangle with a dollar at a, one can be lost at b or at c only by going into debt.
 fn ranked<R: Threads + Wait>(rt: &R, graph: &Graph) -> Result<Outcome, Fail> {
-    let three = Divisor::new(graph, &[3, 0, 0])?;
-    let loss = Divisor::new(graph, &[0, 1, 2])?;
-    match rank_with(rt, graph, 0, &three, 3, 2, &OpenGate) {
-        Ok(verdict) => Ok(done_if(verdict == RankVerdict::Below(3, loss))),
+    let one = Divisor::new(graph, &[1, 0, 0])?;
+    let loss = Divisor::new(graph, &[0, 0, 1])?;
+    match rank_with(rt, graph, 0, &one, 1, 3, &OpenGate) {
+        Ok(verdict) => Ok(done_if(verdict == RankVerdict::Below(1, loss))),
         Err(fault) => Ok(of_rank(fault)),
     }
 }
 
-// Whether the history is that of the steps: nobody is in debt after the move.
-fn is_won(history: &[Entry], file: &TableFile) -> Result<bool, Fail> {
-    let even = Divisor::new(file.start().graph(), &[0, 0, 0])?;
+// Whether the history is that of the steps: after the move nobody is in debt, and there is nothing left to do.
+fn is_paid(history: &[Entry], file: &TableFile) -> Result<bool, Fail> {
+    let graph = file.start().graph();
+    let even = Divisor::new(graph, &[0, 0, 0])?;
+    let verdict = nothing_to_do(graph)?;
     Ok(match history {
-        [_, lent, claimed] => lent.reply == Reply::Moved(even) && claimed.reply == Reply::Won,
+        [_, lent, committed] => {
+            lent.reply == Reply::Moved(even) && committed.reply == Reply::Verdict(verdict)
+        }
         _ => false,
     })
 }

@@ -252,12 +252,7 @@ fn are_answered(rt: &impl Abort, history: &[Entry], wanted: &[Reply]) {
 // has no script any more; one dollar can't be lost then, at c; and b is given one.
 fn replies(graph: &Graph) -> Result<[Reply; 7], Fail> {
     let even = Divisor::new(graph, &[0, 0, 0])?;
-    let verdict = Verdict {
-        winnable: true,
-        script: Script::new(graph, &[0, 0, 0])?,
-        reduced: Wide::new(graph, &[0, 0, 0])?,
-        order: [0, 1, 2, 0, 0, 0, 0, 0, 0, 0, 0, 0, 0, 0, 0, 0],
-    };
+    let verdict = nothing_to_do(graph)?;
     Ok([
         Reply::Looked(0, Divisor::new(graph, &[2, -1, -1])?, *graph),
         Reply::Moved(even),
@@ -267,6 +262,16 @@ fn replies(graph: &Graph) -> Result<[Reply; 7], Fail> {
         Reply::Won,
         Reply::Given(1, Divisor::new(graph, &[0, 1, 0])?),
     ])
+}
+
+// The verdict on a triangle where nobody has or owes a dollar.
+pub(crate) fn nothing_to_do(graph: &Graph) -> Result<Verdict, Fail> {
+    Ok(Verdict {
+        winnable: true,
+        script: Script::new(graph, &[0, 0, 0])?,
+        reduced: Wide::new(graph, &[0, 0, 0])?,
+        order: [0, 1, 2, 0, 0, 0, 0, 0, 0, 0, 0, 0, 0, 0, 0, 0],
+    })
 }
 
 // Two turns in which a lends. Entries that were made before a refusal stay.
