@@ -75,7 +75,7 @@ class Verdict(Answer):
     >>> "can be won" if verdict else "can't be won"
     'can be won'
 
-    What it leads to can be handed back as the amounts of a table:
+    What it leads to can be handed back as the amounts of a table, unless q then owes more than a table may have:
 
     >>> print(judge(Table(table, verdict.reduced)))
     winnable by a=0 b=0 to a=1 b=0

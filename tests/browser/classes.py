@@ -5,6 +5,7 @@ from common import BOARD, EXAMPLES, addresses, asked, equal, expect, played, scr
 from model import some_command
 from visitors import Place, Pupil, opened
 
+LONG, COMES_BACK = 60_000, 2.0
 PUPILS, LINES = 30, 100
 SEATS, BEHIND, CLICKS, MEDIAN = 64, 1000, 200, 0.050
 HALVES = 400
@@ -361,6 +362,24 @@ def with_keeping(folder):
         expect((printed, status) == (b"", 1) and word in said and said.count("\n") == 1, "with another %s: %r" % (name, said))
         equal(text_of(kept, name), text, "a file of a game that is not gone on with")
         written(kept, name, before)
+
+
+def with_a_long_game(folder):
+    """A kept game of 60,000 entries comes back soon: in half a second, if the machine has nothing else to do."""
+    kept = os.path.join(folder, "long")
+    os.mkdir(kept)
+    steps = "".join("1 %s ann\n" % ("borrow" if number % 2 else "lend") for number in range(LONG))
+    table = table_file(folder)
+    history = asked("rehearse", table, written(kept, "steps.txt", steps))[0]
+    written(kept, "history.txt", history)
+    written(kept, "table.json", text_of(table))
+    start = time.monotonic()
+    with played(table, "--seats", "3", "--keep", kept) as (_, (_, teacher)):
+        took = time.monotonic() - start
+        equal(Place(teacher).get("history.txt")[1].count("\n"), LONG, "the entries that came back")
+    expect(took < COMES_BACK, "%d entries come back in %.2f s" % (LONG, took))
+    if os.environ.get("TOLD"):
+        print("%d entries come back in %.2f s" % (LONG, took))
 
 
 def attend_until_dead(pupil, draw):

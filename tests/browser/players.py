@@ -6,7 +6,7 @@ from browser import CTRL, SHIFT
 from common import EXAMPLES, asked, equal, expect, played, text_of, written
 
 READY = "document.readyState === 'complete' && Boolean(globalThis.inside && inside.viewer)"
-WIDTHS, RANDOM_LINES = (360, 1280, 1920), 80
+WIDTHS, RANDOM_LINES, LONG = (360, 1280, 1920), 80, 60_000
 AT = "#board [data-name='%s']"
 
 
@@ -35,6 +35,14 @@ class Player:
         act(*given, **more)
         self.browser.until("viewer.game.length === %d" % (before + 1))
         return self.text("#asked")
+
+    def time_of_lines(self, count):
+        """The median of the seconds that a line takes, from its click until it is drawn."""
+        return self.value(
+            "(async () => { const took = []; for (let i = 0; i < %d; i++) { const start = performance.now();"
+            " await play(i %% 2 ? 'borrow a' : 'lend a'); took.push(performance.now() - start); }"
+            " return took.sort((x, y) => x - y)[took.length >> 1] / 1000; })()" % count
+        )
 
     def refused(self, act, *given, **more):
         """Does what is refused. Gives what the page says, in words and in those of the program."""
@@ -193,7 +201,7 @@ def by_seats(player):
         player.refused(browser.click, "#commit"),
         (
             "This seat has not looked since its last verdict. It looks first.",
-            "dollar: step %d: no look" % (player.length() + 1),
+            "dollar: bad look",
         ),
         "no look",
     )
@@ -212,14 +220,14 @@ def with_refusals(player):
         ("lend", "The command has too many words or too few, or a space too many.", "bad form"),
         ("gift ann 1.5", "A number in it is none, or out of range.", "bad number"),
         ("<b>x</b>", "That is no command.", "bad word"),
-        ("rank 99999", "This seat has not looked since its last verdict. It looks first.", None),
+        ("rank 99999", "This seat has not looked since its last verdict. It looks first.", "bad look"),
         ("", "That is no command.", "bad word"),
-        ("look now " + "x" * 2000, "The command has too many words or too few, or a space too many.", "bad form"),
+        ("look now " + "x" * 200, "The command has too many words or too few, or a space too many.", "bad form"),
+        ("look now " + "x" * 2000, "The line is too long.", "long line"),
         ("lend \u00e4nn", "It names a vertex that is not there, or one twice.", "bad name"),
     ):
         said = player.refused(player.value, "void play(%s)" % json.dumps(line))
-        own = "dollar: line %d: %s" % (player.length() + 1, own) if own else "dollar: step %d: no look" % (player.length() + 1)
-        equal(said, (words, own), "the line %.20r" % line)
+        equal(said, (words, "dollar: " + own), "the line %.20r" % line)
     equal(player.refused(player.value, "void play('look\\n1 claim')")[0], "A line has no newline in it.", "two lines")
     equal(player.value("document.querySelectorAll('#refused b').length"), 0, "elements made of what was typed")
 
@@ -238,6 +246,31 @@ def with_many_lines(player):
     equal(asked("rr", now), ("", "dollar: too many trials\n", 3), "the four numbers of a table with millions")
     equal(player.told("#ask-rr"), ("That rank test is too large.", "dollar: too many trials\n"), "what the page says of them")
     player.value("hands.tell('')")
+
+
+def with_a_long_game(player):
+    """Late in a long game a line takes about as long as at its beginning, and going back far and on from there is quick too."""
+    player.value("void openTable(examples['triangle.json'], 'triangle.json')")
+    player.answered(True)
+    player.browser.until("fileName === 'triangle.json' && viewer.game.length === 0")
+    early = player.time_of_lines(10)
+    time.sleep(1)
+    steps = "".join("1 %s a\n" % ("borrow" if number % 2 else "lend") for number in range(LONG))
+    player.value("sessionStorage.setItem(`dollar ${location.pathname}`, JSON.stringify({ table, fileName, steps: %s, places: 'a 0 0\\nb 1 0\\n"
+                 "c 0 1\\n' }))" % json.dumps(steps))
+    player.value("location.reload()")
+    player.browser.until(READY + " && viewer.game.length === %d" % LONG)
+    late = player.time_of_lines(10)
+    expect(late < 1.5 * early + 0.004, "a line takes %.1f ms after %d steps, and %.1f ms at first" % (1000 * late, LONG, 1000 * early))
+    if os.environ.get("TOLD"):
+        print("a line takes %.1f ms after %d steps, and %.1f ms at first" % (1000 * late, LONG, 1000 * early))
+    start = time.monotonic()
+    player.value("viewer.go(%d)" % (LONG - 100))
+    player.value("void play('claim')")
+    player.answered(True)
+    player.browser.until("viewer.game.length === %d" % (LONG - 99))
+    equal(player.text("#said"), "%d not won" % (LONG - 100), "a claim on an earlier place")
+    expect(time.monotonic() - start < 2, "going on from an earlier place took %.1f s" % (time.monotonic() - start))
 
 
 def random_line(draw, one, other):
@@ -336,6 +369,14 @@ def with_fire(player):
     equal(player.length(), 0, "the entries after a fire")
     player.value("viewer.go(0)")
     equal(player.value("document.querySelectorAll('#board .badge').length"), 0, "who burns after that")
+    # Here q owes sixteen times as much as a table may have.
+    player.value("void openTable(examples['poor_sixteen.json'], 'poor_sixteen.json')")
+    player.browser.until("fileName === 'poor_sixteen.json'")
+    words, _ = player.told("#ask-won")
+    player.browser.click("#show-fire")
+    player.browser.until("document.querySelectorAll('#told-fire li').length === 17")
+    equal(player.text("#told-words"), words, "the verdict beside its fire")
+    equal(player.value("viewer.board.burnt.length"), 16, "who burns of sixteen")
 
 
 def with_tables(player, folder):
@@ -542,6 +583,7 @@ def all_of(browser, folder):
         with_tables(player, folder)
         with_editor(player)
         with_takings(player, folder)
+        with_a_long_game(player)
         equal(browser.thrown, [], "what the page has thrown")
         outside = [url for url in browser.asked[before:] if not url.startswith((address, "file:", "data:", "blob:", "about:"))]
         equal(outside, [], "what the page has asked of others")

@@ -243,8 +243,27 @@ def of_alone(folder):
                 (200, printed, ended, said.replace("dollar: ", "", 1).partition("\n")[0]),
                 "%r" % (given,),
             )
+        # A game on a live program: one that is gone back in, a line that is none, and a game that is not there.
+        _, begun = ask(command="begin", table=table, steps="1 look\n2 lend a\n")
+        equal((begun["status"], begun["out"]), (0, asked("rehearse", file, written(folder, "s3", "1 look\n2 lend a\n"))[0]), "begin")
+        for count, line, wanted in (
+            (2, "1 commit", (0, "2 winnable by a=0 b=0 c=0 to a=0 b=0 c=0\n", "")),
+            (3, "1 commit", (3, "", "bad look")),
+            (3, "65 look", (3, "", "bad seat")),
+            (3, "1 " + "x" * 1024, (3, "", "long line")),
+            (0, "3 claim", (0, "0 not won\n", "")),
+            (1, "3 lend a", (0, "1 moved a=0 b=0 c=0\n", "")),
+        ):
+            _, got = ask(command="play", key=begun["key"], count=count, line=line)
+            equal((got["status"], got["out"], got["err"]), wanted, "play %d %s" % (count, line))
+        for key, count in ("x", 0), (begun["key"], 9):
+            equal(ask(command="play", key=key, count=count, line="1 look")[1].get("gone"), True, "a game that is gone")
+        equal(ask(command="begin", table=table, steps="1 lend z\n")[1]["err"], "bad name", "begin with a bad line")
+        equal(ask(command="begin", table="{}", steps="")[1]["status"], 0, "a game on what is no table")
         for given in (
             {},
+            {"command": "play", "key": begun["key"], "count": 0, "line": "1 look\n1 look"},
+            {"command": "play", "key": begun["key"], "count": "0", "line": "1 look"},
             {"command": "party", "table": table},
             {"command": "judge"},
             {"command": "judge", "table": 7},

@@ -60,5 +60,5 @@ def of_many_pupils(folder):
 load_tests = tests_of(
     of_places, of_modules, of_replays, of_one_player, of_the_pages_of_a_class, strangers.of_command_line, strangers.of_alone,
     strangers.of_silence, strangers.of_many, of_many_pupils, classes.with_network, classes.with_strangers, classes.with_commands,
-    classes.with_deaths, classes.with_keeping, classes.with_full_history, classes.with_floods, classes.with_clicks,
+    classes.with_deaths, classes.with_keeping, classes.with_a_long_game, classes.with_full_history, classes.with_floods, classes.with_clicks,
     given=tempfile.TemporaryDirectory)

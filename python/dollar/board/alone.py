@@ -2,15 +2,16 @@
 import asyncio
 import json
 
+from dollar.board.game import MOST_LINE, Game
 from dollar.board.pages import asset, page
 from dollar.board.replay import page as replay_page
-from dollar.board.server import Nothing, Refused, as_json, same, text_in
+from dollar.board.server import Nothing, Refused, as_json, new_secret, same, text_in
 from dollar.drawing import USUAL, layout
 from dollar.program import PATIENCE, call, fault_of
 from dollar.table import EXAMPLES, text_of
 
-MOST_TABLE, MOST_STEPS, MOST_BODY, MOST_TABLES = 1 << 21, 1 << 21, 1 << 24, 1 << 21
-AT_ONCE = 3
+MOST_TABLE, MOST_STEPS, MOST_BODY, MOST_TABLES = 1 << 21, 1 << 22, 1 << 24, 1 << 21
+AT_ONCE, MOST_GAMES = 3, 8
 
 
 def examples():
@@ -18,12 +19,50 @@ def examples():
     return {file.name: text_of(file) for file in sorted(EXAMPLES.glob("*.json"))}
 
 
+class OwnGame(Game):
+    """The game of one page: the lines that were entries, each with its seat."""
+
+    def __init__(self, text):
+        super().__init__(text)
+        self.lines, self.turn = [], asyncio.Lock()
+
+    async def begin(self, lines):
+        """What the program says to these lines, from the start of the game."""
+        self.lines = list(lines)
+        answers = await self.start(self.lines)
+        wrong = next((answer for answer in answers if not answer[:1].isdigit()), None)
+        if wrong is None and len(answers) == len(self.lines):
+            return {"status": 0, "out": "".join(answer + "\n" for answer in answers), "err": ""}
+        return {"status": 3, "out": "", "err": wrong} if wrong else await self.ended()
+
+    async def play(self, count, line):
+        """What the program says to a line after the first so many entries. Those that follow are dropped, and the game is begun again
+        without them."""
+        async with self.turn:
+            if count < len(self.lines) or self.end:
+                said = await self.begin(self.lines[:count])
+                if said["status"] != 0:
+                    return said
+            answer = await self.answer(line)
+            if answer is None:
+                return await self.ended()
+            if not answer[:1].isdigit():
+                return {"status": 3, "out": "", "err": answer}
+            self.lines.append(line)
+            return {"status": 0, "out": answer + "\n", "err": ""}
+
+    async def ended(self):
+        """What the program has said at its end."""
+        await self.close()
+        return {"status": self.end["status"], "out": "", "err": self.end["text"] or "the program has ended"}
+
+
 class Alone:
     """Answers the requests of the page for one player. The program judges each table and each step."""
 
     def __init__(self, secret, name, text, own=None):
         self.secret, self.name, self.text, self.own = secret, name, text, own
-        self.turns = asyncio.Semaphore(AT_ONCE)
+        self.turns, self.games = asyncio.Semaphore(AT_ONCE), {}
 
     async def answer(self, request):
         """What the server says to a request."""
@@ -51,7 +90,11 @@ class Alone:
     async def asked(self, given):
         """What the program says to a question of the page, or a thing that is made of a table that it takes for one."""
         command = text_in(given, "command", 16)
-        table = text_in(given, "table", MOST_TABLE)
+        table = text_in(given, "table", MOST_TABLE) if command != "play" else ""
+        if command == "begin":
+            return await self.begin(table, text_in(given, "steps", MOST_STEPS).splitlines())
+        if command == "play":
+            return await self.play(given)
         if command in ("judge", "rr"):
             return await run(command, "--", table.encode())
         if command == "rank":
@@ -65,6 +108,38 @@ class Alone:
         if command == "replay":
             return await self.replay(table, text_in(given, "steps", MOST_STEPS), text_in(given, "name", 200))
         raise Refused(400, "there is no such question")
+
+    async def begin(self, table, steps):
+        """Begins a game of a page with some steps. It is known by a key; of too many games the oldest ends."""
+        game = OwnGame(table)
+        try:
+            said = await game.begin(steps)
+        except OSError as error:
+            return {"status": None, "out": "", "err": str(error)}
+        if said["status"] != 0:
+            await game.close()
+            return said
+        said["key"] = new_secret()
+        self.games[said["key"]] = game
+        if len(self.games) > MOST_GAMES:
+            await self.games.pop(next(iter(self.games))).close()
+        return said
+
+    async def play(self, given):
+        """What the program says to a line of a page, or None for the status if the game is not there any more."""
+        game, count, line = self.games.get(text_in(given, "key", 64)), given.get("count"), text_in(given, "line", MOST_BODY)
+        if "\n" in line or not isinstance(count, int) or count < 0:
+            raise Refused(400, "there is no such line")
+        if len(line.encode()) > MOST_LINE:
+            return {"status": 3, "out": "", "err": "long line"}
+        if game is None or count > len(game.lines):
+            return {"status": None, "out": "", "err": "the game is gone", "gone": True}
+        return await asyncio.shield(game.play(count, line))
+
+    async def stop(self):
+        """Ends all games."""
+        for game in self.games.values():
+            await game.close()
 
     async def layout(self, table, given):
         """The verdict on a table, and if there is one, the places of its vertices."""

@@ -8,14 +8,14 @@ import json
 import re
 import time
 
+from dollar.board.game import MOST_LINE, Game
 from dollar.board.pages import asset, page
 from dollar.board.replay import page as replay_page
 from dollar.board.server import Nothing, Refused, as_json, new_secret, same, text_in
 from dollar.drawing import USUAL, layout
-from dollar.grammar import limit
-from dollar.program import PATIENCE, Fault, command_line, fault_of, printed
+from dollar.program import PATIENCE, Fault, printed
 
-MOST_BODY, MOST_LINE, MOST_NAME, MOST_SEATS = 1 << 14, limit("dg_session::MAX_LINE"), 24, limit("dg_game::MAX_SEATS")
+MOST_BODY, MOST_NAME = 1 << 14, 24
 # A seat may play so many lines at once, and then so many in a second; so many of its lines wait, and so many pages are open on it.
 AT_ONCE, IN_A_SECOND, MOST_WAITING, MOST_PAGES = 60, 10.0, 4, 4
 BATCH, HEARTBEAT, UNUSED = 400, 15.0, 60.0
@@ -47,49 +47,20 @@ def clean(name):
     return " ".join(shown.split())[:MOST_NAME].strip()
 
 
-class Game:
-    """The program at one end of a pipe, and what it has answered: the entries, each a seat, a line, an answer and who sat there."""
+class SharedGame(Game):
+    """The game of a class with its entries, each a seat, a line, an answer and who sat there."""
 
     def __init__(self, text, seats, kept=None):
-        self.text, self.seats, self.kept, self.entries = text, seats, kept, list(kept.entries) if kept else []
-        self.child, self.turn, self.end = None, asyncio.Lock(), None
+        super().__init__(text, seats)
+        self.kept, self.entries, self.turn = kept, list(kept.entries) if kept else [], asyncio.Lock()
 
-    async def start(self, ended):
-        """Starts the program, and has it play again all entries that there were. `ended` is called when it ends. Raises ValueError
-        if the program answers them otherwise."""
+    async def begin(self, ended):
+        """Starts the program with all entries that there were. Raises ValueError if it answers them otherwise."""
         async with self.turn:
-            with contextlib.ExitStack() as until:
-                line, descriptors = command_line(["serve", self.text.encode(), "--seats", str(self.seats)], None, until)
-                self.child = await asyncio.create_subprocess_exec(
-                    *line, stdin=asyncio.subprocess.PIPE, stdout=asyncio.subprocess.PIPE, stderr=asyncio.subprocess.PIPE,
-                    start_new_session=True, pass_fds=descriptors)
-            self.end = None
-            for seat, line, answer, _ in self.entries:
-                if await self.answer("%d %s" % (seat, line)) != answer:
-                    self.child.kill()
-                    await self.child.wait()
-                    raise ValueError("the program does not answer the lines of the game as it did")
-        return asyncio.ensure_future(self.watch(self.child, ended))
-
-    async def watch(self, child, ended):
-        """Waits for the end of the program."""
-        said = await child.stderr.read()
-        status = await child.wait()
-        if child is self.child:
-            self.end = {"status": status, "text": fault_of(said, status).text}
-            ended()
-
-    async def answer(self, line):
-        """The answer to a line of one of the seats, or None at the end of the game."""
-        with contextlib.suppress(ConnectionError):
-            self.child.stdin.write(line.encode() + b"\n")
-            await self.child.stdin.drain()
-        try:
-            answer = await asyncio.wait_for(self.child.stdout.readline(), PATIENCE)
-        except asyncio.TimeoutError:
-            self.child.kill()
-            return None
-        return answer[:-1].decode() if answer.endswith(b"\n") else None
+            answers = await self.start(["%d %s" % (seat, line) for seat, line, _, _ in self.entries], ended)
+            if answers != [answer for _, _, answer, _ in self.entries]:
+                await self.close()
+                raise ValueError("the program does not answer the lines of the game as it did")
 
     async def ask(self, seat, line, name):
         """The answer to a line of a seat, which is kept if it is an entry; None if the game ended instead."""
@@ -103,16 +74,10 @@ class Game:
                     self.kept.add(seat, line, answer)
             return answer
 
-    async def close(self):
-        """Ends the input of the program, and with it the game."""
+    async def finish(self):
+        """Ends the game after the line that is being answered."""
         async with self.turn:
-            with contextlib.suppress(ConnectionError):
-                self.child.stdin.close()
-            try:
-                await asyncio.wait_for(self.child.wait(), PATIENCE)
-            except asyncio.TimeoutError:
-                self.child.kill()
-                await self.child.wait()
+            await self.close()
 
 
 class Classroom:
@@ -121,8 +86,8 @@ class Classroom:
     def __init__(self, name, text, seats, own=None, kept=None):
         self.name, self.text, self.own, self.seats = name, text, own, seats
         self.secret, self.teacher = new_secret(), new_secret()
-        self.game, self.taken, self.paused, self.saved = Game(text, seats, kept), {}, False, 0
-        self.news, self.changes, self.address, self.watching = None, 0, "", None
+        self.game, self.taken, self.paused, self.saved = SharedGame(text, seats, kept), {}, False, 0
+        self.news, self.changes, self.address = None, 0, ""
         # How many entries each seat has, also of those who sat there before.
         self.used = [0] * (seats + 1)
         for number, _, _, _ in self.game.entries:
@@ -132,11 +97,10 @@ class Classroom:
 
     async def start(self):
         self.news = asyncio.get_running_loop().create_future()
-        self.watching = await self.game.start(self.changed)
+        await self.game.begin(self.changed)
 
     async def stop(self):
-        await self.game.close()
-        await self.watching
+        await self.game.finish()
 
     def last_words(self):
         """What is to be said before the game is lost."""
@@ -266,8 +230,7 @@ class Classroom:
         if asked == "pause":
             self.paused = given.get("paused") is True
         elif asked == "end":
-            await self.game.close()
-            await self.watching
+            await self.game.finish()
         elif asked == "again":
             await self.again()
         elif asked == "replay":
@@ -291,7 +254,7 @@ class Classroom:
         if not self.game.end:
             raise Refused(409, "The game goes on.")
         try:
-            self.watching = await self.game.start(self.changed)
+            await self.game.begin(self.changed)
         except (OSError, ValueError, Fault) as error:
             raise Refused(503, "The game can't be begun again: %s." % error) from None
 

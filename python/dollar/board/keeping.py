@@ -1,11 +1,9 @@
 """Keeps the game of a class in a folder while it goes on, so that it outlasts the end of the board's server."""
 import os
-import re
 import sys
 
 from dollar.table import text_of
 
-STEP = re.compile(r"([1-9][0-9]?) (.*)\Z")
 TABLE, STEPS, HISTORY = "table.json", "steps.txt", "history.txt"
 
 
@@ -20,7 +18,8 @@ class Kept:
             self.write(TABLE, text)
         elif text_of(self.place(TABLE)) != text:
             raise ValueError("%s keeps a game on another table" % folder)
-        self.entries = [self.entry(step, answer, seats) for step, answer in zip(self.lines(STEPS), self.lines(HISTORY))]
+        # A step that has no answer was not answered before an accident.
+        self.entries = list(self.pairs(zip(self.lines(STEPS), self.lines(HISTORY)), seats))
 
     def begin(self):
         """Gets ready for further entries. After an accident the last step may be without its answer, and is dropped."""
@@ -41,11 +40,15 @@ class Kept:
         """The whole lines of a file."""
         return text_of(self.place(name)).split("\n")[:-1] if os.path.exists(self.place(name)) else []
 
-    def entry(self, step, answer, seats):
-        found = STEP.match(step)
-        if not found or int(found.group(1)) > seats:
-            raise ValueError("%s has a step of no seat from 1 to %d" % (self.place(STEPS), seats))
-        return int(found.group(1)), found.group(2), answer, "Seat %s" % found.group(1)
+    def pairs(self, pairs, seats):
+        """The entries of steps and answers."""
+        known = {str(number): (number, "Seat %d" % number) for number in range(1, seats + 1)}
+        for step, answer in pairs:
+            seat, space, line = step.partition(" ")
+            if not space or seat not in known:
+                raise ValueError("%s has a step of no seat from 1 to %d" % (self.place(STEPS), seats))
+            number, name = known[seat]
+            yield number, line, answer, name
 
     def add(self, seat, line, answer):
         """Keeps an entry. If the disk does not take it, the game goes on and this is told."""

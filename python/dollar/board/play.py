@@ -26,7 +26,8 @@ import threading
 import webbrowser
 
 from dollar.board.alone import Alone
-from dollar.board.classroom import MOST_SEATS, Classroom
+from dollar.board.classroom import Classroom
+from dollar.board.game import MOST_SEATS
 from dollar.board.keeping import Kept
 from dollar.board.server import ANY, Server, address_of, new_secret
 from dollar.drawing import places_for
@@ -96,11 +97,15 @@ class Ending:
 async def serve_alone(given, text, own):
     """Serves one player until it is ended."""
     ending, secret = Ending(), new_secret()
-    server = Server(Alone(secret, shown_name(given.file), text, own).answer, LOOPBACK, given.port)
+    alone = Alone(secret, shown_name(given.file), text, own)
+    server = Server(alone.answer, LOOPBACK, given.port)
     await server.start()
     address = "http://%s:%d/%s/" % (LOOPBACK, server.port, secret)
     print("The board is at %s\nCtrl-D or Ctrl-C ends it." % address, flush=True)
-    await until_ended(given, server, address, ending)
+    try:
+        await until_ended(given, server, address, ending)
+    finally:
+        await alone.stop()
 
 
 async def serve_class(given, text, own):

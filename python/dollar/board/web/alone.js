@@ -10,8 +10,9 @@ import { Viewer, element } from "./viewer.js";
 import { Game, faultWords, linesOf } from "./words.js";
 
 const LOTS = 64;
+const SOON = 400;
 export let table, fileName, examples, viewer, hands, questions, editor;
-let turn = Promise.resolve();
+let turn = Promise.resolve(), key = null, keeping = null;
 
 /* What the program says to a question: its status, its answer and its fault. */
 
@@ -36,24 +37,45 @@ async function playNow(line) {
   const dropped = game.length - now;
   if (dropped && !(await sure(`Going on from here drops the ${dropped} steps that follow. Shall they go?`))) return null;
   const step = `${element("seat").value} ${line}`;
-  const said = await hands.patient(ask({ command: "rehearse", table, steps: `${stepsText(now)}${step}\n` }));
+  const said = await hands.patient(answered(now, step));
   if (said.status !== 0) return hands.tell(faultWords(said.err), `dollar: ${said.err}`);
-  const printed = linesOf(said.out);
   game.cut(now);
-  game.add(step, printed[now]);
+  game.add(step, linesOf(said.out)[0]);
   hands.tell("");
   hands.unchoose();
   questions.clear();
-  viewer.reset(game, now + 1);
+  viewer.stop();
+  if (dropped) viewer.reset(game, now + 1);
+  else viewer.grown(true);
   keep();
   return null;
 }
 
-/* The game outlasts a reload of the page. */
+/* What the program says to a step after the first so many. The server has the game of this page at a live program; if it has it no
+   more, it is begun again. */
+async function answered(count, line) {
+  if (key !== null) {
+    const said = await ask({ command: "play", key, count, line });
+    if (!said.gone) return said;
+  }
+  const begun = await ask({ command: "begin", table, steps: stepsText(count) });
+  key = begun.status === 0 ? begun.key : null;
+  return key === null ? begun : ask({ command: "play", key, count, line });
+}
+
+/* The game outlasts a reload of the page. It is kept when the page is left, and after a while without a step. */
 
 const KEPT = `dollar ${location.pathname}`;
 
 function keep() {
+  clearTimeout(keeping);
+  keeping = setTimeout(keepNow, SOON);
+}
+
+function keepNow() {
+  if (keeping === null) return;
+  clearTimeout(keeping);
+  keeping = null;
   const kept = { table, fileName, steps: stepsText(viewer.game.length), places: placesText(viewer.board.layout) };
   try {
     sessionStorage.setItem(KEPT, JSON.stringify(kept));
@@ -67,8 +89,10 @@ async function kept() {
   try {
     const before = JSON.parse(sessionStorage.getItem(KEPT));
     const placed = await ask({ command: "layout", table: before.table, places: before.places });
-    const said = await ask({ command: "rehearse", table: before.table, steps: before.steps });
-    return placed.status === 0 && said.status === 0 ? { ...before, layout: placed.layout, printed: said.out } : null;
+    const said = await ask({ command: "begin", table: before.table, steps: before.steps });
+    if (placed.status !== 0 || said.status !== 0) return null;
+    key = said.key;
+    return { ...before, layout: placed.layout, printed: said.out };
   } catch {
     return null;
   }
@@ -81,7 +105,7 @@ export async function openTable(text, file, places) {
   if (said.status !== 0) return said.err;
   const { length } = viewer.game;
   if (length && !(await sure(`The ${length} steps of this game go with its table. Shall they go?`))) return null;
-  [table, fileName] = [text, file];
+  [table, fileName, key] = [text, file, null];
   begin(layoutOf(said.layout));
   keep();
   return null;
@@ -211,6 +235,7 @@ async function start() {
   }
   bindTaking();
   bindTables();
+  window.addEventListener("pagehide", keepNow);
 }
 
 start();

@@ -2,6 +2,7 @@
    amounts and edges that are shown, and leaves no entry. */
 
 import { still } from "./board.js";
+import { GRAMMAR } from "./grammar.js";
 import { element, made } from "./viewer.js";
 import { answerOf, dollars, faultWords, linesOf, listed, lossWords, planned, replyOf, replyWords } from "./words.js";
 
@@ -94,7 +95,9 @@ export class Questions {
   /* The fire, as the program tells it: of those that don't burn yet all would lend at once, and who would then owe burns. */
   async fire() {
     const { game } = this.viewer, { q } = game.table, { reduced } = this.reply, { edges } = game.states[this.viewer.now];
-    const table = JSON.stringify({ ...JSON.parse(this.table), amounts: [...reduced.values()] });
+    // What q owes, which burning does not look at, may be more than a table takes.
+    const most = GRAMMAR.limits["dg_chips::MAX_AMOUNT"], amounts = [...reduced.values()].map((amount) => Math.max(amount, -most));
+    const table = JSON.stringify({ ...JSON.parse(this.table), amounts });
     const state = { edges, added: new Map(), amounts: reduced }, asked = this.reply;
     element("show-fire").hidden = true;
     this.burn(state, [q], `${q} burns: it owes, and a giver gets nothing. So it is no giver.`);

@@ -4,7 +4,8 @@ import { Board, still } from "./board.js";
 import { commandWords, debtWords, flowWords, legendWords, markOf, mostTelling, often, planned, replyWords } from "./words.js";
 
 export const element = (id) => document.getElementById(id);
-const BETWEEN = 2200, LISTED = 400;
+// The marks of a long game, which all are looked at for, are drawn when no more steps come for a while.
+const BETWEEN = 2200, LISTED = 400, FEW = 1000, LATER = 300;
 
 export function made(tag, text, kind) {
   const part = document.createElement(tag);
@@ -77,15 +78,18 @@ export class Viewer {
   grown(follows) {
     const { length } = this.game, [low, high] = this.listed, list = document.querySelector("#whole ol");
     element("slider").max = length;
-    if (length - low <= LISTED) {
+    if (length - high > LISTED) {
+      if (follows) this.list(length);
+    } else if (follows || length - low <= LISTED) {
+      const over = Math.max(0, length - low - LISTED);
       for (let index = high; index < length; index++) this.item(index, list);
-      this.listed = [low, length];
-    } else if (follows) {
-      this.list(length - LISTED / 2);
-    } else {
-      element("later").hidden = false;
+      for (let index = 0; index < over; index++) list.firstChild.remove();
+      this.listed = [low + over, length];
     }
-    this.fillMarks();
+    element("earlier").hidden = this.listed[0] === 0;
+    element("later").hidden = this.listed[1] === length;
+    clearTimeout(this.marking);
+    this.marking = setTimeout(() => this.fillMarks(), length < FEW ? 0 : LATER);
     if (follows) this.show(length);
     else this.showPlace();
   }

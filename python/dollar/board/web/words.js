@@ -75,7 +75,7 @@ function valueOf(text) {
 }
 
 export function linesOf(text) {
-  return text.split("\n").slice(0, text.endsWith("\n") ? -1 : undefined);
+  return text === "" ? [] : text.split("\n").slice(0, text.endsWith("\n") ? -1 : undefined);
 }
 
 /* A game: a table, the steps, and what was printed of them. The board after each step is the one that the line has. */
@@ -260,13 +260,12 @@ export const FAULTS = {
   "bad look": "This seat has not looked since its last verdict. It looks first.",
   "bad trials": "That rank test is too large.",
   "the history is full": `The history is full: it has ${limits["dg_game::MAX_ENTRIES"]} entries.`,
+  "long line": "The line is too long.",
   "file too long": "The file has more than a megabyte.",
   "too many trials": "That rank test is too large.",
-  "no look": "This seat has not looked since its last verdict. It looks first.",
-  "full": `The history is full: it has ${limits["dg_game::MAX_ENTRIES"]} entries.`,
 };
 
 export function faultWords(text) {
-  const said = text.replace(/^(line|step) \d+: /, ""), words = FAULTS[said.replace(/\d+/, "#")];
-  return (typeof words === "function" ? words(Number(/\d+/.exec(said)[0])) : words) || "The program has refused this.";
+  const words = FAULTS[text.replace(/\d+/, "#")];
+  return (typeof words === "function" ? words(Number(/\d+/.exec(text)[0])) : words) || "The program has refused this.";
 }

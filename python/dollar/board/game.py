@@ -1,0 +1,78 @@
+"""A game on a live program, which the pages of one player and of a class share."""
+import asyncio
+import contextlib
+
+from dollar.grammar import limit
+from dollar.program import PATIENCE, command_line, fault_of
+
+MOST_SEATS, MOST_LINE = limit("dg_game::MAX_SEATS"), limit("dg_session::MAX_LINE")
+PIECE = 1 << 16
+
+
+class Game:
+    """A `dollar serve --seats N` at the other end of a pipe. `end` says how it has ended, if it has."""
+
+    def __init__(self, text, seats=MOST_SEATS):
+        self.text, self.seats = text, seats
+        self.child, self.watching, self.end = None, None, None
+
+    async def start(self, lines=(), ended=lambda: None):
+        """Starts the program, again if it was started before, and gives its answers to some lines, all of which are written at once. If it
+        ends before that, there are fewer. `ended` is called when it ends later."""
+        await self.close()
+        with contextlib.ExitStack() as until:
+            line, descriptors = command_line(["serve", self.text.encode(), "--seats", str(self.seats)], None, until)
+            self.child = await asyncio.create_subprocess_exec(
+                *line, stdin=asyncio.subprocess.PIPE, stdout=asyncio.subprocess.PIPE, stderr=asyncio.subprocess.PIPE,
+                start_new_session=True, pass_fds=descriptors)
+        self.end = None
+        self.watching = asyncio.ensure_future(self.watch(self.child, ended))
+        return await self.answers(lines)
+
+    async def watch(self, child, ended):
+        """Waits for the end of the program."""
+        said = await child.stderr.read()
+        status = await child.wait()
+        if child is self.child:
+            self.end = {"status": status, "text": fault_of(said, status).text}
+            ended()
+
+    async def answers(self, lines):
+        """The answers to some lines. They are read while the lines are written, since a pipe holds only so much."""
+        writing = asyncio.ensure_future(self.write("".join(line + "\n" for line in lines).encode()))
+        pieces, left = [], len(lines)
+        try:
+            while left > 0:
+                piece = await asyncio.wait_for(self.child.stdout.read(PIECE), PATIENCE)
+                if not piece:
+                    break
+                pieces.append(piece)
+                left -= piece.count(b"\n")
+        except asyncio.TimeoutError:
+            self.child.kill()
+        finally:
+            await writing
+        # What has no newline is no whole answer.
+        return b"".join(pieces).decode().split("\n")[:-1]
+
+    async def write(self, data):
+        with contextlib.suppress(ConnectionError):
+            self.child.stdin.write(data)
+            await self.child.stdin.drain()
+
+    async def answer(self, line):
+        """The answer to a line of one of the seats, or None at the end of the game."""
+        return next(iter(await self.answers([line])), None)
+
+    async def close(self):
+        """Ends the input of the program, and with it the game."""
+        if self.child is None:
+            return
+        with contextlib.suppress(ConnectionError):
+            self.child.stdin.close()
+        try:
+            await asyncio.wait_for(self.child.wait(), PATIENCE)
+        except asyncio.TimeoutError:
+            self.child.kill()
+            await self.child.wait()
+        await self.watching
