@@ -11,7 +11,7 @@ returns-in_default g c =
 
 pub returns-in-Ok-commit_rank : goal.returns-in-Ok-commit_rank
 returns-in-Ok-commit_rank g c =
-    let (same, tried) = c.in-Ok.ensures in
+    let (same, tried) = c.in-Ok.ensures.tried in
     with_look (sym c.take.ensures.value ∙ c.in-Some.is)
     (entered (rank_made same tried c.in-Ok-commit_rank.ensures.settled)
     (λ made after text enters. inr (rank_within c.receipt-receipt.ensures.taken tried.within, enters))
@@ -19,14 +19,14 @@ returns-in-Ok-commit_rank g c =
 
 pub returns-in-Err : goal.returns-in-Err
 returns-in-Err g c =
-    let (same, tried) = c.in-Ok.ensures in
+    let (same, tried) = c.in-Ok.ensures.tried in
     with_look (sym c.take.ensures.value ∙ c.in-Some.is)
     (call_refused (rank_within c.receipt-receipt.ensures.taken tried.within) c.in-Err.ensures.fault.1.0
     c.in-Err.ensures.fault.1.1 refl)
 
 pub returns-in-Ok-say : goal.returns-in-Ok-say
 returns-in-Ok-say g c =
-    let (same, prefix) = c.in-Err-default-TooMany.ensures in
+    let (same, prefix) = c.in-Err-default-TooMany.ensures.tried in
     with_look (sym c.take.ensures.value ∙ c.in-Some.is)
     (words_said (codes "bad trials\n")
     (inl (
@@ -46,7 +46,7 @@ returns-in-Err-default-OutOfMemory g c =
 
 pub returns-in-Err-default-Spawn : goal.returns-in-Err-default-Spawn
 returns-in-Err-default-Spawn g c =
-    let (same, spawn) = c.in-Err-default-Spawn.ensures in
+    let (same, spawn) = c.in-Err-default-Spawn.ensures.tried in
     let within = rank_within c.receipt-receipt.ensures.taken
     (subst (IsRankFault c.in-Some.look.shown.graph.size c.args.k c.args.shared.now.workers)
     c.in-Err-default-Spawn.field-0-1-is spawn).0 in
