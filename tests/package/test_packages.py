@@ -143,8 +143,8 @@ class OfPackages(Test):
             self.skipTest("the install in a fresh Debian, for want of root or debootstrap")
         tree = self.place / "debian"
         self.addCleanup(lambda: [subprocess.run(["umount", tree / each], stderr=subprocess.DEVNULL) for each in ("proc", "sys")])
-        words = ["debootstrap", "--variant=minbase", "--include=python3,python3-venv", suite[1], tree]
-        done = subprocess.run(words, stdout=subprocess.PIPE, stderr=subprocess.STDOUT, text=True, timeout=280)
+        words = ["timeout", "280", "debootstrap", "--variant=minbase", "--include=python3,python3-venv", suite[1], tree]
+        done = subprocess.run(words, stdout=subprocess.PIPE, stderr=subprocess.STDOUT, text=True)
         if done.returncode:
             self.skipTest("the install in a fresh Debian, which debootstrap could not make: %s" % done.stdout.splitlines()[-1:])
         # The package hands the program its files by /dev/fd, which leads to /proc.
