@@ -3,6 +3,7 @@
 pip calls the functions below (PEP 517, and PEP 660 for `pip install -e`). Equal files make an equal wheel, byte for byte."""
 
 import base64
+import gzip
 import hashlib
 import io
 import re
@@ -21,15 +22,17 @@ Requires-Python: >=3.9
 """ % VERSION
 WHEEL = """Wheel-Version: 1.0
 Generator: backend.py of dollar
-Root-Is-Purelib: true
-Tag: py3-none-any
+Root-Is-Purelib: %s
+Tag: %s
 """
+COMMANDS = "[console_scripts]\ndollar-board = dollar.__main__:board\n"
 
 
 def sources():
-    """The files of the package, by the names that they have in it."""
+    """The files of the package, by the names that they have in it, among them the tables of the examples."""
     files = [file for file in sorted((HERE / "dollar").rglob("*")) if file.is_file() and file.suffix != ".pyc"]
-    return {file.relative_to(HERE).as_posix(): file.read_bytes() for file in files}
+    examples = {"dollar/examples/" + file.name: file.read_bytes() for file in sorted((HERE.parent / "examples").glob("*.json"))}
+    return {**{file.relative_to(HERE).as_posix(): file.read_bytes() for file in files}, **examples}
 
 
 def record_of(files):
@@ -41,16 +44,17 @@ def record_of(files):
     return "".join(rows)
 
 
-def wheel_of(folder, files):
-    """Writes a wheel with these files into a folder, and tells its name."""
+def wheel_of(folder, files, tag="py3-none-any"):
+    """Writes a wheel with these files into a folder, and tells its name. What lies in a folder `scripts` can be run."""
     info = NAME + ".dist-info/"
-    files = dict(files, **{info + "METADATA": METADATA.encode(), info + "WHEEL": WHEEL.encode()})
+    files = dict(files, **{info + "METADATA": METADATA.encode(), info + "entry_points.txt": COMMANDS.encode(),
+                           info + "WHEEL": (WHEEL % (str(tag.endswith("any")).lower(), tag)).encode()})
     files[info + "RECORD"] = (record_of(files) + info + "RECORD,,\n").encode()
-    name = NAME + "-py3-none-any.whl"
+    name = "%s-%s.whl" % (NAME, tag)
     with zipfile.ZipFile(Path(folder) / name, "w", zipfile.ZIP_DEFLATED) as wheel:
         for path, content in files.items():
             entry = zipfile.ZipInfo(path)
-            entry.compress_type, entry.external_attr = zipfile.ZIP_DEFLATED, 0o644 << 16
+            entry.compress_type, entry.external_attr = zipfile.ZIP_DEFLATED, (0o100755 if "/scripts/" in path else 0o100644) << 16
             wheel.writestr(entry, content)
     return name
 
@@ -66,9 +70,10 @@ def build_editable(wheel_directory, config_settings=None, metadata_directory=Non
 def build_sdist(sdist_directory, config_settings=None):
     files = dict(sources(), **{name: (HERE / name).read_bytes() for name in ("pyproject.toml", "backend.py")})
     files["PKG-INFO"] = METADATA.encode()
-    with tarfile.open(Path(sdist_directory) / (NAME + ".tar.gz"), "w:gz", format=tarfile.PAX_FORMAT) as archive:
-        for name, content in files.items():
-            entry = tarfile.TarInfo(NAME + "/" + name)
-            entry.size, entry.mode = len(content), 0o644
-            archive.addfile(entry, io.BytesIO(content))
+    with open(Path(sdist_directory) / (NAME + ".tar.gz"), "wb") as file, gzip.GzipFile("", "wb", 9, file, mtime=0) as packed:
+        with tarfile.open(fileobj=packed, mode="w", format=tarfile.PAX_FORMAT) as archive:
+            for name, content in files.items():
+                entry = tarfile.TarInfo(NAME + "/" + name)
+                entry.size, entry.mode = len(content), 0o644
+                archive.addfile(entry, io.BytesIO(content))
     return NAME + ".tar.gz"

@@ -39,6 +39,11 @@ def each(cases):
     return of
 
 
+def sample(form):
+    """A text of the form of a reply in the grammar."""
+    return " ".join({"P": "a=2 b=-1", "g": "3", "k": "2"}.get(part, part) for part in form.split(" "))
+
+
 # What has not held in this process.
 wrong = []
 

@@ -7,7 +7,7 @@ import re
 import words
 from words import numbered, read
 
-HELP, FORMATS, ANSWERS = "crates/dg_cli/src/help_texts.rt", "docs/formats.md", "python/dollar/answers.py"
+HELP, FORMATS = "crates/dg_cli/src/help_texts.rt", "docs/formats.md"
 
 
 class Part:
@@ -77,9 +77,6 @@ def replies():
     found = [(each, place) for text, place in part.matches(r"^\|[^|]*\|(.*)\|$") for each in re.findall(r"`([^`]*)`", text)]
     yield from part.compare("reply", found, given["replies"])
     yield from Part(FORMATS).compare("refusal", Part(FORMATS).matches(r"`(refused \w+)`"), given["refusals"])
-    part = Part(ANSWERS, "`word` is `", "`gifts` is")
-    heads = [re.match("not won|rank at least|rank below|[a-z]+", form)[0] for form in given["replies"]]
-    yield from part.compare("word of an answer", part.matches(r"`([a-z][a-z ]*)`(?! is)"), list(dict.fromkeys(heads + ["turns", "bad"])))
 
 
 def bad_texts():

@@ -41,6 +41,11 @@ def draw(words: "list[str]") -> int:
     return 0
 
 
+def board() -> int:
+    """The command `dollar-board`."""
+    return main(["board", *sys.argv[1:]])
+
+
 def main(words: "list[str]") -> int:
     if words in (["-h"], ["--help"]):
         print(__doc__)

@@ -209,8 +209,8 @@ RIEMANN_ROCH = tuple(field.name for field in fields(RiemannRoch))
 class Entry(Answer):
     """An answer in a history or a session: its word, and what belongs to it.
 
-    `word` is `moved`, `given`, `joined`, `looked`, `won`, `not won`, `stale`, `turns`, `winnable`, `unwinnable`, `rank at least`,
-    `rank below`, or `refused` or `bad` and why. `gifts` is the count of gifts, levies and joins, `amounts` what the vertices hold,
+    `word` is the first word of a reply, as `moved` or `stale`, or `not won`, `rank at least`, `rank below`, `turns`, or `refused` or
+    `bad` and why. `gifts` is the count of gifts, levies and joins, `amounts` what the vertices hold,
     `found` the verdict or the rank test that was entered. What begins with `bad` has no number, and changed nothing.
 
     >>> from dollar import Table, rehearse

@@ -31,6 +31,7 @@ import subprocess
 import sys
 from typing import Any, Deque, Iterable, Iterator, List
 
+from dollar.answers import parts_of
 from dollar.program import find_program
 
 HEADER = ["line", "answer", "script", "amounts"]
@@ -48,9 +49,7 @@ def row(number: int, answer: str) -> List[Any]:
     """The row of the line with that number."""
     if answer.startswith("refused "):
         return [number, answer, "", ""]
-    word, _, rest = answer.partition(" by ")
-    script, _, amounts = rest.partition(" to ")
-    return [number, word, script, amounts]
+    return [number, *parts_of(answer)]
 
 
 def rows_kept(place: str) -> int:

@@ -5,7 +5,7 @@ from __future__ import annotations
 
 import json
 from pathlib import Path
-from typing import Any, Dict, List
+from typing import Any, Dict
 
 GRAMMAR: Dict[str, Any] = json.loads(Path(__file__).with_name("grammar.json").read_text(encoding="utf-8"))
 
@@ -18,17 +18,3 @@ def limit(name: str) -> int:
     """
     number: int = GRAMMAR["limits"][name]
     return number
-
-
-def command_forms() -> List[str]:
-    """The commands as pages show them.
-
-    >>> command_forms()[4:6]
-    ['gift V x', 'join V V']
-    """
-    return [" ".join([word, *(GRAMMAR["kinds"][kind]["form"] for kind in kinds)]) for word, kinds in GRAMMAR["commands"].items()]
-
-
-def sample(form: str) -> str:
-    """A text of the form of a reply."""
-    return " ".join({"P": "a=2 b=-1", "g": "3", "k": "2"}.get(part, part) for part in form.split(" "))

@@ -7,6 +7,8 @@ import functools
 import os
 import shutil
 import subprocess
+import sys
+import sysconfig
 import tempfile
 from contextlib import ExitStack
 from pathlib import Path
@@ -67,7 +69,7 @@ def built() -> str:
 
 def find_program(program: Optional[Place] = None) -> str:
     """The path of the program: the one that is given, or the one that the variable DOLLAR names, or the one that is built in
-    the clone in which this package lies, or the `dollar` on the PATH.
+    the clone in which this package lies, or the one that was installed with it, or the `dollar` on the PATH.
 
     >>> find_program("/nowhere/dollar")
     Traceback (most recent call last):
@@ -82,7 +84,9 @@ def find_program(program: Optional[Place] = None) -> str:
             return os.path.abspath(found)
     if is_clone(CLONE):
         return built()
-    found = shutil.which("dollar")
+    # A wheel brings the program along, and pip puts it beside Python, or into the folder `bin` of a target.
+    beside = [Path(sys.executable).parent, Path(sysconfig.get_path("scripts")), Path(__file__).resolve().parents[1] / "bin"]
+    found = shutil.which("dollar", path=os.pathsep.join(map(str, beside))) or shutil.which("dollar")
     if not found:
         raise ProgramNotFound("there is no program `dollar` on the PATH; name it by the variable DOLLAR or the parameter `program`")
     return os.path.abspath(found)

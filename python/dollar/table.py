@@ -8,6 +8,7 @@ import operator
 import os
 import re
 from collections.abc import Mapping as AbstractMapping
+from pathlib import Path
 from typing import TYPE_CHECKING, Any, Callable, Dict, Iterable, Iterator, List, NamedTuple, Optional, Tuple, Union
 
 from dollar import drawing
@@ -21,7 +22,8 @@ MEMBERS = ("vertices", "edges", "amounts", "q")
 NAME = re.compile(r"[A-Za-z0-9_]{1,16}", re.ASCII)
 # The program reads no further: a longer file is refused.
 MOST_BYTES, MOST_TEXT = limit("dg_system::MAX_FILE"), 1 << 26
-EXAMPLES = CLONE / "examples"
+# The examples that are installed with the package, or else those of the clone.
+EXAMPLES = next(filter(Path.is_dir, [Path(__file__).with_name("examples")]), CLONE / "examples")
 Edge = Tuple[str, str, int]
 
 
@@ -446,7 +448,7 @@ def shown_name(file: Place) -> str:
 
 
 def example(name: str) -> Table:
-    """The table of a file in the folder `examples`, of the clone or of the installed files in which this package lies."""
+    """The table of an example, by the name of its file in the folder `examples`."""
     file = EXAMPLES / (name + ".json")
     if not file.is_file():
         raise FileNotFoundError("there is no example %s beside this package: %s" % (name, file))

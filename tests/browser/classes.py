@@ -13,9 +13,7 @@ MOST_MEMORY = 250_000
 TABLE = {
     "vertices": ["ann", "bob", "cem", "dot", "eve"],
     "edges": [["ann", "bob", 1], ["bob", "cem", 2], ["cem", "dot", 1], ["dot", "ann", 1], ["dot", "eve", 3]],
-    "amounts": [6, -3, 1, -2, -1],
-    "q": "ann",
-}
+    "amounts": [6, -3, 1, -2, -1], "q": "ann"}
 
 
 def line_of(draw):
@@ -53,10 +51,8 @@ def of_many(folder, pages=()):
         room = [page(pupils) for page in pages] + [Pupil(pupils, "pupil %d" % number) for number in range(PUPILS - len(pages))]
         equal(sorted(pupil.seat for pupil in room), list(range(1, PUPILS + 1)), "the seats")
         equal(
-            Place(pupils).post("join", {"name": "late"}),
-            (409, "All 30 seats are taken. The teacher can free one."),
-            "a seat too many",
-        )
+            Place(pupils).post("join", {"name": "late"}), (409, "All 30 seats are taken. The teacher can free one."),
+            "a seat too many")
         threads = [
             threading.Thread(target=pupil.attend, args=([line_of(draw) for _ in range(LINES)],))
             for pupil in room
@@ -74,10 +70,8 @@ def of_many(folder, pages=()):
             expect(in_order(pupil, steps, history), "the lines of seat %d are not in its order" % pupil.seat)
             expect(pupil.until(lambda pupil: len(pupil.entries) >= len(history)), "seat %d is not told all" % pupil.seat)
             equal(
-                [("%s %s" % (seat, line), answer) for seat, line, answer in pupil.entries],
-                list(zip(steps, history)),
-                "what seat %d is told" % pupil.seat,
-            )
+                [("%s %s" % (seat, line), answer) for seat, line, answer in pupil.entries], list(zip(steps, history)),
+                "what seat %d is told" % pupil.seat)
             pupil.leave()
 
 
@@ -100,26 +94,11 @@ def with_strangers(folder):
             [
                 ("GET", path, None, ())
                 for path in (
-                    "/",
-                    "/start",
-                    "/events",
-                    "/%s/" % wrong,
-                    "/%s/start" % wrong,
-                    "/%s/events?from=0" % wrong,
-                    "/%s/steps.txt" % wrong,
-                    "/%s" % secret,
-                    "//%s/" % secret,
-                    "/%s/../" % secret,
-                    "/%s/%%2e" % secret,
-                    "/%s/x/start" % secret,
-                    "/%s/class.py" % secret,
-                    "/%s/steps.txt" % secret,
-                    "/%s/events?key=&from=0" % secret,
-                    "/%s/events?key=%s&from=0" % (secret, wrong),
-                    "/%s/events?key=%s&from=x" % (secret, ann.key),
-                    "/favicon.ico",
-                    "/robots.txt",
-                )
+                    "/", "/start", "/events", "/%s/" % wrong, "/%s/start" % wrong, "/%s/events?from=0" % wrong,
+                    "/%s/steps.txt" % wrong, "/%s" % secret, "//%s/" % secret, "/%s/../" % secret, "/%s/%%2e" % secret,
+                    "/%s/x/start" % secret, "/%s/class.py" % secret, "/%s/steps.txt" % secret, "/%s/events?key=&from=0" % secret,
+                    "/%s/events?key=%s&from=0" % (secret, wrong), "/%s/events?key=%s&from=x" % (secret, ann.key), "/favicon.ico",
+                    "/robots.txt")
             ],
             "without the secret",
         )
@@ -134,24 +113,13 @@ def with_strangers(folder):
         )
         refused_alike(
             place,
-            [
-                ("POST", "line", {"key": key, "line": "claim", "seat": 1}, ())
-                for key in ("", "1", wrong, "x" * 64, ann.key[:-1])
-            ],
-            "another seat",
-        )
+            [("POST", "line", {"key": key, "line": "claim", "seat": 1}, ()) for key in ("", "1", wrong, "x" * 64, ann.key[:-1])],
+            "another seat")
         host = "%s:%d" % (place.host, place.port)
         hosts = (
-            "evil.example:%d" % place.port,
-            place.host,
-            "%s:1" % place.host,
-            "evil.example",
-            "",
-            "%s.evil.example:%d" % (place.host, place.port),
-            "127.0.0.2:%d" % place.port,
-            "[::1]:%d" % place.port,
-            "0.0.0.0:%d" % place.port,
-        )
+            "evil.example:%d" % place.port, place.host, "%s:1" % place.host, "evil.example", "",
+            "%s.evil.example:%d" % (place.host, place.port), "127.0.0.2:%d" % place.port, "[::1]:%d" % place.port,
+            "0.0.0.0:%d" % place.port)
         refused_alike(
             place,
             [("GET", "", None, {"Host": name}) for name in hosts]
@@ -159,72 +127,45 @@ def with_strangers(folder):
             "another host",
         )
         origins = (
-            None,
-            "null",
-            "http://evil.example",
-            "https://" + host,
-            "http://" + host + ".evil.example",
-            "http://127.0.0.1",
-            host,
-            "",
-        )
+            None, "null", "http://evil.example", "https://" + host, "http://" + host + ".evil.example", "http://127.0.0.1", host,
+            "")
         refused_alike(
             place,
             [("POST", "line", line, {"Origin": origin}) for origin in origins]
             + [
                 ("GET", "start", None, {"Origin": "http://evil.example"}),
-                ("POST", "line", line, {"Sec-Fetch-Site": "cross-site"}),
-                ("GET", "start", None, {"Sec-Fetch-Site": "same-site"}),
-                ("PUT", "line", line, ()),
-            ],
+                ("POST", "line", line, {"Sec-Fetch-Site": "cross-site"}), ("GET", "start", None, {"Sec-Fetch-Site": "same-site"}),
+                ("PUT", "line", line, ())],
             "another origin",
         )
         equal(place.post("line", line)[0], 200, "the same line from its own page")
         equal(place.get("start", headers={"Host": "localhost:%d" % place.port})[0], 200, "localhost on loopback")
         equal(
-            place.get("/%s/start" % secret.replace("-", "").upper())[0],
-            200,
-            "an address that is typed in capitals and without dashes",
-        )
+            place.get("/%s/start" % secret.replace("-", "").upper())[0], 200,
+            "an address that is typed in capitals and without dashes")
         equal(
-            place.ask("POST", "line", line, {"Content-Type": "text/plain"}),
-            (400, "the request is no JSON"),
-            "a form of another page",
-        )
+            place.ask("POST", "line", line, {"Content-Type": "text/plain"}), (400, "the request is no JSON"),
+            "a form of another page")
         for text, words in (
-            ("claim\nlook", "A line has no newline in it."),
-            ("x" * 1023, "A line has at most 1024 bytes."),
-            ("\u00e4" * 512, "A line has at most 1024 bytes."),
-            ("x" * 20000, "the request is too long"),
-        ):
+            ("claim\nlook", "A line has no newline in it."), ("x" * 1023, "A line has at most 1024 bytes."),
+            ("\u00e4" * 512, "A line has at most 1024 bytes."), ("x" * 20000, "the request is too long")):
             status, said = place.post("line", {"key": ann.key, "line": text})
             expect(status in (400, 413) and said.startswith(words), "the line %.9r: %d %s" % (text, status, said))
         for thing in (
-            {"key": ann.key, "line": 7},
-            {"key": ann.key},
-            {"line": "look"},
-            [],
-            "look",
-            None,
-            7,
-            {"key": ann.key, "line": "\ud800"},
-        ):
+            {"key": ann.key, "line": 7}, {"key": ann.key}, {"line": "look"}, [], "look", None, 7,
+            {"key": ann.key, "line": "\ud800"}):
             status = place.ask("POST", "line", raw=json.dumps(thing).encode())[0]
             equal(status, 400, "a request of %.40r" % thing)
         equal(
             [place.ask("POST", "line", raw=raw)[0] for raw in (b"{", b"\xff", b"[" * 9000, b"{}" + b" " * 20000)],
-            [400, 400, 400, 413],
-            "no JSON",
-        )
+            [400, 400, 400, 413], "no JSON")
         equal(ann.play("2 look"), (200, "bad word"), "a line with another seat in it")
         equal(desk.post("free", {"seat": ann.seat})[0], 200, "a seat is freed")
         refused_alike(place, [("POST", "line", line, ())], "a seat that was freed")
         expect(ann.until(lambda pupil: "freed" in pupil.states and pupil.ended.is_set()), "who had the seat is not told")
         equal(
-            [desk.post("free", {"seat": seat})[0] for seat in (1, 9, "2", None, [])],
-            [409] * 5,
-            "a seat that nobody has is freed",
-        )
+            [desk.post("free", {"seat": seat})[0] for seat in (1, 9, "2", None, [])], [409] * 5,
+            "a seat that nobody has is freed")
         late = Pupil(pupils, "  a \u202e\x00 b\n\n" + "c" * 150)
         late.until(lambda pupil: pupil.states)
         equal(late.states[-1]["names"]["3"]["name"], "a b " + "c" * 20, "a free seat that nobody had, and a name")
@@ -233,13 +174,10 @@ def with_strangers(folder):
         headers = headers_of(place)
         expect(
             "script-src 'self'" in headers["content-security-policy"] and "unsafe" not in headers["content-security-policy"],
-            "the policy is %s" % headers["content-security-policy"],
-        )
+            "the policy is %s" % headers["content-security-policy"])
         equal(
             [headers[name] for name in ("referrer-policy", "x-content-type-options", "cache-control")],
-            ["no-referrer", "nosniff", "no-store"],
-            "headers",
-        )
+            ["no-referrer", "nosniff", "no-store"], "headers")
         for pupil in ann, bob, late:
             pupil.leave()
 
@@ -260,23 +198,17 @@ def with_commands(folder):
         equal(ann.play("look")[0], 200, "a line")
         desk.post("pause", {"paused": True})
         equal(
-            ann.play("commit"),
-            (409, "The teacher has stopped the game for a while. This line was not played."),
-            "a line meanwhile",
-        )
+            ann.play("commit"), (409, "The teacher has stopped the game for a while. This line was not played."),
+            "a line meanwhile")
         expect(ann.until(lambda pupil: pupil.states[-1]["paused"]), "nobody is told of it")
         desk.post("pause", {"paused": False})
         equal(
-            ann.play("commit")[1][:12],
-            "1 unwinnable"[:12] if "unwinnable" in ann.lines[-1][2] else "1 winnable b",
-            "a line after it",
-        )
+            ann.play("commit")[1][:12], "1 unwinnable"[:12] if "unwinnable" in ann.lines[-1][2] else "1 winnable b",
+            "a line after it")
         desk.post("end", {})
         equal(
-            ann.play("claim"),
-            (503, "The game has ended. This line was not played, unless the list has it."),
-            "a line after the end",
-        )
+            ann.play("claim"), (503, "The game has ended. This line was not played, unless the list has it."),
+            "a line after the end")
         expect(ann.until(lambda pupil: pupil.states[-1]["end"] == {"status": 0, "text": ""}), "nobody is told of the end")
         equal(len(taken(desk, folder)[0]), 2, "the steps after the end")
         desk.post("again", {})
@@ -301,20 +233,16 @@ def with_deaths(folder):
             thread.join()
         for pupil in room[1:]:
             equal(
-                pupil.lines[-1][1:],
-                (503, "The game has ended. This line was not played, unless the list has it."),
-                "who plays is told",
-            )
+                pupil.lines[-1][1:], (503, "The game has ended. This line was not played, unless the list has it."),
+                "who plays is told")
         expect(
             room[0].until(lambda pupil: pupil.states[-1]["end"] == {"status": -9, "text": ""}),
-            "nobody is told that it was killed",
-        )
+            "nobody is told that it was killed")
         before = len(taken(desk, folder)[0])
         equal(desk.post("again", {})[0], 200, "it is begun again")
         status, answer = room[0].play("commit")
         expect(
-            status == 200 and answer.split(" ")[1] in ("winnable", "unwinnable", "stale"), "the look was not kept: %s" % answer
-        )
+            status == 200 and answer.split(" ")[1] in ("winnable", "unwinnable", "stale"), "the look was not kept: %s" % answer)
         steps, history = taken(desk, folder)
         expect(len(history) == before + 1, "%d entries, and before %d" % (len(history), before))
         for pupil in room:
@@ -330,8 +258,7 @@ def with_keeping(folder):
     child = subprocess.Popen(command, stdin=subprocess.DEVNULL, stdout=subprocess.PIPE, stderr=subprocess.PIPE, text=True)
     ann = Pupil(addresses(child)[0], "ann")
     equal(
-        [ann.play(line)[0] for line in ("look", "gift ann 1", "look", "lend zoe", "lend ann")], [200] * 5, "lines that are kept"
-    )
+        [ann.play(line)[0] for line in ("look", "gift ann 1", "look", "lend zoe", "lend ann")], [200] * 5, "lines that are kept")
     ann.leave()
     child.kill()
     child.communicate()
@@ -352,10 +279,8 @@ def with_keeping(folder):
             pupil.leave()
     steps, history = files
     for name, text, word in (
-        ("steps.txt", "9 look\n" + steps, "no seat"),
-        ("history.txt", "0 won\n" + history, "as it did"),
-        ("table.json", text_of(EXAMPLES, "cube.json"), "another table"),
-    ):
+        ("steps.txt", "9 look\n" + steps, "no seat"), ("history.txt", "0 won\n" + history, "as it did"),
+        ("table.json", text_of(EXAMPLES, "cube.json"), "another table")):
         before = text_of(kept, name)
         written(kept, name, text)
         printed, said, status = script("board", "--no-browser", *words, stdin=subprocess.DEVNULL)
@@ -411,8 +336,7 @@ def with_full_history(folder):
             equal([ann.play("claim")[0] for _ in range(6)], [200] * 5 + [503], "lines past the capacity")
             expect(
                 ann.until(lambda pupil: pupil.states[-1]["end"] == {"status": 3, "text": "the history is full"}),
-                "nobody is told of it",
-            )
+                "nobody is told of it")
             equal(len(taken(desk, folder)[0]), 5, "the steps of a full history")
             ann.leave()
     finally:
@@ -448,22 +372,17 @@ def with_floods(folder):
         steps, history = taken(desk, folder)
         equal(
             sorted(answer["answer"] for status, answer in answers if status == 200),
-            sorted(line for step, line in zip(steps, history) if step.startswith("1 ")),
-            "the answers to a flood",
-        )
+            sorted(line for step, line in zip(steps, history) if step.startswith("1 ")), "the answers to a flood")
         expect(max(waits) < 2, "another pupil waited %.1f s" % max(waits))
         expect(
             bob.until(lambda pupil: "asleep" in pupil.states and pupil.ended.is_set()),
-            "the oldest of many pages on a seat is not told",
-        )
+            "the oldest of many pages on a seat is not told")
         expect(ann.until(lambda pupil: pupil.states[-1]["names"][str(bob.seat)]["here"] <= 4), "more than four pages on a seat")
         expect(memory_of(child) < MOST_MEMORY, "%d KiB of memory" % memory_of(child))
         for link in deaf:
             link.close()
         expect(
-            ann.until(lambda pupil: pupil.states[-1]["names"][str(bob.seat)]["here"] == 0),
-            "pages that vanished are still there",
-        )
+            ann.until(lambda pupil: pupil.states[-1]["names"][str(bob.seat)]["here"] == 0), "pages that vanished are still there")
         ann.leave()
         bob.leave()
 
@@ -508,9 +427,7 @@ def with_clicks(folder):
         expect(room[-1].until(lambda pupil: len(pupil.entries) >= BEHIND + CLICKS), "the last seat is not told all")
         expect(memory_of(child) < MOST_MEMORY, "%d KiB of memory" % memory_of(child))
         if os.environ.get("TOLD"):
-            print(
-                "a click: median %.1f ms, worst %.1f ms; memory %d KiB" % (1000 * middle, 1000 * max(waits), memory_of(child))
-            )
+            print("a click: median %.1f ms, worst %.1f ms; memory %d KiB" % (1000 * middle, 1000 * max(waits), memory_of(child)))
         for pupil in room:
             pupil.leave()
 
@@ -532,8 +449,6 @@ def with_network(folder):
         near = Place("http://127.0.0.1:%d%s" % (port, place.path))
         equal(near.get("start")[0], 200, "the same on loopback")
         equal(
-            near.get("start", headers={"Host": "%s:%d" % (place.host, port)})[0],
-            200 if place.host == "127.0.0.1" else 404,
-            "another address of it",
-        )
+            near.get("start", headers={"Host": "%s:%d" % (place.host, port)})[0], 200 if place.host == "127.0.0.1" else 404,
+            "another address of it")
         equal(Pupil(pupils, "ann", events=False).play("claim")[1], "0 not won", "a line from the network")

@@ -74,12 +74,8 @@ def of_known():
     """For each known graph: its edges are as long, and as many of them cross, whatever its vertices are called."""
     # The crossings of a drawing as people know it: the cube's two squares cross twice, Petersen's star five times.
     known = {
-        "the cube": (cube(), 2),
-        "Petersen's graph": (petersen(), 5),
-        "K3,3": (bipartite(3, 3), 9),
-        "K2,5": (bipartite(2, 5), 10),
-        "a prism": ((6, cycle(3)[1] + [(i + 3, j + 3) for i, j in cycle(3)[1]] + [(i, i + 3) for i in range(3)]), 0),
-    }
+        "the cube": (cube(), 2), "Petersen's graph": (petersen(), 5), "K3,3": (bipartite(3, 3), 9), "K2,5": (bipartite(2, 5), 10),
+        "a prism": ((6, cycle(3)[1] + [(i + 3, j + 3) for i, j in cycle(3)[1]] + [(i, i + 3) for i in range(3)]), 0)}
     known.update({"cycle %d" % size: (cycle(size), 0) for size in (3, 4, 5, 9, 16)})
     known.update({"grid %dx%d" % each: (grid(*each), 0) for each in ((2, 3), (2, 8), (3, 3), (3, 5), (4, 4))})
     known.update({"path %d" % size: ((size, [(i, i + 1) for i in range(size - 1)]), 0) for size in (3, 8, 9, 16)})
@@ -112,8 +108,7 @@ def of_others():
         for _ in range(4):
             _, edges = tree(size)
             order, edges = relabelled(
-                size, edges + [tuple(DRAW.sample(range(size), 2)) for _ in range(DRAW.randrange(1, 2 * size))]
-            )
+                size, edges + [tuple(DRAW.sample(range(size), 2)) for _ in range(DRAW.randrange(1, 2 * size))])
             start = time.process_time()
             found = places(order, edges)
             took = time.process_time() - start
@@ -122,8 +117,7 @@ def of_others():
             expect(took < MOST_SECONDS, "places of a graph of %d take %.2f s" % (size, took))
             expect(
                 all(math.isfinite(part) and abs(part) <= 1.5 for place in found.values() for part in place),
-                "places out of bounds",
-            )
+                "places out of bounds")
 
 
 def of_examples():
@@ -133,8 +127,7 @@ def of_examples():
             table = json.loads("\n".join(lines_of(name)))
             expect(apart(places(table["vertices"], table["edges"])) > 0.1, "%s: vertices too near" % name)
     houses = places(
-        ["ann", "bob", "cyd", "dan"], [("ann", "bob"), ("bob", "cyd"), ("cyd", "dan"), ("dan", "ann"), ("bob", "dan")]
-    )
+        ["ann", "bob", "cyd", "dan"], [("ann", "bob"), ("bob", "cyd"), ("cyd", "dan"), ("dan", "ann"), ("bob", "dan")])
     expect(
         houses["bob"][0] == houses["ann"][0] < 0 < houses["cyd"][0] == houses["dan"][0]
         and houses["bob"][1] == houses["cyd"][1] < 0,
@@ -144,12 +137,7 @@ def of_examples():
         [
             len(places(*graph))
             for graph in (
-                ([], []),
-                (["a"], []),
-                (["a", "b"], []),
-                (list("abcd"), [("a", "b"), ("c", "d")]),
-                (list("abc"), [("a", "a")]),
-            )
+                ([], []), (["a"], []), (["a", "b"], []), (list("abcd"), [("a", "b"), ("c", "d")]), (list("abc"), [("a", "a")]))
         ],
         [0, 1, 2, 4, 3],
         "graphs that are not connected",

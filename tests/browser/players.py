@@ -91,9 +91,7 @@ class Player:
         listed = self.value(
             "[...document.querySelectorAll('#whole li')].map((at) => [...at.querySelectorAll('code')].map((c) => c.textContent))"
         )
-        equal(
-            listed, [list(pair) for pair in zip(text_of(steps).splitlines(), printed.splitlines())], "%s: the history" % where
-        )
+        equal(listed, [list(pair) for pair in zip(text_of(steps).splitlines(), printed.splitlines())], "%s: the history" % where)
         return table, steps
 
 
@@ -107,19 +105,15 @@ def by_mouse(player):
     browser.click(AT % "bob", CTRL)
     browser.click(AT % "cyd", CTRL)
     equal(
-        player.value("[...document.querySelectorAll('#board .chosen')].map((at) => at.dataset.name)"),
-        ["bob", "cyd"],
-        "the chosen ones",
-    )
+        player.value("[...document.querySelectorAll('#board .chosen')].map((at) => at.dataset.name)"), ["bob", "cyd"],
+        "the chosen ones")
     equal(player.did(browser.click, "#fire"), "1 fire bob,cyd", "the chosen ones")
     equal(player.value("document.querySelectorAll('#board .chosen').length"), 0, "chosen ones after they fired")
     edges = "document.querySelectorAll('#board .edge').length"
     before = player.value(edges)
     equal(
-        player.did(browser.drag, browser.middle(AT % "ann"), browser.middle(AT % "cyd")),
-        "1 join ann cyd",
-        "a line from ann to cyd",
-    )
+        player.did(browser.drag, browser.middle(AT % "ann"), browser.middle(AT % "cyd")), "1 join ann cyd",
+        "a line from ann to cyd")
     equal(player.value("[%s, document.querySelectorAll('#board .added').length]" % edges), [before + 1, 1], "its edge")
     browser.click("#choosing")
     browser.click(AT % "ann")
@@ -138,10 +132,8 @@ def by_touch(player):
     equal(player.did(browser.touch, AT % "dan"), "1 lend dan", "a touch")
     equal(player.did(browser.touch, AT % "dan", 1.0), "1 borrow dan", "a long touch")
     equal(
-        player.did(browser.touch_drag, browser.middle(AT % "ann"), browser.middle(AT % "bob")),
-        "1 join ann bob",
-        "a line by a finger",
-    )
+        player.did(browser.touch_drag, browser.middle(AT % "ann"), browser.middle(AT % "bob")), "1 join ann bob",
+        "a line by a finger")
 
 
 def by_keys(player):
@@ -171,9 +163,7 @@ def by_keys(player):
     player.value("document.querySelector('#hands details').open = true")
     for field, text, button, line in (("gift-amount", "-2", "gift-to", "1 gift cyd -2"), ("rank-degree", None, None, None)):
         if line:
-            player.value(
-                "document.getElementById('%s').value = 'cyd'; document.getElementById('%s').select()" % (button, field)
-            )
+            player.value("document.getElementById('%s').value = 'cyd'; document.getElementById('%s').select()" % (button, field))
             browser.write(text)
             equal(player.did(browser.press, "Enter"), line, "a levy by keys")
     player.value("document.getElementById('line-in').focus()")
@@ -199,12 +189,7 @@ def by_seats(player):
     expect("Stale" in player.text("#answer"), "the page does not say that it is stale")
     equal(
         player.refused(browser.click, "#commit"),
-        (
-            "This seat has not looked since its last verdict. It looks first.",
-            "dollar: bad look",
-        ),
-        "no look",
-    )
+        ("This seat has not looked since its last verdict. It looks first.", "dollar: bad look"), "no look")
     player.did(browser.click, "#look")
     player.did(browser.click, "#rank-form button")
     expect("rank" in player.text("#said"), "no rank test: %s" % player.text("#said"))
@@ -224,8 +209,7 @@ def with_refusals(player):
         ("", "That is no command.", "bad word"),
         ("look now " + "x" * 200, "The command has too many words or too few, or a space too many.", "bad form"),
         ("look now " + "x" * 2000, "The line is too long.", "long line"),
-        ("lend \u00e4nn", "It names a vertex that is not there, or one twice.", "bad name"),
-    ):
+        ("lend \u00e4nn", "It names a vertex that is not there, or one twice.", "bad name")):
         said = player.refused(player.value, "void play(%s)" % json.dumps(line))
         equal(said, (words, "dollar: " + own), "the line %.20r" % line)
     equal(player.refused(player.value, "void play('look\\n1 claim')")[0], "A line has no newline in it.", "two lines")
@@ -239,8 +223,7 @@ def with_many_lines(player):
     before = player.length()
     player.value("(async () => { for (const line of %s) await play(line); })()" % json.dumps(lines))
     expect(
-        RANDOM_LINES / 2 < player.length() - before < RANDOM_LINES, "%d of %d lines" % (player.length() - before, RANDOM_LINES)
-    )
+        RANDOM_LINES / 2 < player.length() - before < RANDOM_LINES, "%d of %d lines" % (player.length() - before, RANDOM_LINES))
     player.compare("many lines")
     now = written(player.folder, "now", player.saved("#take-now", "now.json"))
     equal(asked("rr", now), ("", "dollar: too many trials\n", 3), "the four numbers of a table with millions")
@@ -276,20 +259,10 @@ def with_a_long_game(player):
 def random_line(draw, one, other):
     """A line that somebody may play."""
     kinds = (
-        "lend %s",
-        "borrow %s",
-        "fire %s",
-        "gift %s 1",
-        "gift %s -2",
-        "gift %s 0",
-        "gift %s 1000000",
-        "script %s=3",
-        "lend %s.",
-        "look",
-        "claim",
-    )
+        "lend %s", "borrow %s", "fire %s", "gift %s 1", "gift %s -2", "gift %s 0", "gift %s 1000000", "script %s=3", "lend %s.",
+        "look", "claim")
     kind = draw.choice(kinds + ("join %s %s", "fire %s,%s", "script %s=1,%s=-2", "join %s %s", "commit"))
-    return kind % (one, other)[: kind.count("%s")]
+    return kind % (one, other)[:kind.count("%s")]
 
 
 def with_questions(player):
@@ -307,10 +280,8 @@ def with_questions(player):
             "[...document.querySelectorAll('#told-script tbody tr')].map((at) => [...at.children].map((c) => c.textContent))"
         )
         equal(
-            [[row[0], row[3]] for row in rows],
-            [pair.split("=") for pair in reduced.split(" ")],
-            "the script's end at %d" % index,
-        )
+            [[row[0], row[3]] for row in rows], [pair.split("=") for pair in reduced.split(" ")],
+            "the script's end at %d" % index)
         says = player.value("[...document.querySelectorAll('#board .vertex .says')].length")
         equal(says, sum(not pair.endswith("=0") for pair in script.split(" ")), "the script on the board at %d" % index)
         _, printed = player.told("#ask-rr")
@@ -326,10 +297,8 @@ def with_questions(player):
             ".map((at) => [at.dataset.name, at.querySelector('.says').textContent])"
         )
         equal(
-            shown,
-            [[name, "lost " + count] for name, count in losses if count != "0"],
-            "the first loss on the board at %d" % index,
-        )
+            shown, [[name, "lost " + count] for name, count in losses if count != "0"],
+            "the first loss on the board at %d" % index)
     equal(player.length(), length, "the entries after questions")
 
 
@@ -390,9 +359,7 @@ def with_tables(player, folder):
         ('{"vertices":["a","b"],"edges":[],"amounts":[0,0],"q":"a"}', "Some vertices can't be reached", "not connected"),
         (
             '{"vertices":["<img src=x onerror=window.pwned=1>"],"edges":[],"amounts":[0],"q":"a"}',
-            "The name of vertex 1 is none",
-            "name of vertex 0",
-        ),
+            "The name of vertex 1 is none", "name of vertex 0"),
         (" " * (1 << 20) + "{}", "The file has more than a megabyte", "file too long"),
     ):
         player.value("hands.tell('')")
@@ -408,9 +375,7 @@ def with_tables(player, folder):
     player.value(dropped % json.dumps(text_of(EXAMPLES, "cube.json")))
     browser.until("fileName === 'dropped.json' && viewer.game.names.length === 8")
     for kind in "winnable", "unwinnable":
-        player.value(
-            "document.getElementById('draw-degree').value = 2; document.getElementById('draw-kind').value = '%s'" % kind
-        )
+        player.value("document.getElementById('draw-degree').value = 2; document.getElementById('draw-kind').value = '%s'" % kind)
         before = player.value("table")
         browser.click("#draw-form button")
         browser.until("table !== %s" % json.dumps(before))
@@ -422,8 +387,7 @@ def with_tables(player, folder):
     browser.until("!document.getElementById('refused').hidden")
     expect(
         player.text("#refused span").startswith("Of 64 that were drawn none"),
-        "lots without a table: %s" % player.text("#refused span"),
-    )
+        "lots without a table: %s" % player.text("#refused span"))
 
 
 def with_editor(player):
@@ -444,22 +408,17 @@ def with_editor(player):
     equal(
         [player.text("#edit-refused span"), player.text("#edit-refused code")],
         ["Some vertices can't be reached from the others: an edge is missing.", "dollar: not connected"],
-        "a vertex without an edge",
-    )
+        "a vertex without an edge")
     browser.click("input[value=edge]")
     browser.drag(browser.middle(AT % "d"), browser.middle(AT % "a"))
     browser.click("input[value=move]")
     old = browser.middle(AT % "d")
     browser.drag(old, [old[0] + 30, old[1] + 25])
     new = browser.middle(AT % "d")
-    expect(
-        abs(new[0] - old[0] - 30) < 3 and abs(new[1] - old[1] - 25) < 3, "a vertex that is dragged from %r to %r" % (old, new)
-    )
+    expect(abs(new[0] - old[0] - 30) < 3 and abs(new[1] - old[1] - 25) < 3, "a vertex that is dragged from %r to %r" % (old, new))
     for selector, text in (
-        ("#edit-vertices tr:nth-child(4) input[type=number]", "-5"),
-        ("#edit-edges tr:nth-child(1) input", "3"),
-        ("#edit-vertices tr:nth-child(4) input[type=text]", "zoe"),
-    ):
+        ("#edit-vertices tr:nth-child(4) input[type=number]", "-5"), ("#edit-edges tr:nth-child(1) input", "3"),
+        ("#edit-vertices tr:nth-child(4) input[type=text]", "zoe")):
         player.value("document.querySelector(%s).select()" % json.dumps(selector))
         browser.write(text)
         browser.press("Enter")
@@ -471,10 +430,8 @@ def with_editor(player):
     browser.until("document.getElementById('editor').hidden")
     table = json.loads(player.saved("#take-table", "table.json"))
     equal(
-        table,
-        {"vertices": ["a", "b", "zoe"], "edges": [["a", "b", 3], ["zoe", "a", 1]], "amounts": [2, -1, -5], "q": "b"},
-        "the edited table",
-    )
+        table, {"vertices": ["a", "b", "zoe"], "edges": [["a", "b", 3], ["zoe", "a", 1]], "amounts": [2, -1, -5], "q": "b"},
+        "the edited table")
     places = player.saved("#take-places", "places.txt")
     equal([line.split(" ")[0] for line in places.splitlines()], ["a", "b", "zoe"], "the places that are saved")
     player.did(browser.click, AT % "zoe")
@@ -494,10 +451,8 @@ def with_takings(player, browser_folder):
     address = player.value("location.href")
     player.browser.open(written(browser_folder, "game.html", page))
     equal(
-        player.value("viewer.game.replies.map(({line}) => line)"),
-        asked("rehearse", table, steps)[0].splitlines(),
-        "the page that is saved",
-    )
+        player.value("viewer.game.replies.map(({line}) => line)"), asked("rehearse", table, steps)[0].splitlines(),
+        "the page that is saved")
     player.browser.open(
         written(browser_folder, "board.html", '<!doctype html><img src="%s">' % os.path.join(player.folder, "board.svg"))
     )
@@ -526,9 +481,7 @@ def in_sizes(player, folder):
             )
             equal(small, [], "what is too small at %d" % wide)
             if pictures and wide in WIDTHS:
-                browser.picture(
-                    os.path.join(pictures, "alone-%d%s.png" % (wide, "-dark" if features else "")), whole=wide == 360
-                )
+                browser.picture(os.path.join(pictures, "alone-%d%s.png" % (wide, "-dark" if features else "")), whole=wide == 360)
     browser.media(prefers_reduced_motion="reduce")
     unnamed = player.value(
         "[...document.querySelectorAll('button, select, input, [role=button]')].filter((at) => !(at.textContent.trim() ||"
@@ -561,8 +514,7 @@ def with_focus(player):
     equal([name for name, shown in seen if not shown], [], "where the focus can't be seen")
     expect(
         {"ann", "bob", "cyd", "dan", "ask-won", "claim", "line-in", "take-table"} <= {name for name, _ in seen},
-        "Tab comes to %r" % seen,
-    )
+        "Tab comes to %r" % seen)
 
 
 def all_of(browser, folder):
@@ -591,5 +543,4 @@ def all_of(browser, folder):
     browser.until("!document.getElementById('refused').hidden")
     expect(
         "There is no answer from board/play" in browser.value("document.getElementById('refused').textContent"),
-        "the end of board/play is not told",
-    )
+        "the end of board/play is not told")

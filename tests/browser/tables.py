@@ -91,8 +91,7 @@ def with_pages(ann, bob, desk, child, room, folder):
     bob.browser.touch(AT % "dan", 1.0)
     ann.has(2)
     equal(
-        ann.text("#asked") + " " + ann.text("#said"), "2 borrow dan 1 moved ann=-2 bob=1 cyd=0 dan=2", "a long touch of another"
-    )
+        ann.text("#asked") + " " + ann.text("#said"), "2 borrow dan 1 moved ann=-2 bob=1 cyd=0 dan=2", "a long touch of another")
     expect(ann.text("#step").startswith("<img src=x onerror=p()>: dan borrows"), "whose move it was: %s" % ann.text("#step"))
     ann.value('document.querySelector("%s").focus()' % (AT % "bob"))
     ann.browser.press("Enter")
@@ -105,9 +104,7 @@ def with_pages(ann, bob, desk, child, room, folder):
     bob.browser.until("!document.getElementById('refused').hidden")
     equal(
         [bob.text("#refused span"), bob.text("#refused code")],
-        ["This seat has not looked since its last verdict. It looks first.", "bad look"],
-        "a commit without a look",
-    )
+        ["This seat has not looked since its last verdict. It looks first.", "bad look"], "a commit without a look")
     equal(ann.value("document.getElementById('refused').hidden"), True, "another is told of it")
     ann.value("viewer.go(1)")
     bob.browser.click("#look")
@@ -166,9 +163,7 @@ def with_commands(ann, bob, desk, child, room, folder):
         until_saved(os.path.join(folder, name))
     equal(
         [text_of(folder, "steps.txt"), text_of(folder, "history.txt")],
-        [room.get(name)[1] for name in ("steps.txt", "history.txt")],
-        "the saved files",
-    )
+        [room.get(name)[1] for name in ("steps.txt", "history.txt")], "the saved files")
     desk.click("#take-page")
     until_saved(os.path.join(folder, "game.html"))
     steps, history = taken(room, folder)
@@ -200,8 +195,7 @@ def in_sizes(browser, name):
             if pictures and wide in WIDTHS:
                 browser.value("window.scrollTo(0, 0)")
                 browser.picture(
-                    os.path.join(pictures, "%s-%d%s.png" % (name, wide, "-dark" if features else "")), whole=wide == 360
-                )
+                    os.path.join(pictures, "%s-%d%s.png" % (name, wide, "-dark" if features else "")), whole=wide == 360)
     browser.media(prefers_reduced_motion="reduce")
     unnamed = browser.value(
         "[...document.querySelectorAll('button, select, input, [role=button]')].filter((at) => !(at.textContent.trim() ||"
@@ -252,9 +246,7 @@ def all_of(browsers, folder):
         with_end(ann, desk)
         for browser in browsers:
             equal(browser.thrown, [], "what a page has thrown")
-            outside = [
-                url for url in browser.asked if not url.startswith((pupils, teacher, "data:", "blob:", "about:", "file:"))
-            ]
+            outside = [url for url in browser.asked if not url.startswith((pupils, teacher, "data:", "blob:", "about:", "file:"))]
             equal(outside, [], "what a page has asked of others")
             browser.asked.clear()
     ann.told("There is no connection to the game.")
@@ -263,6 +255,5 @@ def all_of(browsers, folder):
 def pages(browsers):
     """For classes.of_many: pupils on pages."""
     return [
-        lambda address, browser=browser, name=name: PagePupil(browser, address, name)
-        for browser, name in zip(browsers, ("page one", "page two"))
-    ]
+        lambda address, browser=browser, name=name: PagePupil(browser, address, name) for browser,
+        name in zip(browsers, ("page one", "page two"))]

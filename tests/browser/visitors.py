@@ -20,11 +20,8 @@ class Place:
         given.update(headers)
         try:
             link.request(
-                method,
-                path if path.startswith("/") else self.path + path,
-                body,
-                {name: value for name, value in given.items() if value is not None},
-            )
+                method, path if path.startswith("/") else self.path + path, body,
+                {name: value for name, value in given.items() if value is not None})
             answer = link.getresponse()
             return answer.status, answer.read().decode()
         finally:

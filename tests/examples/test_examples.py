@@ -1,6 +1,4 @@
 """The examples: each line of runs.txt prints its file NAME.out, and README.md lists it; each other file is named there or in docs/."""
-import doctest
-import importlib.util
 import re
 import subprocess
 import sys
@@ -9,14 +7,6 @@ from helpers import EXAMPLES, ROOT, Test, each, program
 
 RUNS = [tuple(line.split(" ", 3)) for line in (EXAMPLES / "runs.txt").read_text().splitlines()]
 PAGES = "".join(page.read_text() for page in [EXAMPLES / "README.md", *sorted((ROOT / "docs").glob("*.md"))])
-
-
-def script(name):
-    """A script of the examples as a module."""
-    spec = importlib.util.spec_from_file_location(name, EXAMPLES / (name + ".py"))
-    module = importlib.util.module_from_spec(spec)
-    spec.loader.exec_module(module)
-    return module
 
 
 class OfExamples(Test):
@@ -47,4 +37,4 @@ class OfExamples(Test):
         self.assertEqual(said.split("\n"), ["borrow b     0 moved a=1 b=1 c=-2", "borrow c     1 moved a=0 b=0 c=0", "claim        2 won", ""])
 
     def test_gonalities(self):
-        self.assertEqual(doctest.testmod(script("gonality"))[0], 0)
+        self.holds([sys.executable, "-B", "-m", "doctest", EXAMPLES / "gonality.py"])

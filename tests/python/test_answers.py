@@ -6,8 +6,8 @@ import pickle
 
 import dollar
 from dollar import Fault, Refused, RiemannRoch, Verdict, answer
-from dollar.grammar import GRAMMAR, sample
-from helpers import Test, each, needed
+from dollar.grammar import GRAMMAR
+from helpers import Test, each, needed, sample
 
 TRIANGLE = {"vertices": ["a", "b", "c"], "edges": [["a", "b", 1], ["b", "c", 1], ["a", "c", 1]], "amounts": [2, -1, -1], "q": "a"}
 LOOPING = dict(TRIANGLE, edges=[["a", "a", 1]])

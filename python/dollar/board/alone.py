@@ -52,9 +52,10 @@ class OwnGame(Game):
             return {"status": 0, "out": answer + "\n", "err": ""}
 
     async def ended(self):
-        """What the program has said at its end."""
+        """What the program has said at its end. If it was ended here, the page begins the game again."""
         await self.close()
-        return {"status": self.end["status"], "out": "", "err": self.end["text"] or "the program has ended"}
+        status, text = self.end["status"], self.end["text"]
+        return {"status": status or None, "out": "", "err": text or "the program has ended", "gone": status == 0}
 
 
 class Alone:

@@ -10,8 +10,9 @@ import json
 import re
 import sys
 
+from dollar.answers import numbered
 from dollar.board.pages import filled, one_script, part
-from dollar.drawing import layout
+from dollar.drawing import held, layout
 from dollar.program import printed
 from dollar.table import shown_name, text_of
 
@@ -33,14 +34,13 @@ def digest(text):
 
 def greedy_game(text, turns):
     """The steps of a greedy game, as its rule has them, and what is printed of its history."""
-    table = json.loads(text)
     lines = printed("greedy", text.encode(), turns).splitlines(keepends=True)
     lines = lines[:-1] if lines[-1:] == ["turns\n"] else lines
-    amounts, steps = table["amounts"], []
+    amounts, steps = held(json.loads(text)), []
     for line in lines:
-        poor = [name for name, amount in zip(table["vertices"], amounts) if amount < 0]
-        steps.append("1 borrow %s\n" % poor[0] if poor else "1 claim\n")
-        amounts = [int(amount) for amount in re.findall(r"=(-?\d+)", line)] or amounts
+        poor = next((name for name, amount in amounts.items() if amount < 0), None)
+        steps.append("1 borrow %s\n" % poor if poor else "1 claim\n")
+        amounts = numbered(line.rstrip("\n")).amounts or amounts
     return "".join(steps), "".join(lines)
 
 
