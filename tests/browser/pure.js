@@ -37,7 +37,9 @@ function replies() {
   equal([verdict.script, verdict.reduced], [new Map([["a", 0], ["b", 1]]), new Map([["a", -3], ["b", 0]])], "the two lists of a verdict");
   equal([loss.kind, loss.degree, loss.loss], ["rank", 1, new Map([["a", 0], ["b", 1]])], "the loss of a rank test");
   equal(replyWords(loss, AMOUNTS, "a"), "The rank is below 1: without 1 dollar at b it can't be won.", "the words of a loss");
-  for (const text of ["", "moved", "moved a", "won ", "refused", "stale x", "lent a"]) equal(answerOf(text).kind, "unread", `what is no reply: ${text}`);
+  for (const text of ["", "moved", "moved a", "won ", "refused", "stale x", "lent a"]) {
+    equal(answerOf(text).kind, "unread", `what is no reply: ${text}`);
+  }
   equal(replyOf("moved a=1").kind, "unread", "a reply without its number");
   equal(Object.keys(CAUSES).sort(), GRAMMAR.refusals.map((text) => text.split(" ")[1]).sort(), "the causes of refusals");
 }
