@@ -93,7 +93,7 @@ class Alone:
         command = text_in(given, "command", 16)
         table = text_in(given, "table", MOST_TABLE) if command != "play" else ""
         if command == "begin":
-            return await self.begin(table, text_in(given, "steps", MOST_STEPS).splitlines())
+            return await self.begin(table, [line for line in text_in(given, "steps", MOST_STEPS).split("\n") if line])
         if command == "play":
             return await self.play(given)
         if command in ("judge", "rr"):
