@@ -195,12 +195,16 @@ def threads(checks):
     if are_threads_refused() and checks.run("judge", table, before=without_threads) == Run(0, WON, b""):
         checks.same("party of two without threads", THREAD, checks.run("party", table, script, script, before=without_threads))
         checks.same("party of one without threads", THREAD, checks.run("party", table, script, before=without_threads))
-        for workers in ("1", "4", "16"):
+        for workers in ("2", "4", "16"):
             checks.same("rank with %s workers without threads" % workers, THREAD,
                         checks.run("rank", table, "1", "--workers", workers, before=without_threads))
-        told = b"0 looked 0 a=2 b=-1 c=-1\nbad trials\n"
-        checks.same("serve without threads", THREAD._replace(output=told), checks.run(
-            "serve", table, typed=b"look\nrank 631\nrank 1\nclaim\n", before=without_threads))
+        checks.same("rank with 1 worker without threads", Run(0, b"rank below 1 at a=0 b=0 c=1\n", b""),
+                    checks.run("rank", table, "1", before=without_threads))
+        told, typed = b"0 looked 0 a=2 b=-1 c=-1\nbad trials\n", b"look\nrank 631\nrank 1\nclaim\n"
+        checks.same("serve with 2 workers without threads", THREAD._replace(output=told),
+                    checks.run("serve", table, "--workers", "2", typed=typed, before=without_threads))
+        checks.same("serve without threads", Run(0, told + b"1 rank below 1 at a=0 b=0 c=1\n2 not won\n", b""),
+                    checks.run("serve", table, typed=typed, before=without_threads))
     else:
         print("left out: runs without room for a thread, for want of a limit on processes that refuses one")
     checks.program = own
