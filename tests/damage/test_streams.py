@@ -1,6 +1,6 @@
 """Runs whose files and streams are not what they should be: closed, full, without end, gone in mid-answer, not read, or
 interrupted."""
-import array, fcntl, os, resource, shutil, signal, subprocess, tempfile, termios, threading, time
+import array, fcntl, os, re, resource, shutil, signal, subprocess, tempfile, termios, threading, time
 
 from runs import PATIENCE, TRIANGLE, WON, Run, checked, refused
 
@@ -10,11 +10,10 @@ ANSWERS = (b"0 looked 0 a=2 b=-1 c=-1\n1 moved a=0 b=0 c=0\n2 winnable by a=0 b=
 WRITE, READ, THREAD = (refused(text, status) for text, status in ((b"write fault", 5), (b"read fault", 5), (b"no thread", 4)))
 NOBODY = 65534
 
-# All losses of seven dollars are tried on this table, the complete graph on 16 vertices, and each of them can be borne.
-NAMES = "abcdefghijklmnop"
-SLOW = ('{"vertices":[%s],"edges":[%s],"amounts":[7,7,7,6,6,6,7,6,7,6,7,6,7,6,6,7],"q":"a"}' % (
-    ",".join('"%s"' % name for name in NAMES),
-    ",".join('["%s","%s",1]' % (u, v) for i, v in enumerate(NAMES) for u in NAMES[:i]))).encode()
+# A test of ten dollars takes some 20 ms on this table, because only late losses can't be borne.
+SLOW = ('{"vertices":[%s],"edges":[%s],"amounts":[-2,-6,11,-6,3,2,-7,2,5,10,-1],"q":"a"}' % (
+    ",".join('"%s"' % name for name in "abcdefghijk"),
+    ",".join('["%s","%s",%s]' % tuple(edge) for edge in "be1 bc1 ag2 ah2 hj1 fk1 ei1 de1 df1 cg1".split()))).encode()
 
 
 def commands(checks):
@@ -214,12 +213,12 @@ def interrupts(checks):
     """An interrupt ends a run at once, without a word: nothing is printed of an answer that is not whole yet, and a session
     has written its answers in whole lines."""
     table, slow = checks.put("triangle", TRIANGLE), checks.put("slow", SLOW)
-    steps = checks.put("ranks", b"1 look\n1 rank 7\n" * 20000)
+    steps = checks.put("ranks", b"1 look\n1 rank 10\n" * 20000)
     fifo = os.path.join(checks.folder, "silent")
     os.mkfifo(fifo)
     for number in (signal.SIGINT, signal.SIGTERM):
         ended = Run(-number, b"", b"")
-        for words in (("rank", slow, "7"), ("rank", slow, "7", "--workers", "4")):
+        for words in (("rank", slow, "10"), ("rank", slow, "10", "--workers", "4")):
             interrupted_ranks(checks, number, words)
         for what, words in (("rehearse", ("rehearse", slow, steps)), ("judge that waits for a FIFO", ("judge", fifo))):
             child = checks.start(*words)
@@ -236,16 +235,17 @@ def interrupts(checks):
         child = checks.start("serve", slow, stdin=subprocess.PIPE, bufsize=0)
         child.stdin.write(b"claim\n")
         got = child.stdout.readline()
-        child.stdin.write(b"look\nrank 7\n" * 2500)
+        child.stdin.write(b"look\nrank 10\n" * 200)
         time.sleep(0.1)
         child.send_signal(number)
-        checks.same("a session, interrupted in rank tests", ended._replace(output=b"0 won\n"), ended_run(child, got))
+        checks.same("a session, interrupted in rank tests", ended._replace(output=b"0 not won\n"), ended_run(child, got))
 
 
 def interrupted_ranks(checks, number, words):
-    """Rank tests that are interrupted sooner or later: each is over, or has printed nothing, or had printed its whole answer and
-    was not over yet."""
-    whole, ended, endings = Run(0, b"rank at least 7\n", b""), Run(-number, b"", b""), set()
+    """Rank tests that are interrupted sooner or later: each is over, or has printed nothing, or had printed the whole answer of a
+    run that nobody interrupts and was not over yet."""
+    whole, ended, endings = checks.run(*words), Run(-number, b"", b""), set()
+    checks.holds("%s answers" % " ".join(words), whole.status == 0 and re.fullmatch(rb"rank below 10 at( [a-k]=\d+){11}\n", whole.output), whole)
     for turn in range(40):
         child = checks.start(*words)
         time.sleep(turn / 2000)
