@@ -5,7 +5,7 @@ from common import BOARD, EXAMPLES, addresses, asked, equal, expect, played, scr
 from model import some_command
 from visitors import Place, Pupil, opened
 
-LONG, COMES_BACK = 60_000, 2.0
+LONG, COMES_BACK = 60_000, 5.0
 PUPILS, LINES = 30, 100
 SEATS, BEHIND, CLICKS, MEDIAN = 64, 1000, 200, 0.050
 HALVES = 400

@@ -254,7 +254,7 @@ def with_a_long_game(player):
     player.answered(True)
     player.browser.until("viewer.game.length === %d" % (LONG - 99))
     equal(player.text("#said"), "%d not won" % (LONG - 100), "a claim on an earlier place")
-    expect(time.monotonic() - start < 2, "going on from an earlier place took %.1f s" % (time.monotonic() - start))
+    expect(time.monotonic() - start < 5, "going on from an earlier place took %.1f s" % (time.monotonic() - start))
 
 
 def random_line(draw, one, other):
