@@ -5,6 +5,8 @@
 --   words_of name rows               == all its words
 --   HasFile rows file                == the file is the word for `file`
 --   HasLines rows                    == the flag `--lines` is there
+--   HasOrder rows                    == the flag `--order` is there
+--   IsOrdered rows ordered           == the order of burning is asked for exactly if that flag is there
 --   divisors_of rows                 == the name of the file of amounts, if there is one
 --   LinesAre rows divisors           == there are lines, of one kind: the flag is there exactly if no
 --                                       file of amounts is named
@@ -24,7 +26,7 @@
 --   Asks words asked                 == the words ask for this: for a text if they call for help
 --                                       or the version, and else for what their command asks for,
 --                                       if the library finds no fault
-use Rattle.std.specs.Prelude.{◌≡◌, ◌-◌, ◌^◌, ◌⊎◌, ℕ, List, [], Option, None, Some, IsSomeAnd, codes, map, option_map}
+use Rattle.std.specs.Prelude.{◌≡◌, ◌-◌, ◌^◌, ◌⊎◌, ◌↔◌, ℕ, Bool, IsTrue, List, [], Option, None, Some, IsSomeAnd, codes, map, option_map}
 use Rattle.clap.specs.Words.{IsAmong, Kinds, Row, Text, all_of, fault_of, first_of, subcommand_of}
 use Rattle.clap.specs.declared.error.kind.ErrorKind.TheVariants.{DisplayHelp, DisplayVersion}
 use Rattle.dg_invocation.specs.declared.invocation.Invocation.{Invocation}
@@ -50,6 +52,12 @@ words_of name rows = all_of name rows
 
 abbrev pub HasLines : List Row → Type 0
 HasLines rows = word_of (codes "lines") rows ≡ Some (codes "true")
+
+abbrev pub HasOrder : List Row → Type 0
+HasOrder rows = word_of (codes "order") rows ≡ Some (codes "true")
+
+abbrev pub IsOrdered : List Row → Bool → Type 0
+IsOrdered rows ordered = IsTrue ordered ↔ HasOrder rows
 
 abbrev pub divisors_of : List Row → Option Text
 divisors_of rows = word_of (codes "divisors") rows
@@ -97,7 +105,7 @@ pub record AsksParty (rows : List Row) (task : PartyTask) : Type 0 where
   pub capacity : HasCapacity rows task.capacity
 
 abbrev pub AsksQuestion : Text → List Row → Question → Type 0
-AsksQuestion name rows question.Judge = name ≡ codes "judge"
+AsksQuestion name rows (question.Judge ordered) = (name ≡ codes "judge") × IsOrdered rows ordered
 AsksQuestion name rows (question.Rank degree) = (name ≡ codes "rank") × HasDegree rows degree
 AsksQuestion name rows question.RiemannRoch = name ≡ codes "rr"
 
@@ -112,7 +120,8 @@ abbrev pub IsAlone : List Row → Type 0
 IsAlone rows = HasOneTable rows × (word_of (codes "workers") rows ≡ None)
 
 abbrev pub AsksTask : Text → List Row → Task → Type 0
-AsksTask name rows (Judge file) = (name ≡ codes "judge") × HasFile rows file.now × IsAlone rows
+AsksTask name rows (Judge file ordered) =
+    (name ≡ codes "judge") × HasFile rows file.now × IsAlone rows × IsOrdered rows ordered
 AsksTask name rows (RiemannRoch file) = (name ≡ codes "rr") × HasFile rows file.now × IsAlone rows
 AsksTask name rows (Rank task) =
     (name ≡ codes "rank") × AsksRank rows task × HasOneTable rows

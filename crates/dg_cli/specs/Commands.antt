@@ -6,8 +6,8 @@
 --   flag name                == `--name` alone
 --   command name arguments   == the command of that name
 --   judge, rank, riemann_roch, greedy, rehearse, serve, party == the seven commands
---   bare_program             == the program without its commands: it has a version, and one of them has
---                               to be named
+--   bare_program             == the program without its commands: it has a version, one of them has to
+--                               be named, and `help` is none of them
 --   dollar                   == the program
 use Rattle.std.specs.Prelude.{List, [], ◌∷◌, Some, true, false, codes}
 use Rattle.clap.specs.Lexer.{usize_max}
@@ -33,7 +33,7 @@ command name arguments = record (new_shape name) { rules = arguments }
 
 abbrev pub judge : Shape
 judge = command (codes "judge")
-    (word (codes "file") ∷ flag (codes "lines") ∷ option (codes "divisors")
+    (word (codes "file") ∷ flag (codes "lines") ∷ option (codes "divisors") ∷ flag (codes "order")
     ∷ option (codes "workers") ∷ [])
 
 abbrev pub rank : Shape
@@ -67,6 +67,7 @@ bare_program = record {
     has_version = true;
     subcommand_required = true;
     arg_required_else_help = true;
+    disable_help_subcommand = true;
   };
   subs = [];
 }

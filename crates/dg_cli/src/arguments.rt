@@ -4,7 +4,7 @@ ghost use Rattle.dg_cli.specs.Building.{IsArgument, rule_by, rule_for};
 
 use crate::help_texts::{
     CAPACITY_HELP, DEGREE_HELP, DIVISORS_HELP, FILE_HELP, LINE_WORKERS_HELP, LINES_HELP,
-    RANK_WORKERS_HELP, SCRIPT_HELP, SEATS_HELP, STEPS_HELP, TURNS_HELP, WORKERS_HELP,
+    ORDER_HELP, RANK_WORKERS_HELP, SCRIPT_HELP, SEATS_HELP, STEPS_HELP, TURNS_HELP, WORKERS_HELP,
 };
 use clap::{Arg, ArgAction};
 use std::alloc::Global;
@@ -26,6 +26,8 @@ pub(crate) enum Argument {
     Lines,
     /// The file of amounts.
     Divisors,
+    /// Whether the order in which the vertices burn is printed.
+    Order,
     /// How many seats lines name.
     Seats,
     /// How many entries there may be.
@@ -78,6 +80,7 @@ impl Argument {
             Argument::Turns => "turns",
             Argument::Lines => "lines",
             Argument::Divisors => "divisors",
+            Argument::Order => "order",
             Argument::Seats => "seats",
             Argument::Capacity => "cap",
             Argument::Workers | Argument::RankWorkers | Argument::LineWorkers => "workers",
@@ -91,7 +94,7 @@ impl Argument {
         match self {
             Argument::File | Argument::Steps | Argument::Degree | Argument::Turns => Form::Word,
             Argument::Scripts => Form::Words,
-            Argument::Lines => Form::Flag,
+            Argument::Lines | Argument::Order => Form::Flag,
             Argument::Divisors
             | Argument::Seats
             | Argument::Capacity
@@ -109,7 +112,7 @@ impl Argument {
             Argument::Scripts => "SCRIPT",
             Argument::Degree => "K",
             Argument::Turns => "TURNS",
-            Argument::Lines => "",
+            Argument::Lines | Argument::Order => "",
             Argument::Divisors => "LINES",
             Argument::Seats
             | Argument::Capacity
@@ -129,6 +132,7 @@ impl Argument {
             Argument::Turns => TURNS_HELP,
             Argument::Lines => LINES_HELP,
             Argument::Divisors => DIVISORS_HELP,
+            Argument::Order => ORDER_HELP,
             Argument::Seats => SEATS_HELP,
             Argument::Capacity => CAPACITY_HELP,
             Argument::Workers => WORKERS_HELP,

@@ -62,6 +62,7 @@ fn bare_program<'a>(alloc: Global) -> Command<'a>
         .about("Plays the dollar game on a graph, and tells whether a table is winnable")
         .version(VERSION)
         .after_help(MORE)
+        .disable_help_subcommand(true)
         .subcommand_required(true)
         .arg_required_else_help(true)
 }
@@ -100,7 +101,8 @@ impl Subcommand {
         ensures { map rule_for result.now ≡ (shape_for self).rules }
     {
         match self {
-            Subcommand::Judge | Subcommand::RiemannRoch => LINES_ARGUMENTS,
+            Subcommand::Judge => JUDGE_ARGUMENTS,
+            Subcommand::RiemannRoch => LINES_ARGUMENTS,
             Subcommand::Rank => RANK_ARGUMENTS,
             Subcommand::Greedy => GREEDY_ARGUMENTS,
             Subcommand::Rehearse => REHEARSE_ARGUMENTS,
@@ -150,6 +152,14 @@ impl Subcommand {
         }
     }
 }
+
+const JUDGE_ARGUMENTS: &[Argument] = &[
+    Argument::File,
+    Argument::Lines,
+    Argument::Divisors,
+    Argument::Order,
+    Argument::LineWorkers,
+];
 
 const LINES_ARGUMENTS: &[Argument] = &[
     Argument::File,

@@ -38,6 +38,8 @@ pub(crate) const LINES_HELP: &str = "FILE has a table on each line, and each is 
 
 pub(crate) const DIVISORS_HELP: &str = "LINES has amounts for the table on each line";
 
+pub(crate) const ORDER_HELP: &str = "Each verdict ends with the order in which the vertices burn";
+
 pub(crate) const CAPACITY_HELP: &str = "How many entries there may be, 1 to 65536; default 65536";
 
 pub(crate) const MORE: &str =
@@ -74,7 +76,7 @@ and `party` prints the history even if a session ended early. The status is
     0  if there is an answer, also `unwinnable` and `rank below ..`
     2  if the command line is refused
     3  if a file, a line or a limit is refused
-    4  if memory or a thread is refused
+    4  if memory, a thread or a cell of the history is refused
     5  if a file can't be read or the output can't be written
 "#;
 
@@ -89,6 +91,13 @@ negative; q does neither. The second numbers are the dollars after that. Then
 only q may be in debt, and no vertices other than q could lend together without
 one of them falling into debt. So the table is winnable exactly if q is not in
 debt. Otherwise the answer is `unwinnable by .. to ..`, also with the status 0.
+
+With --order, the verdict ends with what shows that no such vertices could lend
+together. Set a fire to q, and let a vertex burn as soon as it has more edges to
+burnt vertices than dollars: all burn, here in this order.
+
+    $ dollar judge --order triangle.json
+    winnable by a=0 b=-1 c=-1 to a=0 b=0 c=0 burning a b c
 
 With --lines, FILE has a table on each line, and is read as it comes. A line
 that is no table is answered by the fault that such a file would have:

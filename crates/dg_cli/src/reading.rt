@@ -13,6 +13,7 @@ ghost use Rattle.dg_cli.specs.Asks.{
   AsksSweep,
   AsksTask,
   HasLines,
+  HasOrder,
   HasOneTable,
   IsAlone,
   word_of,
@@ -208,7 +209,9 @@ fn question_in<'a>(name: &str, inner: &ArgMatches<'a>) -> Result<Question, Refus
     ensures { Tells (AsksQuestion name.now (rows_in inner.now)) result }
 {
     match name {
-        "judge" => Ok(Question::Judge),
+        "judge" => Ok(Question::Judge {
+            ordered: has_order(inner),
+        }),
         "rank" => Ok(Question::Rank(number_in(inner, NumberArgument::Degree)?)),
         "rr" => Ok(Question::RiemannRoch),
         _ => Err(Refusal::Command),
@@ -224,6 +227,7 @@ fn task_in<'a>(name: &str, inner: &ArgMatches<'a>) -> Result<Task<'a>, Refusal<'
     match name {
         "judge" => Ok(Task::Judge {
             file: file_alone_in(inner)?,
+            ordered: has_order(inner),
         }),
         "rr" => Ok(Task::RiemannRoch {
             file: file_alone_in(inner)?,
@@ -286,6 +290,13 @@ fn has_lines(inner: &ArgMatches<'_>) -> bool
     ensures { IsTrue result ↔ HasLines (rows_in inner.now) }
 {
     matches!(text_in(inner, "lines"), Some("true"))
+}
+
+/// Whether the flag for the order of burning is there.
+fn has_order(inner: &ArgMatches<'_>) -> bool
+    ensures { IsTrue result ↔ HasOrder (rows_in inner.now) }
+{
+    matches!(text_in(inner, "order"), Some("true"))
 }
 
 /// The name of the file of amounts, if there is one.

@@ -1,3 +1,4 @@
--- The command lines, and when words ask for nothing.
-mod Nothing
+-- The command lines, and why no words both ask for something and are refused.
 mod CommandLines
+mod Alike
+mod Apart

@@ -1,7 +1,13 @@
-//! What some command lines ask for, the contract of a function that does nothing.
+//! What command lines mean, the contracts of functions that do nothing.
 ghost use Rattle.dg_cli_laws.specs.CommandLines.{CommandLinesAsk};
+ghost use Rattle.dg_cli_laws.specs.OneMeaning.{WordsHaveOneMeaning};
 
 /// Some command lines ask for what their words say, and others are refused.
 pub fn command_lines_ask()
     ensures { CommandLinesAsk }
+{}
+
+/// No list of words both asks for something and has a fault.
+pub fn words_have_one_meaning()
+    ensures { WordsHaveOneMeaning }
 {}

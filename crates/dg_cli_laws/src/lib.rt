@@ -1,6 +1,6 @@
-//! The law of command lines: what some sixty of them ask for.
+//! The laws of command lines: what some of them ask for, and that each means one thing.
 #![tactic(auto)]
 
 mod laws;
 
-pub use laws::command_lines_ask;
+pub use laws::{command_lines_ask, words_have_one_meaning};

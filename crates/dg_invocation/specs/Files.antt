@@ -6,7 +6,7 @@ use Rattle.dg_invocation.specs.declared.invocation.Task.TheVariants.{Rehearse, J
 
 abbrev pub file_of : Task → List ℕ
 file_of (Rehearse file steps) = file.now
-file_of (Judge file) = file.now
+file_of (Judge file ordered) = file.now
 file_of (Rank test) = test.file.now
 file_of (RiemannRoch file) = file.now
 file_of (Greedy play) = play.file.now

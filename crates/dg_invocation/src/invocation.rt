@@ -22,6 +22,8 @@ pub enum Task<'a> {
     Judge {
         /// The name of the table file.
         file: &'a str,
+        /// Whether the order in which the vertices burn is printed too.
+        ordered: bool,
     },
     /// Test whether the rank of a table's position is at least a degree, and print the answer.
     Rank(RankTask<'a>),
@@ -41,7 +43,7 @@ impl Task<'_> {
     {
         match self {
             Task::Rehearse { file, steps: _ } => file,
-            Task::Judge { file } => file,
+            Task::Judge { file, ordered: _ } => file,
             Task::Rank(test) => test.file,
             Task::RiemannRoch { file } => file,
             Task::Greedy(play) => play.file,

@@ -6,7 +6,10 @@ ghost use Rattle.dg_invocation.specs.declared.limits.TheConstants.{MAX_WORKERS};
 #[derive(Clone, Copy)]
 pub enum Question {
     /// Whether its position can be won, and how.
-    Judge,
+    Judge {
+        /// Whether the order in which the vertices burn is printed too.
+        ordered: bool,
+    },
     /// Whether the rank of its position is at least this degree.
     Rank(u32),
     /// The four numbers of Riemann-Roch for its position.

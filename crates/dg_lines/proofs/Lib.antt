@@ -18,3 +18,4 @@ pub mod Pairs
 pub mod Signs
 pub mod Joining
 pub mod Printing
+pub mod Judging

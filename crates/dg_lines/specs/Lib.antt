@@ -8,5 +8,6 @@ pub mod Steps
 pub mod Schedules
 pub mod LineLaws
 pub mod Texts
+pub mod Judgements
 -- What serves the reading alone.
 pub mod Keywords

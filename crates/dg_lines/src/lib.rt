@@ -6,6 +6,7 @@ mod command;
 mod cuts;
 mod digits;
 mod history;
+mod judgement;
 mod laws;
 mod line;
 mod lines;
@@ -16,8 +17,9 @@ mod word;
 
 pub use cuts::cut;
 pub use history::history_lines;
+pub use judgement::push_judgement;
 pub use laws::{lines_have_one_meaning, numerals_are_decimals, steps_have_one_meaning};
 pub use line::{LineFault, parse_line, parse_step, split_seat};
 pub use lines::Lines;
 pub use steps_file::{StepsFault, parse_steps};
-pub use text::{push_amounts, push_entry, push_reply, push_verdict, reply_text};
+pub use text::{push_amounts, push_entry, push_reply, reply_text};

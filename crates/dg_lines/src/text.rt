@@ -126,7 +126,7 @@ fn push_counted<A: Allocator>(
 }
 
 /// The text of a verdict, after the text: its word, the pairs of its script and those of its reduced divisor.
-pub fn push_verdict<A: Allocator>(
+pub(crate) fn push_verdict<A: Allocator>(
     text: &mut Vec<u8, A>,
     names: &Names,
     verdict: &Verdict,

@@ -27,7 +27,10 @@ where
     let shelf = Shelf {
         files: &[("table.json", ALONE.as_bytes())],
     };
-    let asked = Invocation::Task(Task::Judge { file: "table.json" });
+    let asked = Invocation::Task(Task::Judge {
+        file: "table.json",
+        ordered: false,
+    });
     let mut page = [0; 26];
     assert!(rt; size <= 26);
     let mut output = Output::new(&mut page[..size]);

@@ -60,7 +60,7 @@ impl<'a> Read for Flow<'a> {
 
 // Questions about texts, and what is answered.
 static ANSWERS: [(Question, &str, &str); 7] = [
-    (Question::Judge, LINES, JUDGED),
+    (Question::Judge { ordered: false }, LINES, JUDGED),
     (Question::Rank(1), LINES, TESTED),
     (Question::RiemannRoch, LINES, NUMBERED),
     (
@@ -73,8 +73,8 @@ static ANSWERS: [(Question, &str, &str); 7] = [
         LARGE,
         "degree 20 genus 0 rank 20 dual -1\ndegree 11 genus 0 rank 11 dual -1\ndegree 480 genus 481 rank ? dual ?\n",
     ),
-    (Question::Judge, "", ""),
-    (Question::Judge, "\n", "refused not JSON\n"),
+    (Question::Judge { ordered: false }, "", ""),
+    (Question::Judge { ordered: false }, "\n", "refused not JSON\n"),
 ];
 
 #[test]
@@ -130,7 +130,7 @@ fn a_line_has_a_mebibyte_at_most(rt: HostRuntime) -> Result<(), Fail> {
     is_answered_in_any_parts(
         &rt,
         rt.alloc(),
-        Question::Judge,
+        Question::Judge { ordered: false },
         &most,
         b"refused not JSON\n",
     );
@@ -138,7 +138,7 @@ fn a_line_has_a_mebibyte_at_most(rt: HostRuntime) -> Result<(), Fail> {
     is_answered_in_any_parts(
         &rt,
         rt.alloc(),
-        Question::Judge,
+        Question::Judge { ordered: false },
         &long,
         b"refused file too long\n",
     );
@@ -153,7 +153,7 @@ fn a_stream_may_fail(rt: HostRuntime) -> Result<(), Fail> {
         fails: true,
     });
     let mut output = Output::new(Vec::new(rt.alloc()));
-    let end = sweep(&rt, rt.alloc(), Question::Judge, 1, &mut input, &mut output);
+    let end = sweep(&rt, rt.alloc(), Question::Judge { ordered: false }, 1, &mut input, &mut output);
     assert!(rt; end == Err(SweepEnd::Read));
     let said = output.into_inner();
     assert!(rt; JUDGED.as_bytes().starts_with(&said) && said.ends_with(b"no vertex q\n"));
@@ -184,7 +184,7 @@ fn any_number_of_workers_answers_as_one(rt: HostRuntime) -> Result<(), Fail> {
             is_answered(
                 &rt,
                 rt.alloc(),
-                Question::Judge,
+                Question::Judge { ordered: false },
                 workers,
                 &text,
                 most,

@@ -1,6 +1,4 @@
 -- What the line of a table is answered.
---   IsVerdict o names text == the text is that of a verdict which is right for the amounts of the
---                             start o, reckoned from its vertex q, and a newline
 --   IsTested o k names text == the text is that of a rank verdict of degree k which is right for
 --                         the amounts of o, and a newline
 --   IsBelow o k text       == the rank of the amounts is below k, and that the text says; there are
@@ -32,13 +30,12 @@ use Rattle.dg_theory.specs.Firing.{degree}
 use Rattle.dg_theory.specs.Rank.{less, canonical, HasRankAtLeast, IsRank}
 use Rattle.dg_chips.specs.Starts.{StartData}
 use Rattle.dg_chips.specs.Vector.{at}
-use Rattle.dg_verdict.specs.declared.verdict.Verdict.{Verdict}
-use Rattle.dg_verdict.specs.Right.{IsRight}
 use Rattle.dg_rank.specs.Limits.{IsPastLimits}
 use Rattle.dg_verdict.specs.RankTests.{IsRankTest}
 use Rattle.dg_rank.specs.Ranks.{BothArePast, NeedsPastTests}
 use Rattle.dg_verdict.specs.declared.rank_verdict.RankVerdict.{RankVerdict}
-use Rattle.dg_game.specs.declared.entry.Reply.TheVariants.{Verdict as Found, Rank as Tested}
+use Rattle.dg_game.specs.declared.entry.Reply.TheVariants.{Rank as Tested}
+use Rattle.dg_lines.specs.Judgements.{IsJudgement}
 use Rattle.dg_lines.specs.Texts.{text_of}
 use Rattle.dg_file.specs.TableFiles.{IsTableFile}
 use Rattle.dg_file.specs.FileFaults.{RefusesFile}
@@ -48,11 +45,6 @@ use Rattle.dg_sweep.specs.FaultTexts.{file_fault_text}
 use Rattle.dg_invocation.specs.declared.question.Question.{Question}
 use Rattle.dg_invocation.specs.declared.question.Question.TheVariants.{Judge, Rank, RiemannRoch}
 use Rattle.dg_sweep.specs.declared.ends.TheConstants.{MAX_LINE}
-
-pub record IsVerdict (o : StartData) (names : List (List ℕ)) (text : List ℕ) : Type 0 where
-  pub verdict : Verdict
-  pub right : IsRight o.graph o.q (at o.divisor) verdict
-  pub printed : text ≡ text_of names (Found verdict) ++ codes "\n"
 
 pub record IsTested (o : StartData) (k : ℕ) (names : List (List ℕ)) (text : List ℕ) : Type 0 where
   pub verdict : RankVerdict
@@ -92,7 +84,7 @@ pub record AreUntested (o : StartData) (text : List ℕ) : Type 0 where
   pub printed : text ≡ numbers_text o ++ codes " rank ? dual ?\n"
 
 abbrev pub AnswersTable : Question → StartData → List (List ℕ) → List ℕ → Type 0
-AnswersTable Judge o names text = IsVerdict o names text
+AnswersTable (Judge ordered) o names text = IsJudgement o names ordered text
 AnswersTable (Rank k) o names text = AnswersRank o k names text
 AnswersTable RiemannRoch o names text = AreRanks o text ⊎ AreUntested o text
 

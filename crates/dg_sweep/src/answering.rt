@@ -1,10 +1,11 @@
 //! Answering one line.
-ghost use Rattle.std.specs.Prelude.{◌≡◌, ◌++◌, ℕ, List, [], length, codes, OnOk};
+ghost use Rattle.std.specs.Prelude.{◌≡◌, ◌<◌, ◌++◌, ℕ, List, [], length, codes, OnOk};
 ghost use Rattle.dg_chips.specs.Vector.{at};
 ghost use Rattle.dg_verdict.specs.Right.{IsVerdictOn};
+ghost use Rattle.dg_lines.specs.Judgements.{IsJudgement};
 ghost use Rattle.dg_lines.specs.Texts.{HasNames, text_of};
 ghost use Rattle.dg_sweep.specs.FaultTexts.{file_fault_text};
-ghost use Rattle.dg_sweep.specs.Answers.{AnswersLine, AnswersTableLine, AnswersTable, IsVerdict, refusal};
+ghost use Rattle.dg_sweep.specs.Answers.{AnswersLine, AnswersTableLine, AnswersTable, refusal};
 
 use crate::ends::MAX_LINE;
 use crate::fault_words::push_fault;
@@ -14,7 +15,7 @@ use dg_chips::Start;
 use dg_file::FileFault;
 use dg_game::Reply;
 use dg_invocation::Question;
-use dg_lines::push_reply;
+use dg_lines::{push_judgement, push_reply};
 use dg_reduce::InverseLaplacian;
 use dg_tokens::Names;
 use dg_verdict::{Verdict, judge, judge_with_inverse};
@@ -90,32 +91,32 @@ pub(crate) fn push_answer(
     ensures { OnOk result (AnswersTable question start.now names.now answer.new.items) }
 {
     match question {
-        Question::Judge => push_verdict(start, names, inverse, answer),
+        Question::Judge { ordered } => push_verdict(start, names, inverse, ordered, answer),
         Question::Rank(k) => push_rank(start, names, k, answer),
         Question::RiemannRoch => push_ranks(start, answer),
     }
 }
 
-/// The verdict on the amounts of a start, into an empty buffer.
+/// The verdict on the amounts of a start, into an empty buffer; if it is `ordered`, with the order in which the vertices burn.
 fn push_verdict(
     start: &Start,
     names: &Names,
     inverse: Option<&InverseLaplacian>,
+    ordered: bool,
     answer: &mut Vec<u8>,
 ) -> Result<(), AllocError>
     requires names { length names.now ≡ start.now.graph.size }
     requires empty { answer.old.items ≡ [] }
-    ensures { OnOk result (IsVerdict start.now names.now answer.new.items) }
+    ensures { OnOk result (IsJudgement start.now names.now ordered answer.new.items) }
 {
     let verdict = verdict_on(start, inverse);
-    dg_lines::push_verdict(answer, names, &verdict)?;
-    answer.push(b'\n')?;
-    Ok(())
+    push_judgement(answer, names, &verdict, ordered)
 }
 
 /// The verdict on the amounts of a start.
 fn verdict_on(start: &Start, inverse: Option<&InverseLaplacian>) -> Verdict
-    ensures { IsVerdictOn start.now.graph start.now.q (at start.now.divisor) result }
+    ensures found { IsVerdictOn start.now.graph start.now.q (at start.now.divisor) result }
+    ensures vertex { start.now.q < start.now.graph.size }
 {
     let graph = start.graph();
     let q = usize::from(start.q());

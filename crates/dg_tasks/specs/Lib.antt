@@ -1,6 +1,5 @@
 -- What a rehearsal, a judgement, a rank test and a greedy game print, and when they are refused.
 pub mod Rehearsals
-pub mod Judgements
 pub mod RankTests
 pub mod Games
 pub mod OneText

@@ -3,8 +3,9 @@
 --   IsRankAnswer o k names text == a rank test of degree k is within the limits, and the text is
 --                                  that of a reply with a rank verdict of this degree which is right
 --                                  for the amounts of the start o, and a newline
---   RefusesRank n k fault       == a rank test of degree k on n vertices is past the limits, or
---                                  memory was refused, or a thread
+--   RefusesRank n k w fault     == a rank test of degree k on n vertices is past the limits; or
+--                                  memory was refused; or a thread, which only a test by two
+--                                  workers or more starts, of which there are w
 --   number_line label z         == the label, the number and a newline
 --   riemann_roch_text o r s     == the lines of the start divisor's degree, of the genus, and of
 --                                  the ranks r and s
@@ -13,7 +14,7 @@
 --                                  the limits; the two differ by the degree, plus 1, less the genus
 --   RefusesRiemannRoch o fault  == the dual is out of range; else one of the two ranks needs a test
 --                                  past the limits; of want of memory nothing is said
-use Rattle.std.specs.Prelude.{◌≡◌, ℕ, ℤ, pos, ◌+ℤ◌, ◌-ℤ◌, List, ◌++◌, codes, ⊤}
+use Rattle.std.specs.Prelude.{◌≡◌, ◌≤◌, ℕ, ℤ, pos, ◌+ℤ◌, ◌-ℤ◌, List, ◌++◌, codes, ⊤}
 use Rattle.std.specs.Fmt.{signed_decimal}
 use Rattle.dg_theory.specs.Multigraph.{genus}
 use Rattle.dg_theory.specs.Firing.{degree}
@@ -29,7 +30,7 @@ use Rattle.dg_game.specs.declared.entry.Reply.TheVariants.{Rank}
 use Rattle.dg_lines.specs.Texts.{text_of}
 use Rattle.dg_tasks.specs.declared.fault.TaskFault.{TaskFault}
 use Rattle.dg_tasks.specs.declared.fault.TaskFault.TheVariants.{TooMany, Chip, Shortage}
-use Rattle.dg_system.specs.declared.shortage.Shortage.TheVariants.{OutOfMemory}
+use Rattle.dg_system.specs.declared.shortage.Shortage.TheVariants.{OutOfMemory, Spawn}
 
 pub record IsRankAnswer (o : StartData) (k : ℕ) (names : List (List ℕ)) (text : List ℕ) : Type 0 where
   pub within : IsWithin o.graph.size k
@@ -37,10 +38,11 @@ pub record IsRankAnswer (o : StartData) (k : ℕ) (names : List (List ℕ)) (tex
   pub right : IsRankTest o.graph (at o.divisor) k verdict
   pub printed : text ≡ text_of names (Rank verdict) ++ codes "\n"
 
-abbrev pub RefusesRank : ℕ → ℕ → TaskFault → Type 0
-RefusesRank n k TooMany = IsPastLimits n k
-RefusesRank n k (Shortage lack) = ⊤
-RefusesRank n k fault = ⊥
+abbrev pub RefusesRank : ℕ → ℕ → ℕ → TaskFault → Type 0
+RefusesRank n k w TooMany = IsPastLimits n k
+RefusesRank n k w (Shortage OutOfMemory) = ⊤
+RefusesRank n k w (Shortage Spawn) = 2 ≤ w
+RefusesRank n k w fault = ⊥
 
 abbrev pub number_line : List ℕ → ℤ → List ℕ
 number_line label z = label ++ signed_decimal z ++ codes "\n"

@@ -15,7 +15,7 @@
 --   RefusesOn held o names task fault == the task is refused so on the table o with these names:
 --                                        STEPS is not read, or it is refused; or the test is past
 --                                        the limits, or the dual is no divisor; or memory is
---                                        refused
+--                                        refused, or a thread of a rank test by some workers
 --   RefusesTask held task fault   == the table file is refused so, or it is good, and the task is
 --                                    refused so on its table
 use Rattle.std.specs.Prelude.{◌≡◌, ◌⊎◌, ℕ, List}
@@ -24,9 +24,9 @@ use Rattle.dg_file.specs.TableFiles.{IsTableFile}
 use Rattle.dg_file.specs.FileFaults.{RefusesFile}
 use Rattle.dg_file.specs.declared.fault.FileFault.{FileFault}
 use Rattle.dg_lines.specs.Cuts.{lines}
+use Rattle.dg_lines.specs.Judgements.{IsJudgement}
 use Rattle.dg_system.specs.Held.{Held, MayHold, RefusesHeld}
 use Rattle.dg_tasks.specs.Rehearsals.{IsPrinted}
-use Rattle.dg_tasks.specs.Judgements.{IsJudgement}
 use Rattle.dg_tasks.specs.RankTests.{IsRankAnswer, IsRiemannRoch, RefusesRank, RefusesRiemannRoch}
 use Rattle.dg_tasks.specs.Refusals.{RefusesSchedule}
 use Rattle.dg_tasks.specs.Games.{IsGreedyAnswer, RefusesTurns}
@@ -56,7 +56,7 @@ pub record IsOfSteps (h : Held) (P : List (List ℕ) → Type 0) : Type 0 where
 abbrev pub AnswersTask : (List ℕ → Held) → StartData → List (List ℕ) → Task → List ℕ → Type 0
 AnswersTask held o names (Rehearse file steps) text =
     IsOfSteps (held steps.now) (λ all. IsPrinted o names all text)
-AnswersTask held o names (Judge file) text = IsJudgement o names text
+AnswersTask held o names (Judge file ordered) text = IsJudgement o names ordered text
 AnswersTask held o names (Rank test) text = IsRankAnswer o test.degree names text
 AnswersTask held o names (RiemannRoch file) text = IsRiemannRoch o text
 AnswersTask held o names (Greedy play) text = IsGreedyAnswer o play.turns names text
@@ -74,8 +74,8 @@ abbrev pub RefusesOn : (List ℕ → Held) → StartData → List (List ℕ) →
 RefusesOn held o names (Rehearse file steps) (Source fault) = RefusesHeld (held steps.now) fault
 RefusesOn held o names (Rehearse file steps) fault =
     IsOfSteps (held steps.now) (λ all. RefusesSchedule o.graph.size names all fault)
-RefusesOn held o names (Judge file) fault = fault ≡ Shortage OutOfMemory
-RefusesOn held o names (Rank test) fault = RefusesRank o.graph.size test.degree fault
+RefusesOn held o names (Judge file ordered) fault = fault ≡ Shortage OutOfMemory
+RefusesOn held o names (Rank test) fault = RefusesRank o.graph.size test.degree test.workers fault
 RefusesOn held o names (RiemannRoch file) fault = RefusesRiemannRoch o fault
 RefusesOn held o names (Greedy play) fault = RefusesTurns fault
 

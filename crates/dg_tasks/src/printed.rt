@@ -1,28 +1,31 @@
 //! Tables that are judged, and replies that are printed.
 ghost use Rattle.std.specs.Prelude.{IfOk, IfErr, ◌≡◌, ◌++◌, codes};
-ghost use Rattle.dg_tasks.specs.Judgements.{IsJudgement};
+ghost use Rattle.dg_lines.specs.Judgements.{IsJudgement, judgement_text};
 ghost use Rattle.dg_lines.specs.Texts.{HasNames, text_of};
 
 use crate::fault::TaskFault;
 use dg_file::TableFile;
 use dg_game::Reply;
-use dg_lines::reply_text;
+use dg_lines::{push_judgement, reply_text};
 use dg_system::Shortage;
 use dg_tokens::Names;
 use dg_verdict::judge;
 use std::alloc::{AllocError, Global};
 
-/// The verdict on a table's amounts as text, reckoned from its vertex q: the text of a reply, and a newline.
+/// The verdict on a table's amounts as text, reckoned from its vertex q: the text of a reply; if it is `ordered`, the order in
+/// which the vertices burn; and a newline.
 ///
 /// Refused with `Shortage` at the growth that was refused, and with nothing else.
-pub fn judgement(alloc: Global, table: &TableFile) -> Result<Vec<u8>, TaskFault>
-    ensures judged { IfOk result (λ text. IsJudgement table.now.start table.now.names text.items) }
+pub fn judgement(alloc: Global, table: &TableFile, ordered: bool) -> Result<Vec<u8>, TaskFault>
+    ensures judged { IfOk result
+        (λ text. IsJudgement table.now.start table.now.names ordered text.items) }
     ensures refused { IfErr result (λ fault. fault ≡ TaskFault.Shortage Shortage.OutOfMemory) }
 {
     let start = table.start();
     let verdict = judge(start.graph(), usize::from(start.q()), start.divisor());
-    match reply_line(alloc, &Reply::Verdict(verdict), table.names()) {
-        Ok(text) => Ok(text),
+    let mut text = Vec::new(alloc);
+    match push_judgement(&mut text, table.names(), &verdict, ordered) {
+        Ok(()) => Ok(text),
         Err(_) => Err(TaskFault::Shortage(Shortage::OutOfMemory)),
     }
 }

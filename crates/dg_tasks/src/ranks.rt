@@ -1,8 +1,8 @@
 //! Rank tests that are printed, and both sides of Riemann-Roch.
-ghost use Rattle.std.specs.Prelude.{◌≡◌, ℤ, ◌++◌, IfOk, IfErr, OnOk, MatchResult};
-ghost use Rattle.dg_chips.specs.Vector.{at};
-ghost use Rattle.dg_verdict.specs.RankTests.{IsRankTest};
-ghost use Rattle.dg_rank.specs.Ranks.{IsWithin, MayHaveWorkers, IsRankFault};
+ghost use Rattle.std.specs.Prelude.{◌≡◌, ℤ, ◌++◌, codes, IfOk, IfErr, OnOk};
+ghost use Rattle.dg_rank.specs.Ranks.{MayHaveWorkers};
+ghost use Rattle.dg_lines.specs.Texts.{HasNames, text_of};
+ghost use Rattle.dg_game.specs.declared.entry.Reply.TheVariants.{Rank};
 ghost use Rattle.dg_tasks.specs.RankTests.{IsRankAnswer, RefusesRank, number_line, riemann_roch_text, IsRiemannRoch, RefusesRiemannRoch};
 
 use crate::fault::TaskFault;
@@ -12,6 +12,7 @@ use dg_file::TableFile;
 use dg_game::Reply;
 use dg_rank::{OpenGate, RankFault, RankVerdict, both_ranks_in_limits, rank_at_least, rank_with};
 use dg_system::Shortage;
+use dg_tokens::Names;
 use itoa::Buffer;
 use std::alloc::{AllocError, Allocator, Global};
 use std::sync::Wait;
@@ -20,8 +21,8 @@ use std::thread::Threads;
 /// Whether the rank of a table's amounts is at least k, as text: the text of a reply, and a newline.
 ///
 /// The trials are shared among so many workers; the condition is 1 to 16. One worker is the thread that calls. Refused with
-/// `TooMany` if the test is past the limits, and with `Shortage` if a thread could not be started, or at the growth that was
-/// refused.
+/// `TooMany` if the test is past the limits; and with `Shortage` if there are two workers or more and a thread could not be
+/// started, or at the growth that was refused.
 pub fn rank_answer<R: Threads + Wait>(
     rt: &R,
     alloc: Global,
@@ -32,38 +33,46 @@ pub fn rank_answer<R: Threads + Wait>(
     requires { MayHaveWorkers workers }
     ensures ranked { IfOk result
         (λ text. IsRankAnswer table.now.start k table.now.names text.items) }
-    ensures refused { IfErr result (RefusesRank table.now.start.graph.size k) }
+    ensures refused { IfErr result (RefusesRank table.now.start.graph.size k workers) }
 {
-    let verdict = match tested_by(rt, table.start(), k, workers) {
-        Ok(verdict) => verdict,
-        Err(RankFault::TooMany) => return Err(TaskFault::TooMany),
+    if workers == 1 {
+        return rank_alone(alloc, table, k);
+    }
+    let start = table.start();
+    let (graph, q, divisor) = (start.graph(), usize::from(start.q()), start.divisor());
+    match rank_with(rt, graph, q, divisor, k, workers, &OpenGate) {
+        Ok(verdict) => rank_line(alloc, verdict, table.names()),
+        Err(RankFault::TooMany) => Err(TaskFault::TooMany),
         Err(RankFault::Workers) => unreachable!(),
         Err(RankFault::OutOfMemory) => unreachable!(),
-        Err(RankFault::Spawn) => return Err(TaskFault::Shortage(Shortage::Spawn)),
-    };
-    match reply_line(alloc, &Reply::Rank(verdict), table.names()) {
-        Ok(text) => Ok(text),
-        Err(_) => Err(TaskFault::Shortage(Shortage::OutOfMemory)),
+        Err(RankFault::Spawn) => Err(TaskFault::Shortage(Shortage::Spawn)),
     }
 }
 
-/// The rank test of degree k for the amounts of a start, by so many workers: one is the thread that calls.
-fn tested_by<R: Threads + Wait>(
-    rt: &R,
-    start: &Start,
-    k: u32,
-    workers: u32,
-) -> Result<RankVerdict, RankFault>
-    ensures { MatchResult result
-        (λ x. IsWithin start.now.graph.size k × IsRankTest start.now.graph (at start.now.divisor) k x)
-        (IsRankFault start.now.graph.size k workers) }
+/// The same by the thread that calls alone: it is refused with `TooMany`, and with `Shortage` at the growth that was refused.
+pub fn rank_alone(alloc: Global, table: &TableFile, k: u32) -> Result<Vec<u8>, TaskFault>
+    ensures ranked { IfOk result
+        (λ text. IsRankAnswer table.now.start k table.now.names text.items) }
+    ensures refused { IfErr result (RefusesRank table.now.start.graph.size k 1) }
 {
-    let q = usize::from(start.q());
-    let (graph, divisor) = (start.graph(), start.divisor());
-    if workers == 1 {
-        rank_at_least(graph, q, divisor, k)
-    } else {
-        rank_with(rt, graph, q, divisor, k, workers, &OpenGate)
+    let start = table.start();
+    let (graph, q, divisor) = (start.graph(), usize::from(start.q()), start.divisor());
+    match rank_at_least(graph, q, divisor, k) {
+        Ok(verdict) => rank_line(alloc, verdict, table.names()),
+        Err(_) => Err(TaskFault::TooMany),
+    }
+}
+
+/// The line of a rank verdict.
+fn rank_line(alloc: Global, verdict: RankVerdict, names: &Names) -> Result<Vec<u8>, TaskFault>
+    requires { HasNames names.now (Rank verdict) }
+    ensures printed { IfOk result
+        (λ text. text.items ≡ text_of names.now (Rank verdict) ++ codes "\n") }
+    ensures refused { IfErr result (λ fault. fault ≡ TaskFault.Shortage Shortage.OutOfMemory) }
+{
+    match reply_line(alloc, &Reply::Rank(verdict), names) {
+        Ok(text) => Ok(text),
+        Err(_) => Err(TaskFault::Shortage(Shortage::OutOfMemory)),
     }
 }
 

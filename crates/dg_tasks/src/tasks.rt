@@ -1,21 +1,22 @@
 //! Tasks, done on the tables that they name.
-ghost use Rattle.std.specs.Prelude.{IfOk, IfErr};
+ghost use Rattle.std.specs.Prelude.{IfOk, IfErr, ◌≢◌};
 ghost use Rattle.dg_tasks.specs.Tasks.{IsAnswer, AnswersTask, RefusesOn, RefusesTask};
 
 use crate::fault::TaskFault;
 use crate::games::greedy_history;
 use crate::printed::judgement;
-use crate::ranks::{rank_answer, riemann_roch};
+use crate::ranks::{rank_alone, rank_answer, riemann_roch};
 use crate::rehearsing::rehearsal;
 use crate::table_source::table_in;
 use dg_file::TableFile;
 use dg_invocation::Task;
-use dg_system::Sources;
+use dg_system::{Shortage, Sources};
 use std::rt::Files;
 use std::sync::Wait;
 use std::thread::Threads;
 
-/// The answer to a task, as text.
+/// The answer to a task, as text. Only a rank test by two workers or more starts threads and waits for them; all else is done
+/// as `answer_alone` does it.
 ///
 /// Refused with `Source` or `File` if its table is not read or is refused, and then as the function is that does the task:
 /// `rehearsal`, which comes after `Source` for the steps, `judgement`, `rank_answer`, `riemann_roch`, or the greedy game with
@@ -26,6 +27,28 @@ where
     S: Sources,
     ensures done { IfOk result (λ text. IsAnswer (S.held sources.now) task.now text.items) }
     ensures refused { IfErr result (RefusesTask (S.held sources.now) task.now) }
+{
+    match task {
+        Task::Rank(test) if test.workers > 1 => {
+            let table = match table_in(rt, sources, test.file) {
+                Ok(table) => table,
+                Err(fault) => return Err(fault),
+            };
+            rank_answer(rt, rt.alloc(), &table, test.degree, test.workers)
+        }
+        _ => answer_alone(rt, task, sources),
+    }
+}
+
+/// The answer to a task by the thread that calls, which makes the trials of a rank test itself, whatever number of workers the
+/// task has. It starts no thread and waits for nothing, and it is refused as `answer` is, but never with `Spawn`.
+pub fn answer_alone<R, S>(rt: &R, task: &Task<'_>, sources: &S) -> Result<Vec<u8>, TaskFault>
+where
+    R: Files + AllocGlobal,
+    S: Sources,
+    ensures done { IfOk result (λ text. IsAnswer (S.held sources.now) task.now text.items) }
+    ensures refused { IfErr result (RefusesTask (S.held sources.now) task.now) }
+    ensures alone { IfErr result (λ fault. fault ≢ TaskFault.Shortage Shortage.Spawn) }
 {
     let table = match table_in(rt, sources, task.file()) {
         Ok(table) => table,
@@ -45,12 +68,13 @@ fn answer_on<R, S>(
     sources: &S,
 ) -> Result<Vec<u8>, TaskFault>
 where
-    R: Files + AllocGlobal + Threads + Wait,
+    R: Files + AllocGlobal,
     S: Sources,
     ensures done { IfOk result (λ text.
         AnswersTask (S.held sources.now) table.now.start table.now.names task.now text.items) }
     ensures refused { IfErr result
         (RefusesOn (S.held sources.now) table.now.start table.now.names task.now) }
+    ensures alone { IfErr result (λ fault. fault ≢ TaskFault.Shortage Shortage.Spawn) }
 {
     match task {
         Task::Rehearse { file: _, steps } => {
@@ -60,8 +84,8 @@ where
             };
             rehearsal(rt.alloc(), table, steps.as_slice())
         }
-        Task::Judge { file: _ } => judgement(rt.alloc(), table),
-        Task::Rank(test) => rank_answer(rt, rt.alloc(), table, test.degree, test.workers),
+        Task::Judge { file: _, ordered } => judgement(rt.alloc(), table, *ordered),
+        Task::Rank(test) => rank_alone(rt.alloc(), table, test.degree),
         Task::RiemannRoch { file: _ } => riemann_roch(rt.alloc(), table),
         Task::Greedy(play) => greedy_history(rt.alloc(), table, play.turns),
     }

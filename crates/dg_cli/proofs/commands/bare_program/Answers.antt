@@ -7,10 +7,14 @@ returns c =
     let named = ap app_of_fields c.about.ensures ∙ c.new.ensures.app in
     let versioned = ap app_of_fields c.version.ensures ∙ ap (on_top (λ s. record s { has_version = true })) named in
     let told = ap app_of_fields c.after_help.ensures ∙ versioned in
+    let helpless = ap app_of_fields c.disable_help_subcommand.ensures ∙ ap (on_top (λ s. record s {
+      disable_help_subcommand =
+          true;
+    })) told in
     let required = ap app_of_fields c.subcommand_required.ensures ∙ ap (on_top (λ s. record s {
       subcommand_required =
           true;
-    })) told in
+    })) helpless in
     ap app_of_fields c.arg_required_else_help.ensures ∙ ap (on_top (λ s. record s {
       arg_required_else_help =
           true;

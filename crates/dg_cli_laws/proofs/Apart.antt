@@ -1,0 +1,61 @@
+-- No list of words asks for something and is refused.
+use Rattle.std.proofs.Common.{◌≡◌, List, [], true, true≢false, inl, inr, refl, sym, subst}
+use Rattle.clap.specs.Words.{IsAmong, Kinds, Text, fault_of}
+use Rattle.clap.specs.declared.error.kind.ErrorKind.{ErrorKind}
+use Rattle.clap.specs.declared.error.kind.ErrorKind.TheVariants as kind
+use Rattle.dg_invocation.specs.declared.invocation.Invocation.{Invocation}
+use Rattle.dg_invocation.specs.declared.invocation.Invocation.TheVariants as asked
+use Rattle.dg_invocation.specs.declared.parse_args.ArgsFault.{ArgsFault}
+use Rattle.dg_invocation.specs.declared.parse_args.ArgsFault.TheVariants.{CommandLine, NotText, OutOfMemory}
+use Rattle.dg_cli.specs.Commands.{dollar}
+use Rattle.dg_cli.specs.Asks.{Asks, CallsForHelp}
+use Rattle.dg_cli.specs.Refusals.{HasFault, Refuses}
+use Rattle.dg_cli_laws.proofs.Alike.{alike, is_call}
+use Rattle.dg_cli_laws.specs.OneMeaning.{WordsHaveOneMeaning}
+
+-- a kind that is no call is none of the two
+no_call : (k : ErrorKind) → is_call k ≡ true → (k ≡ kind.DisplayHelp → ⊥) → (k ≡ kind.DisplayVersion → ⊥) → ⊥
+no_call kind.DisplayHelp is help version = help refl
+no_call kind.DisplayVersion is help version = version refl
+no_call kind.InvalidValue is help version = true≢false (sym is)
+no_call kind.UnknownArgument is help version = true≢false (sym is)
+no_call kind.InvalidSubcommand is help version = true≢false (sym is)
+no_call kind.NoEquals is help version = true≢false (sym is)
+no_call kind.ValueValidation is help version = true≢false (sym is)
+no_call kind.TooManyValues is help version = true≢false (sym is)
+no_call kind.TooFewValues is help version = true≢false (sym is)
+no_call kind.WrongNumberOfValues is help version = true≢false (sym is)
+no_call kind.ArgumentConflict is help version = true≢false (sym is)
+no_call kind.MissingRequiredArgument is help version = true≢false (sym is)
+no_call kind.MissingSubcommand is help version = true≢false (sym is)
+no_call kind.DisplayHelpOnMissingArgumentOrSubcommand is help version = true≢false (sym is)
+no_call kind.Io is help version = true≢false (sym is)
+no_call kind.Format is help version = true≢false (sym is)
+no_call kind.OutOfMemory is help version = true≢false (sym is)
+
+called : (words : List Text) → CallsForHelp (fault_of dollar words) → HasFault words → ⊥
+called words calls bad = elim calls [
+  | inl help ↦ no_call bad.fault ((alike words).same bad.fault kind.DisplayHelp bad.found help) bad.no_help bad.no_version
+  | inr version ↦ no_call bad.fault ((alike words).same bad.fault kind.DisplayVersion bad.found version) bad.no_help bad.no_version
+]
+
+faultless : (words : List Text) → fault_of dollar words ≡ [] → HasFault words → ⊥
+faultless words none bad = subst (λ (ks : Kinds). IsAmong bad.fault ks) none bad.found
+
+both : (words : List Text) (it : Invocation) → Asks words it → HasFault words → ⊥
+both words (asked.Text text) asks bad = called words asks bad
+both words (asked.Task task) asks bad = faultless words asks.0 bad
+both words (asked.Sweep task) asks bad = faultless words asks.0 bad
+both words (asked.Serve task) asks bad = faultless words asks.0 bad
+both words (asked.Party task) asks bad = faultless words asks.0 bad
+
+apart : (words : List Text) (it : Invocation) (fault : ArgsFault) → Asks words it → Refuses words fault → fault ≡ OutOfMemory
+apart words it OutOfMemory asks refused = refl
+apart words it NotText asks refused = absurd refused
+apart words it (CommandLine text) asks refused = elim refused [
+  | inl bad ↦ absurd (both words it asks bad)
+  | inr nothing ↦ absurd (nothing.nothing it asks)
+]
+
+pub law : WordsHaveOneMeaning
+law = record { apart = apart }

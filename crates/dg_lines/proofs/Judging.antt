@@ -1,0 +1,30 @@
+-- Verdicts that are printed.
+--   burning-vertices  an order in which all vertices burn is one of vertices
+--   judged-named      a verdict on a table with names has names in its order
+use Rattle.std.proofs.Common.{◌≡◌, ℕ, zero, suc, ◌<◌, List, length, take, All, sym, ap, subst, ◌∙◌}
+use Rattle.std.specs.Prelude.{Option, Some, unwrap_or}
+use Rattle.std.specs.List.{slice_index_or}
+use Rattle.std.proofs.lemmas.Option.{slice_get-get_or}
+use Rattle.dg_theory.specs.Multigraph.{Multigraph}
+use Rattle.dg_theory.specs.Firing.{Amounts}
+use Rattle.dg_theory.specs.Burning.{BurnsAll}
+use Rattle.dg_verdict.specs.declared.verdict.Verdict.{Verdict}
+use Rattle.dg_verdict.specs.Right.{IsVerdictOn}
+use Rattle.dg_lines.specs.Judgements.{HasNamesIn}
+
+burning-vertices : (g : Multigraph) (q : ℕ) (D : Amounts) (l : List ℕ) → q < g.size → BurnsAll g q D l →
+    All (λ v. v < g.size) l
+burning-vertices g q D l vertex burns zero d some =
+    let first : Some q ≡ Some (slice_index_or l 0 d) = sym burns.first ∙ slice_get-get_or l 0 d some in
+    subst (λ (v : ℕ). v < g.size) (ap (λ (o : Option ℕ). unwrap_or o q) first) vertex
+burning-vertices g q D l vertex burns (suc i) d some =
+    (burns.next i (slice_index_or l (suc i) d) (slice_get-get_or l (suc i) d some)).vertex
+
+pub judged-named : (names : List (List ℕ)) (g : Multigraph) (q : ℕ) (D : Amounts) (x : Verdict) → length names ≡ g.size →
+    q < g.size → IsVerdictOn g q D x → HasNamesIn names x
+judged-named names g q D x fit vertex found = record {
+  script = fit ∙ sym found.right.script_size;
+  reduced = fit ∙ sym found.right.reduced_size;
+  order = subst (λ (n : ℕ). All (λ (v : ℕ). v < n) (take n x.order)) (sym fit)
+      (burning-vertices g q _ (take g.size x.order) vertex found.right.order);
+}
