@@ -1,6 +1,6 @@
--- No list of words asks for something and is refused.
-use Rattle.std.proofs.Common.{◌≡◌, List, [], true, true≢false, inl, inr, refl, sym, subst}
-use Rattle.clap.specs.Words.{IsAmong, Kinds, Text, fault_of}
+-- No list of words asks for two things, or asks for something and is refused.
+use Rattle.std.proofs.Common.{◌≡◌, ◌∙◌, ◌⊎◌, List, [], Option, None, Some, IsSomeAnd, true, true≢false, inl, inr, refl, sym, subst}
+use Rattle.clap.specs.Words.{IsAmong, Kinds, Row, Text, fault_of, subcommand_of}
 use Rattle.clap.specs.declared.error.kind.ErrorKind.{ErrorKind}
 use Rattle.clap.specs.declared.error.kind.ErrorKind.TheVariants as kind
 use Rattle.dg_invocation.specs.declared.invocation.Invocation.{Invocation}
@@ -8,10 +8,11 @@ use Rattle.dg_invocation.specs.declared.invocation.Invocation.TheVariants as ask
 use Rattle.dg_invocation.specs.declared.parse_args.ArgsFault.{ArgsFault}
 use Rattle.dg_invocation.specs.declared.parse_args.ArgsFault.TheVariants.{CommandLine, NotText, OutOfMemory}
 use Rattle.dg_cli.specs.Commands.{dollar}
-use Rattle.dg_cli.specs.Asks.{Asks, CallsForHelp}
+use Rattle.dg_cli.specs.Asks.{Asks, AsksFor, CallsForHelp}
 use Rattle.dg_cli.specs.Refusals.{HasFault, Refuses}
 use Rattle.dg_cli_laws.proofs.Alike.{alike, is_call}
-use Rattle.dg_cli_laws.specs.OneMeaning.{WordsHaveOneMeaning}
+use Rattle.dg_cli_laws.proofs.Written.{asks-told}
+use Rattle.dg_cli_laws.specs.OneMeaning.{WordsHaveOneMeaning, written}
 
 -- a kind that is no call is none of the two
 no_call : (k : ErrorKind) → is_call k ≡ true → (k ≡ kind.DisplayHelp → ⊥) → (k ≡ kind.DisplayVersion → ⊥) → ⊥
@@ -57,5 +58,41 @@ apart words it (CommandLine text) asks refused = elim refused [
   | inr nothing ↦ absurd (nothing.nothing it asks)
 ]
 
+entered-alike : (o : Option (Text × List Row)) (a b : Invocation) → IsSomeAnd o (λ p. AsksFor p.0 p.1 a)
+    → IsSomeAnd o (λ p. AsksFor p.0 p.1 b) → written a ≡ written b
+entered-alike None a b asks also = absurd asks
+entered-alike (Some p) a b asks also = asks-told p.0 p.1 a asks ∙ sym (asks-told p.0 p.1 b also)
+
+-- a call for help, of which nothing is written, or what a command asks for
+abbrev Meant : List Text → Invocation → Type 0
+Meant words it =
+    (CallsForHelp (fault_of dollar words) × (written it ≡ []))
+    ⊎ ((fault_of dollar words ≡ []) × IsSomeAnd (subcommand_of dollar words) (λ p. AsksFor p.0 p.1 it))
+
+meant : (words : List Text) (it : Invocation) → Asks words it → Meant words it
+meant words (asked.Text text) asks = inl (asks, refl)
+meant words (asked.Task task) asks = inr asks
+meant words (asked.Sweep task) asks = inr asks
+meant words (asked.Serve task) asks = inr asks
+meant words (asked.Party task) asks = inr asks
+
+no_call_of_none : (words : List Text) → fault_of dollar words ≡ [] → CallsForHelp (fault_of dollar words) → ⊥
+no_call_of_none words none calls = subst (λ (ks : Kinds). CallsForHelp ks → ⊥) (sym none) not_among calls
+  where
+    not_among : CallsForHelp [] → ⊥
+    not_among calls = elim calls [ inl help ↦ help | inr version ↦ version ]
+
+one : (words : List Text) (a b : Invocation) → Asks words a → Asks words b → written a ≡ written b
+one words a b asks also = elim (meant words a asks) [
+  | inl call ↦ elim (meant words b also) [
+    | inl too ↦ call.1 ∙ sym too.1
+    | inr named ↦ absurd (no_call_of_none words named.0 call.0)
+  ]
+  | inr named ↦ elim (meant words b also) [
+    | inl call ↦ absurd (no_call_of_none words named.0 call.0)
+    | inr too ↦ entered-alike (subcommand_of dollar words) a b named.1 too.1
+  ]
+]
+
 pub law : WordsHaveOneMeaning
-law = record { apart = apart }
+law = record { one = one; apart = apart }

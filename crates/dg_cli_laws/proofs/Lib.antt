@@ -2,3 +2,4 @@
 mod CommandLines
 mod Alike
 mod Apart
+mod Written

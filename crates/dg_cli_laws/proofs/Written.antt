@@ -1,0 +1,215 @@
+-- Two things that the rows of one command ask for are written alike: each as the rows tell.
+--   told name rows     == the words that the rows of the command of that name tell
+--   asks-told          what is asked for is written as the rows tell
+use Rattle.std.proofs.Common.{◌≡◌, ◌∙◌, ◌==◌, ◌+◌, ◌*◌, ℕ, Bool, true, false, cond, List, [], ◌∷◌, ◌++◌, Option, None, Some, IsSomeAnd, true≢false, codes, decimal, map, refl, sym, ap}
+use Rattle.std.specs.Prelude.{slice_index, unwrap_or, is_some}
+use Rattle.std.specs.Option.{option_map_or}
+use Rattle.std.specs.Str.{bytes_eq}
+use Rattle.std.proofs.lemmas.Slice.Eq.{bytes_eq-Decides}
+use Rattle.clap.specs.Words.{Row, Text}
+use Rattle.dg_invocation.specs.declared.invocation.Invocation.{Invocation}
+use Rattle.dg_invocation.specs.declared.invocation.Invocation.TheVariants as asked
+use Rattle.dg_invocation.specs.declared.invocation.Task.TheVariants as task
+use Rattle.dg_invocation.specs.declared.question.Question.{Question}
+use Rattle.dg_invocation.specs.declared.question.Question.TheVariants.{Judge, Rank, RiemannRoch}
+use Rattle.dg_invocation.specs.declared.limits.TheConstants.{MAX_CAPACITY}
+use Rattle.dg_cli.specs.Numbers.{IsGiven, IsGivenOr, IsNumber}
+use Rattle.dg_cli.specs.Asks.{AsksFor, AsksQuestion, HasOneTable, IsOrdered, LinesAre, divisors_of, word_of, words_of}
+use Rattle.dg_cli_laws.specs.OneMeaning.{lines_words, order_words, question_words, seats_words, written}
+
+-- whether the word of a flag is that it is set
+abbrev is_set : Option Text → Bool
+is_set o = option_map_or (bytes_eq (codes "true")) o false
+
+abbrev has_lines : List Row → Bool
+has_lines rows = cond (is_some (divisors_of rows)) true (is_set (word_of (codes "lines") rows))
+
+abbrev the : Text → List Row → Text
+the name rows = unwrap_or (word_of name rows) []
+
+abbrev number_or : ℕ → Text → List Row → Text
+number_or default name rows = unwrap_or (word_of name rows) (decimal default)
+
+abbrev some : Option Text → List Text
+some None = []
+some (Some text) = text ∷ []
+
+-- by the first two letters of the name
+abbrev key : Text → ℕ
+key name = slice_index name 0 * 256 + slice_index name 1
+
+abbrev order_told : List Row → List Text
+order_told rows = order_words (is_set (word_of (codes "order") rows))
+
+abbrev question_told : ℕ → List Row → List Text
+question_told n rows =
+    cond (n == 27253) (codes "judge" ∷ order_told rows)
+    (cond (n == 29281) (codes "rank" ∷ the (codes "degree") rows ∷ []) (codes "rr" ∷ []))
+
+abbrev sweep_told : ℕ → List Row → List Text
+sweep_told n rows =
+    lines_words (divisors_of rows)
+    ++ the (codes "file") rows ∷ number_or 1 (codes "workers") rows ∷ question_told n rows
+
+abbrev table_told : ℕ → List Row → List Text
+table_told n rows =
+    cond (n == 27253) (codes "judge" ∷ the (codes "file") rows ∷ order_told rows)
+    (cond (n == 29281)
+    (codes "rank" ∷ the (codes "file") rows ∷ the (codes "degree") rows ∷ number_or 1 (codes "workers") rows ∷ [])
+    (codes "rr" ∷ the (codes "file") rows ∷ []))
+
+abbrev other_told : ℕ → List Row → List Text
+other_told n rows =
+    cond (n == 26482) (codes "greedy" ∷ the (codes "file") rows ∷ the (codes "turns") rows ∷ [])
+    (cond (n == 29285) (codes "rehearse" ∷ the (codes "file") rows ∷ the (codes "steps") rows ∷ [])
+    (cond (n == 29541)
+    (codes "serve" ∷ the (codes "file") rows ∷ number_or MAX_CAPACITY (codes "cap") rows ∷ number_or 1 (codes "workers") rows
+    ∷ some (word_of (codes "seats") rows))
+    (codes "party" ∷ the (codes "file") rows ∷ number_or MAX_CAPACITY (codes "cap") rows
+    ∷ unwrap_or (words_of (codes "script") rows) [])))
+
+abbrev of_lines : ℕ → Bool
+of_lines n = cond (n == 27253) true (cond (n == 29281) true (n == 29298))
+
+abbrev told_by : ℕ → List Row → List Text
+told_by n rows =
+    cond (of_lines n) (cond (has_lines rows) (sweep_told n rows) (table_told n rows)) (other_told n rows)
+
+abbrev pub told : Text → List Row → List Text
+told name rows = told_by (key name) rows
+
+set : (o : Option Text) → o ≡ Some (codes "true") → is_set o ≡ true
+set o is = ap is_set is
+
+is-set : (o : Option Text) → is_set o ≡ true → o ≡ Some (codes "true")
+is-set None is = absurd (true≢false (sym is))
+is-set (Some text) is = ap Some (sym ((bytes_eq-Decides (codes "true") text).0 is))
+
+not-set : (o : Option Text) → (o ≡ Some (codes "true") → ⊥) → is_set o ≡ false
+not-set o never = go (is_set o) refl
+  where
+    go : (b : Bool) → is_set o ≡ b → is_set o ≡ false
+    go true is = absurd (never (is-set o is))
+    go false is = is
+
+with_divisors : List Row → Option Text → Bool
+with_divisors rows o = cond (is_some o) true (is_set (word_of (codes "lines") rows))
+
+-- a command on one table has no lines, and a sweep has
+one-table : (rows : List Row) → HasOneTable rows → has_lines rows ≡ false
+unfolding with_divisors
+one-table rows alone = ap (with_divisors rows) alone.1 ∙ not-set (word_of (codes "lines") rows) alone.0
+
+swept : (rows : List Row) → LinesAre rows (divisors_of rows) → has_lines rows ≡ true
+unfolding with_divisors
+swept rows lines = go (divisors_of rows) refl lines
+  where
+    go : (o : Option Text) → divisors_of rows ≡ o → LinesAre rows o → has_lines rows ≡ true
+    go None is flag = ap (with_divisors rows) is ∙ set (word_of (codes "lines") rows) flag
+    go (Some name) is flag = ap (with_divisors rows) is
+
+a-word : (name : Text) (rows : List Row) (text : Text) → word_of name rows ≡ Some text → text ≡ the name rows
+a-word name rows text is = sym (ap (λ (o : Option Text). unwrap_or o []) is)
+
+a-number : (low high n : ℕ) (o : Option Text) → IsSomeAnd o (λ text. IsNumber low high text n) → decimal n ≡ unwrap_or o []
+a-number low high n None h = absurd h
+a-number low high n (Some text) h = sym h.spelled
+
+a-default : (default low high n : ℕ) (o : Option Text) → IsGivenOr default low high o n → decimal n ≡ unwrap_or o (decimal default)
+a-default default low high n None h = ap decimal h
+a-default default low high n (Some text) h = sym h.spelled
+
+some-seats : (low high : ℕ) (o : Option Text) (n : Option ℕ) → IsGiven low high o n → seats_words n ≡ some o
+some-seats low high None None h = refl
+some-seats low high None (Some n) h = absurd h
+some-seats low high (Some text) None h = absurd h
+some-seats low high (Some text) (Some n) h = ap (λ (t : Text). t ∷ []) (sym h.spelled)
+
+an-order : (rows : List Row) (ordered : Bool) → IsOrdered rows ordered → order_words ordered ≡ order_told rows
+an-order rows true h = ap order_words (sym (set (word_of (codes "order") rows) (h.0 refl)))
+an-order rows false h =
+    ap order_words (sym (not-set (word_of (codes "order") rows) (λ is. true≢false (sym (h.1 is)))))
+
+by-table : (n : ℕ) (name : Text) (rows : List Row) → key name ≡ n → of_lines n ≡ true → HasOneTable rows
+    → table_told n rows ≡ told name rows
+by-table n name rows is lined alone =
+    sym (ap (λ (m : ℕ). told_by m rows) is
+    ∙ ap (λ (b : Bool). cond b (cond (has_lines rows) (sweep_told n rows) (table_told n rows)) (other_told n rows)) lined
+    ∙ ap (λ (b : Bool). cond b (sweep_told n rows) (table_told n rows)) (one-table rows alone))
+
+by-sweep : (n : ℕ) (name : Text) (rows : List Row) → key name ≡ n → of_lines n ≡ true → LinesAre rows (divisors_of rows)
+    → sweep_told n rows ≡ told name rows
+by-sweep n name rows is lined lines =
+    sym (ap (λ (m : ℕ). told_by m rows) is
+    ∙ ap (λ (b : Bool). cond b (cond (has_lines rows) (sweep_told n rows) (table_told n rows)) (other_told n rows)) lined
+    ∙ ap (λ (b : Bool). cond b (sweep_told n rows) (table_told n rows)) (swept rows lines))
+
+by-other : (n : ℕ) (name : Text) (rows : List Row) → key name ≡ n → of_lines n ≡ false → other_told n rows ≡ told name rows
+by-other n name rows is lined =
+    sym (ap (λ (m : ℕ). told_by m rows) is
+    ∙ ap (λ (b : Bool). cond b (cond (has_lines rows) (sweep_told n rows) (table_told n rows)) (other_told n rows)) lined)
+
+a-question : (name : Text) (rows : List Row) (question : Question) → AsksQuestion name rows question
+    → (n : ℕ) × (key name ≡ n) × (of_lines n ≡ true) × (question_words question ≡ question_told n rows)
+a-question name rows (Judge ordered) h =
+    (27253, ap key h.0, refl, ap (λ (ws : List Text). codes "judge" ∷ ws) (an-order rows ordered h.1))
+a-question name rows (Rank k) h =
+    (29281, ap key h.0, refl, ap (λ (t : Text). codes "rank" ∷ t ∷ []) (a-number _ _ k (word_of (codes "degree") rows) h.1))
+a-question name rows RiemannRoch h = (29298, ap key h, refl, refl)
+
+pub asks-told : (name : Text) (rows : List Row) (it : Invocation) → AsksFor name rows it → written it ≡ told name rows
+asks-told name rows (asked.Task (task.Judge file ordered)) h =
+    ap (λ (t : Text). codes "judge" ∷ t ∷ order_words ordered) (a-word (codes "file") rows file.now h.1)
+    ∙ ap (λ (ws : List Text). codes "judge" ∷ the (codes "file") rows ∷ ws) (an-order rows ordered h.3)
+    ∙ by-table 27253 name rows (ap key h.0) refl h.2.0
+asks-told name rows (asked.Task (task.Rank test)) h =
+    ap (λ (t : Text). codes "rank" ∷ t ∷ decimal test.degree ∷ decimal test.workers ∷ [])
+    (a-word (codes "file") rows test.file.now h.1.file)
+    ∙ ap (λ (t : Text). codes "rank" ∷ the (codes "file") rows ∷ t ∷ decimal test.workers ∷ [])
+    (a-number _ _ test.degree (word_of (codes "degree") rows) h.1.degree)
+    ∙ ap (λ (t : Text). codes "rank" ∷ the (codes "file") rows ∷ the (codes "degree") rows ∷ t ∷ [])
+    (a-default _ _ _ test.workers (word_of (codes "workers") rows) h.1.workers)
+    ∙ by-table 29281 name rows (ap key h.0) refl h.2
+asks-told name rows (asked.Task (task.RiemannRoch file)) h =
+    ap (λ (t : Text). codes "rr" ∷ t ∷ []) (a-word (codes "file") rows file.now h.1)
+    ∙ by-table 29298 name rows (ap key h.0) refl h.2.0
+asks-told name rows (asked.Task (task.Greedy play)) h =
+    ap (λ (t : Text). codes "greedy" ∷ t ∷ decimal play.turns ∷ []) (a-word (codes "file") rows play.file.now h.1.file)
+    ∙ ap (λ (t : Text). codes "greedy" ∷ the (codes "file") rows ∷ t ∷ [])
+    (a-number _ _ play.turns (word_of (codes "turns") rows) h.1.turns)
+    ∙ by-other 26482 name rows (ap key h.0) refl
+asks-told name rows (asked.Task (task.Rehearse file steps)) h =
+    ap (λ (t : Text). codes "rehearse" ∷ t ∷ steps.now ∷ []) (a-word (codes "file") rows file.now h.1)
+    ∙ ap (λ (t : Text). codes "rehearse" ∷ the (codes "file") rows ∷ t ∷ []) (a-word (codes "steps") rows steps.now h.2)
+    ∙ by-other 29285 name rows (ap key h.0) refl
+asks-told name rows (asked.Serve session) h =
+    ap (λ (t : Text). codes "serve" ∷ t ∷ decimal session.capacity ∷ decimal session.workers ∷ seats_words session.seats)
+    (a-word (codes "file") rows session.file.now h.1.file)
+    ∙ ap (λ (t : Text). codes "serve" ∷ the (codes "file") rows ∷ t ∷ decimal session.workers ∷ seats_words session.seats)
+    (a-default _ _ _ session.capacity (word_of (codes "cap") rows) h.1.capacity)
+    ∙ ap (λ (t : Text). codes "serve" ∷ the (codes "file") rows ∷ number_or MAX_CAPACITY (codes "cap") rows ∷ t
+    ∷ seats_words session.seats)
+    (a-default _ _ _ session.workers (word_of (codes "workers") rows) h.1.workers)
+    ∙ ap (λ (ws : List Text). codes "serve" ∷ the (codes "file") rows ∷ number_or MAX_CAPACITY (codes "cap") rows
+    ∷ number_or 1 (codes "workers") rows ∷ ws)
+    (some-seats _ _ (word_of (codes "seats") rows) session.seats h.1.seats)
+    ∙ by-other 29541 name rows (ap key h.0) refl
+asks-told name rows (asked.Party party) h =
+    ap (λ (t : Text). codes "party" ∷ t ∷ decimal party.capacity ∷ map (λ script. script.now) party.scripts.items)
+    (a-word (codes "file") rows party.file.now h.1.file)
+    ∙ ap (λ (t : Text). codes "party" ∷ the (codes "file") rows ∷ t ∷ map (λ script. script.now) party.scripts.items)
+    (a-default _ _ _ party.capacity (word_of (codes "cap") rows) h.1.capacity)
+    ∙ ap (λ (ws : List Text). codes "party" ∷ the (codes "file") rows ∷ number_or MAX_CAPACITY (codes "cap") rows ∷ ws)
+    (sym (ap (λ (o : Option (List Text)). unwrap_or o []) h.1.scripts))
+    ∙ by-other 28769 name rows (ap key h.0) refl
+asks-told name rows (asked.Sweep sweep) h =
+    let (n, is, lined, words) = a-question name rows sweep.question h.question in
+    ap (λ (o : Option Text). lines_words o ++ sweep.file.now ∷ decimal sweep.workers ∷ question_words sweep.question) h.divisors
+    ∙ ap (λ (t : Text). lines_words (divisors_of rows) ++ t ∷ decimal sweep.workers ∷ question_words sweep.question)
+    (a-word (codes "file") rows sweep.file.now h.file)
+    ∙ ap (λ (t : Text). lines_words (divisors_of rows) ++ the (codes "file") rows ∷ t ∷ question_words sweep.question)
+    (a-default _ _ _ sweep.workers (word_of (codes "workers") rows) h.workers)
+    ∙ ap (λ (ws : List Text). lines_words (divisors_of rows) ++ the (codes "file") rows
+    ∷ number_or 1 (codes "workers") rows ∷ ws) words
+    ∙ by-sweep n name rows is lined h.lines
+asks-told name rows (asked.Text text) h = absurd h
