@@ -1,4 +1,5 @@
-"""What tools read of the repository: its files, its crates, and the functions and exports of a crate's code. Paths are from its top."""
+"""What tools read of the repository: its files, its crates, and the functions and exports of a crate's code. Paths are from its
+top."""
 import functools
 import glob
 import os
@@ -14,8 +15,10 @@ def read(path):
 
 def files(*patterns):
     """The files that fit, without what is made."""
-    found = (os.path.relpath(path, TOP) for pattern in patterns for path in glob.glob(os.path.join(TOP, pattern), recursive=True))
-    return sorted(path for path in found if os.path.isfile(os.path.join(TOP, path)) and not {"out", "__pycache__"} & set(path.split("/")))
+    found = (os.path.relpath(path, TOP) for pattern in patterns
+             for path in glob.glob(os.path.join(TOP, pattern), recursive=True))
+    return sorted(path for path in found if os.path.isfile(os.path.join(TOP, path))
+                  and not {"out", "__pycache__"} & set(path.split("/")))
 
 
 def crates():
@@ -59,8 +62,10 @@ def exports():
 
 def functions(text):
     """The functions in a file, each as its name, whether it is public, the type it belongs to, and where it begins and ends."""
-    starts = [(found.start(), found[2], bool(found[1])) for found in re.finditer(r"^ *(pub )?(?:unsafe |const )*fn (\w+)", text, re.M)]
-    types = [(found.start(), found[1]) for found in re.finditer(r"^impl(?:<[^>]*>)? (?:\w+(?:<[^{]*>)? for )?(\w+)", text, re.M)]
+    starts = [(found.start(), found[2], bool(found[1]))
+              for found in re.finditer(r"^ *(pub )?(?:unsafe |const )*fn (\w+)", text, re.M)]
+    types = [(found.start(), found[1])
+             for found in re.finditer(r"^impl(?:<[^>]*>)? (?:\w+(?:<[^{]*>)? for )?(\w+)", text, re.M)]
     for (begin, name, is_public), end in zip(starts, [start for start, _, _ in starts[1:]] + [len(text)]):
         owner = [own for start, own in types if start < begin] if text[begin] == " " else []
         yield name, is_public, owner[-1] if owner else "", begin, end
