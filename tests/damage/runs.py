@@ -3,6 +3,7 @@
 import collections
 import contextlib
 import os
+import random
 import resource
 import signal
 import subprocess
@@ -13,6 +14,8 @@ from helpers import equal, expect, program, tests_of
 TRIANGLE = b'{"vertices":["a","b","c"],"edges":[["a","b",1],["b","c",1],["a","c",1]],"amounts":[2,-1,-1],"q":"a"}'
 WON = b"winnable by a=0 b=-1 c=-1 to a=0 b=0 c=0\n"
 PATIENCE = 60
+# By which sizes and numbers are drawn.
+SEED = int(os.environ.get("SEED") or random.SystemRandom().randrange(10**6))
 
 # How a run ended, what it printed, and what it said on standard error, as far as that was read. A status below 0 is the signal
 # that ended it.
