@@ -1,5 +1,7 @@
 """Sessions and parties whose lines and scripts are damaged, many or long."""
-import itertools, re, resource
+import itertools
+import re
+import resource
 
 from runs import TRIANGLE, Run, checked, refused
 from model import Game, judged

@@ -1,6 +1,17 @@
 """Runs whose files and streams are not what they should be: closed, full, without end, gone in mid-answer, not read, or
 interrupted."""
-import array, fcntl, os, re, resource, shutil, signal, subprocess, tempfile, termios, threading, time
+import array
+import fcntl
+import os
+import re
+import resource
+import shutil
+import signal
+import subprocess
+import tempfile
+import termios
+import threading
+import time
 
 from runs import PATIENCE, TRIANGLE, WON, Run, checked, refused
 
