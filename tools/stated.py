@@ -212,5 +212,4 @@ def version():
 
 
 CHECKS = {"grammar": grammar, "version": version, "command words": commands, "played commands": played_commands,
-          "reply words": replies,
-          "bad texts": bad_texts, "faults": faults, "limits": limits}
+          "reply words": replies, "bad texts": bad_texts, "faults": faults, "limits": limits}

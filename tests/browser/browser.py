@@ -19,8 +19,7 @@ from common import PATIENCE, equal, expect, text_of, waited
 
 NAMES = "chromium", "chromium-browser", "google-chrome", "chrome"
 KEYS = {"ArrowLeft": 37, "ArrowUp": 38, "ArrowRight": 39, "ArrowDown": 40, "Home": 36, "End": 35, " ": 32, "Tab": 9,
-        "Enter": 13,
-        "Escape": 27}
+        "Enter": 13, "Escape": 27}
 CTRL, SHIFT = 2, 8
 OPTIONS = ["--headless", "--remote-debugging-pipe", "--disable-gpu", "--no-first-run", "--hide-scrollbars", "--disable-sync",
            "--disable-background-networking", "--disable-component-update",

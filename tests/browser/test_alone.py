@@ -31,6 +31,8 @@ DROP = """(() => {
 })()"""
 SMALL = """$$('button, select, input, summary').filter((at) =>
   at.offsetParent && Math.min(at.offsetWidth, at.offsetHeight) < 16).map((at) => at.id || at.textContent)"""
+SAID = "$$('#board .vertex:has(.says)').map((at) => [at.dataset.name, at.querySelector('.says').textContent])"
+ENDS = "$$('#told-script tbody tr').map(({ children: [name, , , end] }) => [name.textContent, end.textContent])"
 # Who has the focus, and whether that can be seen.
 FOCUSED = """(() => {
   const at = document.activeElement;
@@ -232,7 +234,7 @@ def with_questions(player):
         equal(printed, judged, f"whether it can be won at {index}")
         expect(("can be won" in words) == judged.startswith("winnable"), f"the words {words} for {judged}")
         script, reduced = re.fullmatch(r"\w+ by (.*) to (.*)\n", judged).groups()
-        rows = player.value("$$('#told-script tbody tr').map((at) => [at.children[0], at.children[3]].map((c) => c.textContent))")
+        rows = player.value(ENDS)
         equal(rows, [pair.split("=") for pair in reduced.split(" ")], f"the script's end at {index}")
         says = player.value("$$('#board .vertex .says').length")
         equal(says, sum(not pair.endswith("=0") for pair in script.split(" ")), f"the script on the board at {index}")
@@ -243,7 +245,7 @@ def with_questions(player):
         player.until("/rank below/.test($('#told-printed').textContent)")
         equal(player.text("#told-printed"), numbers + lost, f"the rank at {index}")
         losses = [pair.split("=") for pair in re.fullmatch(r"rank below \d+ at (.*)\n", lost)[1].split(" ")]
-        shown = player.value("$$('#board .vertex:has(.says)').map((at) => [at.dataset.name, at.querySelector('.says').textContent])")
+        shown = player.value(SAID)
         equal(shown, [[name, "lost " + count] for name, count in losses if count != "0"],
               f"the first loss on the board at {index}")
     equal(player.length(), length, "the entries after questions")
@@ -438,8 +440,7 @@ def of_one_player(folder):
     with played(EXAMPLES / "houses.json") as (_, (address,)):
         player = Player(browser, address, folder)
         for part in (with_focus, in_sizes, by_mouse, by_touch, by_keys, by_seats, with_refusals, with_questions,
-                     with_many_lines,
-                     with_script, with_fire, with_tables, with_editor, with_takings, with_a_long_game):
+                     with_many_lines, with_script, with_fire, with_tables, with_editor, with_takings, with_a_long_game):
             part(player)
         browser.harmless(address, since=before)
     said = "There is no answer from board/play"

@@ -11,7 +11,8 @@ import time
 from pathlib import Path
 
 from browser import browsers
-from common import EXAMPLES, addresses, asked, equal, expect, is_modest, played, refused, started, swings, tell, text_of, together, written
+from common import (EXAMPLES, addresses, asked, equal, expect, is_modest, played, refused, started, swings, tell, text_of,
+                    together, written)
 from helpers import tests_of
 from model import some_command
 from visitors import TABLE, PagePupil, Place, Pupil, a_class, program_of, taken
@@ -121,8 +122,8 @@ def from_elsewhere(place, line, host):
              f"127.0.0.2:{place.port}", f"[::1]:{place.port}", f"0.0.0.0:{place.port}")
     refused_alike(place, "another host", *(("GET", "", None, {"Host": name}) for name in hosts),
                   *(("POST", "line", line, {"Host": name, "Origin": "http://" + name}) for name in hosts))
-    origins = (None, "null", "http://evil.example", f"https://{host}", f"http://{host}.evil.example", "http://127.0.0.1", host,
-               "")
+    origins = (None, "", "null", "http://evil.example", "http://127.0.0.1", f"https://{host}", f"http://{host}.evil.example",
+               host)
     refused_alike(place, "another origin", *(("POST", "line", line, {"Origin": origin}) for origin in origins),
                   ("GET", "start", None, {"Origin": "http://evil.example"}),
                   ("POST", "line", line, {"Sec-Fetch-Site": "cross-site"}),
@@ -244,8 +245,8 @@ def a_long_game(folder):
 def short_histories(folder):
     """Has histories be full after five entries."""
     real = os.environ["DOLLAR"]
-    small = written(folder, "small",
-                    f'#!/bin/sh\nword=$1\nshift\nif [ "$word" = serve ]; then set -- --cap 5 "$@"; fi\nexec "{real}" "$word" "$@"\n')
+    capped = 'if [ "$word" = serve ]; then set -- --cap 5 "$@"; fi'
+    small = written(folder, "small", f'#!/bin/sh\nword=$1\nshift\n{capped}\nexec "{real}" "$word" "$@"\n')
     small.chmod(0o755)
     os.environ["DOLLAR"] = str(small)
     try:

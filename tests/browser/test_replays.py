@@ -22,13 +22,13 @@ SHOWN = """(() => {
   const vertices = $$("#board .vertex"), has = (test) => vertices.filter(test).map((at) => at.dataset.name);
   const current = (place) => $$(place + " [aria-current]").map((at) => Number(at.dataset.index));
   return {
-    place: text("place"), step: text("step"), moves: text("moves"), answer: text("answer"), asked: text("asked"), said: text("said"),
+    ...Object.fromEntries(["place", "step", "moves", "answer", "asked", "said"].map((id) => [id, text(id)])),
     differs: $("#differs").hidden ? null : text("differs"),
     amounts: vertices.map((at) => [at.dataset.name, Number(at.querySelector(".amount").textContent)]),
     debts: has((at) => at.classList.contains("debt")),
     hatched: has((at) => getComputedStyle(at.querySelector(".hatch")).display !== "none"),
-    says: vertices.filter((at) => at.querySelector(".says")).map((at) => [at.dataset.name, at.querySelector(".says").textContent]),
-    at: vertices.map((at) => [at.dataset.name, ...["cx", "cy"].map((axis) => Number(at.querySelector(".round").getAttribute(axis)))]),
+    says: $$("#board .vertex:has(.says)").map((at) => [at.dataset.name, at.querySelector(".says").textContent]),
+    at: vertices.map((at) => [at.dataset.name, ...["cx", "cy"].map((axis) => at.querySelector(".round")[axis].baseVal.value)]),
     arrows: $$("#board .arrow").map((at) => at.getAttribute("transform").match(/[-0-9.]+/g).slice(0, 2).map(Number)),
     edges: $$("#board .edge").length, added: $$("#board .added").length, label: $("#board svg").getAttribute("aria-label"),
     slider: Number($("#slider").value), marks: current("#marks"), list: current("#whole"), open: $("#verdict").open,
@@ -146,8 +146,8 @@ def by_keys(browser, place, table, steps):
 def by_slider(browser, steps):
     """Moves the slider itself by keys, and goes to a step by its mark and by its line."""
     browser.value("$('#slider').focus()")
-    for key, wanted in ("ArrowRight", 1), ("ArrowRight", 2), ("ArrowLeft", 1), ("End", len(lines_of(f"{steps}.txt"))), ("Home",
-                                                                                                                        0):
+    last = len(lines_of(f"{steps}.txt"))
+    for key, wanted in ("ArrowRight", 1), ("ArrowRight", 2), ("ArrowLeft", 1), ("End", last), ("Home", 0):
         browser.press(key)
         equal(browser.value("viewer.now"), wanted, f"{steps}: {key} on the slider")
     for row in "#marks", "#whole":
@@ -229,8 +229,8 @@ def with_differences(browser, folder):
     """If a printed line is changed, the page says so at that step and no other."""
     table, steps = STORIES[0]
     lines = lines_of(f"{steps}.out")
-    for index, old, new in (1, "barn=2", "barn=3"), (4, "given 1", "given 2"), (8, "to well=1", "to well=2"), (10, "won",
-                                                                                                               "not won"):
+    for index, old, new in ((1, "barn=2", "barn=3"), (4, "given 1", "given 2"), (8, "to well=1", "to well=2"),
+                            (10, "won", "not won")):
         changed = [line.replace(old, new) if i == index else line for i, line in enumerate(lines)]
         history = written(folder, "history", "".join(f"{line}\n" for line in changed))
         browser.open(page_of(folder, *files_of(table, steps), history))
@@ -258,8 +258,7 @@ def with_strangers(browser, folder):
     """What is no table, or has a script in it, becomes no page; and a script in a page that was changed does not run."""
     steps, history = written(folder, "s", "1 claim\n"), written(folder, "h", "0 won\n")
     for text in ('{"vertices":["</script><script>window.pwned=1</script>"],"edges":[],"amounts":[1],"q":"a"}', "{}",
-                 "[" * 100000,
-                 '{"vertices":["a"],"edges":[],"amounts":[NaN],"q":"a"}', "\0\1",
+                 "[" * 100000, '{"vertices":["a"],"edges":[],"amounts":[NaN],"q":"a"}', "\0\1",
                  '{"vertices":["a"],"edges":[["a","z",1]],"amounts":[1],"q":"a"}'):
         for words in ([steps], [steps, history], ["--greedy", "3"]):
             refused(["replay", written(folder, "t.json", text), *words], "dollar replay ")
@@ -281,7 +280,8 @@ def with_places(browser, folder):
     browser.open(page_of(folder, "--places", places, *words))
     (_, ax, ay), (_, bx, by), (_, cx, cy) = browser.value(SHOWN)["at"]
     expect(ay == by and bx == cx and abs((cy - by) * 2 - (bx - ax)) <= 1, "the vertices stand elsewhere")
-    for text in "a 0 0\nb 1 0\n", "a 0 0\nb 1 0\nc x 1\n", "a 0 0\nb 1 0\nc 1\n", "a 0 0\nb 0 0\nc 1 1\n", "d 0 0\n", "a nan 0\n":
+    for text in ("a 0 0\nb 1 0\n", "a 0 0\nb 1 0\nc x 1\n", "a 0 0\nb 1 0\nc 1\n", "a 0 0\nb 0 0\nc 1 1\n", "d 0 0\n",
+                 "a nan 0\n"):
         for name, given in ("replay", words), ("draw", words[:1]):
             refused([name, "--places", written(folder, "places", text), *given])
 

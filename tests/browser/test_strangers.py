@@ -15,7 +15,8 @@ import termios
 import threading
 import time
 
-from common import EXAMPLES, PACKAGE, PLAY, TRIANGLE, addresses, asked, equal, expect, is_modest, played, started, tell, text_of, together, written
+from common import (EXAMPLES, PACKAGE, PLAY, TRIANGLE, addresses, asked, equal, expect, is_modest, played, started, tell,
+                    text_of, together, written)
 from helpers import tests_of
 from visitors import TABLE, Place, Pupil, a_class, taken
 
@@ -35,8 +36,7 @@ def honest(place, key, draw):
     method = draw.choice(["GET", "POST"])
     body = json.dumps(thing).encode() if method == "POST" else b""
     lines = [f"{method} {path} HTTP/1.1", f"Host: {place.host}:{place.port}", f"Origin: {place.origin}",
-             "Content-Type: application/json",
-             *([f"Content-Length: {len(body)}"] if body else []), "", ""]
+             "Content-Type: application/json", *([f"Content-Length: {len(body)}"] if body else []), "", ""]
     return "\r\n".join(lines).encode(), body
 
 

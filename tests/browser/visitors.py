@@ -192,8 +192,8 @@ class PagePupil(Page):
 def a_class(folder, seats, *names, options=()):
     """A class at a table: the process of the server, its places for pupils and for the teacher, and a pupil of each name, who
     leave at the end."""
-    with played(written(folder, "table.json", json.dumps(TABLE)), "--seats", str(seats), *options) as (child,
-                                                                                                       (pupils, teacher)):
+    table = written(folder, "table.json", json.dumps(TABLE))
+    with played(table, "--seats", str(seats), *options) as (child, (pupils, teacher)):
         room = [Pupil(pupils, name) for name in names]
         try:
             yield (child, Place(pupils), Place(teacher), *room)
