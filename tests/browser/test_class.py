@@ -35,8 +35,8 @@ def lines_of(seat, count):
 def in_order(room, steps, history):
     """Sees that the entries of each pupil are, in his order, just those that he was told."""
     for pupil in room:
-        own = [(f"{pupil.seat} {line}", answer) for line, status, answer in pupil.lines if status == 200
-               and answer[:1].isdigit()]
+        own = [(f"{pupil.seat} {line}", answer) for line, status, answer in pupil.lines
+               if status == 200 and answer[:1].isdigit()]
         kept = [pair for pair in zip(steps, history) if pair[0].startswith(f"{pupil.seat} ")]
         expect(kept == own, f"the lines of seat {pupil.seat} are not in its order")
 

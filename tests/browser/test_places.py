@@ -39,7 +39,7 @@ def tree(size):
 # one.
 PAIRS = complete(5)
 PETERSEN = [(i, j) for i, j in complete(10) if not set(PAIRS[i]) & set(PAIRS[j])]
-CUBE = [(i, j) for i, j in complete(8) if (i ^ j).bit_count() == 1]
+CUBE = [(i, j) for i, j in complete(8) if bin(i ^ j).count("1") == 1]
 PRISM = ring(3) + [(i + 3, j + 3) for i, j in ring(3)] + [(i, i + 3) for i in range(3)]
 # The crossings of a drawing as people know it: the cube's two squares cross twice, Petersen's star five times.
 KNOWN = {

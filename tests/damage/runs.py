@@ -27,6 +27,17 @@ def refused(text, status, output=b""):
     return Run(status, output, b"dollar: " + text + b"\n")
 
 
+def ended_run(child, before=b"", typed=None):
+    """How a run ends that has printed something before."""
+    try:
+        output, faults = child.communicate(typed, timeout=PATIENCE)
+    except subprocess.TimeoutExpired:
+        child.kill()
+        child.communicate()
+        return Run("no end within %d s" % PATIENCE, b"", b"")
+    return Run(child.returncode, before + (output or b""), faults or b"")
+
+
 class Checks:
     """The program, and a folder for files."""
 
@@ -47,26 +58,35 @@ class Checks:
         return path
 
     def start(self, *words, before=None, **streams):
-        """Starts the program; `before` is called in its process first. Signals do what they do by default."""
+        """Starts the program; `before` is called in its process first. A stream is a file, or `closed`, or `full`. Signals do what
+        they do by default."""
+        closed = [number for number, name in enumerate(("stdin", "stdout", "stderr")) if streams.get(name) == "closed"]
+
         def prepare():
             for number in (signal.SIGINT, signal.SIGTERM, signal.SIGPIPE):
                 signal.signal(number, signal.SIG_DFL)
             if before:
                 before()
+            for number in closed:
+                os.close(number)
+
         given = dict(stdin=subprocess.DEVNULL, stdout=subprocess.PIPE, stderr=subprocess.PIPE)
-        return subprocess.Popen([self.program, *words], preexec_fn=prepare, **{**given, **streams})
+        with open("/dev/full", "wb") as full:
+            given.update((name, {"closed": None, "full": full}.get(stream, stream)) for name, stream in streams.items())
+            return subprocess.Popen([self.program, *words], preexec_fn=prepare, **given)
 
     def run(self, *words, typed=None, before=None, **streams):
-        if typed is not None:
-            streams["stdin"] = subprocess.PIPE
-        child = self.start(*words, before=before, **streams)
-        try:
-            output, faults = child.communicate(typed, timeout=PATIENCE)
-        except subprocess.TimeoutExpired:
-            child.kill()
-            child.communicate()
-            return Run("no end within %d s" % PATIENCE, b"", b"")
-        return Run(child.returncode, output or b"", faults or b"")
+        """How a run ends that is given an input: bytes, or the path of a file."""
+        if isinstance(typed, bytes):
+            return ended_run(self.start(*words, before=before, stdin=subprocess.PIPE, **streams), typed=typed)
+        if typed is None:
+            return ended_run(self.start(*words, before=before, **streams))
+        with open(typed, "rb") as file:
+            return ended_run(self.start(*words, before=before, stdin=file, **streams))
+
+    def ends(self, what, wanted, *words, **options):
+        """Sees how a run ends."""
+        self.same(what, wanted, self.run(*words, **options))
 
     def brief(self, *words):
         """The same for runs that print little and take no input, of which there are thousands."""

@@ -44,10 +44,9 @@ def many_lines(checks):
             ("a line of each length", b"".join(b"x" * size + b"\n" for size in range(1025)), 1025, None),
             ("lines of 1,024 bytes", (b"x" * 1024 + b"\n") * 1000, 1000, None),
             ("a line of 1,025 bytes after others", (b"x" * 1024 + b"\n") * 1000 + b"x" * 1025 + b"\nclaim\n", 1000, LONG)):
-        with open(checks.put("typed", lines), "rb") as typed:
-            run = checks.run("serve", table, stdin=typed, before=lambda: resource.setrlimit(resource.RLIMIT_AS, (ROOM, ROOM)))
         printed = b"bad word\n" * answered
-        checks.same(what, Run(0, printed, b"") if fault is None else refused(fault, 3, printed), run)
+        checks.ends(what, refused(fault, 3, printed) if fault else Run(0, printed, b""), "serve", table, typed=checks.put("typed", lines),
+                    before=lambda: resource.setrlimit(resource.RLIMIT_AS, (ROOM, ROOM)))
 
 
 # A script that changes nothing, and what is answered to its entries on the triangle, whoever else changes nothing.
