@@ -197,21 +197,55 @@ def trials(size, degree):
     return count if degree <= MOST_DEGREE and count <= MOST_TRIALS else None
 
 
-def judged(script, names):
-    """For each line of a script its command, or as a text the answer to a line that makes no entry: a bad line, a commit or a
-    rank test of a session that keeps no look, and a rank test past the limits, which leaves the look."""
-    looking = False
+class Session:
+    """A session on a table, with so many seats or with one that lines do not name: the game, the number of the next entry, and of each
+    seat that has a look the number of its entry and the count of changes then."""
+
+    def __init__(self, table, seats=None):
+        self.game, self.seats, self.number, self.looks = Game(table), seats, 0, {}
+
+    def command(self, seat, line):
+        """The command of a line. Raises Bad for one that makes no entry: also a commit or a rank test of a seat that has no look, and a
+        rank test past the limits, which leaves the look."""
+        command = parse(line, self.game.names)
+        if command[0] in ("commit", "rank") and seat not in self.looks:
+            raise Bad("bad look")
+        if command[0] == "rank" and trials(self.game.size, command[1]) is None:
+            raise Bad("bad trials")
+        return command
+
+    def look(self, seat, command):
+        """Keeps the look of a seat, or gives the one that the command uses up."""
+        if command[0] == "look":
+            self.looks[seat] = self.number, self.game.gifts
+        return self.looks.pop(seat) if command[0] in ("commit", "rank") else (0, 0)
+
+    def enter(self, seat, command, reply):
+        """Whether a text is the right reply to a command, which is entered."""
+        _, gifts = self.look(seat, command)
+        self.number += 1
+        return self.game.is_reply(command, reply, gifts)
+
+    def is_answer(self, line, text):
+        """Whether a text is the right answer to a line, which is played."""
+        seat, space, rest = line.partition(" ") if self.seats else ("1", " ", line)
+        if not space or seat not in map(str, range(1, (self.seats or 1) + 1)):
+            return text == "bad seat"
+        try:
+            command = self.command(seat, rest)
+        except Bad as fault:
+            return text == str(fault)
+        start = "%d " % self.number
+        return self.enter(seat, command, text[len(start):]) and text.startswith(start)
+
+
+def entries(table, script):
+    """The lines of a script that make entries, each with its command."""
+    session = Session(table)
     for line in script:
         try:
-            command = parse(line, names)
-        except Bad as fault:
-            yield line, str(fault)
+            command = session.command(1, line)
+        except Bad:
             continue
-        if command[0] in ("commit", "rank") and not looking:
-            yield line, "bad look"
-        elif command[0] == "rank" and trials(len(names), command[1]) is None:
-            yield line, "bad trials"
-        else:
-            if command[0] in ("look", "commit", "rank"):
-                looking = command[0] == "look"
-            yield line, command
+        session.look(1, command)
+        yield line, command

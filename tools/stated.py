@@ -1,6 +1,6 @@
-"""Pages and texts that state the program's words and limits, each compared with the grammar that tools/words.py reads off the code.
-tools/lint prints what differs, with the file and the line, and what is wanted there. What is written in Python or JavaScript reads the
-grammar itself."""
+"""Pages and texts that state the program's words and limits, each compared with the grammar that tools/words.py reads off the
+code. tools/lint prints what differs, with the file and the line, and what is wanted there. What is written in Python or
+JavaScript reads the grammar itself."""
 import glob
 import re
 
@@ -101,7 +101,8 @@ def bad_texts():
 
 # The definitions of what is said of a table in answer to a line, and the enums whose #[error] says the same.
 SAID = {"shape_text": ("Shape", "crates/dg_file/src/fault.rt"), "graph_text": ("GraphFault", "crates/dg_graph/src/fault.rt"),
-        "chip_text": ("ChipFault", "crates/dg_chips/src/divisor.rt"), "file_fault_text": ("FileFault", "crates/dg_file/src/fault.rt")}
+        "chip_text": ("ChipFault", "crates/dg_chips/src/divisor.rt"),
+        "file_fault_text": ("FileFault", "crates/dg_file/src/fault.rt")}
 
 
 def told_twice():
@@ -110,10 +111,12 @@ def told_twice():
 
 
 def table_faults():
-    """The faults of table files: each variant is told in an answer as on the fault line, on the page, and in the second reader."""
+    """The faults of table files: each variant is told in an answer as on the fault line, on the page, and in the second
+    reader."""
     for name, (enum, path) in SAID.items():
         part = Part(words.FILE_FAULTS, "abbrev pub %s" % name)
-        own = {variant: numbered(text.strip('"')) for variant, text, _ in words.variants(enum, path) if text and text != "transparent"}
+        own = {variant: numbered(text.strip('"')) for variant, text, _ in words.variants(enum, path) if text
+               and text != "transparent"}
         for variant, text in words.texts_by_variant(words.FILE_FAULTS, name):
             if variant in own and numbered(text) != own[variant]:
                 yield "%s: %s::%s says `%s`, not `%s`" % (part.place(), enum, variant, own[variant], text)
@@ -140,7 +143,8 @@ def fault_tables():
         page = Part(path)
         rows += [(numbered(row[1]), int(row[2]), page.place(row.start()))
                  for row in re.finditer(r"^\|.*\| `dollar: ([^`]*)` \| (\d) \|", page.text, re.M)]
-    rows += [("not JSON", int(status), place) for status, place in part.matches(r"^\| a fault of \[the table file\][^|]*\|[^|]*\| (\d) \|$")]
+    rows += [("not JSON", int(status), place)
+             for status, place in part.matches(r"^\| a fault of \[the table file\][^|]*\|[^|]*\| (\d) \|$")]
     for text, status, place in rows:
         if status != {**statuses, **wanted}.get(text, status):
             yield "%s: the status of `%s` is %d" % (place, text, {**statuses, **wanted}[text])
@@ -167,14 +171,14 @@ def limits():
             continue
         name, path, text = line.split(" | ", 2)
         form = re.escape(text).replace(re.escape("#"), r"(\d[\d,]*\d|\d)").replace(re.escape(".."), r"[^\n]*?")
-        found = list(Part(path).matches(re.sub(r"(?:\\ )+", r"\\s+", form)))
+        found = list(re.finditer(re.sub(r"(?:\\ )+", r"\\s+", form), read(path)))
         if name not in known:
             yield "tools/limits.txt:%d: there is no constant %s" % (number, name)
         elif not found:
             yield "%s: the text `%s` is wanted, with %s for %s" % (path, text, known[name], name)
-        for stated, place in found:
+        for stated in {stated for match in found for stated in match.groups()}:
             if name in known and stated.replace(",", "") != known[name]:
-                yield "%s: %s is %s, not %s" % (place, name, known[name], stated)
+                yield "%s: %s is %s, not %s, in `%s`" % (path, name, known[name], stated, text)
     for one, other in SAME:
         if known[one] != known[other]:
             yield "%s is %s, and %s is %s: they are one limit" % (one, known[one], other, known[other])
@@ -190,5 +194,22 @@ def grammar():
         yield "%s is not what the code says: tools/words.py --write makes it anew" % words.GRAMMAR
 
 
-CHECKS = {"grammar": grammar, "command words": commands, "played commands": played_commands, "reply words": replies,
-          "bad texts": bad_texts, "faults": faults, "limits": limits}
+def version():
+    """The version of the newest part of the changelog, which no other part has, is that of the program, and of the package for
+    Python."""
+    heads = list(Part("CHANGELOG.md").matches(r"^## (.*)$"))
+    numbers = [re.match(r"(\d+\.\d+\.\d+), \d+ \w+ \d+$", head) for head, _ in heads]
+    if not numbers[0]:
+        yield f"{heads[0][1]}: the newest part has no version and day, as `## 1.0.0, 27 November 2026`"
+        return
+    for number, (_, place) in list(zip(numbers, heads))[1:]:
+        if number and number[1] == numbers[0][1]:
+            yield f"{place}: {number[1]} is the version of the newest part too, which wants one of its own"
+    for path, form in (HELP, r'VERSION: &str = "([\d.]+)'), ("python/dollar/__init__.py", r'^__version__ = "(.*)"$'):
+        for text, place in Part(path).matches(form):
+            if text != numbers[0][1]:
+                yield f"{place}: the version is {text}, and the newest part of CHANGELOG.md is {numbers[0][1]}"
+
+
+CHECKS = {"grammar": grammar, "version": version, "command words": commands, "played commands": played_commands,
+          "reply words": replies, "bad texts": bad_texts, "faults": faults, "limits": limits}

@@ -1,21 +1,76 @@
-"""Drives Chromium without a window, for the tests of the pages, by the two pipes on which it takes commands and gives answers."""
-import base64, fcntl, json, os, pathlib, select, shutil, subprocess, tempfile, time
+"""Drives Chromium without a window, for the tests of the pages, by the two pipes on which it takes commands and gives
+answers."""
+import atexit
+import base64
+import contextlib
+import fcntl
+import functools
+import json
+import os
+import pathlib
+import select
+import shutil
+import subprocess
+import tempfile
+import time
+import unittest
+
+from common import PATIENCE, equal, expect, text_of, waited
 
 NAMES = "chromium", "chromium-browser", "google-chrome", "chrome"
-PATIENCE = 30
-KEYS = {"ArrowLeft": 37, "ArrowUp": 38, "ArrowRight": 39, "ArrowDown": 40, "Home": 36, "End": 35, " ": 32, "Tab": 9, "Enter": 13,
-        "Escape": 27}
+KEYS = {"ArrowLeft": 37, "ArrowUp": 38, "ArrowRight": 39, "ArrowDown": 40, "Home": 36, "End": 35, " ": 32, "Tab": 9,
+        "Enter": 13, "Escape": 27}
 CTRL, SHIFT = 2, 8
-# What a page's module exports, for the expressions of the tests; a page of one file has its viewer at the board.
-INSIDE = """addEventListener("load", async () => {
-  const script = document.querySelector("script[type=module][src]");
-  globalThis.inside = script ? await import(script.src) : { get viewer() { return document.getElementById("board").viewer; } };
+OPTIONS = ["--headless", "--remote-debugging-pipe", "--disable-gpu", "--no-first-run", "--hide-scrollbars", "--disable-sync",
+           "--disable-background-networking", "--disable-component-update",
+           "--host-resolver-rules=MAP * ~NOTFOUND, EXCLUDE 127.0.0.1"]
+# For the expressions of the tests: short names for what is looked up, and what a page's module exports; a page of one file has
+# its viewer at the board.
+INSIDE = """
+globalThis.$ = (selector) => document.querySelector(selector);
+globalThis.$$ = (selector) => [...document.querySelectorAll(selector)];
+globalThis.texts = (selector) => $$(selector).map((at) => at.textContent);
+globalThis.names = (selector) => $$(selector).map((at) => at.dataset.name);
+addEventListener("load", async () => {
+  const script = $("script[type=module][src]");
+  globalThis.inside = script ? await import(script.src) : { get viewer() { return $("#board").viewer; } };
 });"""
+READY = "document.readyState === 'complete' && Boolean(globalThis.inside && inside.viewer)"
+LISTED = "$$('#whole li').map((at) => [...at.querySelectorAll('code')].map((code) => code.textContent))"
+MIDDLE = """(() => {
+  const at = $(%s);
+  if (!at) return null;
+  at.scrollIntoView({ block: "nearest" });
+  const box = at.getBoundingClientRect();
+  return [box.x + box.width / 2, box.y + box.height / 2];
+})()"""
+UNNAMED = """$$("button, select, input, [role=button]").filter((at) =>
+  !(at.textContent.trim() || at.getAttribute("aria-label") || (at.labels && at.labels.length))).map((at) => at.outerHTML)"""
 
 
 def found():
     """Where Chromium is, or None."""
     return next(filter(None, map(shutil.which, NAMES)), None)
+
+
+@functools.lru_cache(maxsize=None)
+def browsers():
+    """Three browsers, or none."""
+    opened = contextlib.ExitStack()
+    atexit.register(opened.close)
+    return [opened.enter_context(Browser(found())) for _ in range(3)] if found() else []
+
+
+def needed():
+    """Three browsers, or the test is left out."""
+    if not found():
+        raise unittest.SkipTest("all that is seen in a browser, for want of Chromium")
+    return browsers()
+
+
+def at(name):
+    """The selector of a vertex on the board."""
+    return f"#board [data-name='{name}']"
 
 
 class Browser:
@@ -35,10 +90,7 @@ class Browser:
             os.dup2(reading, 3)
             os.dup2(writing, 4)
 
-        words = [self.program, "--headless", "--remote-debugging-pipe", "--disable-gpu", "--no-first-run", "--hide-scrollbars",
-                 "--disable-background-networking", "--disable-component-update", "--disable-sync",
-                 "--host-resolver-rules=MAP * ~NOTFOUND, EXCLUDE 127.0.0.1",
-                 "--user-data-dir=" + self.folder, *(["--no-sandbox"] if os.geteuid() == 0 else [])]
+        words = [self.program, *OPTIONS, f"--user-data-dir={self.folder}", *(["--no-sandbox"] if os.geteuid() == 0 else [])]
         self.child = subprocess.Popen(words, stdin=subprocess.DEVNULL, stdout=subprocess.DEVNULL, stderr=subprocess.DEVNULL,
                                       close_fds=False, preexec_fn=hand_over)
         for end in {to_read, to_write, reading, writing}:
@@ -92,51 +144,51 @@ class Browser:
             self.note(message)
             if message.get("id") == self.number:
                 if "error" in message:
-                    raise ValueError("%s: %s" % (method, message["error"]))
+                    raise ValueError(f"{method}: {message['error']}")
                 return message["result"]
 
     def value(self, expression):
         """The value of an expression in the page, where it can name what the page's module exports."""
-        got = self.call("Runtime.evaluate", expression="with (globalThis.inside || {}) { %s }" % expression, returnByValue=True, awaitPromise=True)
+        whole = f"with (globalThis.inside || {{}}) {{ {expression} }}"
+        got = self.call("Runtime.evaluate", expression=whole, returnByValue=True, awaitPromise=True)
         if "exceptionDetails" in got:
-            raise ValueError("%s: %s" % (expression, got["exceptionDetails"]))
+            raise ValueError(f"{expression}: {got['exceptionDetails']}")
         return got["result"].get("value")
+
+    def text(self, selector):
+        return self.value(f"$({json.dumps(selector)}).textContent")
 
     def open(self, place):
         """Opens a file as a page, or an address, and waits until it is there."""
-        wanted = place if place.startswith("http:") else pathlib.Path(place).resolve().as_uri()
+        wanted = place if str(place).startswith("http:") else pathlib.Path(place).resolve().as_uri()
         self.call("Page.navigate", url=wanted)
-        self.until("document.readyState === 'complete' && location.href === %s" % json.dumps(wanted))
+        self.until(f"document.readyState === 'complete' && location.href === {json.dumps(wanted)}")
 
     def until(self, expression):
         """Waits until an expression is true in the page."""
-        end = time.monotonic() + PATIENCE
-        while not self.value(expression):
-            if time.monotonic() > end:
-                raise TimeoutError(expression)
-            time.sleep(0.02)
+        if not waited(lambda: self.value(expression)):
+            raise TimeoutError(expression)
 
-    def press(self, key, code=None, text=None, modifiers=0):
+    def press(self, key, modifiers=0):
         """Presses a key and lets it go."""
-        code = code or KEYS.get(key) or ord(key.upper())
-        given = {"key": key, "code": "Space" if key == " " else key, "windowsVirtualKeyCode": code, "modifiers": modifiers}
-        text = text or {"Enter": "\r"}.get(key) or (key if len(key) == 1 else None)
+        given = {"key": key, "code": "Space" if key == " " else key, "modifiers": modifiers,
+                 "windowsVirtualKeyCode": KEYS.get(key) or ord(key.upper())}
+        text = {"Enter": "\r"}.get(key) or (key if len(key) == 1 else None)
         self.call("Input.dispatchKeyEvent", type="keyDown", **given, **({"text": text} if text else {}))
         self.call("Input.dispatchKeyEvent", type="keyUp", **given)
 
-    def write(self, text):
-        """Types a text into what has the focus."""
+    def write(self, text, into=None):
+        """Types a text into what has the focus, or into an element."""
+        if into:
+            self.click(into)
         self.call("Input.insertText", text=text)
 
     def middle(self, selector):
-        """The middle of an element, after it was brought into view."""
-        found = self.value("(() => { const at = document.querySelector(%s); if (!at) return null;"
-                           " at.scrollIntoView({block: 'nearest'});"
-                           " const box = at.getBoundingClientRect(); return [box.x + box.width / 2, box.y + box.height / 2]; })()"
-                           % json.dumps(selector))
-        if not found:
-            raise ValueError("there is no %s" % selector)
-        return found
+        """The middle of an element, after it was brought into view. A place is itself."""
+        place = self.value(MIDDLE % json.dumps(selector)) if isinstance(selector, str) else selector
+        if not place:
+            raise ValueError(f"there is no {selector}")
+        return place
 
     def mouse(self, kind, place, modifiers=0, held=1):
         """One event of the mouse at a place."""
@@ -151,49 +203,121 @@ class Browser:
         time.sleep(hold)
         self.mouse("Released", place, modifiers, 0)
 
-    def drag(self, one, other):
-        """Draws with the mouse from a place to another."""
+    def drag(self, *ends):
+        """Draws with the mouse from an element or a place to another."""
+        one, other = map(self.middle, ends)
         self.mouse("Moved", one, 0, 0)
         self.mouse("Pressed", one)
         for part in 0.2, 0.6, 1.0:
             self.mouse("Moved", [one[i] + part * (other[i] - one[i]) for i in (0, 1)])
         self.mouse("Released", other, 0, 0)
 
+    def finger(self, kind, *places):
+        """One event of a finger at a place."""
+        self.call("Input.dispatchTouchEvent", type="touch" + kind, touchPoints=[{"x": x, "y": y} for x, y in places])
+
     def touch(self, selector, hold=0):
         """Touches an element with a finger; with `hold` for so many seconds."""
-        place = self.middle(selector)
-        self.call("Input.dispatchTouchEvent", type="touchStart", touchPoints=[{"x": place[0], "y": place[1]}])
+        self.finger("Start", self.middle(selector))
         time.sleep(hold)
-        self.call("Input.dispatchTouchEvent", type="touchEnd", touchPoints=[])
+        self.finger("End")
 
-    def touch_drag(self, one, other):
-        """Draws with a finger from a place to another."""
-        point = lambda part: [{"x": one[0] + part * (other[0] - one[0]), "y": one[1] + part * (other[1] - one[1])}]
-        self.call("Input.dispatchTouchEvent", type="touchStart", touchPoints=point(0))
+    def touch_drag(self, *ends):
+        """Draws with a finger from an element or a place to another."""
+        one, other = map(self.middle, ends)
+        self.finger("Start", one)
         for part in 0.2, 0.6, 1.0:
-            self.call("Input.dispatchTouchEvent", type="touchMove", touchPoints=point(part))
-        self.call("Input.dispatchTouchEvent", type="touchEnd", touchPoints=[])
+            self.finger("Move", [one[i] + part * (other[i] - one[i]) for i in (0, 1)])
+        self.finger("End")
 
     def choose_file(self, selector, place):
         """Gives a file to an element for files."""
-        found = self.call("Runtime.evaluate", expression="document.querySelector(%s)" % json.dumps(selector))
-        self.call("DOM.setFileInputFiles", files=[os.path.abspath(place)], objectId=found["result"]["objectId"])
+        chosen = self.call("Runtime.evaluate", expression=f"$({json.dumps(selector)})")
+        self.call("DOM.setFileInputFiles", files=[os.path.abspath(place)], objectId=chosen["result"]["objectId"])
 
     def save_in(self, folder):
         """Has the page's files be saved in a folder without asking."""
-        self.call("Page.setDownloadBehavior", behavior="allow", downloadPath=folder)
+        self.call("Page.setDownloadBehavior", behavior="allow", downloadPath=str(folder))
 
-    def size(self, wide, high):
+    def size(self, wide=1280, high=800):
         """Sets the size of the window."""
         self.call("Emulation.setDeviceMetricsOverride", width=wide, height=high, deviceScaleFactor=1, mobile=False)
 
-    def media(self, kind="", **features):
+    def media(self, kind="", motion="reduce", **features):
         """Has the page be printed or shown, and sets what its reader prefers, as prefers_color_scheme='dark'."""
+        features = {"prefers_reduced_motion": motion, **features}
         listed = [{"name": name.replace("_", "-"), "value": value} for name, value in features.items()]
         self.call("Emulation.setEmulatedMedia", media=kind, features=listed)
 
     def picture(self, place, whole=False):
         """Writes a picture of the page to a PNG file: of what the window shows, or of the whole page."""
         got = self.call("Page.captureScreenshot", format="png", captureBeyondViewport=whole)
-        with open(place, "wb") as file:
-            file.write(base64.b64decode(got["data"]))
+        pathlib.Path(place).write_bytes(base64.b64decode(got["data"]))
+
+    def in_sizes(self, name, sizes=((360, 740), (1280, 800), (1920, 1080), (640, 400)), prepare=lambda: None):
+        """At each size, in the light, in the dark and on paper, nothing stands out to the right, and each control has a
+        name."""
+        pictures = os.environ.get("PICTURES")
+        for features in {}, {"prefers_color_scheme": "dark"}:
+            self.media(**features)
+            for wide, high in sizes:
+                self.size(wide, high)
+                prepare()
+                expect(self.value("document.documentElement.scrollWidth <= innerWidth"), f"{name} is too wide at {wide}")
+                if pictures:
+                    self.value("scrollTo(0, 0)")
+                    self.picture(f"{pictures}/{name}-{wide}{'-dark' * bool(features)}.png", whole=wide == 360)
+        equal(self.value(UNNAMED), [], f"controls of {name} without a name")
+        self.media("print")
+        expect(self.value("!$('#controls') || getComputedStyle($('#controls')).display === 'none'"),
+               f"{name}: buttons on paper")
+        self.media()
+        self.size()
+
+    def harmless(self, *own, since=0):
+        """Sees that no page has thrown an error, or has asked the network for what is not its own."""
+        equal(self.thrown, [], "what pages have thrown")
+        outside = [url for url in self.asked[since:] if not url.startswith((*own, "file:", "data:", "blob:", "about:"))]
+        equal(outside, [], "what pages have asked of others")
+
+
+class Page:
+    """A page under test, which does what its browser does, and the folder in which it saves its files."""
+
+    def __init__(self, browser, address, folder):
+        self.browser, self.folder = browser, pathlib.Path(folder)
+        self.folder.mkdir(exist_ok=True)
+        self.visit(address)
+        browser.save_in(folder)
+
+    def __getattr__(self, name):
+        return getattr(self.browser, name)
+
+    def visit(self, address, until="true"):
+        """Opens an address, and waits until its module is there and something holds."""
+        self.open(address)
+        self.until(f"{READY} && {until}")
+
+    def has(self, length):
+        """Waits until the page shows so many entries."""
+        self.until(f"viewer.game.length === {length}")
+
+    def focus(self, selector):
+        self.value(f"$({json.dumps(selector)}).focus()")
+
+    def saved(self, button, name):
+        """The text of a file that a button saves."""
+        place = self.folder / name
+        place.unlink(missing_ok=True)
+        self.value("$$('#tables details').forEach((at) => { at.open = true; })")
+        self.click(button)
+        if not waited(place.exists, 10):
+            raise TimeoutError(f"{name} is not saved")
+        time.sleep(0.05)
+        return text_of(place)
+
+    def answered(self, yes):
+        """Answers the page's question, whether it should go on."""
+        self.until("$('#sure').open")
+        self.click(f"#sure button[value={'yes' if yes else 'no'}]")
+        self.until("!$('#sure').open")

@@ -1,67 +1,92 @@
-"""What the tests of the pages share: files, and the board's server."""
+"""What the tests of the pages share: files, waiting, threads, and the board's server."""
+import concurrent.futures
 import contextlib
 import os
 import re
 import subprocess
 import sys
+import time
+from pathlib import Path
 
 from helpers import EXAMPLES, PACKAGE, ROOT, equal, expect, program
 
-__all__ = ["BOARD", "EXAMPLES", "PACKAGE", "addresses", "asked", "equal", "expect", "lines_of", "played", "script", "text_of", "written"]
-
-TESTS = os.path.dirname(os.path.abspath(__file__))
-BOARD, EXAMPLES, PACKAGE = os.path.join(ROOT, "board"), str(EXAMPLES), str(PACKAGE)
 PATIENCE = 30
+PLAY = [sys.executable, "-B", ROOT / "board" / "play", "--no-browser"]
+TRIANGLE = EXAMPLES / "triangle.json"
+
+
+def text_of(place):
+    return Path(place).read_bytes().decode()
 
 
 def lines_of(name):
-    with open(os.path.join(EXAMPLES, name)) as file:
-        return file.read().splitlines()
-
-
-def text_of(*place):
-    with open(os.path.join(*place), newline="") as file:
-        return file.read()
+    return text_of(EXAMPLES / name).splitlines()
 
 
 def written(folder, name, text):
     """A file in a folder with a text, as its place."""
-    place = os.path.join(folder, name)
-    with open(place, "w", newline="") as file:
-        file.write(text)
+    place = Path(folder, name)
+    place.write_bytes(text.encode())
     return place
+
+
+def swings(name, count):
+    """Steps of seat 1, which lends and borrows in turn."""
+    return "".join(f"1 {'borrow' if number % 2 else 'lend'} {name}\n" for number in range(count))
+
+
+def tell(text):
+    """Prints a number that was measured, if somebody wants to know."""
+    if os.environ.get("TOLD"):
+        print(text)
+
+
+def waited(held, seconds=PATIENCE):
+    """Waits until something holds, and says whether it came to."""
+    end = time.monotonic() + seconds
+    while not held():
+        if time.monotonic() > end:
+            return False
+        time.sleep(0.02)
+    return True
+
+
+def together(*acts):
+    """Does all of this at once, each in a thread of its own."""
+    with concurrent.futures.ThreadPoolExecutor(len(acts)) as pool:
+        return [done.result() for done in [pool.submit(act) for act in acts]]
 
 
 def script(*words, **given):
     """Runs a command of the package, and gives what it printed, what it said on standard error, and its status."""
-    done = subprocess.run(
-        [sys.executable, "-B", os.path.join(PACKAGE, "dollar"), *words],
-        stdout=subprocess.PIPE,
-        stderr=subprocess.PIPE,
-        timeout=PATIENCE * 4,
-        **given
-    )
+    done = subprocess.run([sys.executable, "-B", PACKAGE / "dollar", *words], capture_output=True, timeout=PATIENCE * 4,
+                          **given)
     return done.stdout, done.stderr.decode(errors="replace"), done.returncode
 
 
+def refused(words, begins="", **given):
+    """Sees that a command of the package makes nothing, and says why in one line."""
+    made, said, status = script(*words, **given)
+    fine = (made, status, said.count("\n")) == (b"", 1, 1) and begins in said
+    expect(fine, f"{words}: the status {status}, {made!r:.80} and {said!r:.300}")
+
+
 def asked(command, *words):
-    """What the program prints for a command, with its status and its fault, as the page would have it."""
-    done = subprocess.run(
-        [program(), command, *words], stdin=subprocess.DEVNULL, stdout=subprocess.PIPE, stderr=subprocess.PIPE
-    )
+    """What the program prints for a command, with its fault and its status."""
+    done = subprocess.run([program(), command, *words], stdin=subprocess.DEVNULL, capture_output=True)
     return done.stdout.decode(), done.stderr.decode(), done.returncode
+
+
+def started(*words):
+    """Starts board/play."""
+    pipes = dict(stdin=subprocess.DEVNULL, stdout=subprocess.PIPE, stderr=subprocess.PIPE, text=True)
+    return subprocess.Popen([*PLAY, *words], **pipes)
 
 
 @contextlib.contextmanager
 def played(*words):
     """Starts board/play, and gives the process and the addresses that it prints. Ends it, and sees that it ends well."""
-    child = subprocess.Popen(
-        [sys.executable, "-B", os.path.join(BOARD, "play"), "--no-browser", *words],
-        stdin=subprocess.DEVNULL,
-        stdout=subprocess.PIPE,
-        stderr=subprocess.PIPE,
-        text=True,
-    )
+    child = started(*words)
     try:
         yield child, addresses(child)
     finally:
@@ -70,9 +95,8 @@ def played(*words):
             _, said = child.communicate(timeout=PATIENCE)
         except subprocess.TimeoutExpired:
             child.kill()
-            _, said = child.communicate()
-            expect(False, "board/play does not end")
-        expect(child.returncode == 0 and said == "", "board/play ended with %s and said %s" % (child.returncode, said))
+            said = child.communicate()[1] + "no end"
+        expect((child.returncode, said) == (0, ""), f"board/play ended with {child.returncode} and said {said}")
 
 
 def addresses(child):
@@ -82,4 +106,11 @@ def addresses(child):
         found += re.findall(r"http://\S+", line)
         if "ends it" in line:
             return found
-    raise EOFError("board/play has ended: %s" % child.stderr.read())
+    raise EOFError(f"board/play has ended: {child.stderr.read()}")
+
+
+def is_modest(child, most):
+    """Sees that a server has never had more memory than so many KiB."""
+    had = int(re.search(r"VmHWM:\s*(\d+)", text_of(f"/proc/{child.pid}/status"))[1])
+    expect(had < most, f"{had} KiB of memory")
+    return had

@@ -1,7 +1,34 @@
-"""Clients of the server behind the pages, without a browser: honest ones, and such as send what no browser would."""
-import http.client, json, socket, threading, time, urllib.parse
+"""Clients of the server behind the pages: without a browser honest ones, and such as send what no browser would; and pupils on
+pages in a browser."""
+import contextlib
+import http.client
+import json
+import re
+import socket
+import threading
+import time
+import urllib.parse
 
-PATIENCE = 30
+from browser import READY, Page
+from common import PATIENCE, asked, equal, expect, played, text_of, waited, written
+
+TABLE = {
+    "vertices": ["ann", "bob", "cem", "dot", "eve"],
+    "edges": [["ann", "bob", 1], ["bob", "cem", 2], ["cem", "dot", 1], ["dot", "ann", 1], ["dot", "eve", 3]],
+    "amounts": [6, -3, 1, -2, -1], "q": "ann"}
+SEND = """(async () => {
+  const told = [], { post } = await import("./page.js");
+  for (const line of %s) {
+    let got = await post("line", { key: me.key, line });
+    while (got.status === 429) {
+      await new Promise((done) => setTimeout(done, 100));
+      got = await post("line", { key: me.key, line });
+    }
+    told.push(got.refused ? [line, got.status, got.refused] : [line, 200, got.answer]);
+  }
+  return told;
+})()"""
+ENTRIES = "viewer.game.steps.map((step, i) => [step.seat, step.line.slice(step.seat.length + 1), viewer.game.replies[i].line])"
 
 
 class Place:
@@ -9,23 +36,27 @@ class Place:
 
     def __init__(self, address):
         parts = urllib.parse.urlsplit(address)
-        self.host, self.port, self.path = parts.hostname, parts.port, parts.path
-        self.origin = "http://" + parts.netloc
+        self.address, self.host, self.port, self.path = address, parts.hostname, parts.port, parts.path
+        self.origin, self.secret = f"http://{parts.netloc}", parts.path.strip("/")
 
-    def ask(self, method, path, thing=None, headers=(), raw=None):
-        """The status of an answer, and what it says. A path with a slash before it is taken as it stands."""
-        link = http.client.HTTPConnection(self.host, self.port, timeout=PATIENCE)
-        body = raw if raw is not None else None if thing is None else json.dumps(thing).encode()
+    @contextlib.contextmanager
+    def answer(self, method, path, thing=None, headers=(), raw=None):
+        """The answer to a request. A path with a slash before it is taken as it stands, and a header that is None is not
+        sent."""
+        body = raw if raw is not None or thing is None else json.dumps(thing).encode()
         given = {"Content-Type": "application/json", "Origin": self.origin} if body is not None else {}
-        given.update(headers)
+        given = {name: value for name, value in {**given, **dict(headers)}.items() if value is not None}
+        link = http.client.HTTPConnection(self.host, self.port, timeout=PATIENCE)
         try:
-            link.request(
-                method, path if path.startswith("/") else self.path + path, body,
-                {name: value for name, value in given.items() if value is not None})
-            answer = link.getresponse()
-            return answer.status, answer.read().decode()
+            link.request(method, path if path.startswith("/") else self.path + path, body, given)
+            yield link.getresponse()
         finally:
             link.close()
+
+    def ask(self, *given, **more):
+        """The status of an answer, and what it says."""
+        with self.answer(*given, **more) as answer:
+            return answer.status, answer.read().decode()
 
     def get(self, path, **given):
         return self.ask("GET", path, **given)
@@ -34,50 +65,51 @@ class Place:
         status, text = self.ask("POST", path, thing, **given)
         return status, json.loads(text) if status == 200 else text
 
+    def sent(self, request, *headers, body=""):
+        """A connection on which a request was sent, whose answer is not read."""
+        link = socket.create_connection((self.host, self.port), PATIENCE)
+        lines = [f"{request} HTTP/1.1", f"Host: {self.host}:{self.port}", *headers, "", body]
+        link.sendall("\r\n".join(lines).encode())
+        return link
+
+    def events(self, key, number=0):
+        """A connection on which the events of a seat come from an entry on."""
+        return self.sent(f"GET {self.path}events?key={key}&from={number}")
+
 
 class Pupil:
     """Somebody with a seat, and the events that come to his page."""
 
     def __init__(self, address, name, events=True):
-        self.place, self.name, self.entries, self.states, self.lines, self.players = Place(address), name, [], [], [], []
+        self.place, self.name, self.entries, self.states, self.lines = Place(address), name, [], [], []
         status, got = self.place.post("join", {"name": name})
         if status != 200:
             raise ValueError(got)
         self.seat, self.key = got["seat"], got["key"]
         self.link, self.ended = None, threading.Event()
         if events:
-            self.listen()
+            self.link = self.place.events(self.key)
+            threading.Thread(target=self.read, args=[self.link.makefile("rb")], daemon=True).start()
 
-    def listen(self):
-        """Opens the stream of events, and reads it in a thread of its own."""
-        self.link = opened(self.place, self.key, len(self.entries))
-        self.stream = self.link.makefile("rb")
-        self.thread = threading.Thread(target=self.read, daemon=True)
-        self.thread.start()
-
-    def read(self):
+    def read(self, stream):
+        """Takes the events as they come."""
         kind = None
-        try:
-            for line in self.stream:
-                line = line.decode().rstrip("\n")
-                if line.startswith("event: "):
-                    kind = line[7:]
-                elif line.startswith("data: "):
-                    self.take(kind, json.loads(line[6:]))
-        except (OSError, ValueError, AttributeError):
-            pass
+        with contextlib.suppress(OSError, ValueError, AttributeError):
+            for line in stream:
+                word, _, rest = line.decode().rstrip("\n").partition(": ")
+                if word == "event":
+                    kind = rest
+                elif word == "data":
+                    self.take(kind, json.loads(rest))
         self.ended.set()
 
     def take(self, kind, thing):
         if kind == "entries":
             start, entries = thing
-            assert start == len(self.entries), "entries from %d after %d" % (start, len(self.entries))
+            equal(start, len(self.entries), f"where the entries for seat {self.seat} go on")
             self.entries += [entry[:3] for entry in entries]
-            self.players += [entry[3] for entry in entries]
-        elif kind == "state":
-            self.states.append(thing)
         else:
-            self.states.append(kind)
+            self.states.append(thing if kind == "state" else kind)
 
     def play(self, line):
         """The status and the answer to a line; it is asked again while it is told to be too fast."""
@@ -86,36 +118,99 @@ class Pupil:
             if status != 429:
                 break
             time.sleep(0.1)
-        answer = got["answer"] if status == 200 else got
-        self.lines.append((line, status, answer))
-        return status, answer
+        self.lines.append((line, status, got["answer"] if status == 200 else got))
+        return self.lines[-1][1:]
 
     def attend(self, lines):
-        """Plays lines, one after the other."""
+        """Plays lines, one after the other, until the game has ended."""
         for line in lines:
-            self.play(line)
+            if self.play(line)[0] == 503:
+                return
 
-    def until(self, wanted):
-        """Waits until something is so, and says whether it came to be."""
-        end = time.monotonic() + PATIENCE
-        while not wanted(self):
-            if time.monotonic() > end:
-                return False
-            time.sleep(0.02)
-        return True
+    def until(self, wanted, what):
+        """Waits until something is so of this pupil."""
+        expect(waited(lambda: wanted(self)), f"{what}: {self.states[-1:]}")
+
+    def timed(self, line, what):
+        """The seconds until a line is answered, which has to be taken."""
+        start = time.monotonic()
+        equal(self.play(line)[0], 200, what)
+        return time.monotonic() - start
 
     def leave(self):
         if self.link:
-            self.link.shutdown(socket.SHUT_RDWR)
+            with contextlib.suppress(OSError):
+                self.link.shutdown(socket.SHUT_RDWR)
             self.link.close()
 
 
-def opened(place, key, number=0):
-    """A connection on which the events of a seat come from an entry on."""
-    link = socket.create_connection((place.host, place.port), PATIENCE)
-    link.sendall(
-        (
-            "GET %sevents?key=%s&from=%d HTTP/1.1\r\nHost: %s:%d\r\n\r\n" % (place.path, key, number, place.host, place.port)
-        ).encode()
-    )
-    return link
+class PagePupil(Page):
+    """A pupil whose lines a page in Chromium plays."""
+
+    def __init__(self, browser, address, name, folder):
+        super().__init__(browser, address, folder)
+        self.value("localStorage.clear()")
+        self.visit(address)
+        self.lines = []
+        self.join(name, "Enter")
+        self.key = self.value("me.key")
+
+    def join(self, name, key):
+        """Takes a seat."""
+        self.write(name, into="#your-name")
+        self.press(key) if key else self.click("#join button")
+        self.until("me !== null && state !== null && state.names[me.seat]")
+        self.seat = self.value("me.seat")
+
+    def attend(self, lines):
+        for start in range(0, len(lines), 25):
+            self.lines += self.value(SEND % json.dumps(lines[start:start + 25]))
+
+    @property
+    def entries(self):
+        return self.value(ENTRIES)
+
+    def until(self, wanted, what=""):
+        """Waits until an expression is true in the page, or something is so of this pupil."""
+        if isinstance(wanted, str):
+            self.browser.until(wanted)
+        else:
+            Pupil.until(self, wanted, what)
+
+    @property
+    def states(self):
+        return [self.value("state")]
+
+    def leave(self):
+        self.value("source.close()")
+
+    def told(self, words):
+        self.until(f"$('#notice').textContent.includes({json.dumps(words)})")
+
+
+@contextlib.contextmanager
+def a_class(folder, seats, *names, options=()):
+    """A class at a table: the process of the server, its places for pupils and for the teacher, and a pupil of each name, who
+    leave at the end."""
+    table = written(folder, "table.json", json.dumps(TABLE))
+    with played(table, "--seats", str(seats), *options) as (child, (pupils, teacher)):
+        room = [Pupil(pupils, name) for name in names]
+        try:
+            yield (child, Place(pupils), Place(teacher), *room)
+        finally:
+            for pupil in room:
+                pupil.leave()
+
+
+def taken(teacher, folder):
+    """The steps and the history that the teacher takes along, after it was seen that the program plays the one to the other."""
+    table, steps, history = (teacher.get(name)[1] for name in ("table.json", "steps.txt", "history.txt"))
+    printed, said, status = asked("rehearse", written(folder, "t", table), written(folder, "s", steps))
+    equal((said, status), ("", 0), "rehearse of the steps of a class")
+    equal(printed.splitlines(), history.splitlines(), "the history of a class, played again")
+    return steps.splitlines(), history.splitlines()
+
+
+def program_of(child):
+    """The process of the program behind board/play."""
+    return int(re.match(r"\d+", text_of(f"/proc/{child.pid}/task/{child.pid}/children"))[0])

@@ -1,6 +1,7 @@
 """A second reader of table files, written from docs/formats.md and from nothing of the program. It is slow and short, and
 takes nothing from Python's own reader of JSON, which lets through what is no JSON."""
-import math, re
+import math
+import re
 
 LEVELS, VERTICES, VALENCE, AMOUNT = 127, 16, 63, 1000000
 NUMBER = re.compile(rb"-?(0|[1-9][0-9]*)(\.[0-9]+)?([eE][+-]?[0-9]+)?")

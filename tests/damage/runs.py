@@ -3,6 +3,7 @@
 import collections
 import contextlib
 import os
+import random
 import resource
 import signal
 import subprocess
@@ -13,6 +14,8 @@ from helpers import equal, expect, program, tests_of
 TRIANGLE = b'{"vertices":["a","b","c"],"edges":[["a","b",1],["b","c",1],["a","c",1]],"amounts":[2,-1,-1],"q":"a"}'
 WON = b"winnable by a=0 b=-1 c=-1 to a=0 b=0 c=0\n"
 PATIENCE = 60
+# By which sizes and numbers are drawn.
+SEED = int(os.environ.get("SEED") or random.SystemRandom().randrange(10**6))
 
 # How a run ended, what it printed, and what it said on standard error, as far as that was read. A status below 0 is the signal
 # that ended it.
@@ -22,6 +25,17 @@ Run = collections.namedtuple("Run", "status output faults")
 def refused(text, status, output=b""):
     """The run that ends with this fault."""
     return Run(status, output, b"dollar: " + text + b"\n")
+
+
+def ended_run(child, before=b"", typed=None):
+    """How a run ends that has printed something before."""
+    try:
+        output, faults = child.communicate(typed, timeout=PATIENCE)
+    except subprocess.TimeoutExpired:
+        child.kill()
+        child.communicate()
+        return Run("no end within %d s" % PATIENCE, b"", b"")
+    return Run(child.returncode, before + (output or b""), faults or b"")
 
 
 class Checks:
@@ -44,26 +58,35 @@ class Checks:
         return path
 
     def start(self, *words, before=None, **streams):
-        """Starts the program; `before` is called in its process first. Signals do what they do by default."""
+        """Starts the program; `before` is called in its process first. A stream is a file, or `closed`, or `full`. Signals do what
+        they do by default."""
+        closed = [number for number, name in enumerate(("stdin", "stdout", "stderr")) if streams.get(name) == "closed"]
+
         def prepare():
             for number in (signal.SIGINT, signal.SIGTERM, signal.SIGPIPE):
                 signal.signal(number, signal.SIG_DFL)
             if before:
                 before()
+            for number in closed:
+                os.close(number)
+
         given = dict(stdin=subprocess.DEVNULL, stdout=subprocess.PIPE, stderr=subprocess.PIPE)
-        return subprocess.Popen([self.program, *words], preexec_fn=prepare, **{**given, **streams})
+        with open("/dev/full", "wb") as full:
+            given.update((name, {"closed": None, "full": full}.get(stream, stream)) for name, stream in streams.items())
+            return subprocess.Popen([self.program, *words], preexec_fn=prepare, **given)
 
     def run(self, *words, typed=None, before=None, **streams):
-        if typed is not None:
-            streams["stdin"] = subprocess.PIPE
-        child = self.start(*words, before=before, **streams)
-        try:
-            output, faults = child.communicate(typed, timeout=PATIENCE)
-        except subprocess.TimeoutExpired:
-            child.kill()
-            child.communicate()
-            return Run("no end within %d s" % PATIENCE, b"", b"")
-        return Run(child.returncode, output or b"", faults or b"")
+        """How a run ends that is given an input: bytes, or the path of a file."""
+        if isinstance(typed, bytes):
+            return ended_run(self.start(*words, before=before, stdin=subprocess.PIPE, **streams), typed=typed)
+        if typed is None:
+            return ended_run(self.start(*words, before=before, **streams))
+        with open(typed, "rb") as file:
+            return ended_run(self.start(*words, before=before, stdin=file, **streams))
+
+    def ends(self, what, wanted, *words, **options):
+        """Sees how a run ends."""
+        self.same(what, wanted, self.run(*words, **options))
 
     def brief(self, *words):
         """The same for runs that print little and take no input, of which there are thousands."""

@@ -1,5 +1,6 @@
 """Table files: whole, cut off, with each byte changed, long and deep. What is expected comes from reader.py."""
-import concurrent.futures, resource
+import concurrent.futures
+import resource
 
 from reader import Refused, table_of
 from runs import TRIANGLE, WON, Run, checked, refused

@@ -1,6 +1,8 @@
 """Extreme graphs: many edges, few, long and heavy, with amounts at both limits. Each verdict is checked by its definition, in
 whole numbers without bounds; each rank test by making all trials."""
-import itertools, json, resource
+import itertools
+import json
+import resource
 
 from runs import TRIANGLE, Run, checked
 from dollar import answer, flaw

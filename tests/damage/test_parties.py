@@ -1,11 +1,14 @@
 """Sessions and parties whose lines and scripts are damaged, many or long."""
-import itertools, re, resource
+import itertools
+import json
+import re
+import resource
 
 from runs import TRIANGLE, Run, checked, refused
-from model import Game, judged
+from model import Session
 from dollar.grammar import GRAMMAR
 
-NAMES, LINES, ROOM = ["a", "b", "c"], 1000000, 16 << 20
+LINES, ROOM = 1000000, 16 << 20
 # Words of each kind.
 WORDS = {"vertex": ["a", "b"], "vertices": ["a,b"], "script": ["a=1,c=-2"], "degree": ["1"], "dollars": ["5", "-12"]}
 FORMS = [" ".join([word, *given]) for word, kinds in GRAMMAR["commands"].items() for given in itertools.product(*(WORDS[kind] for kind in kinds))]
@@ -25,18 +28,10 @@ def damaged_sessions(checks):
     table = checks.put("triangle", TRIANGLE)
     lines = list(damaged_lines())
     run = checks.run("serve", table, typed="".join(line + "\n" for line in lines).encode("latin-1"))
-    game = Game({"vertices": NAMES, "edges": [["a", "b", 1], ["b", "c", 1], ["a", "c", 1]], "amounts": [2, -1, -1], "q": "a"})
-    answers, number, gifts = run.output.decode("latin-1").split("\n"), 0, 0
+    session, answers = Session(json.loads(TRIANGLE)), run.output.decode("latin-1").split("\n")
     checks.same("damaged lines: the end", (0, b"", len(lines) + 1), (run.status, run.faults, len(answers)))
-    for (line, command), answer in zip(judged(lines, game.names), answers):
-        if isinstance(command, str):
-            checks.same("line %r" % line, command, answer)
-            continue
-        start = "%d " % number
-        fine = answer.startswith(start) and game.is_reply(command, answer[len(start):], gifts)
-        checks.holds("line %r" % line, fine, answer)
-        number += 1
-        gifts = game.gifts if command[0] == "look" else gifts
+    for line, answer in zip(lines, answers):
+        checks.holds("line %r" % line, session.is_answer(line, answer), answer)
 
 
 def many_lines(checks):
@@ -49,10 +44,9 @@ def many_lines(checks):
             ("a line of each length", b"".join(b"x" * size + b"\n" for size in range(1025)), 1025, None),
             ("lines of 1,024 bytes", (b"x" * 1024 + b"\n") * 1000, 1000, None),
             ("a line of 1,025 bytes after others", (b"x" * 1024 + b"\n") * 1000 + b"x" * 1025 + b"\nclaim\n", 1000, LONG)):
-        with open(checks.put("typed", lines), "rb") as typed:
-            run = checks.run("serve", table, stdin=typed, before=lambda: resource.setrlimit(resource.RLIMIT_AS, (ROOM, ROOM)))
         printed = b"bad word\n" * answered
-        checks.same(what, Run(0, printed, b"") if fault is None else refused(fault, 3, printed), run)
+        checks.ends(what, refused(fault, 3, printed) if fault else Run(0, printed, b""), "serve", table, typed=checks.put("typed", lines),
+                    before=lambda: resource.setrlimit(resource.RLIMIT_AS, (ROOM, ROOM)))
 
 
 # A script that changes nothing, and what is answered to its entries on the triangle, whoever else changes nothing.

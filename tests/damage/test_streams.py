@@ -1,8 +1,21 @@
 """Runs whose files and streams are not what they should be: closed, full, without end, gone in mid-answer, not read, or
 interrupted."""
-import array, fcntl, os, re, resource, shutil, signal, subprocess, tempfile, termios, threading, time
+import array
+import contextlib
+import copy
+import fcntl
+import os
+import re
+import resource
+import shutil
+import signal
+import subprocess
+import tempfile
+import termios
+import threading
+import time
 
-from runs import PATIENCE, TRIANGLE, WON, Run, checked, refused
+from runs import PATIENCE, TRIANGLE, WON, Run, checked, ended_run, refused
 
 SESSION = b"look\nlend a\ncommit\ncommit\nlend z\ngift a 0\nclaim\n"
 ANSWERS = (b"0 looked 0 a=2 b=-1 c=-1\n1 moved a=0 b=0 c=0\n2 winnable by a=0 b=0 c=0 to a=0 b=0 c=0\nbad look\nbad name\n"
@@ -25,117 +38,98 @@ def commands(checks):
 
 
 def outputs(checks):
-    """Standard output or standard error is closed, or full."""
+    """Standard output or standard error is closed, or full. What is said of a fault may be lost, and the status is the same."""
     table, _, runs = commands(checks)
-    for words in runs:
-        checks.same("%s, output closed" % words[0], WRITE, checks.run(*words, before=lambda: os.close(1), stdout=None))
-        with open("/dev/full", "wb") as full:
-            checks.same("%s, output full" % words[0], WRITE, checks.run(*words, stdout=full))
-    session = checks.put("session", SESSION)
-    with open(session, "rb") as typed:
-        checks.same("serve, output closed", WRITE, checks.run("serve", table, stdin=typed, before=lambda: os.close(1), stdout=None))
-    with open(session, "rb") as typed, open("/dev/full", "wb") as full:
-        checks.same("serve, output full", WRITE, checks.run("serve", table, stdin=typed, stdout=full))
-    # What is said of a fault may be lost, and the status is the same.
-    missing = os.path.join(checks.folder, "missing")
-    with open("/dev/full", "wb") as full:
-        checks.same("faults full", Run(5, b"", b""), checks.run("judge", missing, stderr=full))
-        checks.same("an answer, faults full", Run(0, WON, b""), checks.run("judge", table, stderr=full))
-    checks.same("faults closed", Run(5, b"", b""), checks.run("judge", missing, before=lambda: os.close(2), stderr=None))
-    checks.same("an answer, faults closed", Run(0, WON, b""), checks.run("judge", table, before=lambda: os.close(2), stderr=None))
+    session, missing = checks.put("session", SESSION), os.path.join(checks.folder, "missing")
+    for how in "closed", "full":
+        for words in runs:
+            checks.ends("%s, output %s" % (words[0], how), WRITE, *words, stdout=how)
+        checks.ends("serve, output %s" % how, WRITE, "serve", table, typed=session, stdout=how)
+        checks.ends("faults %s" % how, Run(5, b"", b""), "judge", missing, stderr=how)
+        checks.ends("an answer, faults %s" % how, Run(0, WON, b""), "judge", table, stderr=how)
+
+
+def left_by_its_reader(child, got):
+    """How a run ends whose reader has taken so much, and goes away."""
+    child.stdout.close()
+    with child.stderr as faults:
+        said = faults.read()
+    return Run(child.wait(), got, said)
 
 
 def broken_pipes(checks):
     """The reader of a pipe goes away: before the answer, in the middle of one that is longer than a pipe, and between two
     answers of a session. It is a write fault, whether or not the signal for it is ignored; what was read is a beginning."""
-    table = checks.put("triangle", TRIANGLE)
-    steps = checks.put("long_steps", b"1 claim\n" * 65536)
+    table, steps = checks.put("triangle", TRIANGLE), checks.put("long_steps", b"1 claim\n" * 65536)
     whole = b"".join(b"%d not won\n" % i for i in range(65536))
     for name, before in (("", None), (", signal ignored", lambda: signal.signal(signal.SIGPIPE, signal.SIG_IGN))):
         for taken in (0, 1, 10, 5000):
             child = checks.start("rehearse", table, steps, before=before)
-            got = child.stdout.read(taken)
-            child.stdout.close()
-            faults = child.stderr.read()
-            run = Run(child.wait(), got, faults)
-            child.stderr.close()
+            run = left_by_its_reader(child, child.stdout.read(taken))
             checks.same("a reader that takes %d bytes%s" % (taken, name), WRITE._replace(output=whole[:taken]), run)
-        child = checks.start("serve", table, before=before, stdin=subprocess.PIPE, bufsize=0)
-        child.stdin.write(b"look\n")
-        got = child.stdout.readline()
-        child.stdout.close()
-        child.stdin.write(b"claim\n")
-        faults = child.stderr.read()
-        child.stdin.close()
-        child.stderr.close()
-        checks.same("a session whose reader goes away%s" % name, WRITE._replace(output=ANSWERS[:len(got)]), Run(child.wait(), got, faults))
+        with checks.start("serve", table, before=before, stdin=subprocess.PIPE, bufsize=0) as child:
+            child.stdin.write(b"look\n")
+            got = child.stdout.readline()
+            child.stdout.close()
+            child.stdin.write(b"claim\n")
+            run = left_by_its_reader(child, got)
+        checks.same("a session whose reader goes away%s" % name, WRITE._replace(output=ANSWERS[:len(got)]), run)
 
 
 def inputs(checks):
     """Standard input is closed, a folder, or has nothing yet and does not wait."""
     table, _, runs = commands(checks)
     for words in runs[:6]:
-        checks.same("%s, input closed" % words[0], checks.run(*words), checks.run(*words, before=lambda: os.close(0), stdin=None))
-    checks.same("serve, input closed", READ, checks.run("serve", table, before=lambda: os.close(0), stdin=None))
-    folder = os.open(checks.folder, os.O_RDONLY)
-    checks.same("serve, a folder as input", READ, checks.run("serve", table, stdin=folder))
-    os.close(folder)
-    checks.same("judge /dev/stdin, input closed", READ, checks.run("judge", "/dev/stdin", before=lambda: os.close(0), stdin=None))
-    ready, end = os.pipe()
+        checks.ends("%s, input closed" % words[0], checks.run(*words), *words, stdin="closed")
+    checks.ends("serve, input closed", READ, "serve", table, stdin="closed")
+    checks.ends("judge /dev/stdin, input closed", READ, "judge", "/dev/stdin", stdin="closed")
+    folder, (ready, end) = os.open(checks.folder, os.O_RDONLY), os.pipe()
+    checks.ends("serve, a folder as input", READ, "serve", table, stdin=folder)
     os.set_blocking(ready, False)
     os.write(end, b"claim\n")
-    checks.same("serve, an input that does not wait", READ._replace(output=b"0 not won\n"), checks.run("serve", table, stdin=ready))
-    os.close(ready)
-    os.close(end)
+    checks.ends("serve, an input that does not wait", READ._replace(output=b"0 not won\n"), "serve", table, stdin=ready)
+    for opened in folder, ready, end:
+        os.close(opened)
 
 
 def files(checks):
     """A folder, a device without end, an empty one, and a file that is not there or may not be read, as each of the files."""
     table, steps, _ = commands(checks)
-    folder, missing = checks.folder, os.path.join(checks.folder, "missing")
+    folder, long = checks.folder, refused(b"file too long", 3)
     circle = os.path.join(folder, "circle")
     os.symlink(circle, circle)
     for what, path, run in (
-            ("a folder", folder, READ), ("no file", missing, READ), ("a file below a file", os.path.join(table, "below"), READ),
-            ("a link to itself", circle, READ), ("a name of 300 letters", os.path.join(folder, "x" * 300), READ), ("no name", "", READ),
-            ("zeros without end", "/dev/zero", refused(b"file too long", 3)),
-            ("numbers without end", "/dev/urandom", refused(b"file too long", 3)),
-            ("a file whose reads fail", "/proc/self/mem", READ)):
-        checks.same("%s as FILE" % what, run, checks.run("judge", path))
-        checks.same("%s as STEPS" % what, run, checks.run("rehearse", table, path))
-        checks.same("%s as SCRIPT" % what, run, checks.run("party", table, steps, path))
-    checks.same("nothing as FILE", refused(b"not JSON", 3), checks.run("judge", "/dev/null"))
-    checks.same("nothing as STEPS", Run(0, b"", b""), checks.run("rehearse", table, "/dev/null"))
-    with open("/dev/zero", "rb") as zeros:
-        checks.same("zeros without end as a session", refused(b"long line", 3), checks.run("serve", table, stdin=zeros))
+            ("a folder", folder, READ), ("no file", os.path.join(folder, "missing"), READ), ("no name", "", READ),
+            ("a file below a file", os.path.join(table, "below"), READ), ("a link to itself", circle, READ),
+            ("a name of 300 letters", os.path.join(folder, "x" * 300), READ), ("zeros without end", "/dev/zero", long),
+            ("numbers without end", "/dev/urandom", long), ("a file whose reads fail", "/proc/self/mem", READ)):
+        checks.ends("%s as FILE" % what, run, "judge", path)
+        checks.ends("%s as STEPS" % what, run, "rehearse", table, path)
+        checks.ends("%s as SCRIPT" % what, run, "party", table, steps, path)
+    checks.ends("nothing as FILE", refused(b"not JSON", 3), "judge", "/dev/null")
+    checks.ends("nothing as STEPS", Run(0, b"", b""), "rehearse", table, "/dev/null")
+    checks.ends("zeros without end as a session", refused(b"long line", 3), "serve", table, typed="/dev/zero")
     # A file is read to its end where that is now.
-    checks.same("a file of the system, of unknown length", refused(b"not JSON", 3), checks.run("judge", "/proc/self/status"))
+    checks.ends("a file of the system, of unknown length", refused(b"not JSON", 3), "judge", "/proc/self/status")
 
 
 def fifos(checks):
     """A FIFO is read as it is written: in parts, with nothing in it, and with more than a file may have."""
-    steps = checks.put("steps", b"1 lend a\n")
-    fifo = os.path.join(checks.folder, "fifo")
+    table, fifo = checks.put("triangle", TRIANGLE), os.path.join(checks.folder, "fifo")
     os.mkfifo(fifo)
-    for what, parts, wanted in (
-            ("in one part", [TRIANGLE], Run(0, WON, b"")), ("byte by byte", [bytes([byte]) for byte in TRIANGLE], Run(0, WON, b"")),
-            ("with nothing in it", [], refused(b"not JSON", 3)), ("cut off", [TRIANGLE[:50]], refused(b"not JSON", 3)),
-            ("with too much", [b" " * 65536] * 17, refused(b"file too long", 3))):
-        child = checks.start("judge", fifo)
-        try:
-            with open(fifo, "wb", buffering=0) as end:
-                for part in parts:
-                    end.write(part)
-                    time.sleep(0.001)
-        except BrokenPipeError:
-            pass
-        output, faults = child.communicate(timeout=60)
-        checks.same("a FIFO %s" % what, wanted, Run(child.returncode, output, faults))
-    child = checks.start("rehearse", checks.put("triangle", TRIANGLE), fifo)
-    with open(fifo, "wb") as end, open(steps, "rb") as file:
-        end.write(file.read())
-    output, faults = child.communicate(timeout=60)
-    checks.same("steps from a FIFO", Run(0, b"0 moved a=0 b=0 c=0\n", b""), Run(child.returncode, output, faults))
+    for what, words, parts, wanted in (
+            ("in one part", ("judge", fifo), [TRIANGLE], Run(0, WON, b"")),
+            ("byte by byte", ("judge", fifo), [bytes([byte]) for byte in TRIANGLE], Run(0, WON, b"")),
+            ("with nothing in it", ("judge", fifo), [], refused(b"not JSON", 3)),
+            ("cut off", ("judge", fifo), [TRIANGLE[:50]], refused(b"not JSON", 3)),
+            ("with too much", ("judge", fifo), [b" " * 65536] * 17, refused(b"file too long", 3)),
+            ("with steps", ("rehearse", table, fifo), [b"1 lend a\n"], Run(0, b"0 moved a=0 b=0 c=0\n", b""))):
+        child = checks.start(*words)
+        with contextlib.suppress(BrokenPipeError), open(fifo, "wb", buffering=0) as end:
+            for part in parts:
+                end.write(part)
+                time.sleep(0.001)
+        checks.same("a FIFO %s" % what, wanted, ended_run(child))
 
 
 def changing_files(checks):
@@ -190,31 +184,26 @@ def threads(checks):
     """There is no room for a thread. The program lies where whoever has none may read it."""
     table, script = checks.put("triangle", TRIANGLE), checks.put("script", b"claim\n")
     os.chmod(checks.folder, 0o755)
-    own, checks.program = checks.program, shutil.copy(checks.program, os.path.join(checks.folder, "program"))
-    if are_threads_refused() and checks.run("judge", table, before=without_threads) == Run(0, WON, b""):
-        checks.same("party of two without threads", THREAD, checks.run("party", table, script, script, before=without_threads))
-        checks.same("party of one without threads", THREAD, checks.run("party", table, script, before=without_threads))
-        for workers in ("2", "4", "16"):
-            checks.same("rank with %s workers without threads" % workers, THREAD,
-                        checks.run("rank", table, "1", "--workers", workers, before=without_threads))
-        checks.same("rank with 1 worker without threads", Run(0, b"rank below 1 at a=0 b=0 c=1\n", b""),
-                    checks.run("rank", table, "1", before=without_threads))
-        told, typed = b"0 looked 0 a=2 b=-1 c=-1\nbad trials\n", b"look\nrank 631\nrank 1\nclaim\n"
-        checks.same("serve with 2 workers without threads", THREAD._replace(output=told),
-                    checks.run("serve", table, "--workers", "2", typed=typed, before=without_threads))
-        checks.same("serve without threads", Run(0, told + b"1 rank below 1 at a=0 b=0 c=1\n2 not won\n", b""),
-                    checks.run("serve", table, typed=typed, before=without_threads))
-    else:
+    checks = copy.copy(checks)
+    checks.program = shutil.copy(checks.program, os.path.join(checks.folder, "program"))
+    if not are_threads_refused() or checks.run("judge", table, before=without_threads) != Run(0, WON, b""):
         print("left out: runs without room for a thread, for want of a limit on processes that refuses one")
-    checks.program = own
+        return
+    told, typed = b"0 looked 0 a=2 b=-1 c=-1\nbad trials\n", b"look\nrank 631\nrank 1\nclaim\n"
+    for wanted, words in [
+            (THREAD, ("party", table, script, script)), (THREAD, ("party", table, script)),
+            *((THREAD, ("rank", table, "1", "--workers", workers)) for workers in ("2", "4", "16")),
+            (Run(0, b"rank below 1 at a=0 b=0 c=1\n", b""), ("rank", table, "1")),
+            (THREAD._replace(output=told), ("serve", table, "--workers", "2")),
+            (Run(0, told + b"1 rank below 1 at a=0 b=0 c=1\n2 not won\n", b""), ("serve", table))]:
+        checks.ends("%s without threads" % " ".join(words), wanted, *words, typed=typed, before=without_threads)
 
 
 def interrupts(checks):
     """An interrupt ends a run at once, without a word: nothing is printed of an answer that is not whole yet, and a session
     has written its answers in whole lines."""
     table, slow = checks.put("triangle", TRIANGLE), checks.put("slow", SLOW)
-    steps = checks.put("ranks", b"1 look\n1 rank 10\n" * 20000)
-    fifo = os.path.join(checks.folder, "silent")
+    steps, fifo = checks.put("ranks", b"1 look\n1 rank 10\n" * 20000), os.path.join(checks.folder, "silent")
     os.mkfifo(fifo)
     for number in (signal.SIGINT, signal.SIGTERM):
         ended = Run(-number, b"", b"")
@@ -225,20 +214,16 @@ def interrupts(checks):
             time.sleep(0.3)
             child.send_signal(number)
             checks.same("%s, interrupted" % what, ended, ended_run(child))
-        child = checks.start("serve", table, stdin=subprocess.PIPE, bufsize=0)
-        child.stdin.write(SESSION)
-        got = b"".join(child.stdout.readline() for _ in ANSWERS.splitlines())
-        child.stdin.write(b"look\nran")
-        got += child.stdout.readline()
-        child.send_signal(number)
-        checks.same("a session, interrupted", ended._replace(output=ANSWERS + b"5 looked 0 a=0 b=0 c=0\n"), ended_run(child, got))
-        child = checks.start("serve", slow, stdin=subprocess.PIPE, bufsize=0)
-        child.stdin.write(b"claim\n")
-        got = child.stdout.readline()
-        child.stdin.write(b"look\nrank 10\n" * 200)
-        time.sleep(0.1)
-        child.send_signal(number)
-        checks.same("a session, interrupted in rank tests", ended._replace(output=b"0 not won\n"), ended_run(child, got))
+        for what, board, typed, answers, more, after in (
+                ("a session", table, SESSION + b"look\n", ANSWERS + b"5 looked 0 a=0 b=0 c=0\n", b"ran", 0),
+                ("a session in rank tests", slow, b"claim\n", b"0 not won\n", b"look\nrank 10\n" * 200, 0.1)):
+            child = checks.start("serve", board, stdin=subprocess.PIPE, bufsize=0)
+            child.stdin.write(typed)
+            got = b"".join(child.stdout.readline() for _ in answers.splitlines())
+            child.stdin.write(more)
+            time.sleep(after)
+            child.send_signal(number)
+            checks.same("%s, interrupted" % what, ended._replace(output=answers), ended_run(child, got))
 
 
 def interrupted_ranks(checks, number, words):
@@ -315,12 +300,6 @@ def file_limits(checks):
             run = checks.run(*words, before=limited, stdout=output)
             output.seek(0)
             checks.same("an output that may have 1,000 bytes%s" % name, Run(status, whole[:1000], faults), run._replace(output=output.read()))
-
-
-def ended_run(child, before=b""):
-    """How a run ends that has printed something before."""
-    output, faults = child.communicate(timeout=PATIENCE)
-    return Run(child.returncode, before + output, faults)
 
 
 load_tests = checked(outputs, broken_pipes, inputs, files, fifos, changing_files, threads, interrupts, unread_answers, file_limits)

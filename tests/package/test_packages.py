@@ -70,12 +70,24 @@ class OfPackages(Test):
             done = subprocess.run([TOOL, *words], stdout=subprocess.PIPE, stderr=subprocess.STDOUT, text=True)
             self.assertEqual((done.returncode, done.stdout.count("\n")), (1, 1))
 
-    def test_the_tarball(self):
+    def unpacked(self):
+        """The folder of the tarball."""
         with tarfile.open(self.tarball) as archive:
             archive.extractall(self.place)
-        tree, table = self.place / ("dollar-" + self.version), EXAMPLES / "triangle.json"
+        return self.place / ("dollar-" + self.version)
+
+    def test_the_program_needs_no_library(self):
+        packed = self.unpacked() / "bin" / "dollar"
+        if b"/ld-linux" in packed.read_bytes():
+            self.skipTest("the link with the C library, for want of gcc, rt, or the object of which tools/build has made the program")
+        ldd = subprocess.run(["ldd", packed], stdout=subprocess.PIPE, stderr=subprocess.STDOUT, text=True)
+        self.assertEqual((ldd.returncode, ldd.stdout.strip()), (1, "not a dynamic executable"))
+        self.out(ROOT / "tests" / "rows" / "check", packed)
+
+    def test_the_tarball(self):
+        tree, table = self.unpacked(), EXAMPLES / "triangle.json"
         self.assertEqual(self.out(tree / "bin" / "dollar", "judge", table), VERDICT)
-        self.assertTrue((tree / "bin" / "dollar").read_bytes() == Path(program()).read_bytes())
+        self.assertEqual(self.out(tree / "bin" / "dollar", "--version"), self.out(program(), "--version"))
         page = gzip.decompress((tree / "share/man/man1/dollar.1.gz").read_bytes()).decode()
         self.assertEqual(page, self.out(sys.executable, ROOT / "tools" / "manual", program()))
         named = re.findall(r"(?m)^\.I (\w+\.md)$", page)

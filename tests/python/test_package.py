@@ -10,7 +10,11 @@ from helpers import EXAMPLES, PACKAGE, Test, each
 
 VERSIONS = ["3.9", "3.10", "3.11", "3.12", "3.13"]
 DOCTESTS = """
-import doctest, importlib, pkgutil, dollar
+import doctest
+import importlib
+import pkgutil
+
+import dollar
 modules = [dollar, *(importlib.import_module(each.name) for each in pkgutil.walk_packages(dollar.__path__, "dollar."))]
 failed, tried = map(sum, zip(*map(doctest.testmod, modules)))
 assert tried > 50 and not failed, (tried, failed)

@@ -8,7 +8,7 @@ import re
 import subprocess
 
 from helpers import Test, program
-from model import Game, judged
+from model import Session, entries
 
 SEATS, LINES = 64, 1024
 TABLE = {
@@ -54,9 +54,7 @@ class Play:
     """Plays a history again by the model: each entry is for its seat's next line, and its reply is the one that the rules give."""
 
     def __init__(self, scripts):
-        self.game, self.looks = Game(TABLE), {}
-        self.waiting = [collections.deque(pair for pair in judged(script, self.game.names) if isinstance(pair[1], list))
-                        for script in scripts]
+        self.session, self.waiting = Session(TABLE, SEATS), [collections.deque(entries(TABLE, script)) for script in scripts]
         self.kinds, self.wrong, self.replies, self.steps, self.apart = collections.Counter(), [], [], [], 0
 
     def enter(self, number, seat, reply):
@@ -64,11 +62,9 @@ class Play:
             self.wrong.append((number, seat, reply))
             return
         line, command = self.waiting[seat - 1].popleft()
-        looked, gifts = self.looks.get(seat, (0, 0))
-        if not self.game.is_reply(command, reply, gifts):
+        looked, _ = self.session.looks.get(seat, (0, 0))
+        if not self.session.enter(seat, command, reply):
             self.wrong.append((number, line, reply))
-        if command[0] == "look":
-            self.looks[seat] = number, self.game.gifts
         self.apart += command[0] in ("commit", "rank") and number > looked + 1
         self.kinds[kind_of(reply)] += 1
         self.replies.append("%d %s" % (number, reply))
@@ -97,15 +93,16 @@ class OfAParty(Test):
         calls = [len(entered) for entered in play.waiting]
         table = self.put("table", json.dumps(TABLE).encode())
         printed = self.run_program("party", table, *(self.put("script_%d" % i, text) for i, text in enumerate(texts)))
-        entries = [re.fullmatch("(0|[1-9][0-9]*) ([1-9][0-9]*) (.+)", line) for line in printed[:sum(calls)]]
-        self.assertEqual([entry and entry[1] for entry in entries], [str(i) for i in range(sum(calls))])
-        for number, entry in enumerate(entries):
+        history = [re.fullmatch("(0|[1-9][0-9]*) ([1-9][0-9]*) (.+)", line) for line in printed[:sum(calls)]]
+        self.assertEqual([entry and entry[1] for entry in history], [str(i) for i in range(sum(calls))])
+        for number, entry in enumerate(history):
             play.enter(number, int(entry[2]), entry[3])
         self.assertEqual(play.wrong, [])
         self.assertLessEqual(KINDS, set(play.kinds))
         self.assertGreater(play.apart, 0)
         self.assertFalse(any(play.waiting))
-        totals = ["entries %d" % sum(calls), "gifts %d" % play.game.gifts, "position " + play.game.pairs(play.game.amounts)]
+        game = play.session.game
+        totals = ["entries %d" % sum(calls), "gifts %d" % game.gifts, "position " + game.pairs(game.amounts)]
         self.assertEqual(printed[sum(calls):], totals + ["seat %d calls %d" % (i + 1, n) for i, n in enumerate(calls)] + [""])
         # The same steps in the same order, by one player.
         again = self.run_program("rehearse", table, self.put("steps", "".join(play.steps).encode("latin-1")))
@@ -113,17 +110,8 @@ class OfAParty(Test):
 
     def test_a_session_answers_each_line_of_a_script_by_the_rules(self):
         script = some_script(random.Random(1), TABLE["vertices"])
-        game, number, gifts, wrong = Game(TABLE), 0, 0, []
         answers = self.run_program("serve", self.put("table", json.dumps(TABLE).encode()),
                                    typed="".join(line + "\n" for line in script).encode("latin-1"))
         self.assertEqual(len(answers), LINES + 1)
-        for (line, command), answer in zip(judged(script, game.names), answers):
-            fine = answer == command
-            if isinstance(command, list):
-                start = "%d " % number
-                fine = answer.startswith(start) and game.is_reply(command, answer[len(start):], gifts)
-                number += 1
-                gifts = game.gifts if command[0] == "look" else gifts
-            if not fine:
-                wrong.append((line, answer))
-        self.assertEqual(wrong, [])
+        session = Session(TABLE)
+        self.assertEqual([(line, answer) for line, answer in zip(script, answers) if not session.is_answer(line, answer)], [])

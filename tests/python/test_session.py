@@ -12,7 +12,7 @@ import time
 
 from dollar import Ended, Session, Table
 from helpers import PACKAGE, Test, each
-from model import Bad, Game, parse, some_command, trials
+from model import Session as Model, some_command
 
 TABLE = {
     "vertices": ["a", "b", "c", "d"],
@@ -21,35 +21,6 @@ TABLE = {
     "q": "a",
 }
 SEATS, LINES = 5, 20_000
-
-
-class Model:
-    """What a session with seats answers, by the rules."""
-
-    def __init__(self):
-        self.game, self.number, self.looks = Game(TABLE), 0, {}
-
-    def is_answer(self, line, text):
-        """Whether a text is the right answer to a line, which is played."""
-        seat, space, rest = line.partition(" ")
-        if not space or seat not in map(str, range(1, SEATS + 1)):
-            return text == "bad seat"
-        try:
-            command = parse(rest, self.game.names)
-        except Bad as fault:
-            return text == str(fault)
-        needs_look = command[0] in ("commit", "rank")
-        if needs_look and seat not in self.looks:
-            return text == "bad look"
-        if command[0] == "rank" and trials(len(self.game.names), command[1]) is None:
-            return text == "bad trials"
-        start = "%d " % self.number
-        self.number += 1
-        gifts = self.looks.pop(seat) if needs_look else 0
-        fine = text.startswith(start) and self.game.is_reply(command, text[len(start):], gifts)
-        if command[0] == "look":
-            self.looks[seat] = self.game.gifts
-        return fine
 
 
 def some_line(rng):
@@ -93,7 +64,7 @@ def is_interrupted(session, seconds):
 
 class OfSessions(Test):
     def test_hostile_lines_leave_it_in_step(self):
-        rng, model, refused, wrong = random.Random(1), Model(), 0, []
+        rng, model, refused, wrong = random.Random(1), Model(TABLE, SEATS), 0, []
         with Table(TABLE).serve(SEATS) as session:
             for _ in range(LINES):
                 line = some_line(rng)

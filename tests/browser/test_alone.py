@@ -1,0 +1,451 @@
+"""The board for one player, by clicks, keys and touches. Each answer on the page is compared with what the program prints for
+the table and the steps that the page saves."""
+import json
+import random
+import re
+import tempfile
+import time
+
+from browser import CTRL, LISTED, READY, SHIFT, Page, at, needed
+from common import EXAMPLES, asked, equal, expect, played, swings, tell, text_of, written
+from helpers import tests_of
+
+RANDOM_LINES, LONG = 80, 60_000
+NO_LOOK = "This seat has not looked since its last verdict. It looks first."
+TOO_MANY = "The command has too many words or too few, or a space too many."
+NO_NAME, NO_WORD = "It names a vertex that is not there, or one twice.", "That is no command."
+# Seconds that a line takes on the page, from its click until it is drawn, at the median.
+MEDIAN = """(async () => {
+  const took = [];
+  for (let i = 0; i < 10; i++) {
+    const start = performance.now();
+    await play(i % 2 ? 'borrow a' : 'lend a');
+    took.push(performance.now() - start);
+  }
+  return took.sort((x, y) => x - y)[took.length >> 1] / 1000;
+})()"""
+DROP = """(() => {
+  const data = new DataTransfer();
+  data.items.add(new File([%s], 'dropped.json'));
+  document.dispatchEvent(new DragEvent('drop', { dataTransfer: data, bubbles: true, cancelable: true }));
+})()"""
+SMALL = """$$('button, select, input, summary').filter((at) =>
+  at.offsetParent && Math.min(at.offsetWidth, at.offsetHeight) < 16).map((at) => at.id || at.textContent)"""
+SAID = "$$('#board .vertex:has(.says)').map((at) => [at.dataset.name, at.querySelector('.says').textContent])"
+ENDS = "$$('#told-script tbody tr').map(({ children: [name, , , end] }) => [name.textContent, end.textContent])"
+# Who has the focus, and whether that can be seen.
+FOCUSED = """(() => {
+  const at = document.activeElement;
+  if (!at || at === document.body) return null;
+  const look = getComputedStyle(at.classList.contains('vertex') ? at.querySelector('.reach') : at);
+  return [at.dataset.name || at.id || at.textContent.trim(), look.outlineStyle !== 'none' || look.stroke !== 'none'];
+})()"""
+
+
+class Player(Page):
+    """A page on which one player plays."""
+
+    def length(self):
+        return self.value("viewer.game.length")
+
+    def does(self, wanted, act, *given):
+        """Does what plays a line, waits for its answer, and compares the step, if one is given."""
+        before = self.length()
+        act(*given)
+        self.has(before + 1)
+        if wanted:
+            equal(self.text("#asked"), wanted, f"the step by {act.__name__} {given}")
+
+    def refused(self, act, *given):
+        """Does what is refused. Gives what the page says, in words and in those of the program."""
+        before = self.length()
+        self.value("hands.tell('')")
+        act(*given)
+        self.until("!$('#refused').hidden")
+        equal(self.length(), before, "the steps after one that was refused")
+        return self.text("#refused span"), self.text("#refused code")
+
+    def told(self, button):
+        """Asks a question by its button. Gives the words and what was printed."""
+        self.value("questions.clear()")
+        self.click(button)
+        self.until("$('#told-printed').textContent !== ''")
+        time.sleep(0.15)
+        return self.text("#told-words"), self.text("#told-printed")
+
+    def open_example(self, name, asks=True):
+        """Opens the table of an example; if a game is left for it, the page asks first."""
+        self.value(f"(hands.tell(''), void openTable(examples['{name}.json'], '{name}.json'))")
+        if asks:
+            self.answered(True)
+        self.until(f"viewer.game.length === 0 && fileName === '{name}.json'")
+
+    def now(self):
+        """A file of the table as it stands."""
+        return written(self.folder, "now", self.saved("#take-now", "now.json"))
+
+    def compare(self, where):
+        """Compares the whole history on the page with what the program prints for the table and steps that the page saves."""
+        table = written(self.folder, "t", self.saved("#take-table", "table.json"))
+        steps = written(self.folder, "s", self.saved("#take-steps", "steps.txt"))
+        printed, said, status = asked("rehearse", table, steps)
+        equal((said, status), ("", 0), f"{where}: rehearse of what was saved")
+        pairs = zip(text_of(steps).splitlines(), printed.splitlines())
+        equal(self.value(LISTED), [list(pair) for pair in pairs], f"{where}: the history")
+        return table, steps
+
+
+def with_focus(player):
+    """Whoever goes on by Tab sees where he is, and comes to each control."""
+    player.value("$$('details').forEach((at) => { at.open = true; })")
+    seen = {}
+    for _ in range(60):
+        player.press("Tab")
+        focused = player.value(FOCUSED)
+        if focused is None:
+            break
+        seen[focused[0]] = seen.get(focused[0], True) and focused[1]
+    equal([name for name, is_shown in seen.items() if not is_shown], [], "where the focus can't be seen")
+    controls = {"ann", "bob", "cyd", "dan", "ask-won", "claim", "line-in", "take-table"}
+    equal(controls - set(seen), set(), "controls to which Tab does not come")
+
+
+def in_sizes(player):
+    """At each size all can be reached, also beside a verdict."""
+    def prepare():
+        player.value("$$('details').forEach((at) => { at.open = true; })")
+        player.told("#ask-won")
+        equal(player.value(SMALL), [], "what is too small")
+
+    player.in_sizes("alone", prepare=prepare)
+
+
+def by_mouse(player):
+    """Clicks lend, shift-clicks and long presses borrow, chosen ones fire, and a line from one to another joins."""
+    edges, chosen = "$$('#board .edge').length", "names('#board .chosen')"
+    player.does("1 lend cyd", player.click, at("cyd"))
+    equal(player.text("#said"), "0 moved ann=-1 bob=2 cyd=1 dan=-1", "the answer to a click")
+    player.does("1 borrow dan", player.click, at("dan"), SHIFT)
+    player.does("1 borrow bob", player.click, at("bob"), 0, 1.0)
+    player.click(at("bob"), CTRL)
+    player.click(at("cyd"), CTRL)
+    equal(player.value(chosen), ["bob", "cyd"], "the chosen ones")
+    player.does("1 fire bob,cyd", player.click, "#fire")
+    equal(player.value(chosen), [], "chosen ones after they fired")
+    before = player.value(edges)
+    player.does("1 join ann cyd", player.drag, at("ann"), at("cyd"))
+    equal(player.value(f"[{edges}, $$('#board .added').length]"), [before + 1, 1], "the edge of a line")
+    for selector in "#choosing", at("ann"), at("ann"):
+        player.click(selector)
+    equal(player.value(chosen), [], "chosen twice")
+    player.click("#choosing")
+    length, (x, y) = player.length(), player.middle(at("ann"))
+    player.drag(at("ann"), [x + 60, y - 40])
+    time.sleep(0.2)
+    equal(player.length(), length, "the steps after a line from ann to nowhere")
+
+
+def by_touch(player):
+    """A touch lends, a long one borrows, and a line by a finger joins."""
+    player.does("1 lend dan", player.touch, at("dan"))
+    player.does("1 borrow dan", player.touch, at("dan"), 1.0)
+    player.does("1 join ann bob", player.touch_drag, at("ann"), at("bob"))
+
+
+def by_keys(player):
+    """All of it by keys alone."""
+    def goes(key, name):
+        player.press(key)
+        equal(player.value("document.activeElement.dataset.name"), name, f"the focus after {key}")
+
+    player.value("document.activeElement.blur()")
+    player.focus(at("ann"))
+    player.does("1 lend ann", player.press, "Enter")
+    equal(player.value("document.activeElement.dataset.name"), "ann", "the focus after a line")
+    goes("ArrowUp", "bob")
+    goes("ArrowRight", "cyd")
+    player.press("ArrowDown")
+    player.does("1 borrow dan", player.press, "Enter", SHIFT)
+    for key in " ", "ArrowLeft", " ":
+        player.press(key)
+    goes("Tab", "bob")
+    player.focus("#fire")
+    player.does("1 fire ann,dan", player.press, "Enter")
+    player.focus(at("ann"))
+    player.press("j")
+    player.press("ArrowUp")
+    player.does("1 join ann bob", player.press, "j")
+    player.press("Escape")
+    player.value("$('#hands details').open = true, $('#gift-to').value = 'cyd', $('#gift-amount').select()")
+    player.write("-2")
+    player.does("1 gift cyd -2", player.press, "Enter")
+    player.focus("#line-in")
+    player.write("script ann=1,cyd=-2")
+    player.does("1 script ann=1,cyd=-2", player.press, "Enter")
+    player.value("document.activeElement.blur()")
+    player.press("ArrowLeft")
+    equal(player.value("viewer.now"), player.length() - 1, "the arrow key off the board")
+    player.press("End")
+
+
+def by_seats(player):
+    """Looks and commits of seats in turn, of which the one before a gift is stale."""
+    def sit(number):
+        player.value(f"$('#seat').value = '{number}'")
+
+    for number, word in (3, "look"), (64, "look"), (3, "commit"):
+        sit(number)
+        player.does(f"{number} {word}", player.click, "#" + word)
+    player.does(None, player.click, "#gift-form button")
+    sit(64)
+    player.does("64 commit", player.click, "#commit")
+    expect(re.search(r" stale \d+$", player.text("#said")), f"a look before a gift is not stale: {player.text('#said')}")
+    expect("Stale" in player.text("#answer"), "the page does not say that it is stale")
+    equal(player.refused(player.click, "#commit"), (NO_LOOK, "dollar: bad look"), "no look")
+    player.does("64 look", player.click, "#look")
+    player.does(None, player.click, "#rank-form button")
+    expect("rank" in player.text("#said"), f"no rank test: {player.text('#said')}")
+    sit(1)
+    player.does("1 claim", player.click, "#claim")
+
+
+def with_refusals(player):
+    """What the program refuses is told in words and in its own, and changes nothing."""
+    for line, words, own in (
+            ("lend zoe", NO_NAME, "bad name"), ("jump", NO_WORD, "bad word"), ("lend", TOO_MANY, "bad form"),
+            ("gift ann 1.5", "A number in it is none, or out of range.", "bad number"), ("<b>x</b>", NO_WORD, "bad word"),
+            ("rank 99999", NO_LOOK, "bad look"), ("", NO_WORD, "bad word"), ("look now " + "x" * 200, TOO_MANY, "bad form"),
+            ("look now " + "x" * 2000, "The line is too long.", "long line"), ("lend \u00e4nn", NO_NAME, "bad name")):
+        said = player.refused(player.value, f"void play({json.dumps(line)})")
+        equal(said, (words, f"dollar: {own}"), f"the line {line:.20}")
+    said, _ = player.refused(player.value, "void play('look\\n1 claim')")
+    equal(said, "A line has no newline in it.", "two lines")
+    equal(player.value("$$('#refused b').length"), 0, "elements made of what was typed")
+
+
+def with_questions(player):
+    """Each question has the program's answer, for the table as it stands, and leaves no entry."""
+    length = player.length()
+    for index in 0, 1, 4, length:
+        player.value(f"viewer.go({index})")
+        now = player.now()
+        judged, numbers = asked("judge", now)[0], asked("rr", now)[0]
+        words, printed = player.told("#ask-won")
+        equal(printed, judged, f"whether it can be won at {index}")
+        expect(("can be won" in words) == judged.startswith("winnable"), f"the words {words} for {judged}")
+        script, reduced = re.fullmatch(r"\w+ by (.*) to (.*)\n", judged).groups()
+        rows = player.value(ENDS)
+        equal(rows, [pair.split("=") for pair in reduced.split(" ")], f"the script's end at {index}")
+        says = player.value("$$('#board .vertex .says').length")
+        equal(says, sum(not pair.endswith("=0") for pair in script.split(" ")), f"the script on the board at {index}")
+        equal(player.told("#ask-rr")[1], numbers, f"the four numbers at {index}")
+        degree = int(re.search(r"^rank (-?\d+)$", numbers, re.M)[1]) + 1
+        lost = asked("rank", now, str(degree))[0]
+        player.told("#ask-rank")
+        player.until("/rank below/.test($('#told-printed').textContent)")
+        equal(player.text("#told-printed"), numbers + lost, f"the rank at {index}")
+        losses = [pair.split("=") for pair in re.fullmatch(r"rank below \d+ at (.*)\n", lost)[1].split(" ")]
+        shown = player.value(SAID)
+        equal(shown, [[name, "lost " + count] for name, count in losses if count != "0"],
+              f"the first loss on the board at {index}")
+    equal(player.length(), length, "the entries after questions")
+
+
+def random_line(draw, one, other):
+    """A line that somebody may play."""
+    kinds = ("lend %s", "borrow %s", "fire %s", "gift %s 1", "gift %s -2", "gift %s 0", "gift %s 1000000", "script %s=3",
+             "lend %s.", "look", "claim", "join %s %s", "fire %s,%s", "script %s=1,%s=-2", "join %s %s", "commit")
+    kind = draw.choice(kinds)
+    return kind % (one, other)[:kind.count("%s")]
+
+
+def with_many_lines(player):
+    """Lines of all kinds in a fixed random order, good and bad: the page keeps just those that the program takes."""
+    draw, before = random.Random(5), player.length()
+    lines = [random_line(draw, *draw.sample(["ann", "bob", "cyd", "dan"], 2)) for _ in range(RANDOM_LINES)]
+    player.value(f"(async () => {{ for (const line of {json.dumps(lines)}) await play(line); }})()")
+    more = player.length() - before
+    expect(RANDOM_LINES / 2 < more < RANDOM_LINES, f"{more} of {RANDOM_LINES} lines")
+    player.compare("many lines")
+    equal(asked("rr", player.now()), ("", "dollar: too many trials\n", 3), "the four numbers of a table with millions")
+    equal(player.told("#ask-rr"), ("That rank test is too large.", "dollar: too many trials\n"), "what the page says of them")
+    player.value("hands.tell('')")
+    player.compare("houses")
+
+
+def with_script(player):
+    """*Show me* plays the script of the verdict, and then nobody is in debt."""
+    player.value("viewer.go(0)")
+    player.told("#ask-won")
+    before = player.length()
+    player.click("#show-script")
+    player.answered(False)
+    time.sleep(0.2)
+    equal((player.length(), player.value("viewer.now")), (before, 0), "the steps after 'no'")
+    player.click("#show-script")
+    player.answered(True)
+    player.has(1)
+    equal(player.text("#asked"), "1 script bob=1,cyd=2", "the script that is shown")
+    equal(player.value("$$('#board .debt').length"), 0, "who is in debt after it")
+    player.does("1 claim", player.click, "#claim")
+    equal(player.text("#said"), "1 won", "a claim after it")
+
+
+def with_fire(player):
+    """The fire goes as docs/play.md tells it: from ann to bob, dan and cyd."""
+    player.open_example("kind_houses")
+    _, printed = player.told("#ask-won")
+    equal(printed, "unwinnable by ann=0 bob=0 cyd=0 dan=-1 to ann=-1 bob=0 cyd=1 dan=1\n", "the verdict on the kind houses")
+    player.click("#show-fire")
+    player.until("$$('#told-fire li').length === 5")
+    lines = player.value("texts('#told-fire li')")
+    equal([line.split(" ")[0] for line in lines], ["ann", "bob", "dan", "cyd", "All"], "the order of the fire")
+    equal(lines[1], "bob burns: if bob, cyd and dan lent at once, bob would owe 1. So it is no giver.", "why bob burns")
+    equal(player.value("viewer.board.burnt"), ["ann", "bob", "dan", "cyd"], "who burns on the board")
+    equal(player.value("texts('#board .amount')"), ["-1", "0", "1", "1"], "the amounts under the fire")
+    equal(player.length(), 0, "the entries after a fire")
+    player.value("viewer.go(0)")
+    equal(player.value("$$('#board .badge').length"), 0, "who burns after that")
+    # Here q owes sixteen times as much as a table may have.
+    player.open_example("poor_sixteen", asks=False)
+    words, _ = player.told("#ask-won")
+    player.click("#show-fire")
+    player.until("$$('#told-fire li').length === 17")
+    equal(player.text("#told-words"), words, "the verdict beside its fire")
+    equal(player.value("viewer.board.burnt.length"), 16, "who burns of sixteen")
+
+
+NO_TABLES = [
+    ("{", "This is no table file", "not JSON"), ("{}", "A table needs just these four", "shape of top"),
+    ('{"vertices":["a","b"],"edges":[],"amounts":[0,0],"q":"a"}', "Some vertices can't be reached", "not connected"),
+    ('{"vertices":["<img src=x onerror=window.pwned=1>"],"edges":[],"amounts":[0],"q":"a"}', "The name of vertex 1 is none",
+     "name of vertex 0"),
+    (" " * (1 << 20) + "{}", "The file has more than a megabyte", "file too long")]
+
+
+def with_tables(player):
+    """Tables from files, examples and lots; what is no table is refused in words."""
+    player.choose_file("#open", written(player.folder, "own.json", text_of(EXAMPLES / "petersen.json")))
+    player.until("fileName === 'own.json' && viewer.game.names.length === 10")
+    for text, words, own in NO_TABLES:
+        said, code = player.refused(player.choose_file, "#open", written(player.folder, "bad.json", text))
+        expect(said.startswith(words), f"{own}: {said}")
+        equal(code, f"dollar: {own}", "the program's own words")
+        equal(player.value("fileName"), "own.json", "the table after one that was refused")
+    player.value(DROP % json.dumps(text_of(EXAMPLES / "cube.json")))
+    player.until("fileName === 'dropped.json' && viewer.game.names.length === 8")
+
+    def draw(degree, kind):
+        player.value(f"($('#draw-degree').value = {degree}, $('#draw-kind').value = '{kind}')")
+        player.click("#draw-form button")
+
+    for kind in "winnable", "unwinnable":
+        before = player.value("table")
+        draw(2, kind)
+        player.until(f"table !== {json.dumps(before)}")
+        table = player.saved("#take-table", "table.json")
+        equal(sum(json.loads(table)["amounts"]), 2, "the degree of a table drawn by lots")
+        equal(asked("judge", written(player.folder, "lots.json", table))[0].split(" ")[0], kind, "a table drawn by lots")
+    said, _ = player.refused(draw, 5, "unwinnable")
+    expect(said.startswith("Of 64 that were drawn none"), f"lots without a table: {said}")
+
+
+def with_editor(player):
+    """A table is edited on the board and in lists, and saved as a file which the program takes."""
+    player.open_example("triangle", asks=False)
+    player.click("#edit")
+    player.until("!$('#editor').hidden")
+    empty = player.value("(({ x, y }) => [x + 40, y + 40])($('#board svg').getBoundingClientRect())")
+    player.mouse("Pressed", empty)
+    player.mouse("Released", empty, 0, 0)
+    equal(player.value("editor.draft.vertices.map((v) => v.name)"), ["a", "b", "c", "d"], "a vertex where there was none")
+    player.click("#edit-done")
+    player.until("!$('#edit-refused').hidden")
+    equal([player.text("#edit-refused span"), player.text("#edit-refused code")],
+          ["Some vertices can't be reached from the others: an edge is missing.", "dollar: not connected"],
+          "a vertex without an edge")
+    player.click("input[value=edge]")
+    player.drag(at("d"), at("a"))
+    player.click("input[value=move]")
+    (x, y) = player.middle(at("d"))
+    player.drag([x, y], [x + 30, y + 25])
+    new = player.middle(at("d"))
+    expect(abs(new[0] - x - 30) < 3 and abs(new[1] - y - 25) < 3, f"a vertex that is dragged from {[x, y]} to {new}")
+    for selector, text in (
+            ("#edit-vertices tr:nth-child(4) input[type=number]", "-5"), ("#edit-edges tr:nth-child(1) input", "3"),
+            ("#edit-vertices tr:nth-child(4) input[type=text]", "zoe")):
+        player.value(f"$({json.dumps(selector)}).select()")
+        player.write(text)
+        player.press("Enter")
+        player.press("Tab")
+    for selector in "#edit-vertices tr:nth-child(2) input[type=radio]", "input[value=remove]", at("c"), "#edit-done":
+        player.click(selector)
+    player.until("$('#editor').hidden")
+    equal(json.loads(player.saved("#take-table", "table.json")), {
+        "vertices": ["a", "b", "zoe"], "edges": [["a", "b", 3], ["zoe", "a", 1]], "amounts": [2, -1, -5], "q": "b"},
+        "the edited table")
+    places = player.saved("#take-places", "places.txt")
+    equal([line.split(" ")[0] for line in places.splitlines()], ["a", "b", "zoe"], "the places that are saved")
+    player.does("1 lend zoe", player.click, at("zoe"))
+    equal(player.text("#said"), "0 moved a=3 b=-1 zoe=-6", "a move on the edited table")
+    for selector in "#edit", "#add-vertex", "#edit-cancel":
+        player.click(selector)
+    equal(player.value("[viewer.game.names.length, viewer.now]"), [3, 1], "an edit that is left")
+
+
+def with_takings(player):
+    """The picture and the page that are saved are what they should be."""
+    table, steps = player.compare("an edited table")
+    svg = player.saved("#take-picture", "board.svg")
+    expect(svg.startswith("<svg") and "zoe" in svg and "script" not in svg.lower(), f"the picture is {svg:.80}")
+    player.saved("#take-page", "game.html")
+    address = player.value("location.href")
+    player.open(player.folder / "game.html")
+    shown = player.value("viewer.game.replies.map(({ line }) => line)")
+    equal(shown, asked("rehearse", table, steps)[0].splitlines(), "the page that is saved")
+    player.open(written(player.folder, "board.html", '<!doctype html><img src="board.svg">'))
+    player.until("document.querySelector('img').naturalWidth > 0")
+    before = text_of(table), text_of(steps)
+    player.visit(address + "#%3Cimg%20src=x%20onerror=p()%3E", "viewer.game.length > 0")
+    equal(tuple(map(text_of, player.compare("after a reload"))), before, "the files after a reload")
+    equal(player.value("$$('img').length"), 0, "pictures made of a fragment of an address")
+
+
+def with_a_long_game(player):
+    """Late in a long game a line takes about as long as at its beginning, and going back far and on from there is quick too."""
+    player.open_example("triangle")
+    early = player.value(MEDIAN)
+    time.sleep(1)
+    game = f"{{ table, fileName, steps: {json.dumps(swings('a', LONG))}, places: 'a 0 0\\nb 1 0\\nc 0 1\\n' }}"
+    player.value(f"sessionStorage.setItem(`dollar ${{location.pathname}}`, JSON.stringify({game})), location.reload()")
+    player.until(f"{READY} && viewer.game.length === {LONG}")
+    late = player.value(MEDIAN)
+    # The bench has the number. This machine may be busy: a game that was played again at each line took 90 ms more.
+    said = f"a line takes {1000 * late:.1f} ms after {LONG} steps, and {1000 * early:.1f} ms at first"
+    expect(late < 3 * early + 0.03, said)
+    tell(said)
+    start = time.monotonic()
+    player.value(f"(viewer.go({LONG - 100}), void play('claim'))")
+    player.answered(True)
+    player.has(LONG - 99)
+    equal(player.text("#said"), f"{LONG - 100} not won", "a claim on an earlier place")
+    expect(time.monotonic() - start < 5, f"going on from an earlier place took {time.monotonic() - start:.1f} s")
+
+
+def of_one_player(folder):
+    browser, *_ = needed()
+    browser.media()
+    browser.size()
+    before = len(browser.asked)
+    with played(EXAMPLES / "houses.json") as (_, (address,)):
+        player = Player(browser, address, folder)
+        for part in (with_focus, in_sizes, by_mouse, by_touch, by_keys, by_seats, with_refusals, with_questions,
+                     with_many_lines, with_script, with_fire, with_tables, with_editor, with_takings, with_a_long_game):
+            part(player)
+        browser.harmless(address, since=before)
+    said = "There is no answer from board/play"
+    browser.value("void play('claim')")
+    browser.until(f"!$('#refused').hidden && $('#refused').textContent.includes({json.dumps(said)})")
+
+
+load_tests = tests_of(of_one_player, given=tempfile.TemporaryDirectory)

@@ -1,0 +1,326 @@
+"""The table of a class, without a browser: one legal history, whatever pupils, strangers and accidents do."""
+import contextlib
+import json
+import os
+import random
+import signal
+import statistics
+import subprocess
+import tempfile
+import time
+from pathlib import Path
+
+from browser import browsers
+from common import (EXAMPLES, addresses, asked, equal, expect, is_modest, played, refused, started, swings, tell, text_of,
+                    together, written)
+from helpers import tests_of
+from model import some_command
+from visitors import TABLE, PagePupil, Place, Pupil, a_class, program_of, taken
+
+LONG, COMES_BACK = 60_000, 5.0
+PUPILS, LINES = 30, 100
+SEATS, BEHIND, CLICKS, MEDIAN = 64, 1000, 200, 0.050
+HALVES = 400
+MOST_MEMORY = 250_000
+OVER = "The game has ended. This line was not played, unless the list has it."
+ODD = ["rank 5000", "lend zoe", "lent ann", "look now", "", "2 look", "look\r", "\u00e4" * 500, "x" * 990]
+
+
+def lines_of(seat, count):
+    """Lines that a pupil may play, a few of them bad."""
+    draw = random.Random(seat)
+    return [some_command(draw, TABLE["vertices"]) if draw.random() < 0.6 else draw.choice(ODD) for _ in range(count)]
+
+
+def in_order(room, steps, history):
+    """Sees that the entries of each pupil are, in his order, just those that he was told."""
+    for pupil in room:
+        own = [(f"{pupil.seat} {line}", answer) for line, status, answer in pupil.lines
+               if status == 200 and answer[:1].isdigit()]
+        kept = [pair for pair in zip(steps, history) if pair[0].startswith(f"{pupil.seat} ")]
+        expect(kept == own, f"the lines of seat {pupil.seat} are not in its order")
+
+
+def many_pupils(folder):
+    """Thirty pupils play three thousand lines at once, two of them on pages if there is a browser."""
+    with a_class(folder, PUPILS) as (_, place, desk):
+        pages = [PagePupil(browser, place.address, f"page {number}", folder) for number, browser in enumerate(browsers()[:2])]
+        room = pages + [Pupil(place.address, f"pupil {number}") for number in range(PUPILS - len(pages))]
+        equal(sorted(pupil.seat for pupil in room), list(range(1, PUPILS + 1)), "the seats")
+        late = place.post("join", {"name": "late"})
+        equal(late, (409, f"All {PUPILS} seats are taken. The teacher can free one."), "a seat too many")
+        together(*(lambda pupil=pupil: pupil.attend(lines_of(pupil.seat, LINES)) for pupil in room))
+        steps, history = taken(desk, folder)
+        equal(sum(len(pupil.lines) for pupil in room), PUPILS * LINES, "the lines")
+        equal({status for pupil in room for _, status, _ in pupil.lines}, {200}, "the statuses")
+        expect(len(history) > PUPILS * LINES / 3, f"only {len(history)} entries")
+        in_order(room, steps, history)
+        for pupil in room:
+            pupil.until(lambda pupil: len(pupil.entries) >= len(history), f"seat {pupil.seat} is not told all")
+            told = [(f"{seat} {line}", answer) for seat, line, answer in pupil.entries]
+            equal(told, list(zip(steps, history)), f"what seat {pupil.seat} is told")
+            pupil.leave()
+
+
+def refused_alike(place, what, *requests):
+    """Sees that all of these requests are answered as if there were nothing."""
+    for number, request in enumerate(requests):
+        equal(place.ask(*request), (404, "there is nothing here"), f"{what}, request {number}, {request[0]} {request[1]}")
+
+
+def strangers(folder):
+    """Nobody gets in without the secret, speaks for another seat, or comes from another page or by another name."""
+    with a_class(folder, 3, "ann", "bob") as (_, place, desk, ann, _):
+        secret, port = place.secret, place.port
+        line = {"key": ann.key, "line": "claim"}
+        wrong = secret[:-1] + ("a" if secret[-1] != "a" else "b")
+        without_secret(place, ann, line, wrong)
+        from_elsewhere(place, line, f"{place.host}:{port}")
+        equal(place.post("line", line)[0], 200, "the same line from its own page")
+        equal(place.get("start", headers={"Host": f"localhost:{port}"})[0], 200, "localhost on loopback")
+        typed = f"/{secret.replace('-', '').upper()}/start"
+        equal(place.get(typed)[0], 200, "an address that is typed in capitals and without dashes")
+        of_another_form(place, ann, line)
+        equal(ann.play("2 look"), (200, "bad word"), "a line with another seat in it")
+        equal(desk.post("free", {"seat": ann.seat})[0], 200, "a seat is freed")
+        refused_alike(place, "a seat that was freed", ("POST", "line", line))
+        ann.until(lambda pupil: "freed" in pupil.states and pupil.ended.is_set(), "who had the seat is not told")
+        statuses = [desk.post("free", {"seat": seat})[0] for seat in (1, 9, "2", None, [])]
+        equal(statuses, [409] * 5, "a seat that nobody has is freed")
+        late = Pupil(place.address, "  a \u202e\x00 b\n\n" + "c" * 150)
+        late.until(lambda pupil: pupil.states, "who came late is told nothing")
+        equal(late.states[-1]["names"]["3"]["name"], "a b " + "c" * 20, "a free seat that nobody had, and a name")
+        equal(taken(desk, folder)[0], ["1 claim"], "the steps after strangers")
+        with place.answer("GET", "") as answer:
+            policy = answer.getheader("content-security-policy")
+            expect("script-src 'self'" in policy and "unsafe" not in policy, f"the policy is {policy}")
+            headers = [answer.getheader(name) for name in ("referrer-policy", "x-content-type-options", "cache-control")]
+            equal(headers, ["no-referrer", "nosniff", "no-store"], "headers")
+        late.leave()
+
+
+def without_secret(place, ann, line, wrong):
+    """Paths without the secret or with a wrong one, what is the teacher's, and keys of nobody."""
+    secret = place.secret
+    refused_alike(place, "without the secret", *(("GET", path) for path in (
+        "/", "/start", "/events", f"/{wrong}/", f"/{wrong}/start", f"/{wrong}/events?from=0", f"/{wrong}/steps.txt",
+        f"/{secret}",
+        f"//{secret}/", f"/{secret}/../", f"/{secret}/%2e", f"/{secret}/x/start", f"/{secret}/class.py", f"/{secret}/steps.txt",
+        f"/{secret}/events?key=&from=0", f"/{secret}/events?key={wrong}&from=0", f"/{secret}/events?key={ann.key}&from=x",
+        "/favicon.ico", "/robots.txt")))
+    teachers = [("POST", path, {"seat": 1, "paused": True})
+                for path in ("pause", "free", "end", "again", "replay", "start", "")]
+    refused_alike(place, "a pupil", ("POST", f"/{wrong}/line", line), ("POST", "/line", line), *teachers)
+    keys = "", "1", wrong, "x" * 64, ann.key[:-1]
+    refused_alike(place, "another seat", *(("POST", "line", {"key": key, "line": "claim", "seat": 1}) for key in keys))
+
+
+def from_elsewhere(place, line, host):
+    """Requests by other names of the host, and from other pages."""
+    hosts = (f"evil.example:{place.port}", place.host, f"{place.host}:1", "evil.example", "",
+             f"{place.host}.evil.example:{place.port}",
+             f"127.0.0.2:{place.port}", f"[::1]:{place.port}", f"0.0.0.0:{place.port}")
+    refused_alike(place, "another host", *(("GET", "", None, {"Host": name}) for name in hosts),
+                  *(("POST", "line", line, {"Host": name, "Origin": "http://" + name}) for name in hosts))
+    origins = (None, "", "null", "http://evil.example", "http://127.0.0.1", f"https://{host}", f"http://{host}.evil.example",
+               host)
+    refused_alike(place, "another origin", *(("POST", "line", line, {"Origin": origin}) for origin in origins),
+                  ("GET", "start", None, {"Origin": "http://evil.example"}),
+                  ("POST", "line", line, {"Sec-Fetch-Site": "cross-site"}),
+                  ("GET", "start", None, {"Sec-Fetch-Site": "same-site"}), ("PUT", "line", line))
+
+
+def of_another_form(place, ann, line):
+    """What is no line, or no JSON."""
+    text = place.ask("POST", "line", line, {"Content-Type": "text/plain"})
+    equal(text, (400, "the request is no JSON"), "a form of another page")
+    for text, words in (
+            ("claim\nlook", "A line has no newline in it."), ("x" * 1023, "A line has at most 1024 bytes."),
+            ("\u00e4" * 512, "A line has at most 1024 bytes."), ("x" * 20000, "the request is too long")):
+        status, said = place.post("line", {"key": ann.key, "line": text})
+        expect(status in (400, 413) and said.startswith(words), f"the line {text!r:.9}: {status} {said}")
+    things = [{"key": ann.key, "line": 7}, {"key": ann.key}, {"line": "look"}, [], "look", None, 7,
+              {"key": ann.key, "line": "\ud800"}]
+    for raw, wanted in [(json.dumps(thing).encode(), 400) for thing in things] + [
+            (b"{", 400), (b"\xff", 400), (b"[" * 9000, 400), (b"{}" + b" " * 20000, 413)]:
+        equal(place.ask("POST", "line", raw=raw)[0], wanted, f"a request of {raw!r:.40}")
+
+
+def commands(folder):
+    """The teacher stops the game for a while and ends it; what is asked then is told in words."""
+    with a_class(folder, 3, "ann") as (_, _, desk, ann):
+        equal(ann.play("look")[0], 200, "a line")
+        desk.post("pause", {"paused": True})
+        stopped = 409, "The teacher has stopped the game for a while. This line was not played."
+        equal(ann.play("commit"), stopped, "a line meanwhile")
+        ann.until(lambda pupil: pupil.states[-1]["paused"], "nobody is told of it")
+        desk.post("pause", {"paused": False})
+        expect(ann.play("commit")[1].split(" by ")[0] in ("1 winnable", "1 unwinnable"), f"a line after it: {ann.lines[-1]}")
+        desk.post("end", {})
+        equal(ann.play("claim"), (503, OVER), "a line after the end")
+        ann.until(lambda pupil: pupil.states[-1]["end"] == {"status": 0, "text": ""}, "nobody is told of the end")
+        equal(len(taken(desk, folder)[0]), 2, "the steps after the end")
+        desk.post("again", {})
+        equal(ann.play("claim")[0], 200, "a line after the game was begun again")
+        equal(desk.post("again", {}), (409, "The game goes on."), "begun again while it goes on")
+        page = desk.post("replay", {})[1]["page"]
+        expect(page.startswith("<!doctype html>") and "1 commit" in page, "the page of the game")
+
+
+def deaths(folder):
+    """The program is killed in the middle, and the game is brought back with the looks that the seats had."""
+    with a_class(folder, 5, *(f"pupil {number}" for number in range(5))) as (child, _, desk, *room):
+        first, *others = room
+        equal(first.play("look")[0], 200, "a look")
+
+        def kill():
+            time.sleep(0.5)
+            os.kill(program_of(child), signal.SIGKILL)
+
+        together(kill, *(lambda pupil=pupil: pupil.attend(lines_of(pupil.seat, 10000)) for pupil in others))
+        for pupil in others:
+            equal(pupil.lines[-1][1:], (503, OVER), "who plays is told")
+        first.until(lambda pupil: pupil.states[-1]["end"] == {"status": -9, "text": ""}, "nobody is told that it was killed")
+        before = len(taken(desk, folder)[0])
+        equal(desk.post("again", {})[0], 200, "it is begun again")
+        status, answer = first.play("commit")
+        expect(status == 200 and answer.split(" ")[1] in ("winnable", "unwinnable", "stale"),
+               f"the look was not kept: {answer}")
+        steps, history = taken(desk, folder)
+        equal(len(history), before + 1, "the entries after it was begun again")
+        in_order(room, steps, history)
+
+
+def keeping(folder):
+    """A game that is kept outlasts board/play itself, with the looks that the seats had, also if it was killed while it
+    wrote."""
+    kept, table = Path(folder, "kept"), written(folder, "table.json", json.dumps(TABLE))
+    options = "--keep", kept
+    child = started(table, "--seats", "3", *options)
+    ann = Pupil(addresses(child)[0], "ann")
+    statuses = [ann.play(line)[0] for line in ("look", "gift ann 1", "look", "lend zoe", "lend ann")]
+    equal(statuses, [200] * 5, "lines that are kept")
+    ann.leave()
+    child.kill()
+    child.communicate()
+    with open(kept / "steps.txt", "a") as file:
+        file.write("1 claim\n1 cl")
+    with a_class(folder, 3, "ann", options=options) as (_, place, desk, again):
+        again.until(lambda pupil: len(pupil.entries) == 4, "entries that came back")
+        equal(again.seat, 2, "the seat, since the first has a look of somebody else")
+        again.leave()
+        late = [Pupil(place.address, "late") for _ in range(2)]
+        expect("winnable" in late[1].play("commit")[1], f"the look was not kept: {late[1].lines}")
+        steps = ["1 look", "1 gift ann 1", "1 look", "1 lend ann", "1 commit"]
+        equal(taken(desk, folder)[0], steps, "the steps that were kept")
+        files = {name: text_of(kept / name) for name in ("steps.txt", "history.txt", "table.json")}
+        for name in "steps.txt", "history.txt":
+            equal(files[name], desk.get(name)[1], f"the {name} of a kept game")
+        for pupil in late:
+            pupil.leave()
+    for name, text, word in (
+            ("steps.txt", "9 look\n" + files["steps.txt"], "no seat"),
+            ("history.txt", "0 won\n" + files["history.txt"], "as it did"),
+            ("table.json", text_of(EXAMPLES / "cube.json"), "another table")):
+        written(kept, name, text)
+        refused(["board", "--no-browser", table, "--seats", "3", *options], word, stdin=subprocess.DEVNULL)
+        equal(text_of(kept / name), text, "a file of a game that is not gone on with")
+        written(kept, name, files[name])
+
+
+def a_long_game(folder):
+    """A kept game of 60,000 entries comes back soon: in half a second, if the machine has nothing else to do."""
+    table = written(folder, "table.json", json.dumps(TABLE))
+    steps = written(folder, "steps.txt", swings("ann", LONG))
+    written(folder, "history.txt", asked("rehearse", table, steps)[0])
+    start = time.monotonic()
+    with played(table, "--seats", "3", "--keep", folder) as (_, (_, teacher)):
+        took = time.monotonic() - start
+        equal(Place(teacher).get("history.txt")[1].count("\n"), LONG, "the entries that came back")
+    expect(took < COMES_BACK, f"{LONG} entries come back in {took:.2f} s")
+    tell(f"{LONG} entries come back in {took:.2f} s")
+
+
+@contextlib.contextmanager
+def short_histories(folder):
+    """Has histories be full after five entries."""
+    real = os.environ["DOLLAR"]
+    capped = 'if [ "$word" = serve ]; then set -- --cap 5 "$@"; fi'
+    small = written(folder, "small", f'#!/bin/sh\nword=$1\nshift\n{capped}\nexec "{real}" "$word" "$@"\n')
+    small.chmod(0o755)
+    os.environ["DOLLAR"] = str(small)
+    try:
+        yield
+    finally:
+        os.environ["DOLLAR"] = real
+
+
+def full_history(folder):
+    """A full history ends the game, and says so."""
+    with short_histories(folder), a_class(folder, 2, "ann") as (_, _, desk, ann):
+        equal([ann.play("claim")[0] for _ in range(6)], [200] * 5 + [503], "lines past the capacity")
+        end = {"status": 3, "text": "the history is full"}
+        ann.until(lambda pupil: pupil.states[-1]["end"] == end, "nobody is told of it")
+        equal(len(taken(desk, folder)[0]), 5, "the steps of a full history")
+
+
+def floods(folder):
+    """Floods of one seat, pages that read nothing, and pages without number on one seat leave the others in peace, and no line
+    is answered to another."""
+    with a_class(folder, 4, "ann", "bob") as (child, place, desk, ann, bob):
+        def half_a_line():
+            return place.sent(f"POST {place.path}line", f"Origin: {place.origin}", "Content-Type: application/json",
+                              "Content-Length: 900", body="{")
+
+        def flood(number):
+            return place.post("line", {"key": ann.key, "line": f"gift ann {number % 2 * 2 - 1}"})
+
+        def here():
+            return ann.states[-1]["names"][str(bob.seat)]["here"]
+
+        # His own page is the oldest of his pages only once the program has taken it.
+        bob.until(lambda pupil: pupil.states, "a page that is told nothing")
+        deaf = [place.events(bob.key) for _ in range(12)] + [half_a_line() for _ in range(HALVES)]
+        waits, *answers = together(
+            lambda: [bob.timed("look", "another pupil in a flood") for _ in range(20)],
+            *(lambda number=number: flood(number) for number in range(200)))
+        equal(len(answers), 200, "each line of a flood is answered")
+        equal({status for status, _ in answers}, {200, 429}, "the statuses of a flood, which is told to be too fast")
+        told = sorted(answer["answer"] for status, answer in answers if status == 200)
+        entries = zip(*taken(desk, folder))
+        equal(told, sorted(line for step, line in entries if step.startswith("1 ")), "the answers to a flood")
+        expect(max(waits) < 2, f"another pupil waited {max(waits):.1f} s")
+        bob.until(lambda pupil: "asleep" in pupil.states and pupil.ended.is_set(),
+                  "the oldest of many pages on a seat is not told")
+        ann.until(lambda _: here() <= 4, "more than four pages on a seat")
+        is_modest(child, MOST_MEMORY)
+        for link in deaf:
+            link.close()
+        ann.until(lambda _: here() == 0, "pages that vanished are still there")
+
+
+def clicks(folder):
+    """With 64 seats that all look on, and a thousand entries behind it, a click is answered at once."""
+    with a_class(folder, SEATS, *(f"pupil {number}" for number in range(SEATS))) as (child, _, _, *room):
+        together(*(lambda pupil=pupil: pupil.attend(["look"] * (BEHIND // SEATS + 1)) for pupil in room))
+        waits = [room[number % SEATS].timed("lend ann" if number % 2 else "borrow ann", "a click") for number in range(CLICKS)]
+        middle = 1000 * statistics.median(waits)
+        expect(middle < 1000 * MEDIAN, f"a click is answered in {middle:.1f} ms at the median")
+        room[-1].until(lambda pupil: len(pupil.entries) >= BEHIND + CLICKS, "the last seat is not told all")
+        had = is_modest(child, MOST_MEMORY)
+        tell(f"a click: median {middle:.1f} ms, worst {1000 * max(waits):.1f} ms; memory {had} KiB")
+
+
+def network(folder):
+    """With --host the table is open to other machines, by the address of this one and by no other name."""
+    with a_class(folder, 2, options=("--host", "0.0.0.0")) as (_, place, _):
+        local, near = 200 if place.host == "127.0.0.1" else 404, Place(f"http://127.0.0.1:{place.port}{place.path}")
+        for of, host, status in (
+                (place, place.host, 200), (place, "localhost", local), (place, "evil.example", 404), (place, "0.0.0.0", 404),
+                (place, "198.51.100.7", 404), (near, near.host, 200), (near, place.host, local)):
+            equal(of.get("start", headers={"Host": f"{host}:{place.port}"})[0], status, f"{host} asked at {of.host}")
+        equal(Pupil(place.address, "ann", events=False).play("claim")[1], "0 not won", "a line from the network")
+
+
+load_tests = tests_of(many_pupils, network, strangers, commands, deaths, keeping, a_long_game, full_history, floods, clicks,
+                      given=tempfile.TemporaryDirectory)

@@ -1,0 +1,137 @@
+"""The table of a class in Chromium: pupils' pages and the teacher's, by clicks, keys and touches."""
+import collections
+import json
+import os
+import signal
+import tempfile
+
+from browser import LISTED, READY, Page, at, needed
+from common import EXAMPLES, equal, expect, played
+from helpers import tests_of
+from visitors import PagePupil, Place, program_of, taken
+
+# Two pupils' pages and the teacher's; the process of the server, and the teacher's address.
+Lesson = collections.namedtuple("Lesson", "ann bob desk child place")
+NO_LOOK = "This seat has not looked since its last verdict. It looks first."
+
+
+def with_entries(lesson):
+    """Two pupils and the teacher see each entry, by whatever it was made, and each is told what is his alone."""
+    ann, bob, desk, *_ = lesson
+    equal(ann.value("texts('#names li b')"), ["Zo\u00eb", "<img src=x onerror=p()>"], "the names that are shown")
+    equal(ann.value("$$('#names img').length"), 0, "a name that is a script")
+    ann.click(at("cyd"))
+    for page in ann, bob:
+        page.has(1)
+    bob.touch(at("dan"), 1.0)
+    ann.has(2)
+    said = ann.text("#asked"), ann.text("#said")
+    equal(said, ("2 borrow dan", "1 moved ann=-2 bob=1 cyd=0 dan=2"), "a long touch of another")
+    expect(ann.text("#step").startswith("<img src=x onerror=p()>: dan borrows"), f"whose move it was: {ann.text('#step')}")
+    ann.focus(at("bob"))
+    ann.press("Enter")
+    bob.has(3)
+    equal(ann.value("document.activeElement.dataset.name"), "bob", "the focus after an entry came")
+    ann.drag(at("ann"), at("cyd"))
+    bob.has(4)
+    equal(bob.text("#said"), "3 joined 1 ann=-1 bob=-2 cyd=1 dan=3", "an edge that another drew")
+    bob.click("#commit")
+    bob.until("!$('#refused').hidden")
+    equal([bob.text("#refused span"), bob.text("#refused code")], [NO_LOOK, "bad look"], "a commit without a look")
+    equal(ann.value("$('#refused').hidden"), True, "another is told of it")
+    ann.value("viewer.go(1)")
+    bob.click("#look")
+    ann.has(5)
+    equal(ann.value("viewer.now"), 1, "who walks in the history is left there")
+    ann.press("End")
+    for text, words in (("x" * 1100, "at most 1024 bytes"), ("a\\nb", "no newline"), ("2 look", "That is no command.")):
+        ann.value(f"void play('{text}')")
+        ann.until(f"$('#refused').textContent.includes({json.dumps(words)})")
+    equal(desk.value("viewer.game.length"), 5, "the steps on the teacher's page")
+
+
+def confirmed(desk, button):
+    """Clicks a button of the teacher's, and says yes."""
+    desk.click(button)
+    desk.answered(True)
+
+
+def with_seats(lesson):
+    """A seat is kept over a reload, is told that it is open twice, and is freed by the teacher."""
+    ann, _, desk, *_ = lesson
+    seat, address = ann.seat, ann.value("location.href")
+    ann.visit(address, "state !== null && viewer.game.length === 5")
+    equal(ann.value("me.seat"), seat, "the seat after a reload")
+    link = Place(address).events(ann.key)
+    ann.told("This seat is open in 2 pages.")
+    link.close()
+    ann.until("$('#notice').hidden")
+    confirmed(desk, "#names button")
+    ann.told("Your seat was freed.")
+    equal(ann.value("$('#entrance').hidden"), False, "a new seat is offered")
+    ann.join("Zo\u00eb again", None)
+    equal(ann.seat, 3, "the new seat is one that nobody had")
+
+
+def with_commands(lesson):
+    """The teacher stops the game for a while; the program is killed and begun again; the files are taken along."""
+    ann, bob, desk, child, place = lesson
+    desk.click("#pause")
+    ann.told("The teacher has stopped the game for a while.")
+    ann.click(at("cyd"))
+    ann.until("$('#refused').textContent.includes('was not played')")
+    desk.until("$('#pause').textContent === 'Let the game go on'")
+    desk.click("#pause")
+    ann.until("$('#notice').hidden && $('#refused').hidden")
+    os.kill(program_of(child), signal.SIGKILL)
+    for page in ann, bob:
+        page.told("The program has ended: it was killed.")
+    desk.until("!$('#again').hidden")
+    desk.click("#again")
+    ann.until("$('#notice').hidden")
+    bob.click("#commit")
+    ann.has(6)
+    expect("winnable" in ann.text("#said"), f"the look of before is not kept: {ann.text('#said')}")
+    for name in "table.json", "steps.txt", "history.txt":
+        equal(desk.saved(f"#take-{name.partition('.')[0]}", name), place.get(name)[1], f"the saved {name}")
+    desk.saved("#take-page", "game.html")
+    entries = [list(pair) for pair in zip(*taken(place, desk.folder))]
+    equal(ann.value(LISTED), entries, "the history on a pupil's page")
+    ann.value("viewer.go(1)")
+    expect(ann.text("#step").startswith("Zo\u00eb: cyd lends"), f"whose the first step was: {ann.text('#step')}")
+    ann.press("End")
+
+
+def of_the_pages_of_a_class(folder):
+    browsers = one, two, desk = needed()
+    with played(EXAMPLES / "houses.json", "--seats", "3") as (child, (pupils, teacher)):
+        for browser in browsers:
+            browser.media()
+            browser.size()
+            browser.asked.clear()
+        one.open(pupils)
+        one.until(READY)
+        one.in_sizes("entrance")
+        one.click("#watch")
+        one.until("state !== null")
+        watching = one.text("#address"), one.value("getComputedStyle($('#hands')).display")
+        equal(watching, (pupils, "none"), "a page that only watches")
+        one.in_sizes("watching")
+        ann, bob = (PagePupil(*given, folder)
+                    for given in ((one, pupils, "Zo\u00eb"), (two, pupils, "<img src=x onerror=p()>")))
+        page = Page(desk, teacher, os.path.join(folder, "desk"))
+        page.until("state !== null")
+        for part in with_entries, with_seats, with_commands:
+            part(Lesson(ann, bob, page, child, Place(teacher)))
+        one.in_sizes("pupil")
+        desk.in_sizes("teacher")
+        equal(desk.text("#address"), pupils, "the address on the teacher's page")
+        confirmed(page, "#end")
+        ann.told("The teacher has ended the game.")
+        for browser in browsers:
+            browser.harmless(pupils, teacher)
+            browser.asked.clear()
+    ann.told("There is no connection to the game.")
+
+
+load_tests = tests_of(of_the_pages_of_a_class, given=tempfile.TemporaryDirectory)

@@ -1,0 +1,51 @@
+"""What the pages' modules do without a page (pure.js): in node, and in a browser, which takes modules from a server alone."""
+import functools
+import http.server
+import json
+import shutil
+import subprocess
+import tempfile
+import threading
+import unittest
+from pathlib import Path
+
+from browser import browsers
+from common import equal, written
+from dollar.board.pages import WEB, part
+from helpers import tests_of
+
+
+class Quiet(http.server.SimpleHTTPRequestHandler):
+    def log_message(self, *_):
+        pass
+
+
+def in_node(place):
+    told = "import('./pure.js').then((tests) => console.log(JSON.stringify(tests.failures())))"
+    return json.loads(subprocess.run(["node", "-e", told], cwd=place, stdout=subprocess.PIPE, check=True, timeout=60).stdout)
+
+
+def in_browser(place, browser):
+    with http.server.ThreadingHTTPServer(("127.0.0.1", 0), functools.partial(Quiet, directory=place)) as server:
+        threading.Thread(target=server.serve_forever, daemon=True).start()
+        browser.open(f"http://127.0.0.1:{server.server_port}/package.json")
+        found = browser.value("import('./pure.js').then((tests) => tests.failures())")
+        server.shutdown()
+    browser.asked.clear()
+    return found
+
+
+def modules(folder):
+    place = shutil.copytree(WEB, Path(folder, "modules"))
+    shutil.copy(Path(__file__).with_name("pure.js"), place)
+    written(place, "grammar.js", part("grammar.js"))
+    written(place, "package.json", '{"type": "module"}')
+    if not shutil.which("node") and not browsers():
+        raise unittest.SkipTest("the tests of the pages' modules, for want of node and Chromium")
+    if shutil.which("node"):
+        equal(in_node(place), [], "the modules in node")
+    for browser in browsers()[:1]:
+        equal(in_browser(place, browser), [], "the modules in a browser")
+
+
+load_tests = tests_of(modules, given=tempfile.TemporaryDirectory)
