@@ -15,6 +15,7 @@ import sys
 TOP = os.path.dirname(os.path.dirname(os.path.abspath(__file__)))
 LINES, SESSION, SWEEP = "crates/dg_lines/specs/", "crates/dg_session/specs/", "crates/dg_sweep/specs/"
 COMMANDS, KINDS_OF, REPLIES = LINES + "Commands.antt", LINES + "CommandWords.antt", LINES + "Texts.antt"
+JUDGEMENTS = LINES + "Judgements.antt"
 LOOKS, FILE_FAULTS, STATUS = SESSION + "Saying.antt", SWEEP + "FaultTexts.antt", "crates/dg_server/specs/Status.antt"
 FAULT, LINE_FAULT = "crates/dg_server/src/fault.rt", "crates/dg_lines/src/line.rt"
 GRAMMAR = "python/dollar/grammar.json"
@@ -77,6 +78,14 @@ def texts_by_variant(path, name):
 def texts(path, name):
     """The texts alone."""
     return [text for _, text in texts_by_variant(path, name)]
+
+
+def ordered_texts():
+    """The verdicts with the order of burning: N stands for the names of all vertices, with one space between two."""
+    literal = re.fullmatch(r'codes "( \w+)" \+\+ flat_map \(.*\) order', equations(JUDGEMENTS)["burning_text"][0][1])
+    if not literal:
+        raise unread(JUDGEMENTS, "burning_text")
+    return [text + literal[1] + " N" for text in texts(REPLIES, "verdict_text")]
 
 
 def commands():
@@ -246,7 +255,7 @@ def limits():
 def grammar():
     """All of it."""
     return {
-        "commands": commands(), "kinds": kinds(), "replies": texts(REPLIES, "text_of"), "refusals": texts(REPLIES, "refusal_text"),
+        "commands": commands(), "kinds": kinds(), "replies": texts(REPLIES, "text_of"), "ordered": ordered_texts(), "refusals": texts(REPLIES, "refusal_text"),
         "bad": bad_texts(), "tables": table_faults(), "faults": faults(), "limits": limits()}
 
 

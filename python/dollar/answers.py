@@ -5,7 +5,7 @@ from __future__ import annotations
 import csv
 import re
 from collections.abc import Mapping as AbstractMapping
-from dataclasses import InitVar, dataclass, fields
+from dataclasses import InitVar, dataclass, field, fields
 from html import escape
 from typing import IO, Any, Callable, Dict, Iterable, Iterator, List, Optional, Pattern, Tuple, TypeVar, Union
 
@@ -61,7 +61,8 @@ class Answer:
 
 @dataclass(frozen=True, eq=False)
 class Verdict(Answer):
-    """Whether all debts can be cleared; how often each vertex lends; and the reduced divisor to which that leads.
+    """Whether all debts can be cleared; how often each vertex lends; the reduced divisor to which that leads; and the order in which
+    all vertices burn in it, which `judge` tells, and None else.
 
     >>> from dollar import Table, judge
     >>> table = Table({"vertices": ["a", "b"], "edges": [["a", "b", 1]], "amounts": [2, -1], "q": "a"})
@@ -70,6 +71,8 @@ class Verdict(Answer):
     Verdict(winnable=True, script={'a': 0, 'b': -1}, reduced={'a': 1, 'b': 0})
     >>> print(verdict)
     winnable by a=0 b=-1 to a=1 b=0
+    >>> verdict.burning
+    ['a', 'b']
     >>> verdict == ("winnable", {"a": 0, "b": -1}, {"a": 1, "b": 0})
     True
     >>> "can be won" if verdict else "can't be won"
@@ -84,6 +87,7 @@ class Verdict(Answer):
     winnable: bool
     script: Pairs
     reduced: Pairs
+    burning: Optional[List[str]] = field(default=None, repr=False)
     table: InitVar[Any] = None
 
     def __post_init__(self, table: Any) -> None:
@@ -202,7 +206,7 @@ class RiemannRoch(AbstractMapping[str, Optional[int]]):
         return table_html(RIEMANN_ROCH, [["?" if number is None else number for number in self.values()]])
 
 
-RIEMANN_ROCH = tuple(field.name for field in fields(RiemannRoch))
+RIEMANN_ROCH = tuple(number.name for number in fields(RiemannRoch))
 
 
 @dataclass(frozen=True, eq=False)
@@ -365,7 +369,7 @@ def refusal(kind: Callable[..., Row], text: str, table: Optional[int]) -> Row:
 
 AMOUNTS, NATURAL = r"(\w+={0}(?: \w+={0})*)".format(r"(?:0|-?[1-9]\d*)"), r"(0|[1-9]\d*)"
 # How each part of a form is read; the amounts that a rank test lacks past the limits are a question mark.
-PARTS = {"P": AMOUNTS, "g": NATURAL, "k": NATURAL, "?": r"\?"}
+PARTS = {"P": AMOUNTS, "N": r"(\w+(?: \w+)*)", "g": NATURAL, "k": NATURAL, "?": r"\?"}
 
 
 def form_of(text: str) -> Pattern[str]:
@@ -378,7 +382,7 @@ def form_of(text: str) -> Pattern[str]:
 def forms() -> Dict[str, List[Pattern[str]]]:
     """What reads each answer of the program, by the first word."""
     found: Dict[str, List[Pattern[str]]] = {}
-    for text in [*GRAMMAR["replies"], "rank below k at ?", *GRAMMAR["bad"], "turns"]:
+    for text in [*GRAMMAR["replies"], *GRAMMAR["ordered"], "rank below k at ?", *GRAMMAR["bad"], "turns"]:
         found.setdefault(text.split(" ")[0], []).append(form_of(text))
     return found
 
@@ -447,7 +451,7 @@ def verdict_of(text: str, table: Any = None) -> Verdict:
     word, *rest = parts_of(text)
     if word not in ("winnable", "unwinnable"):
         raise no_answer(text)
-    return Verdict(word == "winnable", pairs_of(rest[0]), pairs_of(rest[1]), table)
+    return Verdict(word == "winnable", pairs_of(rest[0]), pairs_of(rest[1]), rest[2].split(" ") if rest[2:] else None, table)
 
 
 def rank_test_of(text: str) -> RankTest:
@@ -493,7 +497,7 @@ def to_csv(answers: Iterable[Union[Verdict, RankTest, RiemannRoch, Refused]], fi
     writer = csv.writer(file, lineterminator="\n")
     count = 0
     for count, row in enumerate(answers, 1):
-        names = [field.name for field in fields(row) if field.name != "refused"]
+        names = [column.name for column in fields(row) if column.repr and column.name != "refused"]
         if count == 1:
             writer.writerow(["table", *names, "refused"])
         writer.writerow([count - 1, *(cell(getattr(row, name)) for name in names), getattr(row, "refused", None)])

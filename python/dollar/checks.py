@@ -52,6 +52,23 @@ def burnt(table: Any, amounts: Dict[str, int]) -> List[str]:
         order.append(burning[0])
 
 
+def misplaced(table: Any, amounts: Dict[str, int], order: List[str]) -> Optional[str]:
+    """The first vertex of an order that may not burn after those before it, or None: q comes first, and more edges join each other
+    vertex to those before it than it has dollars.
+
+    >>> from dollar import Table
+    >>> ring = Table([[0, 1, 0, 1], [1, 0, 1, 0], [0, 1, 0, 1], [1, 0, 1, 0]])
+    >>> misplaced(ring, {"0": -2, "1": 0, "2": 1, "3": 0}, ["0", "1", "3", "2"])
+    >>> misplaced(ring, {"0": -2, "1": 0, "2": 1, "3": 0}, ["0", "1", "2", "3"])
+    '2'
+    """
+    near = edges(table)
+    for count, v in enumerate(order):
+        if v != table["q"] if count == 0 else sum(near[v].get(w, 0) for w in order[:count]) <= amounts[v]:
+            return v
+    return None
+
+
 def flaw(table: Any, verdict: Iterable[Any]) -> Optional[str]:
     """What is wrong in a verdict, or None where it is right, which needs no trust in the program.
 
@@ -70,10 +87,13 @@ def flaw(table: Any, verdict: Iterable[Any]) -> Optional[str]:
     poor = [v for v in names if v != q and reduced[v] < 0]
     if poor:
         return "in debt off q: " + ", ".join(poor)
-    burning = burnt(table, reduced)
-    left = [v for v in names if v not in burning]
+    order = getattr(verdict, "burning", None) or burnt(table, reduced)
+    left = [v for v in names if v not in order]
     if left:
         return "not all burns: %s is left" % ", ".join(left)
+    early = misplaced(table, reduced, order)
+    if early is not None:
+        return "%s burns too early" % early
     if word != ("winnable" if reduced[q] >= 0 else "unwinnable"):
         return "q is in debt exactly where nothing can be won"
     return None

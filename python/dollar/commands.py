@@ -47,7 +47,7 @@ def judge(table: Any, program: Optional[Place] = None) -> Verdict:
     winnable by 0=0 1=-1 to 0=1 1=0
     """
     file = members(table)
-    line = printed("judge", file, program=program).rstrip("\n")
+    line = printed("judge", "--order", file, program=program).rstrip("\n")
     return verdict_of(line, table if isinstance(table, Table) else Table(json.loads(file)))
 
 

@@ -267,4 +267,4 @@ def verdict_picture(name: str, table: Any, verdict: Any, own: Optional[str] = No
     found = places_for(table, own)
     return pictured("%s, %s by %s" % (name, word, " ".join("%s=%d" % pair for pair in script.items())), [
         Frame(table, found, held(table), [name, "" if any(script.values()) else "no vertex need lend"], (), None, script),
-        Frame(table, found, reduced, says, checks.burnt(table, reduced))])
+        Frame(table, found, reduced, says, getattr(verdict, "burning", None) or checks.burnt(table, reduced))])

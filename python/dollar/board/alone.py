@@ -96,8 +96,10 @@ class Alone:
             return await self.begin(table, [line for line in text_in(given, "steps", MOST_STEPS).split("\n") if line])
         if command == "play":
             return await self.play(given)
-        if command in ("judge", "rr"):
-            return await run(command, "--", table.encode())
+        if command == "judge":
+            return await run("judge", "--order", "--", table.encode())
+        if command == "rr":
+            return await run("rr", "--", table.encode())
         if command == "rank":
             return await run("rank", "--", table.encode(), text_in(given, "degree", 12))
         if command == "rehearse":

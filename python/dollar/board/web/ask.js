@@ -2,9 +2,8 @@
    amounts and edges that are shown, and leaves no entry. */
 
 import { still } from "./board.js";
-import { GRAMMAR } from "./grammar.js";
 import { element, made } from "./viewer.js";
-import { answerOf, dollars, faultWords, linesOf, listed, lossWords, planned, replyOf, replyWords } from "./words.js";
+import { answerOf, dollars, faultWords, linesOf, listed, lossWords, planned, replyWords } from "./words.js";
 
 export class Questions {
   /* `ask` puts a question to the program, and `play` plays a line. */
@@ -92,27 +91,18 @@ export class Questions {
       + "By Riemann-Roch rank less dual is degree + 1 less genus.", printed);
   }
 
-  /* The fire, as the program tells it: of those that don't burn yet all would lend at once, and who would then owe burns. */
+  /* The fire, in the order that the program tells. */
   async fire() {
-    const { game } = this.viewer, { q } = game.table, { reduced } = this.reply, { edges } = game.states[this.viewer.now];
-    // What q owes, which burning does not look at, may be more than a table takes.
-    const most = GRAMMAR.limits["dg_chips::MAX_AMOUNT"], amounts = [...reduced.values()].map((amount) => Math.max(amount, -most));
-    const table = JSON.stringify({ ...JSON.parse(this.table), amounts });
-    const state = { edges, added: new Map(), amounts: reduced }, asked = this.reply;
+    const { game } = this.viewer, { burning, reduced } = this.reply, { edges } = game.states[this.viewer.now], asked = this.reply;
+    const state = { edges, added: new Map(), amounts: reduced };
     element("show-fire").hidden = true;
-    this.burn(state, [q], `${q} burns: it owes, and a giver gets nothing. So it is no giver.`);
-    for (let burnt = [q]; burnt.length < game.names.length;) {
-      const left = game.names.filter((name) => !burnt.includes(name));
-      const said = await this.ask({ command: "rehearse", table, steps: `1 fire ${left.join(",")}\n` });
+    for (const [count, next] of burning.entries()) {
+      if (count > 0 && !still.matches) await new Promise((done) => setTimeout(done, 700));
       if (this.reply !== asked) return;
-      if (said.status !== 0) return this.tell(faultWords(said.err), `dollar: ${said.err}\n`);
-      const after = replyOf(linesOf(said.out)[0]).amounts, next = left.find((name) => after.get(name) < 0);
-      if (next === undefined) return;
-      burnt = [...burnt, next];
-      if (!still.matches) await new Promise((done) => setTimeout(done, 700));
-      if (this.reply !== asked) return;
+      const left = game.names.filter((name) => !burning.slice(0, count).includes(name));
       const who = left.length === 1 ? `if ${next} lent` : `if ${listed(left)} lent at once`;
-      this.burn(state, burnt, `${next} burns: ${who}, ${next} would owe ${-after.get(next)}. So it is no giver.`);
+      const why = count === 0 ? "it owes, and a giver gets nothing" : `${who}, ${next} would owe`;
+      this.burn(state, burning.slice(0, count + 1), `${next} burns: ${why}. So it is no giver.`);
     }
     this.line("All burn: there are no givers, and nobody can help.");
   }

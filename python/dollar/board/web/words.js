@@ -27,20 +27,21 @@ export const KINDS = {
   moved: { mark: "\u00b7", words: (_, amounts) => debtWords(amounts) },
 };
 
-/* What stands for the parts of a reply's form, and what they are called: g changes and k dollars that are lost, P amounts. */
+/* What stands for the parts of a reply's form, and what they are called: g changes and k dollars that are lost, P amounts, N the names
+   of all vertices as they burn. */
 
-const PARTS = { P: String.raw`(\w+=-?\d+(?: \w+=-?\d+)*)`, g: String.raw`(\d+)`, k: String.raw`(\d+)` };
+const PARTS = { P: String.raw`(\w+=-?\d+(?: \w+=-?\d+)*)`, N: String.raw`(\w+(?: \w+)*)`, g: String.raw`(\d+)`, k: String.raw`(\d+)` };
 const AMOUNTS = { winnable: ["script", "reduced"], unwinnable: ["script", "reduced"], rank: ["loss"] };
 
 function formOf(text) {
   const kind = /^(not won|rank|refused|\w+)/.exec(text)[1].replace(" ", "-"), amounts = [...(AMOUNTS[kind] || ["amounts"])];
   if (kind === "refused") return [kind, /^refused (\w+)$/, ["cause"]];
-  const parts = text.split(" "), named = { g: () => "gifts", k: () => "degree", P: () => amounts.shift() };
+  const parts = text.split(" "), named = { g: () => "gifts", k: () => "degree", P: () => amounts.shift(), N: () => "burning" };
   const form = new RegExp(`^${parts.map((part) => PARTS[part] || part).join(" ")}$`);
   return [kind, form, parts.filter((part) => PARTS[part]).map((part) => named[part]())];
 }
 
-const FORMS = GRAMMAR.replies.map(formOf);
+const FORMS = [...GRAMMAR.replies, ...GRAMMAR.ordered].map(formOf);
 
 export function stepOf(line) {
   const [seat, word, ...given] = line.split(" ");
@@ -59,7 +60,7 @@ export function pairsOf(texts) {
 export function answerOf(line) {
   for (const [kind, form, fields] of FORMS) {
     const found = form.exec(line);
-    if (found) return Object.assign({ line, kind }, Object.fromEntries(fields.map((field, i) => [field, valueOf(found[i + 1])])));
+    if (found) return Object.assign({ line, kind }, Object.fromEntries(fields.map((field, i) => [field, valueOf(field, found[i + 1])])));
   }
   return { line, kind: "unread" };
 }
@@ -69,7 +70,8 @@ export function replyOf(line) {
   return { ...(found ? answerOf(found[1]) : { kind: "unread" }), line };
 }
 
-function valueOf(text) {
+function valueOf(field, text) {
+  if (field === "burning") return text.split(" ");
   if (text.includes("=")) return pairsOf(text.split(" "));
   return /^\d+$/.test(text) ? Number(text) : text;
 }
