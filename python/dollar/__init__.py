@@ -37,7 +37,7 @@ from dollar.session import End, Ended, Session
 from dollar.sweeps import judge_all, rank_all, rr_all
 from dollar.table import Table, example
 
-__version__ = "1.0.0"
+__version__ = "1.1.0"
 
 __all__ = [
     "Answer", "End", "Ended", "Entry", "Fault", "History", "Party", "ProgramNotFound", "RankTest", "Refused", "RefusedRankTest",
