@@ -3,3 +3,8 @@ pub mod Taken
 pub mod Pieces
 pub mod Swept
 pub mod Amounts
+-- Each line has one answer at most.
+pub mod SameTables
+pub mod OneText
+pub mod OneMeaning
+pub mod OneAnswer

@@ -46,7 +46,10 @@ fn refuses<R: Threads + Wait + Abort>(
     };
     let found = rank_with(rt, &triangle, 0, &divisor, degree, workers, &gate);
     assert!(rt; found == Err(fault), "{workers} workers");
-    assert!(rt; gate.entered.load(Ordering::SeqCst) == 0, "{workers} workers");
+    assert!(rt;
+        gate.entered.load(Ordering::SeqCst) == 0,
+        "{workers} workers"
+    );
     Ok(())
 }
 
