@@ -19,5 +19,6 @@ returns-clause-taken g c =
     c.keep_part-2.new.pending.items (part_plain c.args.bytes.now c.cut.result.0.now c.cut.ensures.before)
     (part_line c.args.bytes.now c.cut.result.0.now c.cut.result.1 c.in-Some.after c.cut.ensures.before
     c.cut.ensures.after c.in-Some.is)
-    c.in_ok-keep_part.ensures c.deref.result.now c.deref.ensures.value c.in_ok-answer_of_kind.ensures c.in_ok-part.ensures.answered
+    c.in_ok-keep_part.ensures c.deref.result.now c.deref.ensures.value c.in_ok-answer_of_kind.ensures
+    c.in_ok-part.ensures.answered
     c.clear-2.new.self.items c.clear-2.ensures.items c.in_ok-keep_part-2.ensures
