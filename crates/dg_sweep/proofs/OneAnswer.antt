@@ -1,4 +1,4 @@
--- A line has one answer at most.
+-- A line has just one answer.
 --   answer_moves   what answers a table answers the same table, however it is written
 --   answer_once    a table has one answer
 --   lines_have_one_answer
@@ -24,11 +24,12 @@ use Rattle.dg_file.specs.declared.fault.FileFault.{FileFault}
 use Rattle.dg_invocation.specs.declared.question.Question.{Question}
 use Rattle.dg_invocation.specs.declared.question.Question.TheVariants.{Judge, Rank, RiemannRoch}
 use Rattle.dg_sweep.specs.AnswerLaws.{HasOneAnswer, LinesHaveOneAnswer}
-use Rattle.dg_sweep.specs.Answers.{IsVerdict, IsTested, IsBelow, AnswersRank, number_after, numbers_text, AreRanks, AreUntested, AnswersTable, refusal, IsRefused, AnswersTableWithin}
+use Rattle.dg_sweep.specs.Answers.{IsVerdict, IsTested, IsBelow, AnswersRank, number_after, numbers_text, AreRanks, AreUntested, AnswersTable, refusal, IsRefused, AnswersTableWithin, AnswersLine}
 use Rattle.dg_sweep.specs.Divisors.{RefusesAmounts, AnswersAmounts}
 use Rattle.dg_sweep.specs.FaultTexts.{file_fault_text}
 use Rattle.dg_sweep.proofs.OneMeaning.{amounts_have_one_meaning}
 use Rattle.dg_sweep.proofs.OneText.{verdict_same, test_same}
+use Rattle.dg_sweep.proofs.SomeAnswer.{HasText, some_table, some_amounts}
 use Rattle.dg_sweep.proofs.SameTables.{IsSameGraph, same_back, same_genus, same_canonical, right_on, tested_on, rank_on, is_rank_on, untold_on, needs_on}
 
 same_graph : (o p : StartData) → AreSameOpenings o p → IsSameGraph o.graph p.graph
@@ -183,7 +184,8 @@ refused_once refuses text other a b same =
     a.printed ∙ ap (λ (f : FileFault). refusal (file_fault_text f)) same ∙ sym b.printed
 
 line_once : (right : List ℕ → List ℕ → Type 0) (line : List ℕ)
-    → ((text other : List ℕ) → right line text → right line other → text ≡ other) → HasOneAnswer right line
+    → ((text other : List ℕ) → right line text → right line other → text ≡ other) → (text other : List ℕ)
+    → AnswersLine right line text → AnswersLine right line other → text ≡ other
 line_once right line once text other (inl (long, a)) (inl (long', b)) = a ∙ sym b
 line_once right line once text other (inl (long, a)) (inr (short, b)) = absurd (omega (arith, long, short))
 line_once right line once text other (inr (short, a)) (inl (long, b)) = absurd (omega (arith, long, short))
@@ -227,11 +229,16 @@ module _ (question : Question) where
       (omega (arith, q, size, start.vertex)) (fit ∙ sym size) question text other a.answer
       (answer_moves b.start a.start alike question names other b.answer)
 
+just_one : (right : List ℕ → List ℕ → Type 0) (line : List ℕ) → HasText (AnswersLine right line)
+    → ((text other : List ℕ) → right line text → right line other → text ≡ other) → HasOneAnswer right line
+just_one right line (text, answers) once =
+    (text, answers, λ other also. line_once right line once other text also answers)
+
 pub lines_have_one_answer : FilesHaveOneMeaning → LinesHaveOneAnswer
 lines_have_one_answer files = record {
   tables = λ question line.
-      line_once (AnswersTableWithin question) line (table_once question files line);
+      just_one (AnswersTableWithin question) line (some_table files question line) (table_once question files line);
   amounts = λ question o names line start fit.
-      line_once (AnswersAmounts question o names) line
+      just_one (AnswersAmounts question o names) line (some_amounts question o names line start)
       (λ text other. amounts_once question o names line text other start fit);
 }

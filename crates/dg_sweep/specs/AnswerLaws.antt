@@ -1,5 +1,5 @@
 -- Laws of answers and of amounts.
---   HasOneAnswer right line == at most one text answers the line
+--   HasOneAnswer right line == just one text answers the line
 --   LinesHaveOneAnswer  == so it is of each line of a table; and of each line of amounts for a start
 --                          and its names
 --   AmountsHaveOneMeaning == a line of amounts stands for a start or has a fault, want of memory
@@ -15,8 +15,8 @@ use Rattle.dg_sweep.specs.Divisors.{HasAmountsOf, RefusesAmounts, AnswersAmounts
 
 abbrev pub HasOneAnswer : (List ℕ → List ℕ → Type 0) → List ℕ → Type 0
 HasOneAnswer right line =
-    (text other : List ℕ) → AnswersLine right line text → AnswersLine right line other
-    → text ≡ other
+    (text : List ℕ) × AnswersLine right line text
+    × ((other : List ℕ) → AnswersLine right line other → other ≡ text)
 
 pub record LinesHaveOneAnswer : Type 0 where
   pub tables : (question : Question) (line : List ℕ)

@@ -4,8 +4,8 @@ ghost use Rattle.dg_sweep.specs.DivisorLaws.{LinesStandForTables};
 
 use dg_file::files_have_one_meaning;
 
-/// A line has one answer at most: no two texts answer a line of a table, and none two a line of amounts for a start. So the
-/// number of workers changes no answer, and a line is not both answered and refused; want of memory aside.
+/// A line has just one answer: one text answers a line of a table, and one a line of amounts for a start. So the number of
+/// workers changes no answer, and no line is both answered and refused.
 pub fn lines_have_one_answer()
     ensures { LinesHaveOneAnswer }
 {

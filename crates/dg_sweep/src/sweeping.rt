@@ -20,12 +20,11 @@ use std::sync::Wait;
 use std::thread::Threads;
 
 /// Answers the lines that the reader gives, each as `answer_line` does, in order, until there are no more; there may be any
-/// number of lines. However it ends, all whole lines that were read are answered, but for those of the last read if the writer
-/// fails or something is refused. At most so many workers share the lines of a read; their number changes no answer.
+/// number of lines. At most so many workers share the lines of a read; their number changes no answer.
 ///
-/// It ends before the input does with `Read` if the reader fails, `Write` if the writer fails or takes no byte, and with
-/// `Shortage` if memory is refused or, from two workers on, a thread can't be started; then the answers to lines of the last
-/// read stay unwritten.
+/// It ends before the input does with `Read` if the reader fails; then all whole lines that were read are answered. It ends
+/// with `Write` if the writer fails or takes no byte, and with `Shortage` if memory is refused or, from two workers on, a
+/// thread can't be started; then some first lines are answered.
 pub fn sweep<R: Threads + Wait + Sync, I: Read, O: Write>(
     rt: &R,
     alloc: Global,
