@@ -255,7 +255,8 @@ def limits():
 def grammar():
     """All of it."""
     return {
-        "commands": commands(), "kinds": kinds(), "replies": texts(REPLIES, "text_of"), "ordered": ordered_texts(), "refusals": texts(REPLIES, "refusal_text"),
+        "commands": commands(), "kinds": kinds(), "replies": texts(REPLIES, "text_of"), "ordered": ordered_texts(),
+        "refusals": texts(REPLIES, "refusal_text"),
         "bad": bad_texts(), "tables": table_faults(), "faults": faults(), "limits": limits()}
 
 

@@ -7,7 +7,7 @@ pub fn command_lines_ask()
     ensures { CommandLinesAsk }
 {}
 
-/// No list of words both asks for something and has a fault.
+/// A list of words asks for one thing at most, and none both asks for something and has a fault.
 pub fn words_have_one_meaning()
     ensures { WordsHaveOneMeaning }
 {}

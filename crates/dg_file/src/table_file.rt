@@ -44,7 +44,7 @@ impl TableFile {
 ///
 /// Refused with the first of these that applies: `Json`; `Shape`, in the order of its variants, the edges from 0 on;
 /// `Graph(Size)`; `Name` or `Twice`, from vertex 0 on; the other faults of `Graph`, if an edge's name that no vertex
-/// has is `NoVertex`; `Chip`; `NoQ`. `OutOfMemory` comes at the growth that was refused, before any other answer.
+/// has is `NoVertex`; `Chip`; `NoQ`. `OutOfMemory` means that a growth was refused, and says nothing of the bytes.
 pub fn read_table(alloc: Global, bytes: &[u8]) -> Result<TableFile, FileFault>
     ensures table { IfOk result (λ table. IsTableFile bytes.now table.start table.names) }
     ensures refused { IfErr result (RefusesFile bytes.now) }

@@ -9,9 +9,9 @@
 --   IsNumeral text              == `0`, or an optional `-`, a digit from 1 to 9 and any digits
 --                                  after it
 --   IsShort z                   == the whole number z has at most 64 digits
---   NumeralsAreDecimals         == of texts of at most 64 bytes, the decimals of whole numbers of
---                                  at most 64 digits are just the numerals, and none is that of two
---                                  numbers
+--   NumeralsAreDecimals         == a text of at most 64 bytes is the decimal of a whole number of at
+--                                  most 64 digits exactly if it is a numeral; and no text is that of
+--                                  two such numbers
 use Rattle.std.specs.Prelude.{◌≡◌, ℕ, ◌<◌, ◌≤◌, ◌^◌, ℤ, ◌⊎◌, ◌↔◌, List, ◌∷◌, length, All, codes}
 use Rattle.std.specs.Fmt.{signed_decimal}
 use Rattle.std.specs.Int.RustNames.{unsigned_abs}

@@ -11,8 +11,8 @@ pub fn steps_have_one_meaning()
     ensures { StepsHaveOneMeaning }
 {}
 
-/// The decimals of whole numbers below 10^64, with either sign, are `0` and those of a digit from 1 to 9 and further digits,
-/// with or without a `-` before them; and none is that of two numbers.
+/// A text of at most 64 bytes is the decimal of a whole number exactly if it is `0`, or a digit from 1 to 9 and further
+/// digits, with or without a `-` before them; and no text is that of two numbers below 10^64, with either sign.
 pub fn numerals_are_decimals()
     ensures { NumeralsAreDecimals }
 {}

@@ -4,8 +4,11 @@
 --   unsettled_dual   where a divisor is unsettled by a test of a degree below the genus, so is the dual
 --   dual_passes      what agrees with the dual passes its test exactly where the divisor passes its own
 --   both_past        where the lower of both degrees is past the limits, so are both tests
-use Rattle.std.proofs.Common.{◌≡◌, ℕ, ◌<◌, Bool, true, false, arith}
-use Rattle.std.specs.Prelude.{◌↔◌, ◌<ℤ◌, MatchBool, min}
+--   told_rich, told_poor, told_high   what the degree or the genus settles is told
+--   told_within      so is what a test of the lower degree within the limits tells
+use Rattle.std.proofs.Common.{◌≡◌, ℕ, ◌<◌, inl, inr, Bool, true, false, arith, subst}
+use Rattle.std.specs.Prelude.{◌↔◌, ◌≤ℤ◌, ◌<ℤ◌, ◌+ℤ◌, MatchBool, min}
+use Rattle.std.proofs.lemmas.Bool.{cases_lt}
 use Rattle.std.proofs.lemmas.Int.{ints}
 use Rattle.std.proofs.Math.IntN.{pos}
 use Rattle.dg_theory.specs.Multigraph.{Multigraph, IsMultigraph, genus}
@@ -16,8 +19,8 @@ use Rattle.dg_theory.proofs.Equivalence.{equivalent-refl}
 use Rattle.dg_theory.proofs.RankLaws.{equivalent-rank}
 use Rattle.dg_theory.proofs.DualityLaws.{IsDual, dual-degree, dual_tests}
 use Rattle.dg_rank.specs.Limits.{IsPastLimits}
-use Rattle.dg_rank.specs.Ranks.{IsUnsettled, BothArePast}
-use Rattle.dg_rank.proofs.Counts.{past_above}
+use Rattle.dg_rank.specs.Ranks.{IsWithin, IsUnsettled, BothArePast, IsUntold}
+use Rattle.dg_rank.proofs.Counts.{past_above, past_within}
 
 pub decided : {P Q : Type 0} (b : Bool) → P ↔ Q → MatchBool b P (¬ P) → MatchBool b Q (¬ Q)
 decided true same holds = same.0 holds
@@ -53,3 +56,25 @@ both_past g D k l some dual past = record {
   past = past_above g.size (min k l) k some (omega arith) past;
   dual_past = past_above g.size (min k l) l some (omega arith) past;
 }
+
+pub told_rich : (g : Multigraph) (D : Amounts) (k : ℕ) → (genus g +ℤ pos k) ≤ℤ degree g.size D → ¬ IsUntold g D k
+told_rich g D k rich untold = omega (arith, ints, rich, untold.unsettled.most)
+
+pub told_poor : (g : Multigraph) (D : Amounts) (k : ℕ) → degree g.size D <ℤ pos k → ¬ IsUntold g D k
+told_poor g D k poor untold = omega (arith, ints, poor, untold.unsettled.least)
+
+pub told_high : (g : Multigraph) (D : Amounts) (k : ℕ) → genus g ≤ℤ pos k → ¬ IsUntold g D k
+told_high g D k high untold = omega (arith, ints, high, untold.below_genus)
+
+pub told_within : (g : Multigraph) (D : Amounts) (k l : ℕ) → IsDual g D k l → IsWithin g.size (min k l) → ¬ IsUntold g D k
+told_within g D k l dual within untold =
+    let other : untold.past.other ≡ l = omega (arith, ints, dual, untold.past.dual) in
+    elim (cases_lt l k) [
+      | inl less ↦
+          let least : min k l ≡ l = omega (arith, less) in
+          past_within g.size l (subst (IsPastLimits g.size) other untold.past.dual_past)
+          (subst (IsWithin g.size) least within)
+      | inr most ↦
+          let least : min k l ≡ k = omega (arith, most) in
+          past_within g.size k untold.past.past (subst (IsWithin g.size) least within)
+    ]

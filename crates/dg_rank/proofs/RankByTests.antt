@@ -5,9 +5,11 @@
 --   not_all_pass      from the genus on, and where it is not rich, a divisor fails
 --   in_limits         the rank is told within the limits, where the next test is
 --   needs_too_many    where a test of the next degree after the rank is past the limits, too many tests are needed
-use Rattle.std.proofs.Common.{◌≡◌, ℕ, zero, suc, ◌+◌, ◌<◌, ◌≤◌, arith, refl, sym, subst}
+--   tests_suffice     where all tests up to one that fails are told, none past the limits is needed
+use Rattle.std.proofs.Common.{◌≡◌, ℕ, zero, suc, ◌+◌, ◌<◌, ◌≤◌, inl, inr, arith, refl, sym, subst}
 use Rattle.std.specs.Int.RustNames.{unsigned_abs}
 use Rattle.std.specs.Prelude.{◌≤ℤ◌, ◌<ℤ◌}
+use Rattle.std.proofs.lemmas.Bool.{cases_eq, cases_lt}
 use Rattle.std.proofs.lemmas.Int.{ints, by_lt_z}
 use Rattle.std.proofs.Math.IntN.{ℤ, pos, ◌+ℤ◌, ◌-ℤ◌}
 use Rattle.dg_theory.specs.Multigraph.{Multigraph, IsMultigraph, genus}
@@ -17,7 +19,7 @@ use Rattle.dg_theory.proofs.RankLaws.{poor_rank}
 use Rattle.dg_theory.proofs.RankNumbers.{rank_passes, rank_of_dual}
 use Rattle.dg_theory.proofs.DualityLaws.{IsDual, high_rank}
 use Rattle.dg_rank.specs.Limits.{IsWithinLimits, IsPastLimits}
-use Rattle.dg_rank.specs.Ranks.{IsRankInLimits, NeedsTooMany, FailsFirstAt}
+use Rattle.dg_rank.specs.Ranks.{IsRankInLimits, NeedsTooMany, IsUntold, NeedsPastTests, FailsFirstAt}
 
 pub rank_before : (g : Multigraph) (D : Amounts) (k : ℕ) → FailsFirstAt g D k → IsRank g D (pos k -ℤ pos 1)
 rank_before g D zero first = (refl, first.fails)
@@ -60,3 +62,13 @@ in_limits g D k c r rank same within = record {
   follows = omega (arith, ints);
   within = (c, within);
 }
+
+pub tests_suffice : (g : Multigraph) (D : Amounts) (k : ℕ) → (¬ HasRankAtLeast g D k) → (¬ IsUntold g D k) →
+    ((j : ℕ) → j < k → ¬ IsUntold g D j) → ¬ NeedsPastTests g D
+tests_suffice g D k fails here before needs = elim (cases_lt k needs.degree) [
+  | inl less ↦ fails (needs.passed k less)
+  | inr most ↦ elim (cases_eq needs.degree k) [
+    | inl same ↦ here (subst (IsUntold g D) same needs.untold)
+    | inr other ↦ before needs.degree (omega (arith, most, other)) needs.untold
+  ]
+]

@@ -8,13 +8,14 @@
 --   NeedsTooMany g D       == D needs too many rank tests: its rank is told by none within the
 --                             limits, since D passes all that come before one past them
 --   EitherNeedsTooMany g D == D or its dual needs too many rank tests
---   DualNeedsTooMany g D   == the dual of D is in range, and so it is
+--   DualNeedsTooMany g D   == the dual of D is in range, and D or the dual needs too many rank tests
 --   BothArePast g D k      == the rank test of degree k is past the limits, and so is that of the
 --                             dual which passes if it passes
---   TellsRankTest g D k result == the result is whether the rank of D is at least k; or `TooMany`,
---                             and both are past the limits
---   NeedsPastTests g D     == D passes all rank tests before one that is past the limits, as is
---                             that of the dual
+--   IsUntold g D k         == nothing tells whether the rank of D is at least k: its degree leaves
+--                             that open, k is below the genus, and both tests are past the limits
+--   TellsRankTest g D k result == the result is whether the rank of D is at least k; or it is
+--                             `TooMany`, exactly if nothing tells that
+--   NeedsPastTests g D     == D passes all rank tests before one that nothing tells
 --   FailsFirstAt g D k     == k is the least degree of the rank tests that D fails
 --   MayHaveWorkers w       == a rank test may have w workers
 --   IsRankFault n k w e    == a rank test with w workers is refused for this cause, and for no
@@ -65,13 +66,19 @@ pub record BothArePast (g : Multigraph) (D : Amounts) (k : ℕ) : Type 0 where
   pub past : IsPastLimits g.size k
   pub dual_past : IsPastLimits g.size other
 
+pub record IsUntold (g : Multigraph) (D : Amounts) (k : ℕ) : Type 0 where
+  pub unsettled : IsUnsettled g D k
+  pub below_genus : pos k <ℤ genus g
+  pub past : BothArePast g D k
+
 abbrev pub TellsRankTest : Multigraph → Amounts → ℕ → Result Bool RankFault → Type 0
-TellsRankTest g D k (Ok told) = MatchBool told (HasRankAtLeast g D k) (¬ HasRankAtLeast g D k)
-TellsRankTest g D k (Err fault) = (fault ≡ TooMany) × BothArePast g D k
+TellsRankTest g D k (Ok told) =
+    MatchBool told (HasRankAtLeast g D k) (¬ HasRankAtLeast g D k) × (¬ IsUntold g D k)
+TellsRankTest g D k (Err fault) = (fault ≡ TooMany) × IsUntold g D k
 
 pub record NeedsPastTests (g : Multigraph) (D : Amounts) : Type 0 where
   pub degree : ℕ
-  pub past : BothArePast g D degree
+  pub untold : IsUntold g D degree
   pub passed : (k : ℕ) → k < degree → HasRankAtLeast g D k
 
 pub record FailsFirstAt (g : Multigraph) (D : Amounts) (k : ℕ) : Type 0 where

@@ -26,7 +26,7 @@ use dg_reduce::{InverseLaplacian, reduce_certified};
 /// Whether the rank of a divisor is at least k: whether every effective divisor of degree k can be lost and the rest still
 /// won. The test is made of the divisor or of its dual, if that has fewer trials.
 ///
-/// Refused with `TooMany` alone, and only if the tests of both are past the limits.
+/// Refused with `TooMany` alone: if the tests of both are past the limits, and no law tells what they would.
 pub fn has_rank(graph: &Graph, q: usize, divisor: &Divisor, k: u32) -> Result<bool, RankFault>
     requires size { divisor.now.size ≡ graph.now.size }
     requires vertex { q < graph.now.size }

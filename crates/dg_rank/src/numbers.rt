@@ -28,14 +28,15 @@ pub fn rank(graph: &Graph, q: usize, divisor: &Divisor) -> Option<i64>
 }
 
 /// The rank of a divisor and that of its dual, which is the canonical divisor less it. `None` if tests of both are needed
-/// that are past the limits.
+/// that are past the limits, and no law tells what they would.
 pub fn both_ranks(graph: &Graph, q: usize, divisor: &Divisor) -> Option<(i64, i64)>
     requires size { divisor.now.size ≡ graph.now.size }
     requires vertex { q < graph.now.size }
     ensures { MatchOption result
         (NeedsPastTests graph.now (at divisor.now))
         (λ r. IsRank graph.now (at divisor.now) r.0
-        × IsRank graph.now (less (canonical graph.now) (at divisor.now)) r.1) }
+        × IsRank graph.now (less (canonical graph.now) (at divisor.now)) r.1
+        × (¬ NeedsPastTests graph.now (at divisor.now))) }
 {
     let _size = graph.size();
     let fails = first_failing(graph, divisor)?;
@@ -60,13 +61,13 @@ pub fn both_ranks_in_limits(graph: &Graph, q: usize, divisor: &Divisor) -> Optio
 }
 
 /// The least degree at which the rank test of a divisor fails. `None` if a test is needed that is past the limits, as is
-/// that of the dual.
+/// that of the dual, and no law tells what it would.
 fn first_failing(graph: &Graph, divisor: &Divisor) -> Option<u32>
     requires size { divisor.now.size ≡ graph.now.size }
     requires some { 0 < graph.now.size }
     ensures { MatchOption result
         (NeedsPastTests graph.now (at divisor.now))
-        (FailsFirstAt graph.now (at divisor.now)) }
+        (λ k. FailsFirstAt graph.now (at divisor.now) k × (¬ NeedsPastTests graph.now (at divisor.now))) }
 {
     let _size = graph.size();
     // A divisor passes all tests for which it is rich, and from the genus on no others.

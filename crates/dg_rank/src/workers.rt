@@ -36,14 +36,15 @@ impl Gate for OpenGate {
     fn enter(&self, _piece: u32) {}
 }
 
-/// The rank test among workers: the answer is what `rank_at_least` answers, for any number of them and any gate. The trials
-/// are shared in as many pieces as there are workers. Each piece has a thread of its own, which enters the gate with the
-/// piece's number, from 0 on, before its first trial, also if it has none to make: the degree, or a few trials and those
-/// of the dual, made before any thread starts, may have told the answer.
+/// The rank test among workers: the answer is what `rank_at_least` answers, for any number of them and any gate.
 ///
-/// Refused with `TooMany` as there, then with `Workers` if their number is not 1 to 16; then no gate is entered. Refused
-/// with `Spawn` if a thread could not be started; those that were have ended then. `OutOfMemory` never comes: only threads
-/// take memory.
+/// Refused with `TooMany` as there, then with `Workers` if their number is not 1 to 16, and with `Spawn` if a thread could
+/// not be started. `OutOfMemory` never comes: only threads take memory.
+///
+/// What no clause says, and only tests show: the trials are shared in as many pieces as there are workers. Each piece has a
+/// thread of its own, which enters the gate once, with the piece's number, from 0 on, before its first trial, also if it has
+/// none to make: the degree, or a few trials and those of the dual, made before any thread starts, may have told the answer.
+/// After `TooMany` and `Workers` no gate was entered, and after `Spawn` the threads that were started have ended.
 pub fn rank_with<R: Threads + Wait, G: Gate>(
     rt: &R,
     graph: &Graph,

@@ -3,3 +3,10 @@ pub mod Taken
 pub mod Pieces
 pub mod Swept
 pub mod Amounts
+-- Each line has one answer.
+pub mod SameTables
+pub mod OneText
+pub mod OneMeaning
+pub mod SomeVerdict
+pub mod SomeAnswer
+pub mod OneAnswer

@@ -1,16 +1,17 @@
 -- What the line of a table is answered.
 --   IsTested o k names text == the text is that of a rank verdict of degree k which is right for
---                         the amounts of o, and a newline
---   IsBelow o k text       == the rank of the amounts is below k, and that the text says; there are
---                             too many trials to name the first loss
---   IsUntested o k text    == the rank test is past the limits, as is that of the dual, and that
---                         the text says
+--                         the amounts of o, and a newline; something tells it, and if it names a
+--                         loss, the test is within the limits
+--   IsBelow o k text       == the rank of the amounts is below k, and that the text says; something
+--                             tells it, but there are too many trials to name the first loss
+--   IsUntested o k text    == nothing tells whether the rank is at least k, and that the text says
 --   AnswersRank o k names text == one of these
 --   number_after label z   == the label and the number
 --   numbers_text o         == the degree of the amounts and the genus of the graph
---   AreRanks o text        == the text is that of the rank of the amounts and that of their dual
---   AreUntested o text     == all rank tests are passed up to one that is past the limits, as is
---                             that of the dual; the text has marks in the place of the ranks
+--   AreRanks o text        == the text is that of the rank of the amounts and that of their dual;
+--                             no test is needed that nothing tells
+--   AreUntested o text     == all rank tests are passed before one that nothing tells; the text has
+--                             marks in the place of the ranks
 --   AnswersTable question o names text == the text answers the question for the start o with
 --                         these names
 --   refusal words          == `refused`, the words and a newline
@@ -32,8 +33,9 @@ use Rattle.dg_chips.specs.Starts.{StartData}
 use Rattle.dg_chips.specs.Vector.{at}
 use Rattle.dg_rank.specs.Limits.{IsPastLimits}
 use Rattle.dg_verdict.specs.RankTests.{IsRankTest}
-use Rattle.dg_rank.specs.Ranks.{BothArePast, NeedsPastTests}
+use Rattle.dg_rank.specs.Ranks.{IsWithin, IsUntold, NeedsPastTests}
 use Rattle.dg_verdict.specs.declared.rank_verdict.RankVerdict.{RankVerdict}
+use Rattle.dg_verdict.specs.declared.rank_verdict.RankVerdict.TheVariants.{AtLeast}
 use Rattle.dg_game.specs.declared.entry.Reply.TheVariants.{Rank as Tested}
 use Rattle.dg_lines.specs.Judgements.{IsJudgement}
 use Rattle.dg_lines.specs.Texts.{text_of}
@@ -49,15 +51,18 @@ use Rattle.dg_sweep.specs.declared.ends.TheConstants.{MAX_LINE}
 pub record IsTested (o : StartData) (k : ℕ) (names : List (List ℕ)) (text : List ℕ) : Type 0 where
   pub verdict : RankVerdict
   pub right : IsRankTest o.graph (at o.divisor) k verdict
+  pub told : ¬ IsUntold o.graph (at o.divisor) k
+  pub named : IsWithin o.graph.size k ⊎ (verdict ≡ AtLeast k)
   pub printed : text ≡ text_of names (Tested verdict) ++ codes "\n"
 
 pub record IsBelow (o : StartData) (k : ℕ) (text : List ℕ) : Type 0 where
   pub past : IsPastLimits o.graph.size k
+  pub told : ¬ IsUntold o.graph (at o.divisor) k
   pub below : ¬ HasRankAtLeast o.graph (at o.divisor) k
   pub printed : text ≡ codes "rank below " ++ decimal k ++ codes " at ?\n"
 
 pub record IsUntested (o : StartData) (k : ℕ) (text : List ℕ) : Type 0 where
-  pub past : BothArePast o.graph (at o.divisor) k
+  pub untold : IsUntold o.graph (at o.divisor) k
   pub printed : text ≡ codes "refused too many trials\n"
 
 abbrev pub AnswersRank : StartData → ℕ → List (List ℕ) → List ℕ → Type 0
@@ -72,6 +77,7 @@ numbers_text o =
     ++ number_after (codes " genus ") (genus o.graph)
 
 pub record AreRanks (o : StartData) (text : List ℕ) : Type 0 where
+  pub told : ¬ NeedsPastTests o.graph (at o.divisor)
   pub rank : ℤ
   pub of_divisor : IsRank o.graph (at o.divisor) rank
   pub dual_rank : ℤ

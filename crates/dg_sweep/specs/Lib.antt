@@ -4,6 +4,7 @@ pub mod Answers
 pub mod Divisors
 pub mod Sweeps
 pub mod DivisorLaws
+pub mod AnswerLaws
 -- What serves the steps of a sweep alone.
 pub mod Steps
 pub mod Pieces

@@ -34,9 +34,9 @@ pub(crate) trait LineKind {
         ensures { OnOk result (answers self.now line.now answer.new.items) };
 }
 
-/// The answer to the line of a table, with its newline, in place of what the buffer holds: the command's answer for the table
-/// that the line describes; or `refused` and the text of the fault that the line would have as a table file. A line of more
-/// than 1,048,576 bytes has such a fault too.
+/// The answer to the line of a table, with its newline, in place of what the buffer holds: the answer to the question for the
+/// table that the line describes, on one line; or `refused` and the text of the fault that the line would have as a table file.
+/// A line of more than 1,048,576 bytes has such a fault too.
 ///
 /// Refused if a growth is refused; nothing is said of what the buffer then holds.
 pub fn answer_line(

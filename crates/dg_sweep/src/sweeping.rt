@@ -1,8 +1,9 @@
 //! Sweeping a stream of tables.
-ghost use Rattle.std.specs.Prelude.{◌≡◌, Err, true};
+ghost use Rattle.std.specs.Prelude.{◌≡◌, ◌≤◌, Err, true};
 ghost use Rattle.dg_sweep.specs.Answers.{AnswersTableWithin};
 ghost use Rattle.dg_sweep.specs.Divisors.{AnswersAmounts};
 ghost use Rattle.dg_sweep.specs.Sweeps.{IsSweep};
+ghost use Rattle.dg_system.specs.declared.shortage.Shortage.TheVariants.{Spawn};
 
 use crate::answering::LineKind;
 use crate::divisors::Divisors;
@@ -18,13 +19,12 @@ use std::io::{Read, Write};
 use std::sync::Wait;
 use std::thread::Threads;
 
-/// Answers the lines that the reader gives, each as `answer_line` does, in order, until there are no more: all whole lines that
-/// were read are answered, and the answers written and flushed, before more is read. There may be any number of lines; the
-/// memory does not grow with it. At most so many workers, each with a thread, share the lines of a read. Their number changes
-/// no answer; 0 means 1.
+/// Answers the lines that the reader gives, each as `answer_line` does, in order, until there are no more; there may be any
+/// number of lines. At most so many workers share the lines of a read; their number changes no answer.
 ///
-/// It ends before the input does with `Read` if the reader fails, `Write` if the writer fails or takes no byte, and with
-/// `Shortage` if memory is refused or a thread can't be started; then the answers to lines of the last read stay unwritten.
+/// It ends before the input does with `Read` if the reader fails; then all whole lines that were read are answered. It ends
+/// with `Write` if the writer fails or takes no byte, and with `Shortage` if memory is refused or, from two workers on, a
+/// thread can't be started; then some first lines are answered.
 pub fn sweep<R: Threads + Wait + Sync, I: Read, O: Write>(
     rt: &R,
     alloc: Global,
@@ -37,6 +37,7 @@ pub fn sweep<R: Threads + Wait + Sync, I: Read, O: Write>(
         writer.new.contents result }
     ensures read { result ≡ Err SweepEnd.Read → reader.new.has_failed ≡ true }
     ensures write { result ≡ Err SweepEnd.Write → writer.new.has_failed ≡ true }
+    ensures spawn { result ≡ Err (SweepEnd.Shortage Spawn) → 2 ≤ workers }
 {
     match sweep_kind(rt, alloc, &Tables { question }, workers, reader, writer) {
         Ok(()) => Ok(()),
@@ -60,6 +61,7 @@ pub fn sweep_divisors<R: Threads + Wait + Sync, I: Read, O: Write>(
         reader.old.remaining reader.new.remaining writer.old.contents writer.new.contents result }
     ensures read { result ≡ Err SweepEnd.Read → reader.new.has_failed ≡ true }
     ensures write { result ≡ Err SweepEnd.Write → writer.new.has_failed ≡ true }
+    ensures spawn { result ≡ Err (SweepEnd.Shortage Spawn) → 2 ≤ workers }
 {
     let kind = Divisors::new(question, table);
     match sweep_kind(rt, alloc, &kind, workers, reader, writer) {
@@ -81,6 +83,7 @@ fn sweep_kind<R: Threads + Wait + Sync, K: LineKind + Sync, I: Read, O: Write>(
         writer.old.contents writer.new.contents result }
     ensures read { result ≡ Err SweepEnd.Read → reader.new.has_failed ≡ true }
     ensures write { result ≡ Err SweepEnd.Write → writer.new.has_failed ≡ true }
+    ensures spawn { result ≡ Err (SweepEnd.Shortage Spawn) → 2 ≤ workers }
 {
     let Ok(mut buffer) = vec![in alloc; 0u8; READ_SIZE] else {
         return Err(SweepEnd::Shortage(Shortage::OutOfMemory));
@@ -92,7 +95,7 @@ fn sweep_kind<R: Threads + Wait + Sync, K: LineKind + Sync, I: Read, O: Write>(
         workers: workers as usize,
     };
     let mut progress = Progress::new(alloc);
-    'reads: for _ in rt.forever() {
+    'reads: for _ in 0..u64::MAX {
         let Some(size) = reader.read_some(&mut buffer) else {
             return Err(SweepEnd::Read);
         };
@@ -107,5 +110,6 @@ fn sweep_kind<R: Threads + Wait + Sync, K: LineKind + Sync, I: Read, O: Write>(
             Err(end) => return Err(end),
         }
     }
-    unreachable!()
+    // That so many reads were made nobody will see.
+    Err(SweepEnd::Shortage(Shortage::OutOfMemory))
 }

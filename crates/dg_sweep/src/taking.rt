@@ -1,7 +1,8 @@
 //! Taking what was read: bytes that are cut into lines, and the end.
-ghost use Rattle.std.specs.Prelude.{◌≡◌, ◌++◌, ℕ, List, [], true, IfOk, OnOk, Err};
+ghost use Rattle.std.specs.Prelude.{◌≡◌, ◌≢◌, ◌≤◌, ◌++◌, ℕ, List, [], true, IfOk, OnOk, Err};
 ghost use Rattle.dg_sweep.specs.Steps.{AnswersFront, KeepsPart, Passes, TakesBytes, AnswersLast};
-ghost use Rattle.dg_sweep.specs.declared.ends.SweepEnd.TheVariants.{Write as WriteEnd};
+ghost use Rattle.dg_sweep.specs.declared.ends.SweepEnd.TheVariants.{Write as WriteEnd, Shortage as ShortageEnd};
+ghost use Rattle.dg_system.specs.declared.shortage.Shortage.TheVariants.{Spawn};
 
 use crate::answering::{LineKind, answer_of_kind};
 use crate::ends::{MAX_LINE, SweepEnd};
@@ -47,6 +48,7 @@ impl Progress {
             (TakesBytes (K.answers room.now.kind.now) self.old.pending.items bytes.now self.new.pending.items)
             writer.old.contents writer.new.contents result }
         ensures write { result ≡ Err WriteEnd → writer.new.has_failed ≡ true }
+        ensures spawn { result ≡ Err (ShortageEnd Spawn) → 2 ≤ room.now.workers }
     {
         match self.take_bytes(room, bytes) {
             Ok(()) => match writer.write_whole(&self.text) {
@@ -67,6 +69,7 @@ impl Progress {
         ensures passed { Passes (AnswersLast (K.answers kind.now) self.old.pending.items)
             writer.old.contents writer.new.contents result }
         ensures write { result ≡ Err WriteEnd → writer.new.has_failed ≡ true }
+        ensures spawn { result ≢ Err (ShortageEnd Spawn) }
     {
         match self.take_end(alloc, kind) {
             Ok(()) => match writer.write_whole(&self.text) {
@@ -83,8 +86,9 @@ impl Progress {
         room: &Room<'_, R, K>,
         bytes: &[u8],
     ) -> Result<(), Shortage>
-        ensures { OnOk result (TakesBytes (K.answers room.now.kind.now)
+        ensures taken { OnOk result (TakesBytes (K.answers room.now.kind.now)
             self.old.pending.items bytes.now self.new.pending.items self.new.text.items) }
+        ensures spawn { result ≡ Err Spawn → 2 ≤ room.now.workers }
     {
         self.text.clear();
         let (part, after) = cut(bytes, b'\n');

@@ -1,7 +1,8 @@
 //! Lines answered among workers, each with a thread of its own.
-ghost use Rattle.std.specs.Prelude.{◌≡◌, ◌<◌, ◌≤◌, ◌++◌, ℕ, List, [], length, get_or, map, flat_map, All, Contains, IfOk, IfSome, OnOk};
+ghost use Rattle.std.specs.Prelude.{◌≡◌, ◌<◌, ◌≤◌, ◌++◌, ℕ, List, [], length, get_or, map, flat_map, All, Contains, IfOk, IfSome, OnOk, Err};
 ghost use Rattle.dg_sweep.specs.Steps.{AnswersFront, EndsLine};
 ghost use Rattle.dg_sweep.specs.Pieces.{AnswersPiece, IsAnswered, Leads};
+ghost use Rattle.dg_system.specs.declared.shortage.Shortage.TheVariants.{Spawn};
 
 use crate::answering::LineKind;
 use crate::taking::answer_lines;
@@ -53,9 +54,10 @@ pub(crate) fn answer_batch<'a, R: Threads + Wait + Sync, K: LineKind + Sync>(
     text: &mut Vec<u8>,
     answer: &mut Vec<u8>,
 ) -> Result<&'a [u8], Shortage>
-    ensures { IfOk result (λ rest. (said : List ℕ)
+    ensures answered { IfOk result (λ rest. (said : List ℕ)
         × AnswersFront (K.answers room.now.kind.now) bytes.now rest.now said
         × (text.new.items ≡ text.old.items ++ said)) }
+    ensures spawn { result ≡ Err Spawn → 2 ≤ room.now.workers }
 {
     let workers = room.workers.min(bytes.len() / SHARE_SIZE);
     if workers < 2 {

@@ -14,8 +14,8 @@
 --   RankOnce     == a divisor has at most one rank
 --   RankOfSum    == the rank of a sum is at least the sum of the ranks, if neither is -1 (lemma
 --                   2.1)
---   Clifford     == if the rank of the dual is at least 0, that of D is at most half of its
---                   degree (Clifford's theorem, corollary 3.5)
+--   Clifford     == if the ranks of D and of its dual are at least 0, that of D is at most half of
+--                   its degree (Clifford's theorem, corollary 3.5)
 use Rattle.std.specs.Prelude.{◌≡◌, ℕ, ◌+◌, ◌<◌, ◌↔◌, ℤ, pos, ◌+ℤ◌, ◌-ℤ◌, ◌≤ℤ◌}
 use Rattle.dg_theory.specs.Multigraph.{Multigraph, IsMultigraph, genus}
 use Rattle.dg_theory.specs.Firing.{Amounts, degree, IsEffective}

@@ -44,9 +44,9 @@ pub fn laws_of_reduced_divisors()
     ensures decides { ReducedDecides }
 {}
 
-/// What burning tells: what it leaves is the greatest set that fires without debt off q, of which there is only one; it
-/// leaves nothing exactly if the divisor is reduced; and a divisor from which all vertices burn in any order is
-/// reduced.
+/// What burning tells of a divisor without debt off q: what it leaves is the greatest set that fires without debt off q, of
+/// which there is only one; it leaves nothing exactly if the divisor is reduced; and if all vertices burn from it in any
+/// order, it is reduced.
 pub fn laws_of_burning()
     ensures unburnt { UnburntFires }
     ensures one { GreatestIsOne }
@@ -94,7 +94,8 @@ pub fn laws_of_joining()
 /// the degree, plus 1, less the genus. So one rank tells the other; a rank test of one passes exactly if that of the
 /// other does, at degrees that differ by as much; and a loss that one can't bear shows that the other can't bear all. From
 /// the genus on, only rich divisors pass. Every divisor has a rank, and just one; that of a sum is at least the sum of the
-/// ranks, if neither is -1; and by Clifford's theorem it is at most half of the degree, if the dual is winnable.
+/// ranks, if neither is -1; and by Clifford's theorem it is at most half of the degree, if neither it nor the rank of the dual
+/// is -1.
 pub fn laws_of_duality()
     ensures ranks { RiemannRoch }
     ensures dual { RankOfDual }

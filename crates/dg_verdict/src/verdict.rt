@@ -38,7 +38,7 @@ pub fn judge(graph: &Graph, q: usize, divisor: &Divisor) -> Verdict
 }
 
 /// The verdict as `judge` gives it, whatever inverse it is given: one that was made for the graph and q saves the time to make
-/// it anew. One that was made before an edge was added is not used.
+/// it anew.
 pub fn judge_with_inverse(
     graph: &Graph,
     inverse: &InverseLaplacian,

@@ -1,4 +1,5 @@
-//! The orders in which vertices burn, which show that verdicts are right and which no row in tests/rows shows.
+//! What no row in tests/rows shows of verdicts: the orders in which vertices burn, which show that they are right, and which
+//! inverses make their guesses.
 
 use crate::edges::{SQUARE, TRIANGLE};
 use dg_chips::Divisor;
@@ -46,5 +47,16 @@ fn has_order(rt: &impl Abort, case: &Case) -> Result<(), Fail> {
     assert!(rt; verdict.order.starts_with(order), "{order:?}");
     let inverse = InverseLaplacian::new(&graph, 0);
     assert!(rt; judge_with_inverse(&graph, &inverse, *q, &divisor) == verdict);
+    Ok(())
+}
+
+#[test]
+fn which_inverses_serve(rt: HostRuntime) -> Result<(), Fail> {
+    let square = Graph::new(4, SQUARE)?;
+    let inverse = InverseLaplacian::new(&square, 0);
+    assert!(rt; inverse.may_serve(&square, 0));
+    assert!(rt; !inverse.may_serve(&square, 1));
+    let joined = square.join(0, 2)?;
+    assert!(rt; !inverse.may_serve(&joined, 0));
     Ok(())
 }

@@ -1,9 +1,17 @@
-use Rattle.std.proofs.Common.{arith, inr}
+use Rattle.std.proofs.Common.{arith, inl, inr}
 use Rattle.std.proofs.lemmas.Int.{ints}
 use Rattle.dg_theory.specs.Rank.{less, canonical}
 use Rattle.dg_chips.specs.Vector.{at}
 use Rattle.dg_rank.proofs.RankByTests.{rank_before, rank_of_dual_before, in_limits, needs_too_many}
 use Rattle.dg_rank.proofs.numbers.both_ranks_in_limits.Goals as goal
+
+pub returns-in_err-trials : goal.returns-in_err-trials
+returns-in_err-trials c =
+    rw c.from_residual-in_err-trials.ensures (inl (record {
+      degree = c.in_ok-fails.fails;
+      past = rw c.size.ensures.size at c.in_err-trials.ensures;
+      passed = c.in_ok-fails.ensures.0.passed;
+    }))
 
 pub returns-in_err-trials-2 : goal.returns-in_err-trials-2
 returns-in_err-trials-2 c =
@@ -13,7 +21,7 @@ returns-in_err-trials-2 c =
     (inr (needs_too_many g (less (canonical g) D) c.first_failing_of_dual-dual_fails.result
     (rank_of_dual_before g D c.in_ok-fails.fails c.first_failing_of_dual-dual_fails.result
     c.size.ensures.graph.multigraph
-    (omega arith) c.in_ok-fails.ensures c.first_failing_of_dual-dual_fails.ensures)
+    (omega arith) c.in_ok-fails.ensures.0 c.first_failing_of_dual-dual_fails.ensures)
     (rw c.size-2.ensures.size at c.in_err-trials-2.ensures)))
 
 pub returns : goal.returns
@@ -21,11 +29,11 @@ returns c =
     let g = c.args.graph.now in
     let D = at c.args.divisor.now in (
       in_limits g D c.in_ok-fails.fails c.in_ok-trials.field-0 _
-          (rank_before g D c.in_ok-fails.fails c.in_ok-fails.ensures)
+          (rank_before g D c.in_ok-fails.fails c.in_ok-fails.ensures.0)
           (omega (arith, ints, c.from.ensures)) (rw c.size.ensures.size at c.in_ok-trials.ensures),
       in_limits g (less (canonical g) D) c.first_failing_of_dual-dual_fails.result c.in_ok-trials-2.field-0 _
           (rank_of_dual_before g D c.in_ok-fails.fails c.first_failing_of_dual-dual_fails.result
           c.size.ensures.graph.multigraph
-          (omega arith) c.in_ok-fails.ensures c.first_failing_of_dual-dual_fails.ensures)
+          (omega arith) c.in_ok-fails.ensures.0 c.first_failing_of_dual-dual_fails.ensures)
           (omega (arith, ints, c.from-2.ensures)) (rw c.size-2.ensures.size at c.in_ok-trials-2.ensures),
     )

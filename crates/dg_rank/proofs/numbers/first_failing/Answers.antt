@@ -2,14 +2,16 @@ use Rattle.std.proofs.Common.{◌≡◌, arith, sym, subst, ⊎_elim}
 use Rattle.std.specs.Prelude.{◌≤ℤ◌}
 use Rattle.std.proofs.lemmas.Bool.{cases_eq}
 use Rattle.std.proofs.lemmas.Int.{ints}
-use Rattle.std.proofs.Math.IntN.{pos}
+use Rattle.std.proofs.Math.IntN.{pos, ◌+ℤ◌}
 use Rattle.dg_theory.specs.Multigraph.{genus}
 use Rattle.dg_theory.specs.Firing.{degree}
 use Rattle.dg_theory.specs.Rank.{HasRankAtLeast}
 use Rattle.dg_theory.proofs.RankLaws.{rich_rank}
 use Rattle.dg_theory.proofs.DualityLaws.{natural}
 use Rattle.dg_chips.specs.Vector.{at}
-use Rattle.dg_rank.proofs.RankByTests.{not_all_pass}
+use Rattle.dg_rank.specs.Ranks.{IsUntold}
+use Rattle.dg_rank.proofs.DualTests.{told_rich}
+use Rattle.dg_rank.proofs.RankByTests.{not_all_pass, tests_suffice}
 use Rattle.dg_rank.proofs.SmallAmounts.{genus_small, genus_least}
 use Rattle.dg_rank.proofs.TestDegrees.{rich_below, first_small, last_small, one_more, last_tested, through}
 use Rattle.dg_rank.proofs.numbers.first_failing.Goals as goal
@@ -17,22 +19,35 @@ use Rattle.dg_rank.proofs.numbers.first_failing.Goals as goal
 pub loop-k-init : goal.loop-k-init
 loop-k-init c j below =
     let g = c.args.graph.now in
-    rich_rank g (at c.args.divisor.now) j c.size-size.ensures.graph.multigraph (omega arith)
-    (rich_below (degree g.size (at c.args.divisor.now)) (genus g) c.ranks_apart.result c.max-first.result j
-    c.ranks_apart.ensures.apart c.ranks_apart.ensures.small c.max-first.ensures.value below)
+    let D = at c.args.divisor.now in
+    let rich : (genus g +ℤ pos j) ≤ℤ degree g.size D =
+    rich_below (degree g.size D) (genus g) c.ranks_apart.result c.max-first.result j
+    c.ranks_apart.ensures.apart c.ranks_apart.ensures.small c.max-first.ensures.value below in
+    (rich_rank g D j c.size-size.ensures.graph.multigraph (omega arith) rich, told_rich g D j rich)
 
 pub returns-in-Ok-false : goal.returns-in-Ok-false
-returns-in-Ok-false c = record {
-  passed = c.loop-k.invariant;
-  fails = rw c.in-Ok-false.field-0-test at c.in-Ok-false.ensures;
+returns-in-Ok-false c =
+    let told = rw c.in-Ok-false.field-0-test at c.in-Ok-false.ensures in (
+      record { passed = λ j below. (c.loop-k.invariant j below).0; fails = told.0 },
+      tests_suffice c.args.graph.now (at c.args.divisor.now) c.loop-k.k told.0 told.1
+          (λ j below. (c.loop-k.invariant j below).1),
+    )
+
+pub returns-in-Err : goal.returns-in-Err
+returns-in-Err c = record {
+  degree = c.loop-k.k;
+  untold = c.in-Err.ensures.1;
+  passed = λ j below. (c.loop-k.invariant j below).0;
 }
 
 pub loop-k-preserved : goal.loop-k-preserved
 loop-k-preserved c j below =
-    let passes : HasRankAtLeast c.args.graph.now (at c.args.divisor.now) c.loop-k.k =
+    let g = c.args.graph.now in
+    let D = at c.args.divisor.now in
+    let told : HasRankAtLeast g D c.loop-k.k × (¬ IsUntold g D c.loop-k.k) =
     rw c.in-Ok-true.field-0-test at c.in-Ok-true.ensures in
     ⊎_elim
-    (λ (same : j ≡ c.loop-k.k). subst (HasRankAtLeast c.args.graph.now (at c.args.divisor.now)) (sym same) passes)
+    (λ (same : j ≡ c.loop-k.k). subst (λ i. HasRankAtLeast g D i × (¬ IsUntold g D i)) (sym same) told)
     (λ (other : j ≡ c.loop-k.k → ⊥). c.loop-k.invariant j (omega arith))
     (cases_eq j c.loop-k.k)
 
@@ -63,4 +78,4 @@ unreachable-requires c =
     (rw (c.genus.ensures, same) at whole)
     (rw (c.ranks_apart.ensures.apart, same) at
     (through c.ranks_apart.result c.max-first.result c.max-end.result apart more))
-    (c.loop-k.invariant last (last_tested c.max-end.result last c.loop-k.k same least c.loop-k-test.false))
+    (c.loop-k.invariant last (last_tested c.max-end.result last c.loop-k.k same least c.loop-k-test.false)).0

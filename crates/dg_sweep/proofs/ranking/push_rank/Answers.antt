@@ -1,6 +1,18 @@
 use Rattle.std.proofs.Common.{inl, inr, refl}
 use Rattle.dg_verdict.specs.declared.rank_verdict.RankVerdict.TheVariants.{AtLeast}
+use Rattle.dg_rank.proofs.Counts.{past_within}
 use Rattle.dg_sweep.proofs.ranking.push_rank.Goals as goal
+
+pub returns-in-Ok : goal.returns-in-Ok
+returns-in-Ok c =
+    let told = rw (c.graph-graph.ensures.graph, c.divisor-divisor.ensures) at c.in-Ok.ensures in
+    inl (record {
+      verdict = c.in-Ok.verdict;
+      right = told.1;
+      told = λ untold. past_within _ _ untold.past.past told.0;
+      named = inl told.0;
+      printed = c.in_ok-push_line.ensures;
+    })
 
 pub returns-then-passes : goal.returns-then-passes
 returns-then-passes c =
@@ -8,7 +20,9 @@ returns-then-passes c =
     let has = rw (c.graph-graph.ensures.graph, c.divisor-divisor.ensures) at told in
     inl (record {
       verdict = AtLeast c.args.k;
-      right = (refl, has);
+      right = (refl, has.0);
+      told = has.1;
+      named = inr refl;
       printed = c.in_ok-push_line-2.ensures;
     })
 
@@ -18,6 +32,7 @@ returns c =
     let has_not = rw (c.graph-graph.ensures.graph, c.divisor-divisor.ensures) at told in
     inr (inl (record {
       past = rw (c.graph-graph.ensures.graph) at c.in_default.ensures.1;
-      below = has_not;
+      told = has_not.1;
+      below = has_not.0;
       printed = c.in_ok-push_below.ensures;
     }))

@@ -23,31 +23,34 @@ pub returns-in-Ok-pass_end-clause-swept : goal.returns-in-Ok-pass_end-clause-swe
 returns-in-Ok-pass_end-clause-swept g c =
     let zero = c.if-size-eq0.true in
     let room : 0 < length c.reads.buffer.items = omega (arith, c.reads.invariant.1) in
-    sweep_ends c.reads.invariant.0 (read_nothing _ _ _ _ zero c.in-Some-read_some.ensures.bytes)
-    (c.in-Some-read_some.ensures.end zero room) c.in-Ok-pass_end.ensures.passed
+    sweep_ends c.reads.invariant.0 (read_nothing _ _ _ _ zero c.in-Some.ensures.bytes)
+    (c.in-Some.ensures.end zero room) c.in-Ok-pass_end.ensures.passed
 
 pub returns-in-Err-clause-swept : goal.returns-in-Err-clause-swept
 returns-in-Err-clause-swept g c =
     let zero = c.if-size-eq0.true in
     let room : 0 < length c.reads.buffer.items = omega (arith, c.reads.invariant.1) in
-    sweep_halts_last c.reads.invariant.0 c.in-Err.end (read_nothing _ _ _ _ zero c.in-Some-read_some.ensures.bytes)
-    (c.in-Some-read_some.ensures.end zero room) c.in-Err.ensures.passed
+    sweep_halts_last c.reads.invariant.0 c.in-Err.end (read_nothing _ _ _ _ zero c.in-Some.ensures.bytes)
+    (c.in-Some.ensures.end zero room) c.in-Err.ensures.passed
 
 pub reads-preserved : goal.reads-preserved
 reads-preserved g c = (
-  swept_more c.reads.invariant.0 (take c.in-Some-read_some.size c.deref.result.now)
+  swept_more c.reads.invariant.0 (take c.in-Some.size c.deref.result.now)
       c.pass_bytes.new.self.pending.items
-      (read_chunk _ _ _ _ _ c.deref.ensures.value c.in-Some-read_some.ensures.bytes) c.in-Ok-pass_bytes.ensures.passed,
-  c.in-Some-read_some.ensures.size ∙ c.reads.invariant.1,
+      (read_chunk _ _ _ _ _ c.deref.ensures.value c.in-Some.ensures.bytes) c.in-Ok-pass_bytes.ensures.passed,
+  c.in-Some.ensures.size ∙ c.reads.invariant.1,
 )
 
 pub returns-in-Err-pass_bytes-clause-swept : goal.returns-in-Err-pass_bytes-clause-swept
 returns-in-Err-pass_bytes-clause-swept g c =
     let room : length c.read_some.new.buffer.items ≡ READ_SIZE =
-    c.in-Some-read_some.ensures.size ∙ c.reads.invariant.1 in
-    let size = chunk_size c.in-Some-read_some.size c.deref.result.now c.read_some.new.buffer.items c.deref.ensures.value
-    c.in-Some-read_some.ensures.bound in
-    sweep_halts c.reads.invariant.0 (take c.in-Some-read_some.size c.deref.result.now)
+    c.in-Some.ensures.size ∙ c.reads.invariant.1 in
+    let size = chunk_size c.in-Some.size c.deref.result.now c.read_some.new.buffer.items c.deref.ensures.value
+    c.in-Some.ensures.bound in
+    sweep_halts c.reads.invariant.0 (take c.in-Some.size c.deref.result.now)
     c.pass_bytes.new.self.pending.items c.in-Err-pass_bytes.end
-    (read_chunk _ _ _ _ _ c.deref.ensures.value c.in-Some-read_some.ensures.bytes)
-    (omega (arith, size, c.in-Some-read_some.ensures.bound, room)) c.in-Err-pass_bytes.ensures.passed
+    (read_chunk _ _ _ _ _ c.deref.ensures.value c.in-Some.ensures.bytes)
+    (omega (arith, size, c.in-Some.ensures.bound, room)) c.in-Err-pass_bytes.ensures.passed
+
+pub returns-clause-swept : goal.returns-clause-swept
+returns-clause-swept g c = sweep_unsaid c.reads.invariant.0

@@ -15,8 +15,8 @@ put_answers-requires-clause-done g c =
     (subst (λ l. All (IsAnswered right (map (λ piece. piece.now) l)) c.in_ok-done.done.items)
     (c.deref.ensures.value ∙ sym c.deref-2.ensures.value) c.in_ok-done.ensures)
 
-pub returns : goal.returns
-returns g c =
+pub returns-clause-answered : goal.returns-clause-answered
+returns-clause-answered g c =
     let rest = c.in_ok-pieces.rest.now in
     leads_rest _ c.args.bytes.now (flat_map (λ piece. piece.now) c.deref-2.result.now) rest
     c.in_ok-answer_lines-2.field-0.now c.args.text.now.items c.put_answers.new.text.items

@@ -2,8 +2,8 @@ use Rattle.dg_lines.proofs.Streams.{part_plain, part_whole, part_line}
 use Rattle.dg_sweep.proofs.Taken.{takes_part, takes_lines}
 use Rattle.dg_sweep.proofs.taking.Progress.take_bytes.Goals as goal
 
-pub returns-in_default : goal.returns-in_default
-returns-in_default g c =
+pub returns-in_default-clause-taken : goal.returns-in_default-clause-taken
+returns-in_default-clause-taken g c =
     takes_part _ c.args.self.now.pending.items c.args.bytes.now c.cut.result.0.now
     c.keep_part.new.pending.items
     c.clear.new.self.items c.clear.ensures.items (part_plain c.args.bytes.now c.cut.result.0.now c.cut.ensures.before)
@@ -11,13 +11,14 @@ returns-in_default g c =
     c.in_default.is)
     c.in_ok-keep_part.ensures
 
-pub returns : goal.returns
-returns g c =
+pub returns-clause-taken : goal.returns-clause-taken
+returns-clause-taken g c =
     takes_lines _ c.args.self.now.pending.items c.args.bytes.now c.cut.result.0.now
     c.in-Some.after.now
     c.keep_part.new.pending.items c.answer_of_kind.new.answer.items c.answer_batch.new.text.items c.in_ok-part.part.now
     c.keep_part-2.new.pending.items (part_plain c.args.bytes.now c.cut.result.0.now c.cut.ensures.before)
     (part_line c.args.bytes.now c.cut.result.0.now c.cut.result.1 c.in-Some.after c.cut.ensures.before
     c.cut.ensures.after c.in-Some.is)
-    c.in_ok-keep_part.ensures c.deref.result.now c.deref.ensures.value c.in_ok-answer_of_kind.ensures c.in_ok-part.ensures
+    c.in_ok-keep_part.ensures c.deref.result.now c.deref.ensures.value c.in_ok-answer_of_kind.ensures
+    c.in_ok-part.ensures.answered
     c.clear-2.new.self.items c.clear-2.ensures.items c.in_ok-keep_part-2.ensures

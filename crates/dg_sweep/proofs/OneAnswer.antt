@@ -1,0 +1,246 @@
+-- A line has just one answer.
+--   answer_moves   what answers a table answers the same table, however it is written
+--   answer_once    a table has one answer
+--   lines_have_one_answer
+use Rattle.std.proofs.Common.{◌≡◌, ℕ, Bool, ◌<◌, ◌⊎◌, inl, inr, List, ◌++◌, length, codes, sym, ap, ◌∙◌, arith, subst}
+use Rattle.std.proofs.Math.Path.{fun_ext}
+use Rattle.std.proofs.Math.IntN.{ℤ}
+use Rattle.dg_theory.specs.Multigraph.{Multigraph, IsMultigraph}
+use Rattle.dg_theory.specs.Firing.{Amounts, degree}
+use Rattle.dg_theory.specs.Rank.{less, canonical, HasRankAtLeast, IsRank}
+use Rattle.dg_theory.proofs.RankNumbers.{rank_once}
+use Rattle.dg_chips.specs.Starts.{StartData, IsStart}
+use Rattle.dg_chips.specs.Vector.{at}
+use Rattle.dg_verdict.specs.Right.{IsVerdictOn}
+use Rattle.dg_lines.specs.Judgements.{IsJudgement}
+use Rattle.dg_verdict.specs.RankTests.{IsRankTest}
+use Rattle.dg_verdict.specs.declared.rank_verdict.RankVerdict.{RankVerdict}
+use Rattle.dg_rank.specs.Limits.{IsPastLimits}
+use Rattle.dg_rank.specs.Ranks.{IsWithin, IsUntold, NeedsPastTests}
+use Rattle.dg_rank.proofs.Counts.{past_within}
+use Rattle.dg_lines.proofs.Given.{vertex_named}
+use Rattle.dg_file.specs.FileLaws.{AreSameOpenings, FilesHaveOneMeaning}
+use Rattle.dg_file.specs.FileFaults.{RefusesFile}
+use Rattle.dg_file.specs.declared.fault.FileFault.{FileFault}
+use Rattle.dg_invocation.specs.declared.question.Question.{Question}
+use Rattle.dg_invocation.specs.declared.question.Question.TheVariants.{Judge, Rank, RiemannRoch}
+use Rattle.dg_sweep.specs.AnswerLaws.{HasOneAnswer, LinesHaveOneAnswer}
+use Rattle.dg_sweep.specs.Answers.{IsTested, IsBelow, AnswersRank, number_after, numbers_text, AreRanks, AreUntested, AnswersTable, refusal, IsRefused, AnswersTableWithin, AnswersLine}
+use Rattle.dg_sweep.specs.Divisors.{RefusesAmounts, AnswersAmounts}
+use Rattle.dg_sweep.specs.FaultTexts.{file_fault_text}
+use Rattle.dg_sweep.proofs.OneMeaning.{amounts_have_one_meaning}
+use Rattle.dg_sweep.proofs.OneText.{judgement_same, test_same}
+use Rattle.dg_sweep.proofs.SomeAnswer.{HasText, some_table, some_amounts}
+use Rattle.dg_sweep.proofs.SameTables.{IsSameGraph, same_back, same_genus, same_canonical, found_on, tested_on, rank_on, is_rank_on, untold_on, needs_on}
+
+same_graph : (o p : StartData) → AreSameOpenings o p → IsSameGraph o.graph p.graph
+same_graph o p alike = record { size = alike.size; edges = alike.edges }
+
+module _ (o p : StartData) (alike : AreSameOpenings o p) where
+  same : IsSameGraph o.graph p.graph
+  same = same_graph o p alike
+
+  amounts : at o.divisor ≡ at p.divisor
+  amounts = fun_ext alike.amounts
+
+  move : (P : Amounts → Type 0) → P (at o.divisor) → P (at p.divisor)
+  move P here = subst P amounts here
+
+  move_back : (P : Amounts → Type 0) → P (at p.divisor) → P (at o.divisor)
+  move_back P there = subst P (sym amounts) there
+
+  untold_back : (k : ℕ) → IsUntold p.graph (at p.divisor) k → IsUntold o.graph (at o.divisor) k
+  untold_back k there =
+      untold_on p.graph o.graph (same_back o.graph p.graph same) (at o.divisor) k
+      (move_back (λ (D : Amounts). IsUntold p.graph D k) there)
+
+  rank_back : (k : ℕ) → HasRankAtLeast p.graph (at p.divisor) k → HasRankAtLeast o.graph (at o.divisor) k
+  rank_back k there =
+      rank_on p.graph o.graph (same_back o.graph p.graph same) (at o.divisor) k
+      (move_back (λ (D : Amounts). HasRankAtLeast p.graph D k) there)
+
+  needs_back : NeedsPastTests p.graph (at p.divisor) → NeedsPastTests o.graph (at o.divisor)
+  needs_back there =
+      needs_on p.graph o.graph (same_back o.graph p.graph same) (at o.divisor)
+      (move_back (NeedsPastTests p.graph) there)
+
+  numbers : numbers_text o ≡ numbers_text p
+  numbers = λ i.
+      number_after (codes "degree ") (degree (alike.size i) (amounts i))
+      ++ number_after (codes " genus ") (same_genus o.graph p.graph same i)
+
+  verdict_moves : (names : List (List ℕ)) (ordered : Bool) (text : List ℕ) → IsJudgement o names ordered text
+      → IsJudgement p names ordered text
+  verdict_moves names ordered text is = record {
+    verdict = is.verdict;
+    found = subst (λ (q : ℕ). IsVerdictOn p.graph q (at p.divisor) is.verdict) alike.vertex
+        (move (λ (D : Amounts). IsVerdictOn p.graph o.q D is.verdict)
+        (found_on o.graph p.graph same o.q (at o.divisor) is.verdict is.found));
+    printed = is.printed;
+  }
+
+  named_moves : (k : ℕ) (P : Type 0) → IsWithin o.graph.size k ⊎ P → IsWithin p.graph.size k ⊎ P
+  named_moves k P (inl within) = inl (subst (λ (n : ℕ). IsWithin n k) alike.size within)
+  named_moves k P (inr other) = inr other
+
+  rank_moves : (k : ℕ) (names : List (List ℕ)) (text : List ℕ) → AnswersRank o k names text
+      → AnswersRank p k names text
+  rank_moves k names text (inl is) = inl (record {
+    verdict = is.verdict;
+    right = move (λ (D : Amounts). IsRankTest p.graph D k is.verdict)
+        (tested_on o.graph p.graph same (at o.divisor) k is.verdict is.right);
+    told = λ there. is.told (untold_back k there);
+    named = named_moves k _ is.named;
+    printed = is.printed;
+  })
+  rank_moves k names text (inr (inl is)) = inr (inl (record {
+    past = subst (λ (n : ℕ). IsPastLimits n k) alike.size is.past;
+    told = λ there. is.told (untold_back k there);
+    below = λ there. is.below (rank_back k there);
+    printed = is.printed;
+  }))
+  rank_moves k names text (inr (inr is)) = inr (inr (record {
+    untold = move (λ (D : Amounts). IsUntold p.graph D k)
+        (untold_on o.graph p.graph same (at o.divisor) k is.untold);
+    printed = is.printed;
+  }))
+
+  ranks_move : (text : List ℕ) → AreRanks o text ⊎ AreUntested o text → AreRanks p text ⊎ AreUntested p text
+  ranks_move text (inl is) = inl (record {
+    told = λ there. is.told (needs_back there);
+    rank = is.rank;
+    of_divisor = move (λ (D : Amounts). IsRank p.graph D is.rank)
+        (is_rank_on o.graph p.graph same (at o.divisor) is.rank is.of_divisor);
+    dual_rank = is.dual_rank;
+    of_dual = subst (λ (D : Amounts). IsRank p.graph D is.dual_rank)
+        (λ i. less (same_canonical o.graph p.graph same i) (amounts i))
+        (is_rank_on o.graph p.graph same (less (canonical o.graph) (at o.divisor)) is.dual_rank is.of_dual);
+    printed = is.printed
+        ∙ ap (λ (t : List ℕ). t ++ number_after (codes " rank ") is.rank
+        ++ number_after (codes " dual ") is.dual_rank ++ codes "\n") numbers;
+  })
+  ranks_move text (inr is) = inr (record {
+    past = move (NeedsPastTests p.graph) (needs_on o.graph p.graph same (at o.divisor) is.past);
+    printed = is.printed ∙ ap (λ (t : List ℕ). t ++ codes " rank ? dual ?\n") numbers;
+  })
+
+  answer_moves : (question : Question) (names : List (List ℕ)) (text : List ℕ) → AnswersTable question o names text
+      → AnswersTable question p names text
+  answer_moves (Judge ordered) names text is = verdict_moves names ordered text is
+  answer_moves (Rank k) names text is = rank_moves k names text is
+  answer_moves RiemannRoch names text is = ranks_move text is
+
+module _ (o : StartData) (names : List (List ℕ)) (graph : IsMultigraph o.graph) (vertex : o.q < o.graph.size)
+    (fit : length names ≡ o.graph.size) where
+  tested_below : (k : ℕ) (text other : List ℕ) → IsTested o k names text → IsBelow o k other → ⊥
+  tested_below k text other tested below = elim tested.named [
+    | inl within ↦ past_within o.graph.size k below.past within
+    | inr most ↦
+        below.below (subst (λ (x : RankVerdict). IsRankTest o.graph (at o.divisor) k x) most tested.right).1
+  ]
+
+  rank_once_more : (k : ℕ) (text other : List ℕ) → AnswersRank o k names text → AnswersRank o k names other
+      → text ≡ other
+  rank_once_more k text other (inl a) (inl b) =
+      a.printed
+      ∙ ap (λ (t : List ℕ). t ++ codes "\n")
+      (test_same names o.graph (at o.divisor) fit k a.verdict b.verdict a.right b.right)
+      ∙ sym b.printed
+  rank_once_more k text other (inl a) (inr (inl b)) = absurd (tested_below k text other a b)
+  rank_once_more k text other (inl a) (inr (inr b)) = absurd (a.told b.untold)
+  rank_once_more k text other (inr (inl a)) (inl b) = absurd (tested_below k other text b a)
+  rank_once_more k text other (inr (inl a)) (inr (inl b)) = a.printed ∙ sym b.printed
+  rank_once_more k text other (inr (inl a)) (inr (inr b)) = absurd (a.told b.untold)
+  rank_once_more k text other (inr (inr a)) (inl b) = absurd (b.told a.untold)
+  rank_once_more k text other (inr (inr a)) (inr (inl b)) = absurd (b.told a.untold)
+  rank_once_more k text other (inr (inr a)) (inr (inr b)) = a.printed ∙ sym b.printed
+
+  ranks_once : (text other : List ℕ) → AreRanks o text ⊎ AreUntested o text → AreRanks o other ⊎ AreUntested o other
+      → text ≡ other
+  ranks_once text other (inl a) (inl b) =
+      a.printed
+      ∙ ap (λ (z : ℤ). numbers_text o ++ number_after (codes " rank ") z
+      ++ number_after (codes " dual ") a.dual_rank ++ codes "\n")
+      (rank_once o.graph (at o.divisor) a.rank b.rank a.of_divisor b.of_divisor)
+      ∙ ap (λ (z : ℤ). numbers_text o ++ number_after (codes " rank ") b.rank
+      ++ number_after (codes " dual ") z ++ codes "\n")
+      (rank_once o.graph (less (canonical o.graph) (at o.divisor)) a.dual_rank b.dual_rank a.of_dual b.of_dual)
+      ∙ sym b.printed
+  ranks_once text other (inl a) (inr b) = absurd (a.told b.past)
+  ranks_once text other (inr a) (inl b) = absurd (b.told a.past)
+  ranks_once text other (inr a) (inr b) = a.printed ∙ sym b.printed
+
+  answer_once : (question : Question) (text other : List ℕ) → AnswersTable question o names text
+      → AnswersTable question o names other → text ≡ other
+  answer_once (Judge ordered) text other a b =
+      a.printed
+      ∙ ap (λ (t : List ℕ). t ++ codes "\n")
+      (judgement_same names o.graph (at o.divisor) fit o.q graph vertex ordered a.verdict b.verdict a.found b.found)
+      ∙ sym b.printed
+  answer_once (Rank k) text other a b = rank_once_more k text other a b
+  answer_once RiemannRoch text other a b = ranks_once text other a b
+
+refused_once : (refuses : FileFault → Type 0) (text other : List ℕ) (a : IsRefused refuses text)
+    (b : IsRefused refuses other) → a.fault ≡ b.fault → text ≡ other
+refused_once refuses text other a b same =
+    a.printed ∙ ap (λ (f : FileFault). refusal (file_fault_text f)) same ∙ sym b.printed
+
+line_once : (right : List ℕ → List ℕ → Type 0) (line : List ℕ)
+    → ((text other : List ℕ) → right line text → right line other → text ≡ other) → (text other : List ℕ)
+    → AnswersLine right line text → AnswersLine right line other → text ≡ other
+line_once right line once text other (inl (long, a)) (inl (long', b)) = a ∙ sym b
+line_once right line once text other (inl (long, a)) (inr (short, b)) = absurd (omega (arith, long, short))
+line_once right line once text other (inr (short, a)) (inl (long, b)) = absurd (omega (arith, long, short))
+line_once right line once text other (inr (short, a)) (inr (short', b)) = once text other a b
+
+module _ (question : Question) where
+  table_once : FilesHaveOneMeaning → (line text other : List ℕ) → AnswersTableWithin question line text
+      → AnswersTableWithin question line other → text ≡ other
+  table_once files line text other (inl a) (inl b) =
+      refused_once (RefusesFile line) text other a b
+      (files.fault line a.fault b.fault a.found b.found a.refused b.refused)
+  table_once files line text other (inl a) (inr b) =
+      absurd (files.refused line a.fault b.start b.names a.found a.refused b.table)
+  table_once files line text other (inr a) (inl b) =
+      absurd (files.refused line b.fault a.start a.names b.found b.refused a.table)
+  table_once files line text other (inr a) (inr b) =
+      let (alike, named) = files.table line b.start a.start b.names a.names b.table a.table in
+      let table = a.table.describes in
+      let fit : length a.names ≡ a.start.graph.size = sym table.graph.size in
+      let vertex : a.start.q < a.start.graph.size =
+      omega (arith, fit, (vertex_named a.names a.table.content.q a.start.q table.vertex).0) in
+      answer_once a.start a.names table.graph.graph.multigraph vertex fit question text other a.answer
+      (subst (λ (ns : List (List ℕ)). AnswersTable question a.start ns other) named
+      (answer_moves b.start a.start alike question b.names other b.answer))
+
+  amounts_once : (o : StartData) (names : List (List ℕ)) (line text other : List ℕ) → IsStart o → length names ≡ o.graph.size
+      → AnswersAmounts question o names line text → AnswersAmounts question o names line other → text ≡ other
+  amounts_once o names line text other start fit (inl a) (inl b) =
+      refused_once (RefusesAmounts o.graph.size line) text other a b
+      (amounts_have_one_meaning.fault o.graph.size line a.fault b.fault a.found b.found a.refused b.refused)
+  amounts_once o names line text other start fit (inl a) (inr b) =
+      absurd (amounts_have_one_meaning.refused o b.start line a.fault a.found a.refused b.stands)
+  amounts_once o names line text other start fit (inr a) (inl b) =
+      absurd (amounts_have_one_meaning.refused o a.start line b.fault b.found b.refused a.stands)
+  amounts_once o names line text other start fit (inr a) (inr b) =
+      let alike = amounts_have_one_meaning.start o b.start a.start line b.stands a.stands in
+      let graph : a.start.graph ≡ o.graph = ap (λ (s : StartData). s.graph) a.stands.rest in
+      let q : a.start.q ≡ o.q = ap (λ (s : StartData). s.q) a.stands.rest in
+      let size : a.start.graph.size ≡ o.graph.size = ap (λ (g : Multigraph). g.size) graph in
+      answer_once a.start names (subst IsMultigraph (sym graph) start.graph.multigraph)
+      (omega (arith, q, size, start.vertex)) (fit ∙ sym size) question text other a.answer
+      (answer_moves b.start a.start alike question names other b.answer)
+
+just_one : (right : List ℕ → List ℕ → Type 0) (line : List ℕ) → HasText (AnswersLine right line)
+    → ((text other : List ℕ) → right line text → right line other → text ≡ other) → HasOneAnswer right line
+just_one right line (text, answers) once =
+    (text, answers, λ other also. line_once right line once other text also answers)
+
+pub lines_have_one_answer : FilesHaveOneMeaning → LinesHaveOneAnswer
+lines_have_one_answer files = record {
+  tables = λ question line.
+      just_one (AnswersTableWithin question) line (some_table files question line) (table_once question files line);
+  amounts = λ question o names line start fit.
+      just_one (AnswersAmounts question o names) line (some_amounts question o names line start)
+      (λ text other. amounts_once question o names line text other start fit);
+}
