@@ -111,7 +111,8 @@ of_action Version again a values rows = of_request Version
 
 of_use : (again : Bool) (a : Rule) (values : List Text) (rows : List Row) → AreAlike (use_fault again a values rows)
 of_use again a values rows =
-    first_of _ _ (of_range (unwrap_or_range a.range).start_inclusive (most_values a) (length values)) (of_action (action_of a) again a (values_or_missing a values) rows)
+    first_of _ _ (of_range (unwrap_or_range a.range).start_inclusive (most_values a) (length values))
+    (of_action (action_of a) again a (values_or_missing a values) rows)
 
 of_settling : (c : List Rule) (again : Bool) (h : Held) → AreAlike (settle_fault c again h)
 of_settling c again h =

@@ -42,7 +42,8 @@ d65536 =
 
 judge : IsJudge (codes "judge" ∷ codes "t" ∷ []) (codes "t") false
 unfolding dollar clap_on_literals
-judge f file = (refl, (refl, ap Some (sym file), ((not_set, refl), refl), (λ no. absurd (true≢false (sym no)), λ set. absurd (not_set set))))
+judge f file =
+    (refl, (refl, ap Some (sym file), ((not_set, refl), refl), (λ no. absurd (true≢false (sym no)), λ set. absurd (not_set set))))
 
 after_dashes : IsJudge (codes "judge" ∷ codes "--order" ∷ codes "--" ∷ codes "-t" ∷ []) (codes "-t") true
 unfolding dollar clap_on_literals

@@ -115,7 +115,8 @@ a-number : (low high n : ℕ) (o : Option Text) → IsSomeAnd o (λ text. IsNumb
 a-number low high n None h = absurd h
 a-number low high n (Some text) h = sym h.spelled
 
-a-default : (default low high n : ℕ) (o : Option Text) → IsGivenOr default low high o n → decimal n ≡ unwrap_or o (decimal default)
+a-default : (default low high n : ℕ) (o : Option Text) → IsGivenOr default low high o n
+    → decimal n ≡ unwrap_or o (decimal default)
 a-default default low high n None h = ap decimal h
 a-default default low high n (Some text) h = sym h.spelled
 
