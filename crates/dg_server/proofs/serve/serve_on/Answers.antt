@@ -34,16 +34,16 @@ returns-in-Ok-close-clause-early g c =
     (seats_back c.in-Ok.opened.1.len c.deref_mut.result.now c.serve_opened-ended.new.seats _ (search rules)
     c.serve_opened-ended.ensures.session.numbers) c.in-Ok-close.ensures.0))
 
-pub returns-in_default-clause-early : goal.returns-in_default-clause-early
-returns-in_default-clause-early g c =
-    unclosed (record {
+pub returns-clause-early : goal.returns-clause-early
+returns-clause-early g c =
+    unclosed {end = c.serve_opened-ended.result} (record {
       seats = c.deref_mut.result.now;
       fresh = subst (AreFresh c.args.seats) (sym c.deref_mut.ensures.value) c.in-Ok.ensures;
       after = c.serve_opened-ended.new.seats;
       session = rw (← c.requires.table) c.serve_opened-ended.ensures.session;
-    }) c.in_default.field-0.seats.items c.in_default.field-0.missing c.serve_opened-ended.ensures.session.numbers
+    }) c.in-Err-close.field-0.seats.items c.in-Err-close.field-0.missing c.serve_opened-ended.ensures.session.numbers
     (rw (← c.requires.table)
     (subst (λ ys. IsCloseRefused g.N.Name.table ys
-    c.in_default.field-0.seats.items c.in_default.field-0.missing)
+    c.in-Err-close.field-0.seats.items c.in-Err-close.field-0.missing)
     (seats_back c.in-Ok.opened.1.len c.deref_mut.result.now c.serve_opened-ended.new.seats _ (search rules)
-    c.serve_opened-ended.ensures.session.numbers) c.in_default.ensures))
+    c.serve_opened-ended.ensures.session.numbers) c.in-Err-close.ensures))
