@@ -3,8 +3,7 @@ ghost use Rattle.std.specs.Prelude.{◌≡◌, length, IfOk, IfErr, MatchOption}
 ghost use Rattle.dg_verdict.specs.declared.verdict.Verdict.{Verdict as VerdictData};
 ghost use Rattle.dg_analyst.specs.Commits.{IsReckoned, IsCommitted, IsRankCommitted, RefusesCommit};
 ghost use Rattle.dg_analyst.specs.Views.{Found};
-ghost use Rattle.dg_table.specs.Seats.{Keeps};
-ghost use Rattle.dg_table.specs.Settled.{IsStale};
+ghost use Rattle.dg_table.specs.Settled.{IsStale, IsNotStale};
 
 use crate::looks::Look;
 use crate::reckoning::{Reckoned, Tried};
@@ -20,9 +19,8 @@ use std::sync::Wait;
 /// otherwise as a verdict that is right for the position at its place in the one history, with the reduced divisor and the
 /// burning order that were found. The seat is told of the look, and need not be the one that looked.
 ///
-/// It waits for the lock, but nothing is reckoned under it that was found before. Refused with `OutOfMemory`, before it
-/// waits; with `Full`; and with `Log`, also if the history has no entry of the look's number. What was reckoned
-/// comes back, the seat knows what it knew, and there is no entry.
+/// It waits for the lock. Refused with `OutOfMemory`, before it waits; with `Full`; and with `Log`, also if the history has
+/// no entry of the look's number. What was reckoned comes back, the seat knows what it knew, and there is no entry.
 pub fn commit<N: Name>(
     table: &Table<N>,
     rt: &impl Wait,
@@ -44,11 +42,11 @@ pub fn commit<N: Name>(
 }
 
 /// Enters a question on a look as stale, as `commit` and `commit_rank` enter what was reckoned for it, if gifts, levies or joins
-/// were accepted since the look; so nothing need be reckoned on a look that is stale. `None` if none was; that is no event: no
-/// cell is set, and the seat knows what it knew. The look stays the caller's; the seat is told of it if there is an entry, and
-/// need not be the one that looked.
+/// were accepted since the look; so nothing need be reckoned on a look that is stale. `None` if none was in the history that it
+/// finds, which the seat has met then; that is no event: no cell is set, and the seat knows what it knew. The look stays the
+/// caller's; the seat is told of it if there is an entry, and need not be the one that looked.
 ///
-/// It waits for the lock, twice if it makes an entry. Refused as `commit`; then the seat knows what it knew, and there is no
+/// It waits for the lock. Refused as `commit`, also if the look is not stale; then the seat knows what it knew, and there is no
 /// entry.
 pub fn commit_stale<N: Name>(
     table: &Table<N>,
@@ -59,7 +57,7 @@ pub fn commit_stale<N: Name>(
     asks: &Question,
 ) -> Result<Option<Receipt<N>>, Fault>
     ensures settled { IfOk result (λ found. MatchOption found
-        (Keeps seat.old seat.new × (seat.new.met ≡ seat.old.met))
+        (IsNotStale N.table look.now.receipt seat.old seat.new)
         (λ r. IsStale N.table look.now.receipt asks.now r seat.old seat.new)) }
     ensures fault { IfErr result (RefusesCommit N.table seat.old seat.new) }
 {

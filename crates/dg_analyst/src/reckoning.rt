@@ -1,5 +1,5 @@
 //! What is reckoned on looks, with no table at hand.
-ghost use Rattle.std.specs.Prelude.{◌≡◌, MatchResult, IfErr};
+ghost use Rattle.std.specs.Prelude.{◌≡◌, ◌≤◌, MatchResult, IfErr};
 ghost use Rattle.dg_analyst.specs.Commits.{IsReckoned};
 ghost use Rattle.dg_analyst.specs.Views.{IsTried};
 ghost use Rattle.dg_rank.specs.Ranks.{IsRankFault};
@@ -159,7 +159,7 @@ pub fn try_rank_alone<N: Name>(look: Look<N>, k: u32) -> Result<Tried<N>, (Look<
 /// The rank test of degree k as `try_rank` makes it with so many workers and no gate. One worker is the thread that calls, so
 /// none is started.
 ///
-/// Refused as `try_rank`. The look comes back.
+/// Refused as `try_rank`, and with `Spawn` only if there are two workers or more. The look comes back.
 pub fn try_rank_by<N: Name, R: Threads + Wait>(
     rt: &R,
     look: Look<N>,
@@ -170,6 +170,7 @@ pub fn try_rank_by<N: Name, R: Threads + Wait>(
         (λ t. (t.look ≡ look) × IsTried look k workers t.verdict)
         (λ e. (e.0 ≡ look) × IsRankFault look.shown.graph.size k workers e.1) }
     ensures alone { workers ≡ 1 → IfErr result (λ e. e.1 ≡ RankFault.TooMany) }
+    ensures spawn { IfErr result (λ e. e.1 ≡ RankFault.Spawn → 2 ≤ workers) }
 {
     if workers == 1 {
         try_rank_alone(look, k)

@@ -2,8 +2,10 @@
 --   none_begun     where the seats are as they were, none has begun
 --   more_begun     the session of a first seat, and what became of those after it
 --   all_begun      the session of a first seat, and those of all others
+--   alone_all      the one session of one seat is that of all
+--   alone_lacks    so is it where what it came to is not told
 --   party_lacks    a party whose sessions are not told is refused for what they lack
-use Rattle.std.proofs.Common.{◌≡◌, ℕ, suc, List, ◌∷◌, arith, sym, ap, subst, ◌∙◌, Result}
+use Rattle.std.proofs.Common.{◌≡◌, ℕ, suc, ◌≤◌, List, [], ◌∷◌, length, arith, refl, sym, ap, subst, ◌∙◌, Result}
 use Rattle.std.specs.Global.{Vec}
 use Rattle.dg_table.specs.Opened.{AreFresh}
 use Rattle.dg_table.specs.Seats.{SeatView}
@@ -43,14 +45,41 @@ pub all_begun : (table : TableData) (names : List (List ℕ)) (scripts left : Li
 all_begun table names scripts left script xs rest ys x y end ends lack e f session are told =
     rw told (more_begun table names scripts left script xs rest ys x y end OutOfMemory e f session (ends, are))
 
+pub alone_all : (table : TableData) (names : List (List ℕ)) (scripts left : List (Vec ℕ)) (script : Vec ℕ)
+    (xs rest ys : List SeatView) (x y : SeatView) (end : Result ℕ SessionEnd) (ends : List (Result ℕ SessionEnd))
+    → scripts ≡ script ∷ left → xs ≡ x ∷ rest → ys ≡ y ∷ rest → ends ≡ end ∷ [] → length scripts ≡ 1
+    → length scripts ≡ length xs → IsSessionOver table names script.items x y end
+    → AreSessions table names (contents scripts) xs ys ends
+unfolding AreSessions
+alone_all table names scripts [] script xs [] ys x y end ends e f h told one count session =
+    rw (e, f, h, told) (session, tt)
+alone_all table names scripts (c ∷ left) script xs rest ys x y end ends e f h told one count session =
+    absurd (omega (arith, ap length e, one))
+alone_all table names scripts [] script xs (z ∷ rest) ys x y end ends e f h told one count session =
+    absurd (omega (arith, ap length f, one, count))
+
+pub alone_lacks : (table : TableData) (names : List (List ℕ)) (scripts left : List (Vec ℕ)) (script : Vec ℕ)
+    (xs rest ys : List SeatView) (x y : SeatView) (end : Result ℕ SessionEnd) (lack : Shortage)
+    → scripts ≡ script ∷ left → xs ≡ x ∷ rest → ys ≡ y ∷ rest → lack ≡ OutOfMemory → length scripts ≡ 1
+    → length scripts ≡ length xs → IsSessionOver table names script.items x y end
+    → RefusesSessions table names (contents scripts) xs ys lack
+alone_lacks table names scripts left script xs rest ys x y end lack e f h told one count session =
+    rw told (
+      end ∷ [],
+      alone_all table names scripts left script xs rest ys x y end (end ∷ []) e f h refl one count session,
+    )
+
 pub party_lacks : (table : TableData) (n : ℕ) (names scripts : List (List ℕ)) (opened xs ys : List SeatView)
     (lack : Shortage)
-    → n ≡ table.seats → AreFresh n opened → xs ≡ opened
+    → n ≡ table.seats → AreFresh n opened → xs ≡ opened → (lack ≡ Spawn → 2 ≤ length scripts)
     → RefusesSessions table names scripts xs ys lack → IsPartyRefused table names scripts (party.Shortage lack)
-party_lacks table n names scripts opened xs ys OutOfMemory same fresh lent refused = tt
-party_lacks table n names scripts opened xs ys Spawn same fresh lent refused = record {
-  before = xs;
-  after = ys;
-  fresh = subst (λ k. AreFresh k xs) same (rw lent fresh);
-  holds = refused;
-}
+party_lacks table n names scripts opened xs ys OutOfMemory same fresh lent two refused = tt
+party_lacks table n names scripts opened xs ys Spawn same fresh lent two refused = (
+  two refl,
+  record {
+    before = xs;
+    after = ys;
+    fresh = subst (λ k. AreFresh k xs) same (rw lent fresh);
+    holds = refused;
+  },
+)

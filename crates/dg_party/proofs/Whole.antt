@@ -8,7 +8,7 @@
 --   whole            sessions of fresh seats, which a table was closed with, are a party
 --   whole_lent       so are they where the seats were lent as the front of a list
 --   party_unclosed   where the table was not closed with them, there is no party for that
-use Rattle.std.proofs.Common.{◌≡◌, ℕ, zero, suc, ◌+◌, ◌<◌, ◌≤◌, List, [], ◌∷◌, ◌++◌, length, take, slice_get, Some, arith, refl, sym, ap, subst, ◌∙◌, Result, codes, decimal, unwrap_or}
+use Rattle.std.proofs.Common.{◌≡◌, ℕ, zero, suc, ◌+◌, ◌<◌, ◌≤◌, List, [], ◌∷◌, ◌++◌, length, map, take, slice_get, Some, arith, refl, sym, ap, subst, ◌∙◌, Result, codes, decimal, unwrap_or}
 use Rattle.std.specs.List.{slice_index}
 use Rattle.std.specs.Global.{Vec}
 use Rattle.std.proofs.lemmas.Option.{none-some}
@@ -23,6 +23,7 @@ use Rattle.dg_game.proofs.StepLaw.{vertices_stay}
 use Rattle.dg_table.specs.Seats.{SeatView, entries_of}
 use Rattle.dg_table.specs.Opened.{AreFresh}
 use Rattle.dg_table.specs.Closing.{IsClosed, AreTotals, IsCloseRefused}
+use Rattle.dg_table.proofs.Complete.{all_there, none_missing}
 use Rattle.dg_log.specs.declared.name.Name.{Ghosts}
 use Rattle.dg_table.specs.declared.audit.Audit.{Audit}
 use Rattle.dg_session.specs.declared.ends.SessionEnd.{SessionEnd}
@@ -142,6 +143,7 @@ whole table names scripts xs ys ends a text many fresh are closed totals enough 
             seat = fresh.number i s.before s.first;
             fresh = fresh.mine i s.before s.first;
             begins = (closed.held i s.after s.last).prefix;
+            met = (closed.held i s.after s.last).met;
             own = ap (λ k. entries_of k H) (sym number) ∙ (closed.held i s.after s.last).mine;
             session = s.session;
           };
@@ -172,6 +174,21 @@ seats_kept table names (c ∷ cs) [] ys ends are = elim are [ ]
 seats_kept table names (c ∷ cs) (x ∷ xs) [] ends are = elim are [ ]
 seats_kept table names (c ∷ cs) (x ∷ xs) (y ∷ ys) [] are = elim are [ ]
 
+numbers_kept : (table : TableData) (names scripts : List (List ℕ)) (xs ys : List SeatView)
+    (ends : List (Result ℕ SessionEnd)) → AreSessions table names scripts xs ys ends
+    → map (λ (y : SeatView). y.number) ys ≡ map (λ (x : SeatView). x.number) xs
+unfolding AreSessions
+numbers_kept table names (c ∷ cs) (x ∷ xs) (y ∷ ys) (e ∷ es) are =
+    ap (λ n. n ∷ map (λ (y : SeatView). y.number) ys) (number_kept are.0)
+    ∙ ap (λ ns. x.number ∷ ns) (numbers_kept table names cs xs ys es are.1)
+numbers_kept table names [] [] [] [] are = refl
+numbers_kept table names [] [] [] (e ∷ es) are = elim are [ ]
+numbers_kept table names [] [] (y ∷ ys) ends are = elim are [ ]
+numbers_kept table names [] (x ∷ xs) ys ends are = elim are [ ]
+numbers_kept table names (c ∷ cs) [] ys ends are = elim are [ ]
+numbers_kept table names (c ∷ cs) (x ∷ xs) [] ends are = elim are [ ]
+numbers_kept table names (c ∷ cs) (x ∷ xs) (y ∷ ys) [] are = elim are [ ]
+
 pub whole_lent : {N : Type 0} {named : Ghosts N} (table : TableData) (names scripts : List (List ℕ)) (n len : ℕ)
     (opened xs ys rest : List SeatView)
     (ends : List (Result ℕ SessionEnd)) (a : Audit N named) (text : List ℕ)
@@ -192,17 +209,21 @@ whole_lent table names scripts n len opened xs ys rest ends a text many same fre
     ++ totals_text names a.entries a.gifts a.position (take k a.calls)) same printed)
 
 pub party_unclosed : (table : TableData) (names scripts : List (List ℕ)) (n len : ℕ)
-    (opened xs ys rest : List SeatView)
+    (opened xs ys rest zs : List SeatView)
     (ends : List (Result ℕ SessionEnd)) (seat : ℕ)
     → n ≡ table.seats → AreFresh n opened → xs ≡ opened → len ≡ length opened
-    → AreSessions table names scripts xs ys ends → IsCloseRefused table (take len (ys ++ rest)) seat
+    → AreSessions table names scripts xs ys ends → IsCloseRefused table (take len (ys ++ rest)) zs seat
     → IsPartyRefused table names scripts Log
-party_unclosed table names scripts n len opened xs ys rest ends seat same fresh lent counted are refused =
+party_unclosed table names scripts n len opened xs ys rest zs ends seat same fresh lent counted are refused =
     let all : length ys ≡ len = seats_kept table names scripts xs ys ends are ∙ ap length lent ∙ sym counted in
     let front : take len (ys ++ rest) ≡ ys = ap (λ k. take k (ys ++ rest)) (sym all) ∙ take-append_seam ys rest in
+    let begun : AreFresh table.seats xs = subst (λ k. AreFresh k xs) same (rw lent fresh) in
+    let unclosed = subst (λ (ws : List SeatView). IsCloseRefused table ws zs seat) front refused in
+    let complete = all_there table.seats xs ys begun (numbers_kept table names scripts xs ys ends are) in
+    let none = none_missing table ys zs seat complete unclosed in
     record {
       before = xs;
       after = ys;
-      fresh = subst (λ k. AreFresh k xs) same (rw lent fresh);
-      holds = ((ends, are), (seat, subst (λ (zs : List SeatView). IsCloseRefused table zs seat) front refused));
+      fresh = begun;
+      holds = ((ends, are), (zs, subst (IsCloseRefused table ys zs) none unclosed));
     }

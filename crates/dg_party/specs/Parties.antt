@@ -1,16 +1,18 @@
 -- A party: one table, a seat and a thread for each script, and one history of all.
 --   IsSessionIn table names H s script end == the entries of the seat s in the history H are
 --                        those that a session over the script made for it, which came to this end,
---                        and H begins with the history that it found
+--                        and H begins with the history that it found, and with the one that it
+--                        had met
 --   IsParty table names scripts ends text == there is one history of the table; for each script,
 --                        in order, a session over it, which came to the end at its place, made just
 --                        the entries of its seat in that history; and the text is the history's,
 --                        with its totals
 --   IsOfSeats n P     == P holds of n seats as they were at first, and of what they were then
 --   IsPartyRefused table names scripts refusal == the party is refused so: memory is wanting; or a
---                        thread was not started, and some first scripts had sessions, not all; or
---                        all had, and then the table was not closed
-use Rattle.std.specs.Prelude.{◌≡◌, ℕ, ◌+◌, List, [], ◌++◌, length, slice_get, Some, ⊤, Result}
+--                        thread was not started, of two scripts or more, and some first scripts had
+--                        sessions, not all; or all had, and then the table was not closed with all
+--                        its seats
+use Rattle.std.specs.Prelude.{◌≡◌, ℕ, ◌+◌, ◌≤◌, List, [], ◌++◌, length, slice_get, Some, ⊤, Result}
 use Rattle.dg_chips.specs.Vector.{Vector}
 use Rattle.dg_game.specs.Position.{Shows}
 use Rattle.dg_game.specs.History.{position_after}
@@ -37,6 +39,7 @@ pub record IsSessionIn (table : TableData) (names : List (List ℕ)) (H : List E
   pub fresh : before.mine ≡ []
   pub own : entries_of s H ≡ after.mine
   pub begins : IsBeginning after.prefix H
+  pub met : IsBeginning after.met H
   pub session : IsSessionOver table names script before after end
 
 pub record IsParty (table : TableData) (names : List (List ℕ)) (scripts : List (List ℕ))
@@ -62,9 +65,9 @@ pub record IsOfSeats (n : ℕ) (P : List SeatView → List SeatView → Type 0) 
 
 abbrev pub IsPartyRefused : TableData → List (List ℕ) → List (List ℕ) → PartyRefusal → Type 0
 IsPartyRefused table names scripts (Shortage OutOfMemory) = ⊤
-IsPartyRefused table names scripts (Shortage Spawn) = IsOfSeats table.seats (λ xs ys.
-    RefusesSessions table names scripts xs ys Spawn)
+IsPartyRefused table names scripts (Shortage Spawn) = (2 ≤ length scripts)
+    × IsOfSeats table.seats (λ xs ys. RefusesSessions table names scripts xs ys Spawn)
 IsPartyRefused table names scripts Log = IsOfSeats table.seats (λ xs ys.
     ((ends : List (Result ℕ SessionEnd))
     × AreSessions table names scripts xs ys ends)
-    × ((seat : ℕ) × IsCloseRefused table ys seat))
+    × ((zs : List SeatView) × IsCloseRefused table ys zs 0))

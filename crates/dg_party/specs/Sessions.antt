@@ -3,8 +3,8 @@
 --   contents scripts       == the bytes of each of the scripts
 --   IsSessionOver table names script x y end == a session of the seat over the bytes of the
 --                             script came to this end, on a table of so many seats and cap cells,
---                             of which it found one history; nobody heard what it had to say, so
---                             that no writer failed
+--                             of which it found one history, with one worker; nobody heard what it
+--                             had to say, so that no writer failed
 --   AreSessions .. scripts xs ys ends == so did, one beside another, a session of each seat over
 --                         the script at its place
 --   HaveBegun .. k scripts xs ys == the first k seats had such sessions, and the others are as they
@@ -33,7 +33,7 @@ pub record IsSessionOver (table : TableData) (names : List (List ℕ)) (script :
     (end : Result ℕ SessionEnd) : Type 0 where
   pub rest : Option (List ℕ)
   pub output : Passage
-  pub session : IsSession (setup OneSeat table names) (passage (Some script) rest) output
+  pub session : IsSession (setup OneSeat table names 1) (passage (Some script) rest) output
       (x ∷ []) (y ∷ []) end
   pub heard : end ≢ Err Write
 

@@ -25,7 +25,7 @@ use std::thread::Threads;
 /// per vertex.
 ///
 /// Each thread enters the gate with its seat's number before its first line. Refused for want of memory; for want of a thread,
-/// so that not all scripts had sessions; and with `Log` if all had, and the table is not closed.
+/// if there are two scripts or more, so that not all had sessions; and with `Log` if all had, and the table is not closed.
 pub fn party<R: Threads + Wait + Sync, G: Gate>(
     rt: &R,
     alloc: Global,

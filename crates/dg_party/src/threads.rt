@@ -1,5 +1,5 @@
 //! Sessions side by side, each with a seat and a thread of its own.
-ghost use Rattle.std.specs.Prelude.{◌≡◌, ℕ, ◌∷◌, length, IfOk, IfErr};
+ghost use Rattle.std.specs.Prelude.{◌≡◌, ℕ, ◌≤◌, ◌∷◌, length, IfOk, IfErr};
 ghost use Rattle.dg_party.specs.Sessions.{IsSessionOver, AreSessions, RefusesSessions, contents};
 
 use dg_log::Name;
@@ -34,11 +34,11 @@ impl<'a, N: Name, R, G> Drop for Room<'a, N, R, G> {
 }
 
 /// Sessions of the seats of a table, all at once, each over the script at its place: a thread for each seat enters the gate with
-/// the seat's number, and then answers the lines of its script. What they came to is told in the order of the scripts. The
-/// conditions are as many scripts as seats, and one name per vertex.
+/// the seat's number, and then answers the lines of its script. The one session of one script is held by the thread that calls.
+/// What they came to is told in the order of the scripts. The conditions are as many scripts as seats, and one name per vertex.
 ///
-/// Refused with `OutOfMemory`, after all sessions, and with `Spawn` if a thread could not be started: then some first seats
-/// had their sessions, not all, and the others know what they knew.
+/// Refused with `OutOfMemory`, after all sessions, and with `Spawn` if a thread could not be started, which only two scripts or
+/// more ask for: then some first seats had their sessions, not all, and the others know what they knew.
 pub fn sessions<N: Name + Send + Sync, R: Threads + Wait + Sync, G: Gate>(
     rt: &R,
     alloc: Global,
@@ -56,6 +56,7 @@ pub fn sessions<N: Name + Send + Sync, R: Threads + Wait + Sync, G: Gate>(
     ensures fault { IfErr result
         (RefusesSessions N.table names.now (contents scripts.now) seats.old
         seats.new) }
+    ensures spawn { IfErr result (λ shortage. shortage ≡ Shortage.Spawn → 2 ≤ length scripts.now) }
 {
     let room = Room {
         rt,
@@ -64,7 +65,42 @@ pub fn sessions<N: Name + Send + Sync, R: Threads + Wait + Sync, G: Gate>(
         names,
         gate,
     };
-    match play(&room, scripts, seats) {
+    let played = if scripts.len() == 1 {
+        play_alone(&room, scripts, seats)
+    } else {
+        play(&room, scripts, seats)
+    };
+    match played {
+        Ok(ends) => Ok(ends),
+        Err(shortage) => Err(shortage),
+    }
+}
+
+// The one session of one script, in the thread that calls.
+fn play_alone<'a, N: Name, R: Threads + Wait, G: Gate>(
+    room: &Room<'a, N, R, G>,
+    scripts: &[Vec<u8>],
+    seats: &mut [Seat<N>],
+) -> Result<Vec<Result<u32, SessionEnd>>, Shortage>
+    requires one { length scripts.now ≡ 1 }
+    requires scripts { length scripts.now ≡ length seats.old }
+    requires names { length room.now.names.now ≡ N.table.start.graph.size }
+    ensures ok { IfOk result
+        (λ v. AreSessions N.table room.now.names.now (contents scripts.now)
+        seats.old seats.new v.items) }
+    ensures fault { IfErr result
+        (RefusesSessions N.table room.now.names.now (contents scripts.now)
+        seats.old seats.new) }
+    ensures memory { IfErr result (λ shortage. shortage ≡ Shortage.OutOfMemory) }
+{
+    let Some((seat, _rest)) = seats.split_first_mut() else {
+        unreachable!()
+    };
+    let Some((script, _)) = scripts.split_first() else {
+        unreachable!()
+    };
+    let end = hold(room, script.as_slice(), seat);
+    match with_first(end, Vec::new(room.alloc)) {
         Ok(ends) => Ok(ends),
         Err(shortage) => Err(shortage),
     }

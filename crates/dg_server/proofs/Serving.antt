@@ -3,6 +3,7 @@
 --   held_count     files that are held are as many as their names
 --   may_play       scripts that are held are as many as may have seats
 --   served         a session whose table is closed served it
+--   unclosed       a session whose table is not closed, though all its seats were handed in
 --   party_on       a party over files that are held is that of the table that one of them describes
 --   refused_on     so is one that is refused
 --   refused_lent   so is it where the start, the names and the scripts were lent
@@ -17,11 +18,12 @@ use Rattle.dg_system.specs.Held.{Held}
 use Rattle.dg_chips.specs.Starts.{StartData}
 use Rattle.std.specs.Prelude.{Result, Option}
 use Rattle.dg_game.specs.declared.entry.Entry.{Entry}
-use Rattle.dg_table.specs.Closing.{IsClosed}
+use Rattle.dg_table.specs.Closing.{IsClosed, IsCloseRefused}
+use Rattle.dg_table.proofs.Complete.{all_there, none_missing}
 use Rattle.dg_session.proofs.Entered.{entered_all, full_at_close}
 use Rattle.dg_session.specs.Setup.{Setup}
 use Rattle.dg_session.specs.Streams.{Passage}
-use Rattle.dg_server.specs.Sessions.{IsHeard, IsServed}
+use Rattle.dg_server.specs.Sessions.{IsHeard, IsServed, IsUnclosed}
 use Rattle.dg_session.specs.declared.ends.SessionEnd.{SessionEnd}
 use Rattle.dg_party.specs.Sessions.{contents}
 use Rattle.dg_party.specs.Parties.{IsParty, IsPartyRefused}
@@ -63,7 +65,7 @@ may_play held n names all known count least most =
     let total : length all ≡ n = sym scripts ∙ same ∙ given ∙ sym count in
     rw total (least, most)
 
-pub served : {t : Setup} {input : Option (List ℕ)} {output : Passage} {end : Result ℕ SessionEnd}
+pub served : {t : Setup} {input output : Passage} {end : Result ℕ SessionEnd}
     (heard : IsHeard t input output end) (H : List Entry)
     → map (λ (x : SeatView). x.number) heard.after ≡ map (λ (x : SeatView). x.number) heard.seats
     → IsClosed t.table heard.after H → IsServed t input output end
@@ -74,6 +76,20 @@ served heard H same closed = record {
   full = full_at_close heard.session.over closed;
   whole = entered_all heard.session.over heard.fresh same closed;
 }
+
+pub unclosed : {t : Setup} {input output : Passage} {end : Result ℕ SessionEnd}
+    (heard : IsHeard t input output end) (zs : List SeatView) (s : ℕ)
+    → map (λ (x : SeatView). x.number) heard.after ≡ map (λ (x : SeatView). x.number) heard.seats
+    → IsCloseRefused t.table heard.after zs s → IsUnclosed t input output
+unclosed {t} {end = end} heard zs s same refused =
+    let complete = all_there t.table.seats heard.seats heard.after heard.fresh same in
+    let none = none_missing t.table heard.after zs s complete refused in
+    record {
+      end = end;
+      heard = heard;
+      met = zs;
+      refused = subst (IsCloseRefused t.table heard.after zs) none refused;
+    }
 
 pub party_on : (held : List ℕ → Held) (task : PartyTask) (o : StartData) (names : List (List ℕ))
     (all : List (Vec ℕ Global))

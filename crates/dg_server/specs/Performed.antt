@@ -1,14 +1,17 @@
 -- What is asked for, done or refused. `held` tells what is known of the file of each name; input
--- stands for the bytes that the reader gives, and old and new for what the output held and holds,
--- if those are known.
+-- stands for the bytes that the reader had to give and has left, and old and new for what the output
+-- held and holds, if those are known.
 --   Performs held input asked old new == what is asked for is done: the output has grown by the
 --                                    answer to the task, by the text of a call for help, by what a
 --                                    session said, by the history and the totals of a party, or by
 --                                    the answers to the lines of a file
+--   LeavesInput asked input rest   == the input is as it was: only a session reads it
 --   Refuses held input asked fault old new == what is asked for is refused so, or ended so; or the
 --                         output failed at the text of the answer, or of the help
-use Rattle.std.specs.Prelude.{◌⊎◌, ℕ, List, Option, string_bytes}
+use Rattle.std.specs.Prelude.{◌≡◌, ◌⊎◌, ℕ, List, Option, string_bytes, ⊤}
 use Rattle.std.specs.Io.KnownBytes.{Appends, Keeps}
+use Rattle.dg_session.specs.Streams.{Passage}
+use Rattle.dg_system.specs.Growth.{Reading}
 use Rattle.dg_system.specs.Held.{Held}
 use Rattle.dg_tasks.specs.Tasks.{IsAnswer, RefusesTask}
 use Rattle.dg_server.specs.OfTasks.{IsOfTask}
@@ -20,7 +23,7 @@ use Rattle.dg_invocation.specs.declared.invocation.Invocation.{Invocation}
 use Rattle.dg_invocation.specs.declared.invocation.Invocation.TheVariants.{Task, Serve, Party, Sweep, Text}
 use Rattle.dg_server.specs.declared.fault.Fault.{Fault}
 
-abbrev pub Performs : (List ℕ → Held) → Option (List ℕ) → Invocation → Option (List ℕ) → Option (List ℕ)
+abbrev pub Performs : (List ℕ → Held) → Passage → Invocation → Option (List ℕ) → Option (List ℕ)
     → Type 0
 Performs held input (Task task) old new = (text : List ℕ) × IsAnswer held task text
     × Appends old new text
@@ -29,7 +32,11 @@ Performs held input (Party task) old new = PlaysParty held task old new
 Performs held input (Sweep task) old new = Sweeps held task old new
 Performs held input (Text help) old new = Appends old new (string_bytes help)
 
-abbrev pub Refuses : (List ℕ → Held) → Option (List ℕ) → Invocation → Fault → Option (List ℕ)
+abbrev pub LeavesInput : Invocation → Reading → Reading → Type 0
+LeavesInput (Serve task) input rest = ⊤
+LeavesInput asked input rest = rest ≡ input
+
+abbrev pub Refuses : (List ℕ → Held) → Passage → Invocation → Fault → Option (List ℕ)
     → Option (List ℕ) → Type 0
 Refuses held input (Task task) fault old new =
     (IsOfTask (RefusesTask held task) fault × Keeps old new)

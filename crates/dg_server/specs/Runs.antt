@@ -4,11 +4,13 @@
 --                         the input before and after, as input and rest; and the output before and
 --                         after, as old and new
 --   run_of words held input rest old new == the run of these
---   Succeeds asks run     == what the words ask for is done
---   IsOfWords refuses run fault == the words are refused so, and the output is as it was
+--   Succeeds asks run     == what the words ask for is done; the input is as it was, unless that is a
+--                         session
+--   IsOfWords refuses run fault == the words are refused so, and the input and the output are as they
+--                         were
 --   IsOfAsked asks run fault == what the words ask for is refused so, or ended so; a fault in
 --                         reading the input, or in writing, tells that the input, or the output,
---                         has failed
+--                         has failed; the input is as it was, unless a session was asked for
 --   IsCause asks refuses run fault == one of the two
 --   Fails asks refuses run n == n is the status of a fault that has its cause
 use Rattle.std.specs.Prelude.{◌≡◌, ◌⊎◌, ℕ, List, true}
@@ -17,8 +19,9 @@ use Rattle.dg_invocation.specs.declared.invocation.Invocation.{Invocation}
 use Rattle.dg_invocation.specs.declared.parse_args.ArgsFault.{ArgsFault}
 use Rattle.dg_system.specs.Growth.{Reading, Writing}
 use Rattle.dg_system.specs.Held.{Held}
+use Rattle.dg_session.specs.Streams.{passage}
 use Rattle.dg_server.specs.Streams.{IsOfInput, IsOfOutput}
-use Rattle.dg_server.specs.Performed.{Performs, Refuses}
+use Rattle.dg_server.specs.Performed.{Performs, LeavesInput, Refuses}
 use Rattle.dg_server.specs.Status.{status}
 use Rattle.dg_server.specs.declared.fault.Fault.{Fault}
 use Rattle.dg_server.specs.declared.fault.Fault.TheVariants.{Words}
@@ -38,20 +41,25 @@ run_of words held input rest old new =
 pub record Succeeds (asks : List (List ℕ) → Invocation → Type 0) (run : Run) : Type 0 where
   pub asked : Invocation
   pub wanted : asks run.words asked
-  pub done : Performs run.held run.input.remaining asked run.old.contents run.new.contents
+  pub done : Performs run.held (passage run.input.remaining run.rest.remaining) asked
+      run.old.contents run.new.contents
+  pub left : LeavesInput asked run.input run.rest
 
 pub record IsOfWords (refuses : List (List ℕ) → ArgsFault → Type 0) (run : Run) (fault : Fault)
     : Type 0 where
   pub why : ArgsFault
   pub tells : fault ≡ Words why
   pub refused : refuses run.words why
+  pub left : run.rest ≡ run.input
   pub kept : Keeps run.old.contents run.new.contents
 
 pub record IsOfAsked (asks : List (List ℕ) → Invocation → Type 0) (run : Run) (fault : Fault)
     : Type 0 where
   pub asked : Invocation
   pub wanted : asks run.words asked
-  pub refused : Refuses run.held run.input.remaining asked fault run.old.contents run.new.contents
+  pub refused : Refuses run.held (passage run.input.remaining run.rest.remaining) asked fault
+      run.old.contents run.new.contents
+  pub left : LeavesInput asked run.input run.rest
   pub read : IsOfInput fault → run.rest.has_failed ≡ true
   pub write : IsOfOutput fault → run.new.has_failed ≡ true
 

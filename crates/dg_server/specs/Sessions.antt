@@ -4,18 +4,21 @@
 --   session_of task o names == what holds for the session that is asked for, on the table of the
 --                         start o
 --   IsHeard t input output end == a session over the input, of the table's seats, which know of no
---                         entry, came to this end; and the output has grown by what it said
+--                         entry, came to this end; the input has what it left, and the output has
+--                         grown by what it said
 --   IsServed t input output end == it did; and there is one history of the table, in which the
 --                         entries of each seat are just those of its own calls, each once and in
 --                         order; and what the lines entered, one line after another, is all of it,
 --                         numbered from 0; and it is full, if the end is that of a full table
 --   Serves held input task old new == such a session came to the end of the input, on the table of
 --                         the file that is named
+--   IsUnclosed t input output == such a session came to some end, and the table was not closed after
+--                         it, though all its seats were handed in
 --   EndsEarly t input fault output == such a session ended early, for that fault;
 --                            or the table was not closed after it; or memory was refused before it
---                            began, and the output is as it was
---   RefusesServing held input task fault old new == the table file is refused so, and the output is
---                            as it was; or the session on its table ended so
+--                            began, and the input and the output are as they were
+--   RefusesServing held input task fault old new == the table file is refused so, and the input and
+--                            the output are as they were; or the session on its table ended so
 use Rattle.std.specs.Prelude.{◌≡◌, ℕ, List, length, Option, None, Some, ◌⊎◌}
 use Rattle.std.specs.declared.result.Result.{Result}
 use Rattle.std.specs.declared.result.Result.TheVariants.{Ok, Err}
@@ -23,7 +26,7 @@ use Rattle.std.specs.Io.KnownBytes.{Keeps}
 use Rattle.std.specs.List.{enumerate_from}
 use Rattle.dg_game.specs.declared.entry.Entry.{Entry}
 use Rattle.dg_table.specs.Opened.{AreFresh}
-use Rattle.dg_table.specs.Closing.{IsClosed}
+use Rattle.dg_table.specs.Closing.{IsClosed, IsCloseRefused}
 use Rattle.dg_table.specs.Seats.{SeatView}
 use Rattle.dg_session.specs.Setup.{Setup, setup}
 use Rattle.dg_session.specs.Streams.{Passage, passage}
@@ -50,38 +53,44 @@ how_of (Some n) = BySeat
 
 abbrev pub session_of : ServeTask → StartData → List (List ℕ) → Setup
 session_of task o names =
-    setup (how_of task.seats) (table_of o (count_of task.seats) task.capacity) names
+    setup (how_of task.seats) (table_of o (count_of task.seats) task.capacity) names task.workers
 
-pub record IsHeard (t : Setup) (input : Option (List ℕ)) (output : Passage)
-    (end : Result ℕ SessionEnd) : Type 0 where
-  pub rest : Option (List ℕ)
+pub record IsHeard (t : Setup) (input output : Passage) (end : Result ℕ SessionEnd) : Type 0 where
   pub seats : List SeatView
   pub fresh : AreFresh t.table.seats seats
   pub after : List SeatView
-  pub session : IsSession t (passage input rest) output seats after end
+  pub session : IsSession t input output seats after end
 
-pub record IsServed (t : Setup) (input : Option (List ℕ)) (output : Passage)
-    (end : Result ℕ SessionEnd) : Type 0 where
+pub record IsServed (t : Setup) (input output : Passage) (end : Result ℕ SessionEnd)
+    : Type 0 where
   pub heard : IsHeard t input output end
   pub history : List Entry
   pub closed : IsClosed t.table heard.after history
   pub full : end ≡ Err (Table Full) → length history ≡ t.table.capacity
   pub whole : heard.session.over.end.entered ≡ enumerate_from 0 history
 
-abbrev pub Serves : (List ℕ → Held) → Option (List ℕ) → ServeTask → Option (List ℕ)
-    → Option (List ℕ) → Type 0
+abbrev pub Serves : (List ℕ → Held) → Passage → ServeTask → Option (List ℕ) → Option (List ℕ)
+    → Type 0
 Serves held input task old new = IsOnTable (held task.file.now) (λ o names.
     (count : ℕ) × IsServed (session_of task o names) input (passage old new) (Ok count))
 
-abbrev pub EndsEarly : Setup → Option (List ℕ) → Fault → Passage → Type 0
-EndsEarly t input (Session end) output = IsServed t input output (Err end)
-EndsEarly t input History output = (end : Result ℕ SessionEnd) × IsHeard t input output end
-EndsEarly t input fault output =
-    (fault ≡ Shortage OutOfMemory) × Keeps output.before output.after
+pub record IsUnclosed (t : Setup) (input output : Passage) : Type 0 where
+  pub end : Result ℕ SessionEnd
+  pub heard : IsHeard t input output end
+  pub met : List SeatView
+  pub refused : IsCloseRefused t.table heard.after met 0
 
-abbrev pub RefusesServing : (List ℕ → Held) → Option (List ℕ) → ServeTask → Fault → Option (List ℕ)
+abbrev pub EndsEarly : Setup → Passage → Fault → Passage → Type 0
+EndsEarly t input (Session end) output = IsServed t input output (Err end)
+EndsEarly t input History output = IsUnclosed t input output
+EndsEarly t input fault output =
+    (fault ≡ Shortage OutOfMemory) × (input.after ≡ input.before)
+    × Keeps output.before output.after
+
+abbrev pub RefusesServing : (List ℕ → Held) → Passage → ServeTask → Fault → Option (List ℕ)
     → Option (List ℕ) → Type 0
 RefusesServing held input task fault old new =
-    (IsOfTask (RefusesItsTable (held task.file.now)) fault × Keeps old new)
+    (IsOfTask (RefusesItsTable (held task.file.now)) fault × (input.after ≡ input.before)
+    × Keeps old new)
     ⊎ IsOnTable (held task.file.now) (λ o names.
     EndsEarly (session_of task o names) input fault (passage old new))

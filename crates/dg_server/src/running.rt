@@ -13,8 +13,8 @@ use std::sync::Wait;
 use std::thread::Threads;
 
 /// Does what the words of a command line ask for, the first of which is the program's name, as the reader has it; and gives the
-/// exit status: 0 where it was done to the end, or that of the fault that ended the run, of which `faults` is told. Only a
-/// session reads the input.
+/// exit status: 0 where it was done to the end, or that of the fault that ended the run, of which `faults` is told; with 0 it is
+/// told nothing. Only a session reads the input.
 pub fn run<R, W, S, I, O, F>(
     rt: &R,
     reader: &W,
@@ -32,6 +32,7 @@ where
     O: Write,
     F: Write,
     ensures status { IsStatus result }
+    ensures quiet { result ≡ 0 → faults.new ≡ faults.old }
     ensures done { result ≡ 0 →
         Succeeds (W.asks reader.now) (run_of (map string_bytes words.now) (S.held sources.now)
         input.old input.new output.old output.new) }

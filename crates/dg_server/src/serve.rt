@@ -40,13 +40,14 @@ where
     I: Read,
     O: Write,
     ensures done { OnOk result
-        (Serves (S.held sources.now) input.old.remaining task.now output.old.contents
-        output.new.contents) }
+        (Serves (S.held sources.now) (passage input.old.remaining input.new.remaining) task.now
+        output.old.contents output.new.contents) }
     ensures read { IfErr result (λ fault. IsOfInput fault → input.new.has_failed ≡ true) }
     ensures write { IfErr result (λ fault. IsOfOutput fault → output.new.has_failed ≡ true) }
     ensures refused { IfErr result
-        (λ fault. RefusesServing (S.held sources.now) input.old.remaining task.now fault
-        output.old.contents output.new.contents) }
+        (λ fault. RefusesServing (S.held sources.now)
+        (passage input.old.remaining input.new.remaining) task.now fault output.old.contents
+        output.new.contents) }
 {
     let table = match table_in(rt, sources, task.file) {
         Ok(table) => table,
@@ -97,13 +98,13 @@ where
     requires alone { how ≡ OneSeat → seats ≡ 1 }
     requires workers { MayHaveWorkers workers }
     ensures done { OnOk result ((count : ℕ)
-        × IsServed (setup how (table_of table.now.start seats (length row)) table.now.names)
-        input.old.remaining (passage output.old.contents output.new.contents) (Ok count)) }
+        × IsServed (setup how (table_of table.now.start seats (length row)) table.now.names workers)
+        (passage input.old.remaining input.new.remaining) (passage output.old.contents output.new.contents) (Ok count)) }
     ensures read { IfErr result (λ fault. IsOfInput fault → input.new.has_failed ≡ true) }
     ensures write { IfErr result (λ fault. IsOfOutput fault → output.new.has_failed ≡ true) }
     ensures early { IfErr result (λ fault.
-        EndsEarly (setup how (table_of table.now.start seats (length row)) table.now.names)
-        input.old.remaining fault (passage output.old.contents output.new.contents)) }
+        EndsEarly (setup how (table_of table.now.start seats (length row)) table.now.names workers)
+        (passage input.old.remaining input.new.remaining) fault (passage output.old.contents output.new.contents)) }
 {
     let alloc = rt.alloc();
     let (opened, mut all) = match Table::<N>::open(alloc, row, table.start(), seats) {
@@ -144,7 +145,7 @@ where
     requires workers { MayHaveWorkers workers }
     requires some { 1 ≤ length seats.old }
     requires alone { how ≡ OneSeat → length seats.old ≡ 1 }
-    ensures session { IsSession (setup how N.table table.now.names)
+    ensures session { IsSession (setup how N.table table.now.names workers)
         (passage input.old.remaining input.new.remaining)
         (passage output.old.contents output.new.contents) seats.old seats.new result }
     ensures read { result ≡ Err SessionEnd.Read → input.new.has_failed ≡ true }

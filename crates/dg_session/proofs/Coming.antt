@@ -6,8 +6,9 @@
 --   stand_on       they stand in what begins with it
 --   stand_both     so do two lists of them, one after the other
 --   comes_from     what comes after a history comes after its beginning
+--   met_keeps      a seat that met a history knows what it knew
 --   gained_met     what a seat gained after it met a history, it gained
---   line_met       a line that was refused to it then, was
+--   command_met, line_met   a command or a line that was refused to it then, was
 --   line_one       a line makes at most one entry
 --   refused_made   so does one that is refused
 --   last_made      what was made is the last entry, where there is one more
@@ -19,12 +20,12 @@ use Rattle.dg_table.specs.Histories.{IsHistoryOf}
 use Rattle.dg_game.specs.declared.step.Command.{Command}
 use Rattle.dg_game.specs.declared.step.Command.TheVariants.{Call, Commit, Rank}
 use Rattle.dg_log.specs.Numbered.{AreBelow, StandIn, IsBeginning}
-use Rattle.dg_table.specs.Seats.{SeatView, Meets}
+use Rattle.dg_table.specs.Seats.{SeatView, Keeps, Meets}
 use Rattle.dg_table.proofs.Numbered.{begins_on, begins_length, stand_longer}
 use Rattle.dg_session.specs.Order.{AscendFrom, ComeAfter}
 use Rattle.dg_session.specs.Setup.{Setup}
 use Rattle.dg_session.specs.Saying.{Gains, AnswersCommand, AnswersLine}
-use Rattle.dg_session.specs.Refusing.{RefusesLine}
+use Rattle.dg_session.specs.Refusing.{RefusesCommand, RefusesLine}
 use Rattle.dg_session.specs.declared.ends.SessionEnd.{SessionEnd}
 use Rattle.dg_session.specs.declared.ends.SessionEnd.TheVariants.{Table, Memory, Spawn}
 use Rattle.dg_log.specs.Tables.{TableData}
@@ -61,7 +62,16 @@ comes_from K M H made begins comes = record {
   after = ascend_from (length K) (length M) made (begins_length K M begins) comes.after;
 }
 
-module _ {L : List Entry} {x m : SeatView} (meets : Meets L x m) where
+pub met_keeps : {L : List Entry} {x m : SeatView} → Meets L x m → Keeps x m
+met_keeps meets = record {
+  number = meets.number;
+  mine = meets.mine;
+  told = meets.told;
+  prefix = meets.prefix;
+  met = meets.met.first;
+}
+
+module _ {x m : SeatView} (meets : Keeps x m) where
   pub gained_met : (y : SeatView) (made : List (ℕ × Entry)) → Gains m y made → Gains x y made
   gained_met y made g = record {
     number = g.number ∙ meets.number;
@@ -69,14 +79,22 @@ module _ {L : List Entry} {x m : SeatView} (meets : Meets L x m) where
     heard = g.heard;
     told = g.told ∙ ap (λ ps. ps ++ g.heard) meets.told;
     prefix = subst (λ K. IsBeginning K y.prefix) meets.prefix g.prefix;
-    order = comes_from x.met m.met y.met made meets.met.first g.order;
+    order = comes_from x.met m.met y.met made meets.met g.order;
     still = λ none. let kept = g.still none in (kept.0 ∙ meets.told, kept.1 ∙ meets.prefix);
   }
 
+  pub command_met : (t : Setup) (k : Option ℕ) (command : Command) (y : SeatView) (end : SessionEnd)
+      → RefusesCommand t k command m y end → RefusesCommand t k command x y end
+  command_met t k command y (Table fault) h = (h.0, h.1, gained_met y [] h.2)
+  command_met t k command y Spawn h = (h.0, h.1, gained_met y [] h.2)
+  command_met t k command y Memory h =
+      record { more = h.more; next = h.next; gained = gained_met y h.more h.gained }
+  command_met t k command y end h = absurd h
+
   pub line_met : (t : Setup) (k : Option ℕ) (line : List ℕ) (y : SeatView) (end : SessionEnd)
       → RefusesLine t k line m y end → RefusesLine t k line x y end
-  line_met t k line y (Table fault) h = (h.0, h.1, (h.2.0, h.2.1, gained_met y [] h.2.2))
-  line_met t k line y Spawn h = (h.0, h.1, (h.2.0, gained_met y [] h.2.1))
+  line_met t k line y (Table fault) h = (h.0, h.1, command_met t k h.0 y (Table fault) h.2)
+  line_met t k line y Spawn h = (h.0, h.1, command_met t k h.0 y Spawn h.2)
   line_met t k line y Memory h =
       record { more = h.more; next = h.next; gained = gained_met y h.more h.gained }
   line_met t k line y end h = absurd h.2
@@ -102,7 +120,7 @@ line_one t k line made after said a = elim a [
 pub refused_made : (t : Setup) (k : Option ℕ) (line : List ℕ) (x y : SeatView) (end : SessionEnd)
     → RefusesLine t k line x y end → (made : List (ℕ × Entry)) × Gains x y made × (length made ≤ 1)
 refused_made t k line x y (Table fault) h = ([], h.2.2, omega arith)
-refused_made t k line x y Spawn h = ([], h.2.1, omega arith)
+refused_made t k line x y Spawn h = ([], h.2.2, omega arith)
 refused_made t k line x y Memory h = (
   h.more,
   h.gained,

@@ -26,7 +26,8 @@ use Rattle.dg_session.specs.Ends.{reading, EndsBy, IsOver}
 use Rattle.dg_session.specs.declared.ends.SessionEnd.{SessionEnd}
 use Rattle.dg_session.specs.declared.ends.SessionEnd.TheVariants.{Table}
 use Rattle.dg_session.proofs.Coming.{below_stand, stand_on}
-use Rattle.dg_session.proofs.InOrder.{calls_of, get_set, fits_all}
+use Rattle.dg_session.proofs.InOrder.{calls_of, fits_all}
+use Rattle.dg_table.proofs.Placed.{get_set}
 use Rattle.dg_log.specs.Tables.{TableData}
 
 few_between : (a b : ℕ) (ps : List (ℕ × Entry)) → AscendFrom a ps → AreBelow b ps → a ≤ b → a + length ps ≤ b

@@ -1,5 +1,4 @@
 -- What the lines of a session enter comes in their order, and is what their seats gain.
---   get_set       what a place holds that was set
 --   calls_of      how many calls some seats have made
 --   Fits n s      what the lines entered is in order, and the seats, which had n calls, made no others
 --   fits_begun    so it is before the first line
@@ -9,6 +8,7 @@ use Rattle.std.specs.List.{slice_set}
 use Rattle.dg_game.specs.declared.entry.Entry.{Entry}
 use Rattle.dg_log.specs.Numbered.{StandIn}
 use Rattle.dg_table.specs.Seats.{SeatView}
+use Rattle.dg_table.proofs.Placed.{get_set}
 use Rattle.dg_session.specs.Setup.{Setup}
 use Rattle.dg_session.specs.Order.{AscendFrom}
 use Rattle.dg_session.specs.Saying.{Gains}
@@ -28,11 +28,6 @@ pub record Fits (n : ℕ) (s : Speakers) : Type 0 where
 
 pub fits_begun : (xs : List SeatView) → Fits (calls_of xs) (newcomers xs)
 fits_begun xs = record { order = record { ascend = tt; stand = tt; met = inl refl }; counted = omega arith }
-
-pub get_set : (xs : List SeatView) (i : ℕ) (x y : SeatView) → slice_get xs i ≡ Some x → slice_get (slice_set xs i y) i ≡ Some y
-get_set [] i x y at = absurd cc
-get_set (w ∷ xs) zero x y at = refl
-get_set (w ∷ xs) (suc i) x y at = get_set xs i x y at
 
 calls_set : (xs : List SeatView) (i k : ℕ) (x y : SeatView) → slice_get xs i ≡ Some x
     → length y.mine ≡ length x.mine + k → calls_of (slice_set xs i y) ≡ calls_of xs + k

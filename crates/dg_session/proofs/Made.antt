@@ -11,6 +11,7 @@
 --   named           there are names for its amounts
 --   entered, words_said, call_refused   a command is obeyed: by an entry that stands, by words, and by a table that
 --       refuses
+--   obeys_after     a command that is obeyed to a seat after it met a longer history is obeyed to it
 --   with_look, with_none   so it is with the look that is kept, and with none
 --   call_keeps      a call that is no look keeps the look
 use Rattle.std.proofs.Common.{◌≡◌, ◌≢◌, ℕ, inl, inr, List, [], ◌∷◌, ◌++◌, length, Option, Some, None, slice_get, Result, Ok, Err, OnOk, refl, sym, ap, subst, ◌∙◌, append-nil, codes, arith}
@@ -49,6 +50,7 @@ use Rattle.dg_session.specs.Speakers.{kept_number}
 use Rattle.dg_session.specs.Refusing.{CallsTable, RefusesCommand}
 use Rattle.dg_session.specs.Setup.{Setup}
 use Rattle.dg_session.specs.SoFar.{Speaker, Tells, Obeys}
+use Rattle.dg_session.proofs.Coming.{gained_met, command_met}
 use Rattle.dg_log.specs.Tables.{TableData}
 
 pub gains_none : (x y : SeatView) → Keeps x y → Gains x y []
@@ -70,6 +72,27 @@ gains_same x = gains_none x x (record {
   prefix = refl;
   met = ([], sym (append-nil x.met));
 })
+
+pub obeys_after : {B : Type 0} {t : Setup} {command : Command} {x y : SeatView} {kept : Option ℕ}
+    {said : Option (List ℕ)} {new : Speaker} {result : Result B SessionEnd} → Keeps x y →
+    Obeys t command (record { seat = y; kept = kept; said = said }) new result →
+    Obeys t command (record { seat = x; kept = kept; said = said }) new result
+obeys_after {new = new} {result = Ok b} keeps obeys = record {
+  done = record {
+    made = obeys.done.made;
+    text = obeys.done.text;
+    answers = obeys.done.answers;
+    gained = gained_met keeps new.seat obeys.done.made obeys.done.gained;
+    said = obeys.done.said;
+  };
+  refused = tt;
+  unsaid = tt;
+}
+obeys_after {t = t} {command} {kept = kept} {new = new} {result = Err end} keeps obeys = record {
+  done = tt;
+  refused = command_met keeps t kept command new.seat end obeys.refused;
+  unsaid = obeys.unsaid;
+}
 
 pub record Stands (o : StartData) (request : Request) (r : ℕ × Entry) (x y : SeatView) : Type 0 where
   pub asked' : r.1.request ≡ request

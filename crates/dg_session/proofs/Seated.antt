@@ -16,7 +16,7 @@ use Rattle.dg_lines.specs.Steps.{IsSeated}
 use Rattle.dg_lines.proofs.Stepping.{seated_parts}
 use Rattle.dg_session.specs.Refusing.{RefusesLine}
 use Rattle.dg_session.specs.Saying.{Gains}
-use Rattle.dg_session.proofs.Coming.{comes_from, gained_met, line_met, line_one, refused_made}
+use Rattle.dg_session.proofs.Coming.{comes_from, met_keeps, gained_met, line_met, line_one, refused_made}
 use Rattle.dg_session.specs.Setup.{Setup}
 use Rattle.dg_session.specs.Speakers.{Speakers, speakers, kept_number, IsFor, IsForNone, Replaces, GoesOn, AnswersLineOf, RefusesLineOf}
 use Rattle.dg_session.specs.SoFar.{Hears, Handles}
@@ -111,7 +111,7 @@ spoken {t = t} {text = text} {result = Ok b} xs ks i d m y e l H L ps qs for low
         look = look_turned ks i e l (omega (arith, low, size));
         made = h.done.made;
         answers = h.done.answers;
-        gained = gained_met meets y h.done.made h.done.gained;
+        gained = gained_met (met_keeps meets) y h.done.made h.done.gained;
         goes_on = went_on xs (slice_set xs i y) ks (slice_set ks i l) h.done.made meets latest follows h.done.gained
             (line_one t _ text h.done.made _ h.done.text h.done.answers);
       },
@@ -136,9 +136,9 @@ spoken {t = t} {text = text} {result = Err end} xs ks i d m y e l H L ps qs for 
           after = kept_number l;
           seat = seat_turned xs i d y low;
           look = look_turned ks i e l (omega (arith, low, size));
-          refused = line_met meets t (kept_number (slice_index_or ks i e)) text y end h.refused;
+          refused = line_met (met_keeps meets) t (kept_number (slice_index_or ks i e)) text y end h.refused;
           made = made;
-          gained = gained_met meets y made gained;
+          gained = gained_met (met_keeps meets) y made gained;
           goes_on = went_on xs (slice_set xs i y) ks (slice_set ks i l) made meets latest follows gained one;
         },
       );
@@ -169,7 +169,7 @@ sizes_kept t s z line text a = elim a [
 number_left : (t : Setup) (k : Option ℕ) (text : List ℕ) (x y : SeatView) (end : SessionEnd)
     → RefusesLine t k text x y end → y.number ≡ x.number
 number_left t k text x y (Table fault) h = h.2.2.number
-number_left t k text x y Spawn h = h.2.1.number
+number_left t k text x y Spawn h = h.2.2.number
 number_left t k text x y Memory h = h.gained.number
 number_left t k text x y end h = absurd h.2
 

@@ -6,10 +6,11 @@
 --   MadeAtMost A x y          == the seat has made nothing, or what it makes if it is answered
 --                                as A says
 --   RefusesCommand t kept command x y end == the command is not answered, and the session ends so:
---                                for what the table, the memory or a thread refused; if memory
---                                was refused, the entry may stand
+--                                for what the table, the memory or a thread refused, which only
+--                                two workers or more ask for; if memory was refused, the entry may
+--                                stand
 --   RefusesLine t kept line x y end       == so is the line, as its command
-use Rattle.std.specs.Prelude.{◌≡◌, ℕ, ◌⊎◌, List, [], Option, None, Some, ⊤}
+use Rattle.std.specs.Prelude.{◌≡◌, ℕ, ◌≤◌, ◌⊎◌, List, [], Option, None, Some, ⊤}
 use Rattle.dg_rank.specs.Ranks.{IsWithin}
 use Rattle.dg_game.specs.declared.entry.Entry.{Entry}
 use Rattle.dg_game.specs.declared.step.Command.{Command}
@@ -44,7 +45,7 @@ RefusesCommand t kept command x y (Table fault) =
     CallsTable t.table.start.graph.size kept command × RefusesCall t.table y fault
     × Gains x y []
 RefusesCommand t kept command x y Spawn =
-    TriesRank t.table.start.graph.size kept command × Gains x y []
+    (2 ≤ t.workers) × TriesRank t.table.start.graph.size kept command × Gains x y []
 RefusesCommand t kept command x y Memory = MadeAtMost (AnswersCommand t kept command) x y
 RefusesCommand t kept command x y end = ⊥
 

@@ -98,7 +98,7 @@ pub(crate) fn answer_seat<N: Name, R: Threads + Wait>(
     seat: &mut Seat<N>,
     line: &[u8],
 ) -> Result<(), SessionEnd>
-    ensures { Hears (setup shared.now.how N.table shared.now.names.now)
+    ensures { Hears (setup shared.now.how N.table shared.now.names.now shared.now.workers)
         line.now (speaker seat.old kept.old said.old) (speaker seat.new kept.new said.new) result }
 {
     match parse_line(line, shared.names) {
@@ -116,7 +116,7 @@ fn obey<N: Name, R: Threads + Wait>(
     seat: &mut Seat<N>,
     command: &Command,
 ) -> Result<(), SessionEnd>
-    ensures { Obeys (setup shared.now.how N.table shared.now.names.now)
+    ensures { Obeys (setup shared.now.how N.table shared.now.names.now shared.now.workers)
         command.now (speaker seat.old kept.old said.old) (speaker seat.new kept.new said.new) result }
 {
     match command {
@@ -138,7 +138,7 @@ fn take_look<N: Name, R: Threads + Wait>(
     said: &mut Said,
     seat: &mut Seat<N>,
 ) -> Result<(), SessionEnd>
-    ensures { Obeys (setup shared.now.how N.table shared.now.names.now)
+    ensures { Obeys (setup shared.now.how N.table shared.now.names.now shared.now.workers)
         (Call Plain.Look) (speaker seat.old kept.old said.old)
         (speaker seat.new kept.new said.new) result }
 {
@@ -163,7 +163,7 @@ fn call<N: Name, R: Threads + Wait>(
     plain: &Plain,
 ) -> Result<(), SessionEnd>
     requires { plain.now ≢ Plain.Look }
-    ensures { Obeys (setup shared.now.how N.table shared.now.names.now)
+    ensures { Obeys (setup shared.now.how N.table shared.now.names.now shared.now.workers)
         (Call plain.now) (speaker seat.old kept.old said.old) (speaker seat.new kept.new said.new)
         result }
 {
@@ -180,7 +180,7 @@ fn enter_verdict<N: Name, R: Threads + Wait>(
     said: &mut Said,
     seat: &mut Seat<N>,
 ) -> Result<(), SessionEnd>
-    ensures { Obeys (setup shared.now.how N.table shared.now.names.now)
+    ensures { Obeys (setup shared.now.how N.table shared.now.names.now shared.now.workers)
         Commit (speaker seat.old kept.old said.old) (speaker seat.new kept.new said.new) result }
 {
     if let Some(look) = kept {
@@ -196,7 +196,7 @@ fn enter_verdict<N: Name, R: Threads + Wait>(
                 *kept = None;
                 return said.say_entry(shared.table, shared.names, &receipt);
             }
-            Ok(None) => {}
+            Ok(None) => return reckon_verdict(shared, kept, said, seat),
             Err(fault) => return Err(SessionEnd::Table(fault)),
         }
     }
@@ -210,7 +210,7 @@ fn reckon_verdict<N: Name, R: Threads + Wait>(
     said: &mut Said,
     seat: &mut Seat<N>,
 ) -> Result<(), SessionEnd>
-    ensures { Obeys (setup shared.now.how N.table shared.now.names.now)
+    ensures { Obeys (setup shared.now.how N.table shared.now.names.now shared.now.workers)
         Commit (speaker seat.old kept.old said.old) (speaker seat.new kept.new said.new) result }
 {
     let Some(look) = kept else {
@@ -242,7 +242,7 @@ fn enter_rank<N: Name, R: Threads + Wait>(
     seat: &mut Seat<N>,
     k: u32,
 ) -> Result<(), SessionEnd>
-    ensures { Obeys (setup shared.now.how N.table shared.now.names.now)
+    ensures { Obeys (setup shared.now.how N.table shared.now.names.now shared.now.workers)
         (Rank k) (speaker seat.old kept.old said.old) (speaker seat.new kept.new said.new) result }
 {
     if let Some(look) = kept
@@ -261,7 +261,7 @@ fn enter_rank<N: Name, R: Threads + Wait>(
                 *kept = None;
                 return said.say_entry(shared.table, shared.names, &receipt);
             }
-            Ok(None) => {}
+            Ok(None) => return try_kept(shared, kept, said, seat, k),
             Err(fault) => return Err(SessionEnd::Table(fault)),
         }
     }
@@ -276,7 +276,7 @@ fn try_kept<N: Name, R: Threads + Wait>(
     seat: &mut Seat<N>,
     k: u32,
 ) -> Result<(), SessionEnd>
-    ensures { Obeys (setup shared.now.how N.table shared.now.names.now)
+    ensures { Obeys (setup shared.now.how N.table shared.now.names.now shared.now.workers)
         (Rank k) (speaker seat.old kept.old said.old) (speaker seat.new kept.new said.new) result }
 {
     let Some(look) = kept.take() else {

@@ -34,7 +34,7 @@ pub enum SessionEnd {
     /// Memory was refused.
     #[error("{}", Shortage::OutOfMemory)]
     Memory,
-    /// A thread of a rank test could not be started.
+    /// A thread of a rank test by two workers or more could not be started.
     #[error("{}", Shortage::Spawn)]
     Spawn,
 }

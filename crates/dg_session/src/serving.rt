@@ -28,8 +28,8 @@ use std::thread::Threads;
 ///
 /// It waits for the table's lock. It ends before the input does with `Turns` if a byte follows the millionth line, `LongLine`
 /// if a line has more than 1,024 bytes, `Read` if the reader fails, `Write` if the writer fails or takes no byte, `Table` if
-/// the table refuses a call, `Memory` if memory is refused, and `Spawn` if a thread of a rank test could not be started. What
-/// was entered before stays.
+/// the table refuses a call, `Memory` if memory is refused, and `Spawn` if a thread of a rank test could not be started, which
+/// one worker never asks for. What was entered before stays.
 pub fn serve<N: Name, R: Threads + Wait, I: Read, O: Write>(
     rt: &R,
     alloc: Global,
@@ -42,7 +42,7 @@ pub fn serve<N: Name, R: Threads + Wait, I: Read, O: Write>(
 ) -> Result<u32, SessionEnd>
     requires names { length names.now ≡ N.table.start.graph.size }
     requires workers { MayHaveWorkers workers }
-    ensures session { IsSession (setup OneSeat N.table names.now)
+    ensures session { IsSession (setup OneSeat N.table names.now workers)
         (passage reader.old.remaining reader.new.remaining)
         (passage writer.old.contents writer.new.contents) (seat.old ∷ []) (seat.new ∷ []) result }
     ensures read { result ≡ Err SessionEnd.Read → reader.new.has_failed ≡ true }
@@ -78,7 +78,7 @@ pub fn serve_seats<N: Name, R: Threads + Wait, I: Read, O: Write>(
     requires names { length names.now ≡ N.table.start.graph.size }
     requires workers { MayHaveWorkers workers }
     requires some { 1 ≤ length seats.old }
-    ensures session { IsSession (setup how N.table names.now)
+    ensures session { IsSession (setup how N.table names.now workers)
         (passage reader.old.remaining reader.new.remaining)
         (passage writer.old.contents writer.new.contents) seats.old seats.new result }
     ensures read { result ≡ Err SessionEnd.Read → reader.new.has_failed ≡ true }
@@ -109,7 +109,7 @@ pub fn serve_unheard<N: Name, R: Threads + Wait, I: Read>(
 ) -> Result<u32, SessionEnd>
     requires names { length names.now ≡ N.table.start.graph.size }
     requires workers { MayHaveWorkers workers }
-    ensures session { IsSession (setup OneSeat N.table names.now)
+    ensures session { IsSession (setup OneSeat N.table names.now workers)
         (passage reader.old.remaining reader.new.remaining) (passage None None)
         (seat.old ∷ []) (seat.new ∷ []) result }
     ensures read { result ≡ Err SessionEnd.Read → reader.new.has_failed ≡ true }
@@ -150,7 +150,7 @@ fn serve_lines<N: Name, R: Threads + Wait, I: Read, O: Write>(
     requires some { 1 ≤ length seats.old }
     requires said { IsSaid (heard text) [] }
     requires unknown { heard text ≡ None → writer.old.contents ≡ None }
-    ensures session { IsOver (setup shared.now.how N.table shared.now.names.now)
+    ensures session { IsOver (setup shared.now.how N.table shared.now.names.now shared.now.workers)
         (passage reader.old.remaining reader.new.remaining)
         (passage writer.old.contents writer.new.contents) seats.old seats.new result }
     ensures read { result ≡ Err SessionEnd.Read → reader.new.has_failed ≡ true }

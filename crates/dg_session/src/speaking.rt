@@ -27,7 +27,7 @@ pub(crate) fn answer_line<N: Name, R: Threads + Wait>(
 ) -> Result<(), SessionEnd>
     requires some { 1 ≤ length seats.old }
     requires each { length kept.old ≡ length seats.old }
-    ensures { Handles (setup shared.now.how N.table shared.now.names.now)
+    ensures { Handles (setup shared.now.how N.table shared.now.names.now shared.now.workers)
         line.now (talk seats.old kept.old course.old said.old)
         (talk seats.new kept.new course.new said.new) result }
 {

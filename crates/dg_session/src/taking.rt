@@ -107,7 +107,7 @@ fn answer_pending<N: Name, R: Threads + Wait>(
 ) -> Result<(), SessionEnd>
     requires { IsReady (so_far progress.old seats.old) }
     ensures handled { Handles
-        (setup shared.now.how N.table shared.now.names.now)
+        (setup shared.now.how N.table shared.now.names.now shared.now.workers)
         (progress.old.pending.items ++ part.now)
         (talk seats.old progress.old.kept.items progress.old.course progress.old.said)
         (talk seats.new progress.new.kept.items progress.new.course progress.new.said) result }
@@ -147,7 +147,7 @@ fn end_line<N: Name, R: Threads + Wait>(
     requires ready { IsReady (so_far progress.old seats.old) }
     requires more { progress.old.count < MAX_LINES }
     ensures handled { Handles
-        (setup shared.now.how N.table shared.now.names.now)
+        (setup shared.now.how N.table shared.now.names.now shared.now.workers)
         (progress.old.pending.items ++ part.now)
         (talk seats.old progress.old.kept.items progress.old.course progress.old.said)
         (talk seats.new progress.new.kept.items progress.new.course progress.new.said) result }
@@ -172,7 +172,7 @@ pub(crate) fn take_bytes<N: Name, R: Threads + Wait>(
     bytes: &[u8],
 ) -> Result<(), SessionEnd>
     requires { IsReady (so_far progress.old seats.old) }
-    ensures { Takes (setup shared.now.how N.table shared.now.names.now)
+    ensures { Takes (setup shared.now.how N.table shared.now.names.now shared.now.workers)
         (so_far progress.old seats.old) bytes.now (so_far progress.new seats.new)
         (passage (heard progress.old.said.text) (heard progress.new.said.text)) result }
 {
@@ -205,7 +205,7 @@ pub(crate) fn take_end<N: Name, R: Threads + Wait>(
     seats: &mut [Seat<N>],
 ) -> Result<(), SessionEnd>
     requires { IsReady (so_far progress.old seats.old) }
-    ensures { TakesEnd (setup shared.now.how N.table shared.now.names.now)
+    ensures { TakesEnd (setup shared.now.how N.table shared.now.names.now shared.now.workers)
         (so_far progress.old seats.old) (so_far progress.new seats.new)
         (passage (heard progress.old.said.text) (heard progress.new.said.text)) result }
 {

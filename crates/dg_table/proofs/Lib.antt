@@ -5,3 +5,5 @@ pub mod Steps
 pub mod Turning
 pub mod Totals
 pub mod Findings
+pub mod Placed
+pub mod Complete

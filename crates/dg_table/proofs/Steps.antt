@@ -7,6 +7,7 @@
 --                 stands
 --   settled       how a finding is so entered, where the entry is its look
 --   staled        how a question is so entered, where the entry is its look, and gifts were accepted since
+--   not_stale     how a question is not stale, where the entry is its look, and no gift was accepted since
 --   settling_refused   how a finding is refused, where its seat is admissible, its look's number is in the history, and
 --                      the step
 --                 is refused
@@ -34,12 +35,12 @@ use Rattle.dg_table.specs.Answered.{entering, IsEnteredAfter, IsAnsweredAfter}
 use Rattle.dg_table.specs.Faults.{RefusesStep, RefusesSettling}
 use Rattle.dg_table.specs.declared.fault.Fault.{Fault}
 use Rattle.dg_table.specs.declared.fault.Fault.TheVariants.{OutOfMemory, Full, Log}
-use Rattle.dg_table.specs.Lock.{IsUnderLock, IsKeptLook, IsSeatState}
+use Rattle.dg_table.specs.Lock.{IsUnderLock, IsReady, IsKeptLook, IsSeatState}
 use Rattle.dg_log.specs.Numbered.{IsBeginning}
 use Rattle.dg_table.specs.Histories.{IsHistoryOf}
 use Rattle.dg_table.specs.Looks.{IsLookOf}
-use Rattle.dg_table.specs.Seats.{SeatView, Holds, IsAdmissible, AreSeated, entries_of}
-use Rattle.dg_table.specs.Settled.{IsSettledAfter, IsStaleAfter}
+use Rattle.dg_table.specs.Seats.{SeatView, Holds, IsAdmissible, Meets, AreSeated, entries_of}
+use Rattle.dg_table.specs.Settled.{IsSettledAfter, IsStaleAfter, IsNotStaleAfter}
 use Rattle.dg_table.proofs.Entries.{own_more}
 use Rattle.dg_table.proofs.Findings.{stale_both, carried_over}
 use Rattle.dg_table.proofs.Numbered.{stand_more, stand_longer}
@@ -170,6 +171,25 @@ staled table H look x asks game r s m t answered of stands leads at other reply 
       since = λ same. other (at.gifts ∙ ap (λ i. gifts_in (take i H)) of.number ∙ same ∙ sym leads.gifts);
       stale = reply ∙ ap Stale leads.gifts;
     }
+
+pub not_stale : {table : TableData} {H : List Entry} {look : ℕ × Entry} {x : LookData} {game : State} {s t : SeatView} →
+    IsHistoryOf table H → IsReady table.capacity H s → slice_get H look.0 ≡ Some look.1 → IsLookOf look x →
+    IsLookAt table.start H x → LeadsTo table.start H game → game.gifts ≡ x.gifts → Meets H s t →
+    IsNotStaleAfter table look H s t
+not_stale {H = H} history ready stands of at leads same met = record {
+  history = history;
+  holds = ready.holds;
+  stands = stands;
+  since = sym (at.gifts ∙ ap (λ i. gifts_in (take i H)) of.number) ∙ sym same ∙ leads.gifts;
+  kept = record {
+    number = met.number;
+    mine = met.mine;
+    told = met.told;
+    prefix = met.prefix;
+    met = met.met.first;
+  };
+  met = met.met.second_longer ready.admissible.met;
+}
 
 pub settling_refused : (table : TableData) (p q : Written) (i : ℕ) (x : SeatView) (f : Fault) →
     IsAdmissible p.entries x → i < length p.entries → RefusesStep table p q x f → RefusesSettling table p q i x f

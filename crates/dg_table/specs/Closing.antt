@@ -13,8 +13,9 @@
 --   SomeKeepsMore H xs           == one of the seats xs is not admissible after H
 --   RefusesClose H n xs s        == s is the least seat that is missing; or s is 0, none is
 --                                   missing, and one of the seats is not admissible after H
---   IsCloseRefused table xs s    == after some history of the table the close with the seats xs is
---                                   refused with s
+--   HaveMet H xs ys              == the seats ys are the seats xs, each of which has met H
+--   IsCloseRefused table xs ys s == after some history of the table the close with the seats xs is
+--                                   refused with s; they come back as ys, and have met that history
 use Rattle.std.specs.Prelude.{◌≡◌, ℕ, ◌+◌, ◌<◌, ◌≤◌, List, length, slice_get, Some, ◌⊎◌, sum}
 use Rattle.std.specs.List.{slice_index}
 use Rattle.dg_game.specs.Position.{Shows}
@@ -22,7 +23,7 @@ use Rattle.dg_game.specs.History.{position_after, gifts_in}
 use Rattle.dg_game.specs.declared.entry.Entry.{Entry}
 use Rattle.dg_game.specs.declared.entry.TheConstants.{MAX_SEATS}
 use Rattle.dg_table.specs.Histories.{IsHistoryOf}
-use Rattle.dg_table.specs.Seats.{SeatView, Holds, IsAdmissible}
+use Rattle.dg_table.specs.Seats.{SeatView, Holds, IsAdmissible, Meets}
 use Rattle.dg_log.specs.declared.name.Name.{Ghosts}
 use Rattle.dg_log.specs.Tables.{TableData}
 use Rattle.dg_table.specs.declared.audit.Audit.{Audit}
@@ -63,5 +64,12 @@ SomeKeepsMore H xs = (i : ℕ) × (x : SeatView) × (slice_get xs i ≡ Some x) 
 abbrev pub RefusesClose : List Entry → ℕ → List SeatView → ℕ → Type 0
 RefusesClose H n xs s = IsMissing n xs s ⊎ ((s ≡ 0) × IsComplete n xs × SomeKeepsMore H xs)
 
-abbrev pub IsCloseRefused : TableData → List SeatView → ℕ → Type 0
-IsCloseRefused table xs s = (H : List Entry) × IsHistoryOf table H × RefusesClose H table.seats xs s
+pub record HaveMet (H : List Entry) (xs ys : List SeatView) : Type 0 where
+  pub count : length ys ≡ length xs
+  pub each : (i : ℕ) (x y : SeatView) → slice_get xs i ≡ Some x → slice_get ys i ≡ Some y → Meets H x y
+
+pub record IsCloseRefused (table : TableData) (xs ys : List SeatView) (s : ℕ) : Type 0 where
+  pub history : List Entry
+  pub is : IsHistoryOf table history
+  pub refused : RefusesClose history table.seats xs s
+  pub met : HaveMet history xs ys

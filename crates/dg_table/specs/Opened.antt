@@ -1,4 +1,4 @@
--- StartData a table.
+-- Opening a table.
 --   MayHaveSeats n         == a table may have n seats
 --   AreFresh n xs          == xs are the seats 1 to n, in order, which know of no entry
 --   RefusesOpening n fault   == a table with n seats is refused with the fault

@@ -9,6 +9,10 @@
 --   IsStaleAfter table look asks e == the question on the look is so entered, as stale, because gifts
 --                                  were accepted since the look; and the seat was told of the look
 --   IsStale table look asks r x y == it is so entered after some history
+--   IsNotStaleAfter table look H x y == after the history H, which holds what the seat knew, a
+--                                  question on the look is not stale: no gift, levy or join was
+--                                  accepted since; the seat has met H, and knows what it knew
+--   IsNotStale table look x y   == so it is after the history that the seat has met then
 use Rattle.std.specs.Prelude.{◌≡◌, ◌≢◌, ◌↔◌, ℕ, List, [], ◌∷◌, ◌++◌, take, slice_get, Some}
 use Rattle.dg_theory.specs.Firing.{FiresTo}
 use Rattle.dg_chips.specs.Vector.{at}
@@ -24,7 +28,8 @@ use Rattle.dg_game.specs.declared.finding.Finding.{Finding}
 use Rattle.dg_game.specs.declared.finding.Finding.TheVariants.{Judged, Ranked}
 use Rattle.dg_game.specs.declared.finding.Question.{Question}
 use Rattle.dg_table.specs.Answered.{Entering, entering, IsEnteredAfter}
-use Rattle.dg_table.specs.Seats.{SeatView}
+use Rattle.dg_table.specs.Histories.{IsHistoryOf}
+use Rattle.dg_table.specs.Seats.{SeatView, Holds, Keeps}
 use Rattle.dg_log.specs.Tables.{TableData}
 
 abbrev pub IsCarriedTo : Position → ℕ → Finding → Reply → Type 0
@@ -57,3 +62,15 @@ pub record IsStaleAfter (table : TableData) (look : ℕ × Entry) (asks : Questi
 
 abbrev pub IsStale : TableData → ℕ × Entry → Question → ℕ × Entry → SeatView → SeatView → Type 0
 IsStale table look asks r x y = (H : List Entry) × IsStaleAfter table look asks (entering H r x y)
+
+pub record IsNotStaleAfter (table : TableData) (look : ℕ × Entry) (H : List Entry) (x y : SeatView)
+    : Type 0 where
+  pub history : IsHistoryOf table H
+  pub holds : Holds H x
+  pub stands : slice_get H look.0 ≡ Some look.1
+  pub since : gifts_in (take look.0 H) ≡ gifts_in H
+  pub kept : Keeps x y
+  pub met : y.met ≡ H
+
+abbrev pub IsNotStale : TableData → ℕ × Entry → SeatView → SeatView → Type 0
+IsNotStale table look x y = IsNotStaleAfter table look y.met x y

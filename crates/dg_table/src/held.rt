@@ -1,7 +1,6 @@
 //! What the lock of a table holds.
 ghost use Rattle.std.specs.Prelude.{ℕ, List, Some, slice_get, ◌≡◌, ◌<◌, ◌≤◌, ◌↔◌, [], ◌∷◌, ◌++◌, true, false, length, IsTrue, IfOk, IfSome, IfErr, MatchOption, MatchResult, MatchBool, OnErr};
 ghost use Rattle.dg_chips.specs.Starts.{StartData};
-ghost use Rattle.dg_game.specs.History.{gifts_in};
 ghost use Rattle.dg_game.specs.Legal.{IsSeat, IsLegal};
 ghost use Rattle.dg_game.specs.Look.{IsFoundFor};
 ghost use Rattle.dg_game.specs.Replies.{Replies};
@@ -9,7 +8,7 @@ ghost use Rattle.dg_game.specs.Requests.{asked};
 ghost use Rattle.dg_game.specs.State.{LeadsTo};
 ghost use Rattle.dg_log.specs.Written.{blank, with_entry, after_refusal};
 ghost use Rattle.dg_table.specs.Answered.{entering, IsAnsweredAfter};
-ghost use Rattle.dg_table.specs.Closing.{HasSeat, IsComplete, AllHeld, AreTotals, IsMissing, SomeKeepsMore, RefusesClose};
+ghost use Rattle.dg_table.specs.Closing.{HasSeat, IsComplete, AllHeld, AreTotals, IsMissing, SomeKeepsMore, RefusesClose, HaveMet};
 ghost use Rattle.dg_table.specs.Faults.{RefusesStep, RefusesSettling};
 ghost use Rattle.dg_table.specs.declared.fault.Fault.TheVariants.{Log as LogFault};
 ghost use Rattle.dg_game.specs.declared.entry.Entry.{Entry as EntryData};
@@ -18,7 +17,7 @@ ghost use Rattle.dg_table.specs.Lock.{IsReady, IsKeptLook};
 ghost use Rattle.dg_table.specs.Looks.{IsLookOf};
 ghost use Rattle.dg_table.specs.Opened.{MayHaveSeats};
 ghost use Rattle.dg_table.specs.Seats.{SeatView, Holds, IsAdmissible, Meets};
-ghost use Rattle.dg_table.specs.Settled.{IsSettledAfter, IsStaleAfter};
+ghost use Rattle.dg_table.specs.Settled.{IsSettledAfter, IsStaleAfter, IsNotStaleAfter};
 ghost use Rattle.dg_table.specs.Turns.{MayBeAsked, asking, request_for, IsTurnAfter, IsAskedToEnter};
 
 use crate::audit::Audit;
@@ -96,6 +95,15 @@ impl<N: Name> Held<N> {
     {
         let _len = self.pen.len();
         seat.meet(&self.pen.prefix());
+    }
+
+    /// Tells each of these seats of the history as it stands.
+    pub(crate) fn meet_all(&self, seats: &mut [Seat<N>])
+        ensures { HaveMet self.now.entries seats.old seats.new }
+    {
+        for seat in seats.iter_mut() {
+            self.meet(seat);
+        }
     }
 
     /// Whether the history has room for an entry of the seat, and holds what the seat knows; or why not.
@@ -237,16 +245,11 @@ impl<N: Name> Held<N> {
         Ok(receipt)
     }
 
-    /// Whether gifts, levies or joins were accepted since a look of the history. If so, they were in each later history too.
-    pub(crate) fn is_past(&self, shown: &LookData) -> bool {
-        self.game.gifts() != shown.gifts
-    }
-
     /// Enters a question on a look as stale, as `settle` enters each finding on it, if gifts, levies or joins were accepted
     /// since. The conditions are that the seat has the space, and that the data is that of the look, whatever its drift; the box
-    /// is used for the entry. `None`, and nothing is done, if none was accepted.
+    /// is used for the entry. `None`, and no entry, if none was accepted; then the seat has met the history.
     ///
-    /// Refused as `settle`.
+    /// Refused as `settle`, also if the look is not stale.
     pub fn settle_stale(
         &mut self,
         log: &Log<N>,
@@ -259,22 +262,23 @@ impl<N: Name> Held<N> {
         requires space { seat.old.space ≡ true }
         requires look { IsLookOf taken.now shown.now }
         ensures settled { IfOk result (λ found. MatchOption found
-            ((self.new ≡ self.old) × (seat.new ≡ seat.old) × (shown.now.gifts ≡ gifts_in self.old.entries))
+            ((self.new ≡ self.old) × IsNotStaleAfter N.table taken.now self.old.entries seat.old seat.new)
             (λ r. IsStaleAfter N.table taken.now asks.now (entering self.old.entries r seat.old seat.new) ×
             (self.new ≡ with_entry self.old r.1))) }
         ensures refused { IfErr result
             (λ f. (self.new.entries ≡ self.old.entries) × Meets self.old.entries seat.old seat.new ×
             RefusesSettling N.table self.old self.new taken.now.0 seat.old f) }
     {
-        if self.game.gifts() == shown.gifts {
-            return Ok(None);
-        }
         match self.ready_on(log, seat, taken) {
             Ok(()) => {}
             Err(fault) => {
                 self.meet(seat);
                 return Err(fault);
             }
+        }
+        if self.game.gifts() == shown.gifts {
+            self.meet(seat);
+            return Ok(None);
         }
         let mut slot = slot;
         let entry = &mut *slot;

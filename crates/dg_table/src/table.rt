@@ -9,7 +9,7 @@ ghost use Rattle.dg_table.specs.Faults.{RefusesCall};
 ghost use Rattle.dg_table.specs.Looks.{IsLookOf};
 ghost use Rattle.dg_table.specs.Opened.{AreFresh, RefusesOpening};
 ghost use Rattle.dg_table.specs.Seats.{Keeps};
-ghost use Rattle.dg_table.specs.Settled.{IsSettled, IsStale};
+ghost use Rattle.dg_table.specs.Settled.{IsSettled, IsStale, IsNotStale};
 ghost use Rattle.dg_table.specs.Turns.{MayBeAsked, asking, IsTurn, RefusesTurn};
 ghost use Rattle.dg_table.specs.declared.fault.Fault.TheVariants.{Log as LogFault};
 
@@ -41,12 +41,11 @@ pub struct Table<N: Name> {
 #[derive(Drop, Error)]
 #[error("the table is not closed (missing seat: {missing}, 0 for none)")]
 pub struct CloseFault<N: Name> {
-    /// The least seat that was not handed in, or 0 if all were. Then one of them is not admitted by the history under the
-    /// lock, which only `Held::missing` can say, since that history has no name here.
+    /// The least seat that was not handed in, or 0 if all were. Then one of them is not admitted by the history under the lock.
     pub missing: u8,
     /// The table.
     pub table: Table<N>,
-    /// The seats that were handed in.
+    /// The seats that were handed in, each of which has met that history.
     pub seats: Vec<Seat<N>>,
 }
 
@@ -186,10 +185,10 @@ impl<N: Name> Table<N> {
 
     /// Enters a question on the look of a receipt as stale, as `settle` enters each finding on it, if gifts, levies or joins were
     /// accepted since; so nothing need be reckoned on a look that is stale. The seat is told of the look. The condition is that
-    /// the data is that of the look, whatever its drift. `None` if none was accepted before it had the lock; that is no event: no
-    /// cell is set, and the seat knows what it knew.
+    /// the data is that of the look, whatever its drift. `None` if none was accepted in the history that it finds, which the seat
+    /// has met then; that is no event: no cell is set, and the seat knows what it knew.
     ///
-    /// It waits for the lock, twice if it makes an entry. Refused as `settle`.
+    /// It waits for the lock. Refused as `settle`, also if the look is not stale.
     pub fn settle_stale(
         &self,
         rt: &impl Wait,
@@ -201,14 +200,11 @@ impl<N: Name> Table<N> {
     ) -> Result<Option<Receipt<N>>, Fault>
         requires { IsLookOf look.now shown.now }
         ensures settled { IfOk result (λ found. MatchOption found
-            (Keeps seat.old seat.new × (seat.new.met ≡ seat.old.met))
+            (IsNotStale N.table look.now seat.old seat.new)
             (λ r. IsStale N.table look.now asks.now r seat.old seat.new)) }
         ensures fault { IfErr result (λ f. Keeps seat.old seat.new ×
             RefusesCall N.table seat.new f) }
     {
-        if !self.held.lock(rt).is_past(shown) {
-            return Ok(None);
-        }
         let slot = self.room(alloc, seat)?;
         self.held
             .lock(rt)
@@ -236,11 +232,11 @@ impl<N: Name> Table<N> {
     /// no memory.
     ///
     /// Refused if a seat is missing, or one is not admitted: it knows what the history does not hold, or the history has
-    /// calls of it that it did not make.
+    /// calls of it that it did not make. Then each seat has met the history.
     pub fn close(self, seats: Vec<Seat<N>>) -> Result<Audit<N>, CloseFault<N>>
         ensures { MatchResult result
             (λ a. IsClosed N.table seats.items a.pen.entries × AreTotals N.table seats.items a)
-            (λ f. (f.seats.items ≡ seats.items) × IsCloseRefused N.table seats.items f.missing) }
+            (λ f. IsCloseRefused N.table seats.items f.seats.items f.missing) }
     {
         let Table {
             held,
@@ -251,6 +247,8 @@ impl<N: Name> Table<N> {
         let held = held.into_inner();
         match held.missing(&seats) {
             Some(missing) => {
+                let mut seats = seats;
+                held.meet_all(&mut seats);
                 let held = Mutex::new(held);
                 Err(CloseFault {
                     missing,

@@ -143,7 +143,8 @@ pub(crate) fn ranked<N: Name, R: Threads + Wait + Abort>(
     asks_on_a_stale_look(rt, alloc, table, first, second)
 }
 
-// A question on a look is entered as stale after a join, and not before; the seat that asks need not have looked.
+// A question on a look is entered as stale after a join, and not before, when the seat meets the history all the same; the seat
+// that asks need not have looked.
 fn asks_on_a_stale_look<N: Name, R: Wait + Abort>(
     rt: &R,
     alloc: Global,
@@ -153,7 +154,7 @@ fn asks_on_a_stale_look<N: Name, R: Wait + Abort>(
 ) -> Result<(), Fail> {
     let taken = look(table, rt, alloc, first)?;
     let early = commit_stale(table, rt, alloc, second, &taken, &Question::Judge)?;
-    assert!(rt; early.is_none() && second.calls() == 1);
+    assert!(rt; early.is_none() && second.calls() == 1 && second.met().len() == 4);
     table.call(rt, alloc, second, Plain::Join(0, 1))?;
     let found = commit_stale(table, rt, alloc, second, &taken, &Question::Rank(2))?;
     let receipt = found.ok_or("an entry")?;

@@ -72,7 +72,8 @@ fn calls_are_entries_of_one_history(rt: HostRuntime) -> Result<(), Fail> {
     Ok(())
 }
 
-// The calls fill the row, after the table was not closed without all seats.
+// The calls fill the row, after the table was not closed without all seats. A close without the last then tells the others of
+// all entries.
 pub(crate) fn calls_are_entries<N: Name, R: Wait + Abort>(
     rt: &R,
     alloc: Global,
@@ -82,6 +83,10 @@ pub(crate) fn calls_are_entries<N: Name, R: Wait + Abort>(
 ) -> Result<(), Fail> {
     let (table, mut seats) = is_closed_with_all(rt, alloc, table, seats)?;
     fill_the_row(rt, alloc, &table, seats.as_mut_slice(), calls.made)?;
+    let (table, seats) = is_open_without_the_last(rt, table, seats)?;
+    for seat in &seats {
+        assert!(rt; seat.met().len() as usize == calls.made.len());
+    }
     let audit = table.close(seats).ok().ok_or("an audit")?;
     are_told(rt, &audit, calls);
     assert!(rt; audit.history(alloc)?.len() == calls.made.len());

@@ -12,6 +12,7 @@ returns-in-Err-clause-failed g c differ = record {
     why = c.in-Err.fault;
     tells = refl;
     refused = c.in-Err.ensures.refused;
+    left = refl;
     kept = as_it_was c.args.output.now.contents;
   });
 }

@@ -1,14 +1,13 @@
 use Rattle.std.proofs.Common.{rules, sym, subst}
 use Rattle.dg_table.specs.Opened.{AreFresh}
-use Rattle.dg_table.specs.Closing.{IsClosed}
-use Rattle.dg_server.proofs.Serving.{seats_back, served}
+use Rattle.dg_table.specs.Closing.{IsClosed, IsCloseRefused}
+use Rattle.dg_server.proofs.Serving.{seats_back, served, unclosed}
 use Rattle.dg_server.proofs.serve.serve_on.Goals as goal
 
 pub returns-in-Ok-ended-clause-done : goal.returns-in-Ok-ended-clause-done
 returns-in-Ok-ended-clause-done g c = (
   c.in-Ok-ended.field-0,
   served (record {
-    rest = c.serve_opened-ended.new.input.remaining;
     seats = c.deref_mut.result.now;
     fresh = subst (AreFresh c.args.seats) (sym c.deref_mut.ensures.value) c.in-Ok.ensures;
     after = c.serve_opened-ended.new.seats;
@@ -24,7 +23,6 @@ returns-in-Ok-ended-clause-done g c = (
 pub returns-in-Ok-close-clause-early : goal.returns-in-Ok-close-clause-early
 returns-in-Ok-close-clause-early g c =
     served (record {
-      rest = c.serve_opened-ended.new.input.remaining;
       seats = c.deref_mut.result.now;
       fresh = subst (AreFresh c.args.seats) (sym c.deref_mut.ensures.value) c.in-Ok.ensures;
       after = c.serve_opened-ended.new.seats;
@@ -35,3 +33,17 @@ returns-in-Ok-close-clause-early g c =
     c.in-Ok-close.history.pen.entries)
     (seats_back c.in-Ok.opened.1.len c.deref_mut.result.now c.serve_opened-ended.new.seats _ (search rules)
     c.serve_opened-ended.ensures.session.numbers) c.in-Ok-close.ensures.0))
+
+pub returns-clause-early : goal.returns-clause-early
+returns-clause-early g c =
+    unclosed {end = c.serve_opened-ended.result} (record {
+      seats = c.deref_mut.result.now;
+      fresh = subst (AreFresh c.args.seats) (sym c.deref_mut.ensures.value) c.in-Ok.ensures;
+      after = c.serve_opened-ended.new.seats;
+      session = rw (← c.requires.table) c.serve_opened-ended.ensures.session;
+    }) c.in-Err-close.field-0.seats.items c.in-Err-close.field-0.missing c.serve_opened-ended.ensures.session.numbers
+    (rw (← c.requires.table)
+    (subst (λ ys. IsCloseRefused g.N.Name.table ys
+    c.in-Err-close.field-0.seats.items c.in-Err-close.field-0.missing)
+    (seats_back c.in-Ok.opened.1.len c.deref_mut.result.now c.serve_opened-ended.new.seats _ (search rules)
+    c.serve_opened-ended.ensures.session.numbers) c.in-Err-close.ensures))

@@ -1,7 +1,7 @@
 use Rattle.std.proofs.Common.{refl, inr}
 use Rattle.dg_rank.specs.Ranks.{IsWithin}
 use Rattle.dg_game.specs.declared.finding.Question.TheVariants as question
-use Rattle.dg_session.proofs.Made.{stale_made, rank_within, entered, any_ok, call_refused, with_look}
+use Rattle.dg_session.proofs.Made.{stale_made, rank_within, entered, any_ok, call_refused, obeys_after, with_look}
 use Rattle.dg_session.proofs.answering.enter_rank.Goals as goal
 
 pub returns-in-Ok-Some : goal.returns-in-Ok-Some
@@ -21,3 +21,8 @@ returns-in-Err g c =
     with_look c.in-Some.is
     (call_refused (rank_within c.receipt-receipt.ensures.taken within) c.in-Err.ensures.fault.0
     c.in-Err.ensures.fault.1 refl)
+
+pub returns-in-Ok-None : goal.returns-in-Ok-None
+returns-in-Ok-None g c =
+    with_look c.in-Some.is
+    (obeys_after (rw c.in-Ok-None.field-0-is at c.in-Ok-None.ensures.settled).kept c.try_kept.ensures)

@@ -51,4 +51,12 @@ returns-in-Err-default-Spawn g c =
     (subst (IsRankFault c.in-Some.look.shown.graph.size c.args.k c.args.shared.now.workers)
     c.in-Err-default-Spawn.field-0-1-is spawn).0 in
     with_look (sym c.take.ensures.value ∙ c.in-Some.is)
-    (record { done = tt; refused = (within, gains_same c.args.seat.now); unsaid = refl })
+    (record {
+      done = tt;
+      refused = (
+        c.in-Err-default-Spawn.ensures.spawn c.in-Err-default-Spawn.field-0-1-is,
+        within,
+        gains_same c.args.seat.now,
+      );
+      unsaid = refl;
+    })

@@ -9,7 +9,7 @@ use Rattle.dg_session.proofs.serving.serve_lines.Given as goal
 
 abbrev pub invariant-reads : goal.invariant-reads
 invariant-reads g l =
-    IsSoFar (setup l.shared.how g.N.Name.table l.shared.names.now)
+    IsSoFar (setup l.shared.how g.N.Name.table l.shared.names.now l.shared.workers)
     l.fn.reader.remaining l.reader.remaining l.fn.writer.contents l.writer.contents l.fn.seats
     (so_far l.progress l.seats)
     × (heard l.progress.said.text ≡ heard l.fn.text) × (heard l.fn.text ≡ None → l.writer ≡ l.fn.writer)

@@ -7,7 +7,7 @@ use Rattle.dg_session.proofs.taking.take_bytes.Given as goal
 
 abbrev pub invariant-parts : goal.invariant-parts
 invariant-parts g l =
-    HaveGone (setup l.shared.how g.N.Name.table l.shared.names.now)
+    HaveGone (setup l.shared.how g.N.Name.table l.shared.names.now l.shared.workers)
     (so_far l.fn.progress l.fn.seats) l.bytes l.rest (so_far l.progress l.seats)
     (heard l.fn.progress.said.text) (heard l.progress.said.text)
 

@@ -1,7 +1,8 @@
-use Rattle.std.proofs.Common.{◌<◌, length, rules}
+use Rattle.std.proofs.Common.{◌<◌, length, arith, refl, rules}
 use Rattle.std.proofs.lemmas.Option.{slice_get_within}
 use Rattle.dg_table.proofs.Findings.{look_stands}
-use Rattle.dg_table.proofs.Steps.{settling_refused, staled}
+use Rattle.dg_table.proofs.Steps.{settling_refused, staled, not_stale}
+use Rattle.dg_table.proofs.Totals.{history_of}
 use Rattle.dg_table.proofs.held.Held.settle_stale.Goals as goal
 
 pub enter-requires-clause-replies : goal.enter-requires-clause-replies
@@ -32,6 +33,18 @@ returns-in_err-receipt-clause-refused g c =
     let refused = settling_refused g.N.Name.table c.args.self.now c.enter.new.self c.args.taken.now.0 c.args.seat.now
     c.in_err-receipt.field-0.0 ready.admissible read step.2 in
     search rules
+
+pub returns-then-gifts-shown-clause-settled : goal.returns-then-gifts-shown-clause-settled
+returns-then-gifts-shown-clause-settled g c =
+    let H = c.args.self.now.entries in
+    let held = rw c.self.view_is at c.self.invariant.0 in
+    let ready = c.in-Ok.ensures.0 in
+    let stands = c.in-Ok.ensures.1 in
+    let look = look_stands g.N.Name.table.start H c.args.taken.now c.args.shown.now held.legal c.requires.look stands in (
+      refl,
+      not_stale (history_of held (omega (arith, ready.room))) ready stands c.requires.look look held.game' (search rules)
+          c.meet-then-gifts-shown.ensures,
+    )
 
 pub returns-clause-settled : goal.returns-clause-settled
 returns-clause-settled g c =
