@@ -74,7 +74,11 @@ static ANSWERS: [(Question, &str, &str); 7] = [
         "degree 20 genus 0 rank 20 dual -1\ndegree 11 genus 0 rank 11 dual -1\ndegree 480 genus 481 rank ? dual ?\n",
     ),
     (Question::Judge { ordered: false }, "", ""),
-    (Question::Judge { ordered: false }, "\n", "refused not JSON\n"),
+    (
+        Question::Judge { ordered: false },
+        "\n",
+        "refused not JSON\n",
+    ),
 ];
 
 #[test]
@@ -153,7 +157,14 @@ fn a_stream_may_fail(rt: HostRuntime) -> Result<(), Fail> {
         fails: true,
     });
     let mut output = Output::new(Vec::new(rt.alloc()));
-    let end = sweep(&rt, rt.alloc(), Question::Judge { ordered: false }, 1, &mut input, &mut output);
+    let end = sweep(
+        &rt,
+        rt.alloc(),
+        Question::Judge { ordered: false },
+        1,
+        &mut input,
+        &mut output,
+    );
     assert!(rt; end == Err(SweepEnd::Read));
     let said = output.into_inner();
     assert!(rt; JUDGED.as_bytes().starts_with(&said) && said.ends_with(b"no vertex q\n"));

@@ -180,7 +180,12 @@ fn a_sweep_answers_what_is_said_of_a_file(rt: HostRuntime) -> Result<(), Fail> {
             Ok(_) => format!(in rt.alloc(); "a table")?,
             Err(fault) => format!(in rt.alloc(); "refused {fault}\n")?,
         };
-        answer_line(rt.alloc(), Question::Judge { ordered: false }, text.as_bytes(), &mut answer)?;
+        answer_line(
+            rt.alloc(),
+            Question::Judge { ordered: false },
+            text.as_bytes(),
+            &mut answer,
+        )?;
         assert!(&rt; answer.as_slice() == said.as_bytes(), "at {text}");
     }
     Ok(())
@@ -192,7 +197,12 @@ fn a_sweep_answers_what_is_said_of_a_long_file(rt: HostRuntime) -> Result<(), Fa
     let said = format!(in rt.alloc(); "refused {}\n", SourceFault::TooLong)?;
     let line = vec![in rt.alloc(); b' '; 1_048_577]?;
     let mut answer = Vec::new(rt.alloc());
-    answer_line(rt.alloc(), Question::Judge { ordered: false }, line.as_slice(), &mut answer)?;
+    answer_line(
+        rt.alloc(),
+        Question::Judge { ordered: false },
+        line.as_slice(),
+        &mut answer,
+    )?;
     assert!(&rt; answer.as_slice() == said.as_bytes());
     Ok(())
 }
