@@ -1,5 +1,5 @@
-"""A model of the game, which knows the rules as the pages have them and nothing of the program: what tests compare answers with. A
-verdict is checked by its definition, a rank test by making the trials."""
+"""A model of the game, which knows the rules as the pages have them and nothing of the program: what tests compare answers
+with. A verdict is checked by its definition, a rank test by making the trials."""
 import itertools
 import re
 
@@ -56,7 +56,7 @@ def told(kind, text, vertices):
 DRAWN = {
     "vertex": lambda rng, names: rng.choice(names),
     "vertices": lambda rng, names: ",".join(rng.sample(names, rng.randint(1, 2))),
-    "script": lambda rng, names: ",".join("%s=%d" % (name, rng.randint(-2, 2)) for name in rng.sample(names, rng.randint(1, 2))),
+    "script": lambda rng, names: ",".join(f"{name}={rng.randint(-2, 2)}" for name in rng.sample(names, rng.randint(1, 2))),
     "dollars": lambda rng, names: str(rng.randint(-2, 2)),
     "degree": lambda rng, names: "1",
 }
@@ -198,15 +198,15 @@ def trials(size, degree):
 
 
 class Session:
-    """A session on a table, with so many seats or with one that lines do not name: the game, the number of the next entry, and of each
-    seat that has a look the number of its entry and the count of changes then."""
+    """A session on a table, with so many seats or with one that lines do not name: the game, the number of the next entry, and
+    of each seat that has a look the number of its entry and the count of changes then."""
 
     def __init__(self, table, seats=None):
         self.game, self.seats, self.number, self.looks = Game(table), seats, 0, {}
 
     def command(self, seat, line):
-        """The command of a line. Raises Bad for one that makes no entry: also a commit or a rank test of a seat that has no look, and a
-        rank test past the limits, which leaves the look."""
+        """The command of a line. Raises Bad for one that makes no entry: also a commit or a rank test of a seat that has no
+        look, and a rank test past the limits, which leaves the look."""
         command = parse(line, self.game.names)
         if command[0] in ("commit", "rank") and seat not in self.looks:
             raise Bad("bad look")

@@ -15,7 +15,8 @@ import tempfile
 import time
 import unittest
 
-from common import PATIENCE, equal, expect, text_of, waited
+from common import PATIENCE, text_of, waited
+from helpers import equal, expect
 
 NAMES = "chromium", "chromium-browser", "google-chrome", "chrome"
 KEYS = {"ArrowLeft": 37, "ArrowUp": 38, "ArrowRight": 39, "ArrowDown": 40, "Home": 36, "End": 35, " ": 32, "Tab": 9,

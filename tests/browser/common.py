@@ -8,7 +8,7 @@ import sys
 import time
 from pathlib import Path
 
-from helpers import EXAMPLES, PACKAGE, ROOT, equal, expect, program
+from helpers import EXAMPLES, PACKAGE, ROOT, expect, program
 
 PATIENCE = 30
 PLAY = [sys.executable, "-B", ROOT / "board" / "play", "--no-browser"]

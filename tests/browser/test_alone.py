@@ -7,8 +7,8 @@ import tempfile
 import time
 
 from browser import CTRL, LISTED, READY, SHIFT, Page, at, needed
-from common import EXAMPLES, asked, equal, expect, played, swings, tell, text_of, written
-from helpers import tests_of
+from common import EXAMPLES, asked, played, swings, tell, text_of, written
+from helpers import equal, expect, tests_of
 
 RANDOM_LINES, LONG = 80, 60_000
 NO_LOOK = "This seat has not looked since its last verdict. It looks first."

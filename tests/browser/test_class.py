@@ -11,9 +11,8 @@ import time
 from pathlib import Path
 
 from browser import browsers
-from common import (EXAMPLES, addresses, asked, equal, expect, is_modest, played, refused, started, swings, tell, text_of,
-                    together, written)
-from helpers import tests_of
+from common import EXAMPLES, addresses, asked, is_modest, played, refused, started, swings, tell, text_of, together, written
+from helpers import equal, expect, tests_of
 from model import some_command
 from visitors import TABLE, PagePupil, Place, Pupil, a_class, program_of, taken
 

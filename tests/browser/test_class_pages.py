@@ -6,8 +6,8 @@ import signal
 import tempfile
 
 from browser import LISTED, READY, Page, at, needed
-from common import EXAMPLES, equal, expect, played
-from helpers import tests_of
+from common import EXAMPLES, played
+from helpers import equal, expect, tests_of
 from visitors import PagePupil, Place, program_of, taken
 
 # Two pupils' pages and the teacher's; the process of the server, and the teacher's address.

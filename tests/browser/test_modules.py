@@ -10,9 +10,9 @@ import unittest
 from pathlib import Path
 
 from browser import browsers
-from common import equal, written
+from common import written
 from dollar.board.pages import WEB, part
-from helpers import tests_of
+from helpers import equal, tests_of
 
 
 class Quiet(http.server.SimpleHTTPRequestHandler):

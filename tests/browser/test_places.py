@@ -5,10 +5,10 @@ import math
 import random
 import time
 
-from common import EXAMPLES, equal, expect, text_of
+from common import EXAMPLES, text_of
 from dollar import places as module
 from dollar.places import places, places_of_text
-from helpers import tests_of
+from helpers import equal, expect, tests_of
 
 DRAW = random.Random(7)
 TIMES, MOST_SECONDS = 6, 1.0

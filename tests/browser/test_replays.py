@@ -6,10 +6,10 @@ import tempfile
 import time
 
 from browser import LISTED, needed
-from common import EXAMPLES, TRIANGLE, equal, expect, lines_of, refused, script, tell, text_of, written
+from common import EXAMPLES, TRIANGLE, lines_of, refused, script, tell, text_of, written
 from dollar import answer, edges, example, joined
 from dollar.grammar import GRAMMAR
-from helpers import tests_of
+from helpers import equal, expect, tests_of
 
 STORIES = ("village", "village_story"), ("houses", "tax_on_the_houses"), ("village", "roads_for_the_village")
 OTHERS = ("sixty_three_edges", "no_room_for_an_edge"), ("rich_triangle", "to_the_limit"), ("four_cycle", "clear_the_cycle")

@@ -15,9 +15,9 @@ import termios
 import threading
 import time
 
-from common import (EXAMPLES, PACKAGE, PLAY, TRIANGLE, addresses, asked, equal, expect, is_modest, played, started, tell,
-                    text_of, together, written)
-from helpers import tests_of
+from common import (EXAMPLES, PACKAGE, PLAY, TRIANGLE, addresses, asked, is_modest, played, started, tell, text_of, together,
+                    written)
+from helpers import equal, expect, tests_of
 from visitors import TABLE, Place, Pupil, a_class, taken
 
 REQUESTS, TOGETHER, SEED = 2000, 250, 20260

@@ -9,8 +9,9 @@ import threading
 import time
 import urllib.parse
 
-from browser import READY, Page
-from common import PATIENCE, asked, equal, expect, played, text_of, waited, written
+from browser import Page
+from common import PATIENCE, asked, played, text_of, waited, written
+from helpers import equal, expect
 
 TABLE = {
     "vertices": ["ann", "bob", "cem", "dot", "eve"],

@@ -58,8 +58,8 @@ class Checks:
         return path
 
     def start(self, *words, before=None, **streams):
-        """Starts the program; `before` is called in its process first. A stream is a file, or `closed`, or `full`. Signals do what
-        they do by default."""
+        """Starts the program; `before` is called in its process first. A stream is a file, or `closed`, or `full`. Signals do
+        what they do by default."""
         closed = [number for number, name in enumerate(("stdin", "stdout", "stderr")) if streams.get(name) == "closed"]
 
         def prepare():

@@ -11,7 +11,8 @@ from dollar.grammar import GRAMMAR
 LINES, ROOM = 1000000, 16 << 20
 # Words of each kind.
 WORDS = {"vertex": ["a", "b"], "vertices": ["a,b"], "script": ["a=1,c=-2"], "degree": ["1"], "dollars": ["5", "-12"]}
-FORMS = [" ".join([word, *given]) for word, kinds in GRAMMAR["commands"].items() for given in itertools.product(*(WORDS[kind] for kind in kinds))]
+FORMS = [" ".join([word, *given]) for word, kinds in GRAMMAR["commands"].items()
+         for given in itertools.product(*(WORDS[kind] for kind in kinds))]
 LONG, MANY = b"long line", b"too many lines"
 
 
@@ -39,14 +40,16 @@ def many_lines(checks):
     enough for each."""
     table = checks.put("triangle", TRIANGLE)
     for what, lines, answered, fault in (
-            ("a million lines", b"x\n" * LINES, LINES, None), ("a million lines, the last without its end", (b"x\n" * LINES)[:-1], LINES, None),
-            ("a byte more", b"x\n" * LINES + b"x", LINES, MANY), ("a million lines and an empty one", b"x\n" * LINES + b"\n", LINES, MANY),
+            ("a million lines", b"x\n" * LINES, LINES, None),
+            ("a million lines, the last without its end", (b"x\n" * LINES)[:-1], LINES, None),
+            ("a byte more", b"x\n" * LINES + b"x", LINES, MANY),
+            ("a million lines and an empty one", b"x\n" * LINES + b"\n", LINES, MANY),
             ("a line of each length", b"".join(b"x" * size + b"\n" for size in range(1025)), 1025, None),
             ("lines of 1,024 bytes", (b"x" * 1024 + b"\n") * 1000, 1000, None),
             ("a line of 1,025 bytes after others", (b"x" * 1024 + b"\n") * 1000 + b"x" * 1025 + b"\nclaim\n", 1000, LONG)):
         printed = b"bad word\n" * answered
-        checks.ends(what, refused(fault, 3, printed) if fault else Run(0, printed, b""), "serve", table, typed=checks.put("typed", lines),
-                    before=lambda: resource.setrlimit(resource.RLIMIT_AS, (ROOM, ROOM)))
+        checks.ends(what, refused(fault, 3, printed) if fault else Run(0, printed, b""), "serve", table,
+                    typed=checks.put("typed", lines), before=lambda: resource.setrlimit(resource.RLIMIT_AS, (ROOM, ROOM)))
 
 
 # A script that changes nothing, and what is answered to its entries on the triangle, whoever else changes nothing.
@@ -113,7 +116,8 @@ COMPLETE = ('{"vertices":[%s],"edges":[%s],"amounts":[%s],"q":"%s"}' % (
 
 # Scripts of 16,384 lines, and whether their lines are entries.
 LARGE = [
-    ("claims", b"claim\n" * EACH, True), ("looks", b"look\n" * EACH, True), ("looks and verdicts", b"look\ncommit\n" * (EACH // 2), True),
+    ("claims", b"claim\n" * EACH, True), ("looks", b"look\n" * EACH, True),
+    ("looks and verdicts", b"look\ncommit\n" * (EACH // 2), True),
     ("lendings", b"lend v00000000000000\nborrow v00000000000000\n" * (EACH // 2), True),
     ("short scripts", b"script v00000000000003=0\n" * EACH, True),
     ("long scripts", b"script v00000000000003=1000000000,v00000000000004=-1000000000\n" * EACH, True),
@@ -129,9 +133,11 @@ def large_parties(checks):
         run, peak = checks.peak("party", table, *[path] * SEATS)
         totals = run.output.decode().splitlines()[ENTRIES if are_entries else 0:]
         calls = [int(re.fullmatch("seat %d calls ([0-9]+)" % (seat + 1), line)[1]) for seat, line in enumerate(totals[3:])]
-        checks.same("64 scripts of %s: the totals" % what, ("entries %d" % (ENTRIES if are_entries else 0), SEATS), (totals[0], len(calls)))
+        checks.same("64 scripts of %s: the totals" % what, ("entries %d" % (ENTRIES if are_entries else 0), SEATS),
+                    (totals[0], len(calls)))
         checks.same("64 scripts of %s: the calls" % what, ENTRIES if are_entries else 0, sum(calls))
-        told = b"".join(b"dollar: seat %d: the history is full\n" % (seat + 1) for seat, made in enumerate(calls) if are_entries and made < EACH)
+        told = b"".join(b"dollar: seat %d: the history is full\n" % seat for seat, made in enumerate(calls, 1)
+                        if are_entries and made < EACH)
         checks.same("64 scripts of %s: the faults" % what, (3 if told else 0, told), (run.status, run.faults))
         print("64 scripts of %s: %d MB at most" % (what, peak >> 20))
         checks.holds("64 scripts of %s: the memory" % what, peak < MEMORY << 20, peak)

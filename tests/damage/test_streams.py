@@ -141,7 +141,8 @@ def changing_files(checks):
 
     def change():
         while not done.is_set():
-            for text in (TRIANGLE.rjust(300000), poor.rjust(290000), poor.ljust(900000), TRIANGLE[:60], TRIANGLE.ljust(1100000)):
+            for text in (TRIANGLE.rjust(300000), poor.rjust(290000), poor.ljust(900000), TRIANGLE[:60],
+                         TRIANGLE.ljust(1100000)):
                 with open(path, "r+b") as file:
                     file.truncate(0 if len(text) < 300000 else len(text))
                     file.write(text)
@@ -227,10 +228,11 @@ def interrupts(checks):
 
 
 def interrupted_ranks(checks, number, words):
-    """Rank tests that are interrupted sooner or later: each is over, or has printed nothing, or had printed the whole answer of a
-    run that nobody interrupts and was not over yet."""
+    """Rank tests that are interrupted sooner or later: each is over, or has printed nothing, or had printed the whole answer of
+    a run that nobody interrupts and was not over yet."""
     whole, ended, endings = checks.run(*words), Run(-number, b"", b""), set()
-    checks.holds("%s answers" % " ".join(words), whole.status == 0 and re.fullmatch(rb"rank below 10 at( [a-k]=\d+){11}\n", whole.output), whole)
+    checks.holds("%s answers" % " ".join(words),
+                 whole.status == 0 and re.fullmatch(rb"rank below 10 at( [a-k]=\d+){11}\n", whole.output), whole)
     for turn in range(40):
         child = checks.start(*words)
         time.sleep(turn / 2000)
@@ -261,11 +263,14 @@ def long_answers(checks):
     seen = b"".join(b"%d looked 0 a=2 b=-1 c=-1\n" % entry for entry in range(LOOKS))
     seat = b"".join(b"%d 1 looked 0 a=2 b=-1 c=-1\n" % entry for entry in range(LOOKS))
     # The first in debt borrows, and after three turns all is as it was: -1 1 0, then 1 0 -1, then 0 -1 1.
-    turns = b"".join(b"%d moved %s\n" % (turn, (b"a=1 b=0 c=-1", b"a=0 b=-1 c=1", b"a=-1 b=1 c=0")[turn % 3]) for turn in range(TURNS))
+    turns = b"".join(b"%d moved %s\n" % (turn, (b"a=1 b=0 c=-1", b"a=0 b=-1 c=1", b"a=-1 b=1 c=0")[turn % 3])
+                     for turn in range(TURNS))
     return [
-        (("serve", table), looks, seen), (("serve", table, "--seats", "1"), steps, seen), (("rehearse", table, steps), None, seen),
+        (("serve", table), looks, seen), (("serve", table, "--seats", "1"), steps, seen),
+        (("rehearse", table, steps), None, seen),
         (("party", table, looks), None, seat), (("greedy", circle, str(TURNS)), None, turns),
-        (("judge", "--lines", tables), None, WON * TABLES), (("rank", "--lines", tables, "0"), None, b"rank at least 0\n" * TABLES),
+        (("judge", "--lines", tables), None, WON * TABLES),
+        (("rank", "--lines", tables, "0"), None, b"rank at least 0\n" * TABLES),
         (("rr", "--lines", tables), None, b"degree 0 genus 1 rank 0 dual 0\n" * TABLES)]
 
 
@@ -282,7 +287,8 @@ def unread_answers(checks):
                 run = ended_run(child)
             what = "%s, interrupted, whose reader waits" % " ".join(words[:2] if words[1] == "--lines" else words[:1])
             checks.same(what, (-number, b""), (run.status, run.faults))
-            checks.holds("%s: the output" % what, held <= len(run.output) < len(whole) and whole.startswith(run.output), len(run.output))
+            checks.holds("%s: the output" % what, held <= len(run.output) < len(whole) and whole.startswith(run.output),
+                         len(run.output))
             cut += not run.output.endswith(b"\n")
     checks.holds("an output that is cut within a line", cut > 0)
 
@@ -291,7 +297,8 @@ def file_limits(checks):
     """A file that may not grow: the signal for it ends the program without a word, and where that is ignored the end is a write
     fault; the file has the first bytes of the answer either way."""
     words, _, whole = long_answers(checks)[2]
-    for name, action, status, faults in (("", signal.SIG_DFL, -signal.SIGXFSZ, b""), (", signal ignored", signal.SIG_IGN, WRITE.status, WRITE.faults)):
+    for name, action, status, faults in (("", signal.SIG_DFL, -signal.SIGXFSZ, b""),
+                                         (", signal ignored", signal.SIG_IGN, WRITE.status, WRITE.faults)):
         def limited():
             signal.signal(signal.SIGXFSZ, action)
             resource.setrlimit(resource.RLIMIT_FSIZE, (1000, 1000))
@@ -299,7 +306,9 @@ def file_limits(checks):
         with tempfile.TemporaryFile() as output:
             run = checks.run(*words, before=limited, stdout=output)
             output.seek(0)
-            checks.same("an output that may have 1,000 bytes%s" % name, Run(status, whole[:1000], faults), run._replace(output=output.read()))
+            checks.same("an output that may have 1,000 bytes%s" % name, Run(status, whole[:1000], faults),
+                        run._replace(output=output.read()))
 
 
-load_tests = checked(outputs, broken_pipes, inputs, files, fifos, changing_files, threads, interrupts, unread_answers, file_limits)
+load_tests = checked(outputs, broken_pipes, inputs, files, fifos, changing_files, threads, interrupts, unread_answers,
+                     file_limits)

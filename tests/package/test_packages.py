@@ -1,6 +1,7 @@
-"""The tarball, the Debian package and the wheel of the built program: each is made twice, from other folders and at other times, and is
-the same, byte for byte. They are unpacked and installed, what is in them is run, and they are removed again: the wheel in an environment
-of its own, and both in a fresh tree of this Debian, if debootstrap can make one, which takes root and a mirror of Debian."""
+"""The tarball, the Debian package and the wheel of the built program: each is made twice, from other folders and at other
+times, and is the same, byte for byte. They are unpacked and installed, what is in them is run, and they are removed again: the
+wheel in an environment of its own, and both in a fresh tree of this Debian, if debootstrap can make one, which takes root and a
+mirror of Debian."""
 import gzip
 import os
 import re
@@ -60,7 +61,8 @@ class OfPackages(Test):
         sdists = []
         for name in "first", "second":
             (self.place / name).mkdir()
-            self.out(sys.executable, "-B", "-c", "import backend, sys; backend.build_sdist(sys.argv[1])", self.place / name, cwd=ROOT / "python")
+            self.out(sys.executable, "-B", "-c", "import backend, sys; backend.build_sdist(sys.argv[1])", self.place / name,
+                     cwd=ROOT / "python")
             sdists += [file.read_bytes() for file in (self.place / name).iterdir()]
             time.sleep(1)
         self.assertTrue(sdists[0] == sdists[1])
@@ -93,7 +95,8 @@ class OfPackages(Test):
         named = re.findall(r"(?m)^\.I (\w+\.md)$", page)
         self.assertEqual([name for name in named if not (tree / "share" / "doc" / "dollar" / name).is_file()], [])
         self.assertIn("complete -F _dollar dollar", self.out(
-            "bash", "--norc", "-c", 'source "$1"; complete -p dollar', "bash", tree / "share/bash-completion/completions/dollar"))
+            "bash", "--norc", "-c", 'source "$1"; complete -p dollar', "bash",
+            tree / "share/bash-completion/completions/dollar"))
         for shell, place in ("zsh", "site-functions/_dollar"), ("fish", "vendor_completions.d/dollar.fish"):
             if shutil.which(shell):
                 self.out(shell, "-n", tree / "share" / shell / place)
@@ -110,8 +113,8 @@ class OfPackages(Test):
 
     def try_board(self, words):
         """Opens the first board, and sees that its page is there."""
-        child = subprocess.Popen(list(map(str, [*words, "--no-browser"])), stdin=subprocess.DEVNULL, stdout=subprocess.PIPE, text=True,
-                                 env=self.environ, cwd="/")
+        child = subprocess.Popen(list(map(str, [*words, "--no-browser"])), stdin=subprocess.DEVNULL, stdout=subprocess.PIPE,
+                                 text=True, env=self.environ, cwd="/")
         try:
             address = re.search(r"http://\S+", child.stdout.readline())[0]
             with urllib.request.urlopen(address) as page:
@@ -122,9 +125,11 @@ class OfPackages(Test):
         self.assertEqual(child.returncode, 0)
 
     def try_wheel(self, wheel, *before):
-        """Installs the wheel in a fresh environment, in a tree if the words before a command lead there; tries it, and removes it."""
+        """Installs the wheel in a fresh environment, in a tree if the words before a command lead there; tries it, and removes
+        it."""
         inside = "/tmp/own" if before else str(self.folder() / "own")
-        own, table = (Path(before[1]) / "tmp/own", "/tmp/triangle.json") if before else (Path(inside), EXAMPLES / "triangle.json")
+        own = Path(before[1]) / "tmp/own" if before else Path(inside)
+        table = "/tmp/triangle.json" if before else EXAMPLES / "triangle.json"
         self.out(*before, "python3" if before else sys.executable, "-m", "venv", inside)
 
         def files():
@@ -154,7 +159,8 @@ class OfPackages(Test):
         if not shutil.which("debootstrap") or os.geteuid() or not suite:
             self.skipTest("the install in a fresh Debian, for want of root or debootstrap")
         tree = self.place / "debian"
-        self.addCleanup(lambda: [subprocess.run(["umount", tree / each], stderr=subprocess.DEVNULL) for each in ("proc", "sys")])
+        self.addCleanup(lambda: [subprocess.run(["umount", tree / each], stderr=subprocess.DEVNULL)
+                                 for each in ("proc", "sys")])
         words = ["timeout", "280", "debootstrap", "--variant=minbase", "--include=python3,python3-venv", suite[1], tree]
         done = subprocess.run(words, stdout=subprocess.PIPE, stderr=subprocess.STDOUT, text=True)
         if done.returncode:
