@@ -199,10 +199,7 @@ class RiemannRoch(AbstractMapping[str, Optional[int]]):
         return "\n".join("%s %s" % (word, "?" if number is None else number) for word, number in self.items())
 
     def _repr_html_(self) -> str:
-        return table_html(RIEMANN_ROCH, [["?" if number is None else number for number in self.values()]])
-
-
-RIEMANN_ROCH = tuple(number.name for number in fields(RiemannRoch))
+        return table_html(self, [["?" if number is None else number for number in self.values()]])
 
 
 @dataclass(frozen=True, eq=False)
@@ -450,14 +447,12 @@ def rank_test_of(text: str) -> RankTest:
     return RankTest(word == "rank at least", int(rest[0]), pairs_of(rest[1]) if rest[1:] else None)
 
 
-def riemann_roch_of(words: List[str]) -> RiemannRoch:
+def riemann_roch_of(text: str) -> RiemannRoch:
     """The four numbers, of which each stands after its word."""
-    if tuple(words[::2]) != RIEMANN_ROCH or len(words) != 2 * len(RIEMANN_ROCH):
-        raise no_answer(" ".join(words))
-    degree, genus, rank, dual = (None if number == "?" else int(number) for number in words[1::2])
-    if degree is None or genus is None:
-        raise no_answer(" ".join(words))
-    return RiemannRoch(degree, genus, rank, dual)
+    found = re.fullmatch(r"degree (-?\d+) genus (-?\d+) rank (-?\d+|\?) dual (-?\d+|\?)", text, re.ASCII)
+    if not found:
+        raise no_answer(text)
+    return RiemannRoch(int(found[1]), int(found[2]), *(None if rank == "?" else int(rank) for rank in found.groups()[2:]))
 
 
 def cell(value: Any) -> Any:

@@ -133,8 +133,8 @@ def known(names: Sequence[Any], near: Near) -> Optional[Places]:
 
 
 def models(size: int, degree: int) -> Iterator[Model]:
-    """The graphs of so many vertices, 3 or more, that have places of their own: their edges and their places. `degree` is how many
-    neighbours the first vertex has."""
+    """The graphs of so many vertices, 3 or more, that have places of their own: their edges and their places. The first
+    vertex has `degree` neighbours."""
     circle, around = ring(range(size), -135 if size == 4 else -90), [(i, (i + 1) % size) for i in range(size)]
     pairs = list(itertools.combinations(range(size), 2))
     yield around[:-1], line(size)

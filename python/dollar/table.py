@@ -103,8 +103,16 @@ def of_sage_graph(graph: Any) -> Multigraph:
     return Multigraph(vertices, merged(vertices, edges))
 
 
-def one_way(u: Any, v: Any, there: int, back: int) -> ValueError:
-    return ValueError("a directed graph has no table: from %s to %s there are %d edges, and %d back" % (u, v, there, back))
+def both_ways(vertices: List[Any], counts: Dict[Tuple[Any, Any], int]) -> List[Tuple[Any, Any, int]]:
+    """The edges of a graph that tells them in both directions."""
+    for (u, v), count in counts.items():
+        if count < 0:
+            raise ValueError("the number of edges from %s to %s is %d" % (u, v, count))
+        ways = u, v, count, counts.get((v, u), 0)
+        if ways[3] != count:
+            raise ValueError("a directed graph has no table: from %s to %s there are %d edges, and %d back" % ways)
+    place = {vertex: at for at, vertex in enumerate(vertices)}
+    return merged(vertices, [(u, v, count) for (u, v), count in counts.items() if place[u] <= place[v] and count])
 
 
 def of_sandpile(sandpile: Any, amounts: Any = None) -> Multigraph:
@@ -112,11 +120,7 @@ def of_sandpile(sandpile: Any, amounts: Any = None) -> Multigraph:
     vertices, ways = list(sandpile.vertices()), sandpile.dict()
     counts = {(u, v): whole(count, "the weight of the edge from %s to %s" % (u, v))
               for u, near in ways.items() for v, count in near.items()}
-    for (u, v), count in counts.items():
-        if counts.get((v, u), 0) != count:
-            raise one_way(u, v, count, counts.get((v, u), 0))
-    edges = [(u, v, count) for (u, v), count in counts.items() if vertices.index(u) <= vertices.index(v) and count]
-    return Multigraph(vertices, merged(vertices, edges), amounts, sandpile.sink())
+    return Multigraph(vertices, both_ways(vertices, counts), amounts, sandpile.sink())
 
 
 def of_sandpile_divisor(divisor: Any) -> Multigraph:
@@ -133,16 +137,10 @@ def of_matrix(matrix: Any) -> Multigraph:
     rows = [list(row) for row in (matrix.to_numpy() if hasattr(matrix, "to_numpy") else matrix)]
     if any(len(row) != len(rows) for row in rows):
         raise ValueError("an adjacency matrix has as many columns as rows")
-    counts = [[whole(count, "the number of edges from %d to %d" % (u, v)) for v, count in enumerate(row)]
-              for u, row in enumerate(rows)]
-    for u, row in enumerate(counts):
-        for v, count in enumerate(row):
-            if count < 0:
-                raise ValueError("the number of edges from %d to %d is %d" % (u, v, count))
-            if count != counts[v][u]:
-                raise one_way(u, v, count, counts[v][u])
-    edges = [(v, u, count) for u, row in enumerate(counts) for v, count in enumerate(row[:u + 1]) if count]
-    return Multigraph(list(range(len(rows))), merged(range(len(rows)), edges))
+    counts = {(u, v): whole(count, "the number of edges from %d to %d" % (u, v))
+              for u, row in enumerate(rows) for v, count in enumerate(row)}
+    vertices = list(range(len(rows)))
+    return Multigraph(vertices, both_ways(vertices, counts))
 
 
 def of_members(table: Any) -> Multigraph:
