@@ -87,9 +87,9 @@ def neighbours(names: Iterable[Any], edges: Iterable[Sequence[Any]]) -> Dict[Any
     return near
 
 
-def ring(names: Sequence[Any], start: float = -90.0, size: float = 1.0) -> List[Point]:
-    """Places on a circle, one for each name, clockwise from an angle in degrees; -90 is at the top."""
-    turns = [math.radians(start + 360 * i / len(names)) for i in range(len(names))]
+def ring(count: int, start: float = -90.0, size: float = 1.0) -> List[Point]:
+    """So many places on a circle, clockwise from an angle in degrees; -90 is at the top."""
+    turns = [math.radians(start + 360 * i / count) for i in range(count)]
     return [(size * math.cos(turn), size * math.sin(turn)) for turn in turns]
 
 
@@ -97,26 +97,16 @@ def count_of_edges(near: Near) -> int:
     return sum(map(len, near.values())) // 2
 
 
-def is_connected(names: Sequence[Any], near: Near) -> bool:
-    return len(walk(names[0], near)) == len(names)
-
-
-def walk(first: Any, near: Mapping[Any, Iterable[Any]], without: Collection[Any] = ()) -> Dict[Any, int]:
+def walk(first: Any, near: Mapping[Any, Iterable[Any]]) -> Dict[Any, int]:
     """The vertices that can be reached from one, each with its distance, nearest first."""
-    far = {first: 0}
-    for name in far_order(far):
+    far, order = {first: 0}, [first]
+    # The list grows meanwhile.
+    for name in order:
         for other in near[name]:
-            if other not in far and other not in without:
+            if other not in far:
                 far[other] = far[name] + 1
+                order.append(other)
     return far
-
-
-def far_order(far: Mapping[Any, int]) -> Iterator[Any]:
-    """The keys of a dict that grows meanwhile."""
-    done = 0
-    while done < len(far):
-        yield next(itertools.islice(far, done, None))
-        done += 1
 
 
 # The shapes. Each gives the places of all vertices, or None.
@@ -135,7 +125,7 @@ def known(names: Sequence[Any], near: Near) -> Optional[Places]:
 def models(size: int, degree: int) -> Iterator[Model]:
     """The graphs of so many vertices, 3 or more, that have places of their own: their edges and their places. The first
     vertex has `degree` neighbours."""
-    circle, around = ring(range(size), -135 if size == 4 else -90), [(i, (i + 1) % size) for i in range(size)]
+    circle, around = ring(size, -135 if size == 4 else -90), [(i, (i + 1) % size) for i in range(size)]
     pairs = list(itertools.combinations(range(size), 2))
     yield around[:-1], line(size)
     yield around, circle
@@ -148,7 +138,7 @@ def models(size: int, degree: int) -> Iterator[Model]:
         # One vertex in the middle that is joined to all others, which are joined to none else, or stand in a cycle.
         spokes, rim = [(0, i) for i in range(1, size)], [(i, i % (size - 1) + 1) for i in range(1, size)]
         for lines in spokes, spokes + rim:
-            yield lines, [(0.0, 0.0), *ring(range(size - 1))]
+            yield lines, [(0.0, 0.0), *ring(size - 1)]
     if 2 <= degree <= size - 2:
         yield two_rows(size - degree, degree)
     if size == 8:
@@ -193,12 +183,12 @@ def prism(size: int) -> Model:
 
 def two_rings(size: int) -> List[Point]:
     """A ring, and one half as large within it."""
-    return ring(range(size)) + ring(range(size), size=0.5)
+    return ring(size) + ring(size, size=0.5)
 
 
 def tree(names: Sequence[Any], near: Near) -> Optional[Places]:
     """A tree: its middle at the top, and below each vertex those that hang on it."""
-    if count_of_edges(near) != len(names) - 1 or not is_connected(names, near):
+    if count_of_edges(near) != len(names) - 1 or len(walk(names[0], near)) < len(names):
         return None
     top = min(names, key=lambda name: max(walk(name, near).values()))
     far, found, leaves = walk(top, near), {}, itertools.count()
@@ -247,7 +237,7 @@ def matching(lines: Sequence[Any], size: int, names: Sequence[Any], near: Near) 
 
 def best(names: Sequence[Any], near: Near) -> Places:
     """Of a ring and of springs the places at which fewer vertices stand on edges of others, and then fewer edges cross."""
-    choices = dict(zip(names, ring(names))), springs(names, near)
+    choices = dict(zip(names, ring(len(names)))), springs(names, near)
     return min(choices, key=lambda found: (crowded(names, near, found), crossings(near, found)))
 
 
@@ -257,7 +247,7 @@ def springs(names: Sequence[Any], near: Near) -> Places:
     far = {name: walk(name, near) for name in names}
     apart = max(max(each.values()) for each in far.values()) + 1
     # A little out of round, so that no symmetry keeps the springs from coming to rest elsewhere.
-    start = enumerate(ring(names, size=apart / 2))
+    start = enumerate(ring(len(names), size=apart / 2))
     found = {names[i]: (x * (1 + 0.01 * i), y * (1 + 0.007 * i)) for i, (x, y) in start}
     for _ in range(ROUNDS):
         found = {name: pulled(name, found, far[name], apart) for name in names}
@@ -297,8 +287,7 @@ def centred(found: Places) -> Places:
 
 def lines_of(near: Near) -> List[Tuple[Any, Any]]:
     """Each edge once."""
-    names = list(near)
-    return [(u, v) for i, u in enumerate(names) for v in names[i + 1:] if v in near[u]]
+    return [(u, v) for u, v in itertools.combinations(near, 2) if v in near[u]]
 
 
 def crowded(names: Sequence[Any], near: Near, found: Places) -> int:

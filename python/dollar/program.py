@@ -53,11 +53,6 @@ def fault_of(said: bytes, status: int) -> Fault:
     return Fault(text[len("dollar: "):] if text.startswith("dollar: ") else text.partition("\n")[0], status)
 
 
-def is_clone(folder: Path) -> bool:
-    """Whether the folder is a clone of the repository, with the script `dollar` that builds the program."""
-    return (folder / "crates.txt").is_file() and os.access(folder / "dollar", os.X_OK)
-
-
 @functools.lru_cache(maxsize=None)
 def built() -> str:
     """The program of the clone, as its script `dollar` builds it; if it has to, it says so on standard error. The script is asked once, and
@@ -82,7 +77,7 @@ def find_program(program: Optional[Place] = None) -> str:
             if not found:
                 raise ProgramNotFound("%s names %s, and no program is there" % (whence, os.fspath(given)))
             return os.path.abspath(found)
-    if is_clone(CLONE):
+    if (CLONE / "crates.txt").is_file() and os.access(CLONE / "dollar", os.X_OK):
         return built()
     # A wheel brings the program along, and pip puts it beside Python, or into the folder `bin` of a target.
     beside = [Path(sys.executable).parent, Path(sysconfig.get_path("scripts")), Path(__file__).resolve().parents[1] / "bin"]

@@ -20,11 +20,6 @@ ASKED = {"judge": (["judge", "--order", "--"], ["table"]), "rr": (["rr", "--"], 
          "judge --lines": (["judge", "--lines"], ["tables"])}
 
 
-def examples():
-    """The tables that `dollar.example` names, each as its text, by the names of their files."""
-    return {file.name: text_of(file) for file in sorted(EXAMPLES.glob("*.json"))}
-
-
 class OwnGame(Game):
     """The game of one page: the lines that were entries, each with its seat."""
 
@@ -80,19 +75,15 @@ class Alone:
         if asked == ("GET", ""):
             return page("alone.html")
         if asked == ("GET", "start"):
-            return as_json(self.start())
+            examples, table = sorted(EXAMPLES.glob("*.json")), json.loads(self.text)
+            return as_json({"name": self.name, "table": self.text, "examples": {file.name: text_of(file) for file in examples},
+                            "layout": layout(table, table["amounts"] + USUAL, self.own)})
         if asked == ("POST", "ask"):
             async with self.turns:
                 return as_json(await self.asked(await request.json(MOST_BODY)))
         if request.method == "GET":
             return asset(request.parts[1])
         raise Nothing
-
-    def start(self):
-        """What the page begins with."""
-        table = json.loads(self.text)
-        return {"name": self.name, "table": self.text, "examples": examples(),
-                "layout": layout(table, table["amounts"] + USUAL, self.own)}
 
     async def asked(self, given):
         """What the program says to a question of the page, or a thing that is made of a table that it takes for one."""

@@ -249,6 +249,6 @@ async def drained(writer):
         raise
 
 
-def as_json(thing, status=200):
+def as_json(thing):
     """An answer of JSON."""
-    return status, "application/json", json.dumps(thing).encode()
+    return 200, "application/json", json.dumps(thing).encode()

@@ -9,8 +9,7 @@ import { layoutOf, placesText } from "./places.js";
 import { Viewer, bind, choose, element } from "./viewer.js";
 import { Game, linesOf } from "./words.js";
 
-const LOTS = 64;
-const SOON = 400;
+const LOTS = 64, SOON = 400;
 export let table, fileName, examples, viewer, hands, questions, editor;
 let turn = Promise.resolve(), key = null, keeping = null;
 
@@ -94,7 +93,7 @@ async function kept() {
 /* Another table. What the program refuses is told, and nothing changes. */
 
 export async function openTable(text, file, places) {
-  const said = await ask({ command: "layout", table: text, ...(places === undefined ? {} : { places }) });
+  const said = await ask({ command: "layout", table: text, places });
   if (said.status !== 0) return said.err;
   const { length } = viewer.game;
   if (length && !(await sure(`The ${length} steps of this game go with its table. Shall they go?`))) return null;
