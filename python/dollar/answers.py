@@ -4,10 +4,11 @@ from __future__ import annotations
 
 import csv
 import re
+from collections import defaultdict
 from collections.abc import Mapping as AbstractMapping
-from dataclasses import InitVar, dataclass, field, fields
+from dataclasses import dataclass, fields
 from html import escape
-from typing import IO, Any, Callable, Dict, Iterable, Iterator, List, Optional, Pattern, Tuple, TypeVar, Union
+from typing import IO, Any, Callable, ClassVar, DefaultDict, Dict, Iterable, Iterator, List, Optional, Pattern, Tuple, TypeVar, Union
 
 from dollar import checks, drawing
 from dollar.grammar import GRAMMAR
@@ -87,11 +88,9 @@ class Verdict(Answer):
     winnable: bool
     script: Pairs
     reduced: Pairs
-    burning: Optional[List[str]] = field(default=None, repr=False)
-    table: InitVar[Any] = None
-
-    def __post_init__(self, table: Any) -> None:
-        object.__setattr__(self, "_table", table)
+    # What a verdict of `judge` has beside its parts.
+    burning: ClassVar[Optional[List[str]]] = None
+    table: ClassVar[Any] = None
 
     def __bool__(self) -> bool:
         return self.winnable
@@ -104,7 +103,7 @@ class Verdict(Answer):
 
     def judged(self, table: Any = None) -> Any:
         """The table that is given, or else the one that was judged."""
-        judged = getattr(self, "_table", None) if table is None else table
+        judged = self.table if table is None else table
         if judged is None:
             raise ValueError("a verdict out of a history knows no table: say which one it is about")
         return judged
@@ -126,8 +125,7 @@ class Verdict(Answer):
             raise ValueError(found)
 
     def _repr_svg_(self) -> Optional[str]:
-        table = getattr(self, "_table", None)
-        return None if table is None else drawing.picture(table, script=self.script)
+        return None if self.table is None else drawing.picture(self.table, script=self.script)
 
 
 @dataclass(frozen=True, eq=False)
@@ -185,16 +183,14 @@ class RiemannRoch(AbstractMapping[str, Optional[int]]):
     dual: Optional[int]
 
     def __getitem__(self, word: str) -> Optional[int]:
-        if word not in RIEMANN_ROCH:
-            raise KeyError(word)
-        number: Optional[int] = getattr(self, word)
+        number: Optional[int] = vars(self)[word]
         return number
 
     def __iter__(self) -> Iterator[str]:
-        return iter(RIEMANN_ROCH)
+        return iter(vars(self))
 
     def __len__(self) -> int:
-        return len(RIEMANN_ROCH)
+        return len(vars(self))
 
     def __hash__(self) -> int:
         return hash(tuple(self.values()))
@@ -203,10 +199,7 @@ class RiemannRoch(AbstractMapping[str, Optional[int]]):
         return "\n".join("%s %s" % (word, "?" if number is None else number) for word, number in self.items())
 
     def _repr_html_(self) -> str:
-        return table_html(RIEMANN_ROCH, [["?" if number is None else number for number in self.values()]])
-
-
-RIEMANN_ROCH = tuple(number.name for number in fields(RiemannRoch))
+        return table_html(self, [["?" if number is None else number for number in self.values()]])
 
 
 @dataclass(frozen=True, eq=False)
@@ -238,12 +231,10 @@ class Entry(Answer):
         """The text of the answer, without number and seat."""
         if self.found is not None:
             return str(self.found)
-        shown = [self.word, self.gifts, None if self.amounts is None else pairs_text(self.amounts)]
-        return " ".join(str(part) for part in shown if part is not None)
+        return " ".join(pairs_text(part) if isinstance(part, dict) else str(part) for part in self.parts())
 
     def __str__(self) -> str:
-        before = "".join("%d " % number for number in (self.number, self.seat) if number is not None)
-        return before + self.text()
+        return "".join("%d " % number for number in (self.number, self.seat) if number is not None) + self.text()
 
     def parts(self) -> Tuple[Any, ...]:
         if self.found is not None:
@@ -264,10 +255,7 @@ class History(List[Entry]):
         return "\n".join(map(str, self))
 
     def _repr_html_(self) -> str:
-        def shown(number: Optional[int]) -> object:
-            return "" if number is None else number
-
-        return table_html(("number", "seat", "answer"), ([shown(each.number), shown(each.seat), each.text()] for each in self))
+        return table_html(("number", "seat", "answer"), ((each.number, each.seat, each.text()) for each in self))
 
 
 @dataclass(frozen=True)
@@ -294,9 +282,9 @@ class Party:
     faults: Dict[int, str]
 
     def __str__(self) -> str:
-        totals = ["entries %d" % len(self.history), "gifts %d" % self.gifts, "position " + pairs_text(self.position)]
-        return "\n".join([*map(str, self.history), *totals,
-                          *("seat %d calls %d" % (seat, calls) for seat, calls in enumerate(self.calls, 1))])
+        seats = ("seat %d calls %d" % (seat, calls) for seat, calls in enumerate(self.calls, 1))
+        return "\n".join([*map(str, self.history), "entries %d" % len(self.history), "gifts %d" % self.gifts,
+                          "position " + pairs_text(self.position), *seats])
 
     def _repr_html_(self) -> str:
         return self.history._repr_html_()
@@ -379,15 +367,10 @@ def form_of(text: str) -> Pattern[str]:
     return re.compile("(%s)%s" % (found[1], " ".join(PARTS.get(part, part) for part in found[2].split(" "))), re.ASCII)
 
 
-def forms() -> Dict[str, List[Pattern[str]]]:
-    """What reads each answer of the program, by the first word."""
-    found: Dict[str, List[Pattern[str]]] = {}
-    for text in [*GRAMMAR["replies"], *GRAMMAR["ordered"], "rank below k at ?", *GRAMMAR["bad"], "turns"]:
-        found.setdefault(text.split(" ")[0], []).append(form_of(text))
-    return found
-
-
-FORMS = forms()
+# What reads each answer of the program, by the first word.
+FORMS: DefaultDict[str, List[Pattern[str]]] = defaultdict(list)
+for reply in [*GRAMMAR["replies"], *GRAMMAR["ordered"], "rank below k at ?", *GRAMMAR["bad"], "turns"]:
+    FORMS[reply.split(" ")[0]].append(form_of(reply))
 
 
 def no_answer(text: str) -> ValueError:
@@ -451,7 +434,9 @@ def verdict_of(text: str, table: Any = None) -> Verdict:
     word, *rest = parts_of(text)
     if word not in ("winnable", "unwinnable"):
         raise no_answer(text)
-    return Verdict(word == "winnable", pairs_of(rest[0]), pairs_of(rest[1]), rest[2].split(" ") if rest[2:] else None, table)
+    verdict = Verdict(word == "winnable", pairs_of(rest[0]), pairs_of(rest[1]))
+    vars(verdict).update(table=table, burning=rest[2].split(" ") if rest[2:] else None)
+    return verdict
 
 
 def rank_test_of(text: str) -> RankTest:
@@ -462,14 +447,12 @@ def rank_test_of(text: str) -> RankTest:
     return RankTest(word == "rank at least", int(rest[0]), pairs_of(rest[1]) if rest[1:] else None)
 
 
-def riemann_roch_of(words: List[str]) -> RiemannRoch:
+def riemann_roch_of(text: str) -> RiemannRoch:
     """The four numbers, of which each stands after its word."""
-    if tuple(words[::2]) != RIEMANN_ROCH or len(words) != 2 * len(RIEMANN_ROCH):
-        raise no_answer(" ".join(words))
-    degree, genus, rank, dual = (None if number == "?" else int(number) for number in words[1::2])
-    if degree is None or genus is None:
-        raise no_answer(" ".join(words))
-    return RiemannRoch(degree, genus, rank, dual)
+    found = re.fullmatch(r"degree (-?\d+) genus (-?\d+) rank (-?\d+|\?) dual (-?\d+|\?)", text, re.ASCII)
+    if not found:
+        raise no_answer(text)
+    return RiemannRoch(int(found[1]), int(found[2]), *(None if rank == "?" else int(rank) for rank in found.groups()[2:]))
 
 
 def cell(value: Any) -> Any:
@@ -497,7 +480,7 @@ def to_csv(answers: Iterable[Union[Verdict, RankTest, RiemannRoch, Refused]], fi
     writer = csv.writer(file, lineterminator="\n")
     count = 0
     for count, row in enumerate(answers, 1):
-        names = [column.name for column in fields(row) if column.repr and column.name != "refused"]
+        names = [column.name for column in fields(row) if column.name != "refused"]
         if count == 1:
             writer.writerow(["table", *names, "refused"])
         writer.writerow([count - 1, *(cell(getattr(row, name)) for name in names), getattr(row, "refused", None)])
@@ -505,8 +488,8 @@ def to_csv(answers: Iterable[Union[Verdict, RankTest, RiemannRoch, Refused]], fi
 
 
 def table_html(names: Iterable[object], rows: Iterable[Iterable[object]]) -> str:
-    """A table for a notebook."""
+    """A table for a notebook; the cell of a None is empty."""
     def row(tag: str, cells: Iterable[object]) -> str:
-        return "<tr>%s</tr>" % "".join("<%s>%s</%s>" % (tag, escape(str(each)), tag) for each in cells)
+        return "<tr>%s</tr>" % "".join("<%s>%s</%s>" % (tag, "" if each is None else escape(str(each)), tag) for each in cells)
 
     return "<table>%s%s</table>" % (row("th", names), "".join(row("td", cells) for cells in rows))

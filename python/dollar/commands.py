@@ -69,7 +69,7 @@ def rr(table: Any, program: Optional[Place] = None) -> RiemannRoch:
     >>> rr(Table([[0, 1], [1, 0]], [2, -1]))
     RiemannRoch(degree=1, genus=0, rank=1, dual=-1)
     """
-    return riemann_roch_of(printed("rr", members(table), program=program).split())
+    return riemann_roch_of(" ".join(printed("rr", members(table), program=program).split()))
 
 
 def rehearse(table: Any, steps: Lines, program: Optional[Place] = None) -> History:

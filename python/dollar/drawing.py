@@ -6,7 +6,7 @@ from __future__ import annotations
 import itertools
 import math
 from html import escape
-from typing import Any, Dict, Iterable, Iterator, List, Mapping, NamedTuple, Optional, Sequence, Tuple
+from typing import Any, Callable, Dict, Iterable, Iterator, List, Mapping, NamedTuple, Optional, Sequence, Tuple
 
 from dollar import checks
 from dollar.places import Places, centred, places, places_of_text
@@ -22,6 +22,8 @@ HATCH = ('<defs><pattern id="hatch" width="6" height="6" patternUnits="userSpace
          '<path d="M0 0V6" stroke="#b3261e" stroke-opacity="0.45" stroke-width="1.3"/></pattern></defs>')
 PLATE = 'paint-order="stroke" stroke="%s" stroke-width="3" stroke-linejoin="round"'
 Point = Tuple[float, float]
+# A sign of the legend: how wide it is, its words, and what draws it at a place.
+Sign = Tuple[int, str, Callable[[float, float], Iterable[str]]]
 
 
 class Frame(NamedTuple):
@@ -61,12 +63,7 @@ def fitted(text: object, wide: float, size: float) -> float:
 
 def name_size(name: str, radius: float) -> float:
     """The size of letters at which a name fits its circle."""
-    return round(min(NAME_SIZE, room(radius, 14) / width(name)), 1)
-
-
-def amount_size(amount: int, radius: float) -> float:
-    """The size of digits at which an amount fits its circle."""
-    return round(min(AMOUNT_SIZE, room(radius, AMOUNT_AT) / width(amount)), 1)
+    return fitted(name, room(radius, 14), NAME_SIZE)
 
 
 def span(found: Places, radius: float) -> float:
@@ -132,11 +129,6 @@ def badge(x: float, y: float, number: int) -> Iterator[str]:
     yield '<text x="%.1f" y="%.1f" font-size="12" font-weight="bold" fill="#fff">%d</text>' % (x, y + 4, number)
 
 
-def often(count: int) -> str:
-    """A number of a script in words."""
-    return "lends %d" % count if count > 0 else "borrows %d" % -count
-
-
 def vertex(place: Point, r: int, name: str, amount: int, burns: bool, is_q: bool, count: int) -> Iterator[str]:
     """A vertex with its name, its amount, and what a script has it lend."""
     x, y = place
@@ -145,10 +137,10 @@ def vertex(place: Point, r: int, name: str, amount: int, burns: bool, is_q: bool
     yield ('<text x="%.1f" y="%.1f" font-size="%s" fill="#334" %s>%s</text>'
            % (x, y + NAME_AT, name_size(name, r), plate, escape(name)))
     yield ('<text x="%.1f" y="%.1f" font-size="%s" font-weight="bold" fill="#111" %s>%d</text>'
-           % (x, y + AMOUNT_AT, amount_size(amount, r), plate, amount))
+           % (x, y + AMOUNT_AT, fitted(amount, room(r, AMOUNT_AT), AMOUNT_SIZE), plate, amount))
     if count:
         yield ('<text x="%.1f" y="%.1f" font-size="11" font-weight="bold" fill="#223" %s>%s</text>'
-               % (x, y + r + 15, PLATE % "#fff", often(count)))
+               % (x, y + r + 15, PLATE % "#fff", "lends %d" % count if count > 0 else "borrows %d" % -count))
 
 
 def drawn(middle: Point, wide: float, size: float, r: int, frame: Frame) -> Iterator[str]:
@@ -171,40 +163,30 @@ def drawn(middle: Point, wide: float, size: float, r: int, frame: Frame) -> Iter
     yield "</g>"
 
 
-def signs(frames: Sequence[Frame]) -> Iterator[Tuple[str, str]]:
-    """Which signs some frames have, each with its words."""
-    yield "q", "q: verdicts are reckoned from here"
-    for there, sign, words in ((any(amount < 0 for frame in frames for amount in frame.amounts.values()), "debt", "in debt"),
-                               (any(frame.order for frame in frames), "burnt", "burns, as number 1"),
-                               (any(frame.added for frame in frames), "added", "was added"),
-                               (any(frame.script for frame in frames), "script", "what the script says")):
-        if there:
-            yield sign, words
+def signs(frames: Sequence[Frame]) -> Iterator[Sign]:
+    """The signs that some frames have."""
+    yield 32, "q: verdicts are reckoned from here", lambda x, y: circles(x, y, 7, False, False, True)
+    if any(amount < 0 for frame in frames for amount in frame.amounts.values()):
+        yield 32, "in debt", lambda x, y: circles(x, y, 7, True, False, False)
+    if any(frame.order for frame in frames):
+        yield 32, "burns, as number 1", lambda x, y: badge(x, y, 1)
+    if any(frame.added for frame in frames):
+        yield 32, "was added", lambda x, y: ['<path d="M%.1f %.1fh24" stroke="%s" stroke-width="1.8"/>' % (x - 12, y, ADDED)]
+    if any(frame.script for frame in frames):
+        yield 54, "what the script says", lambda x, y: [
+            '<text x="%.1f" y="%.1f" font-size="11" font-weight="bold" fill="#223">lends 1</text>' % (x, y + 4)]
 
 
-def sign(kind: str, x: float, y: float) -> Iterator[str]:
-    """A small sign of the legend."""
-    if kind in ("q", "debt"):
-        yield from circles(x, y, 7, kind == "debt", False, kind == "q")
-    elif kind == "burnt":
-        yield from badge(x, y, 1)
-    elif kind == "added":
-        yield '<path d="M%.1f %.1fh24" stroke="%s" stroke-width="1.8"/>' % (x - 12, y, ADDED)
-    else:
-        yield '<text x="%.1f" y="%.1f" font-size="11" font-weight="bold" fill="#223">lends 1</text>' % (x, y + 4)
-
-
-def legend(frames: Sequence[Frame], wide: float) -> List[List[Tuple[str, float, float, str]]]:
-    """The rows of the legend: in each the signs, with their places from the left and their words."""
-    rows: List[List[Tuple[str, float, float, str]]] = [[]]
+def legend(frames: Sequence[Frame], wide: float) -> List[List[Tuple[float, Sign]]]:
+    """The rows of the legend: in each the signs, with their places from the left."""
+    rows: List[List[Tuple[float, Sign]]] = [[]]
     right = 6.0
-    for kind, words in signs(frames):
-        before = 54 if kind == "script" else 32
-        needed = before + width(words) * 11 + 8
+    for sign in signs(frames):
+        needed = sign[0] + width(sign[1]) * 11 + 8
         if rows[-1] and right + needed > wide - 8:
             rows.append([])
             right = 6.0
-        rows[-1].append((kind, right + before / 2 - 2, right + before, words))
+        rows[-1].append((right, sign))
         right += needed
     return rows
 
@@ -234,9 +216,9 @@ def parts_of(title: str, frames: Sequence[Frame]) -> Iterator[str]:
     yield '<g font-family="sans-serif">'
     for i, row in enumerate(rows):
         y = foot + ROW * i + 4
-        for kind, x, after, words in row:
-            yield '<g text-anchor="middle">%s</g>' % "".join(sign(kind, x, y))
-            yield '<text x="%.1f" y="%.1f" font-size="11" fill="#445">%s</text>' % (after, y + 4, words)
+        for x, (before, words, draw) in row:
+            yield '<g text-anchor="middle">%s</g>' % "".join(draw(x + before / 2 - 2, y))
+            yield '<text x="%.1f" y="%.1f" font-size="11" fill="#445">%s</text>' % (x + before, y + 4, words)
     yield "</g>"
     yield "</svg>"
 

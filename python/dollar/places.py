@@ -20,6 +20,8 @@ Point = Tuple[float, float]
 Places = Dict[Any, Point]
 # For each vertex its neighbours.
 Near = Mapping[Any, Set[Any]]
+# The edges of a graph, whose vertices are numbers, and the places of these.
+Model = Tuple[Sequence[Tuple[int, int]], Sequence[Point]]
 
 CUBE_SPOTS = ((-0.95, -0.35), (0.35, -0.35), (0.35, 0.95), (-0.95, 0.95),
               (-0.35, -0.95), (0.95, -0.95), (0.95, 0.35), (-0.35, 0.35))
@@ -36,11 +38,8 @@ def places(vertices: Iterable[Any], edges: Iterable[Sequence[Any]]) -> Places:
     if not names:
         return {}
     near = neighbours(names, edges)
-    for shape in SHAPES:
-        found = shape(names, near)
-        if found:
-            return rounded(names, found)
-    return rounded(names, best(names, near))
+    found = known(names, near) or tree(names, near) or best(names, near)
+    return {name: (round(found[name][0], 4) + 0.0, round(found[name][1], 4) + 0.0) for name in names}
 
 
 def places_of_text(text: str, vertices: Collection[str]) -> Places:
@@ -88,141 +87,108 @@ def neighbours(names: Iterable[Any], edges: Iterable[Sequence[Any]]) -> Dict[Any
     return near
 
 
-def rounded(names: Iterable[Any], found: Places) -> Places:
-    """The places in the order of the names, as short numbers."""
-    return {name: (round(found[name][0], 4) + 0.0, round(found[name][1], 4) + 0.0) for name in names}
-
-
-def ring(names: Sequence[Any], start: float = -90.0, size: float = 1.0) -> Places:
-    """Places on a circle, clockwise from an angle in degrees; -90 is at the top."""
-    turns = [math.radians(start + 360 * i / len(names)) for i in range(len(names))]
-    return {name: (size * math.cos(turn), size * math.sin(turn)) for name, turn in zip(names, turns)}
-
-
-def row(names: Sequence[Any], y: float = 0.0) -> Places:
-    """Places from left to right."""
-    middle = (len(names) - 1) / 2
-    return {name: ((i - middle), y) for i, name in enumerate(names)}
+def ring(count: int, start: float = -90.0, size: float = 1.0) -> List[Point]:
+    """So many places on a circle, clockwise from an angle in degrees; -90 is at the top."""
+    turns = [math.radians(start + 360 * i / count) for i in range(count)]
+    return [(size * math.cos(turn), size * math.sin(turn)) for turn in turns]
 
 
 def count_of_edges(near: Near) -> int:
     return sum(map(len, near.values())) // 2
 
 
-def is_connected(names: Sequence[Any], near: Near) -> bool:
-    return len(walk(names[0], near)) == len(names)
-
-
-def walk(first: Any, near: Mapping[Any, Iterable[Any]], without: Collection[Any] = ()) -> Dict[Any, int]:
+def walk(first: Any, near: Mapping[Any, Iterable[Any]]) -> Dict[Any, int]:
     """The vertices that can be reached from one, each with its distance, nearest first."""
-    far = {first: 0}
-    for name in far_order(far):
+    far, order = {first: 0}, [first]
+    # The list grows meanwhile.
+    for name in order:
         for other in near[name]:
-            if other not in far and other not in without:
+            if other not in far:
                 far[other] = far[name] + 1
+                order.append(other)
     return far
-
-
-def far_order(far: Mapping[Any, int]) -> Iterator[Any]:
-    """The keys of a dict that grows meanwhile."""
-    done = 0
-    while done < len(far):
-        yield next(itertools.islice(far, done, None))
-        done += 1
 
 
 # The shapes. Each gives the places of all vertices, or None.
 
-def alone(names: Sequence[Any], near: Near) -> Optional[Places]:
-    """One vertex, or two side by side."""
-    if len(names) > 2:
-        return None
-    return {name: (2.0 * i - 1 if len(names) == 2 else 0.0, 0.0) for i, name in enumerate(names)}
-
-
-def path(names: Sequence[Any], near: Near) -> Optional[Places]:
-    """A path: a line, or one that runs to and fro if it is long."""
-    ends = [name for name in names if len(near[name]) == 1]
-    if len(ends) != 2 or any(len(near[name]) > 2 for name in names) or not is_connected(names, near):
-        return None
-    order = chain(ends[0], near)
-    if len(order) <= LONGEST_ROW:
-        return {name: (2 * x / (len(order) - 1), y) for name, (x, y) in row(order).items()}
-    legs = math.ceil(len(order) / LONGEST_LEG)
-    long, found = math.ceil(len(order) / legs), {}
-    for i, name in enumerate(order):
-        leg, at = divmod(i, long)
-        at = long - 1 - at if leg % 2 else at
-        found[name] = (2 * at / (long - 1) - 1, (leg - (legs - 1) / 2) * 2 / (long - 1) * 1.2)
-    return found
-
-
-def chain(first: Any, near: Near) -> List[Any]:
-    """The vertices of a path or a cycle in their order."""
-    order = [first]
-    while True:
-        ahead = [name for name in near if name in near[order[-1]] and name not in order]
-        if not ahead:
-            return order
-        order.append(ahead[0])
-
-
-def cycle(names: Sequence[Any], near: Near) -> Optional[Places]:
-    """A cycle: a ring, the first vertex at the top; one of four is a square."""
-    if len(names) < 3 or any(len(near[name]) != 2 for name in names) or not is_connected(names, near):
-        return None
-    return ring(chain(names[0], near), -135 if len(names) == 4 else -90)
-
-
-def complete(names: Sequence[Any], near: Near) -> Optional[Places]:
-    """A complete graph: a ring in the order of the names; four are a square."""
-    if any(len(near[name]) != len(names) - 1 for name in names):
-        return None
-    return ring(names, -135 if len(names) == 4 else -90)
-
-
-def diamond(names: Sequence[Any], near: Near) -> Optional[Places]:
-    """A square with one diagonal, from the top on the left to the bottom on the right. The first vertex and the earlier of its
-    neighbours on the square follow each other clockwise."""
-    if len(names) != 4 or count_of_edges(near) != 5:
-        return None
-    across = [name for name in names if len(near[name]) == 3]
-    beside = [name for name in names if len(near[name]) == 2]
-    for corners in ((across[0], beside[0], across[1], beside[1]), (across[0], beside[1], across[1], beside[0])):
-        at = corners.index(names[0])
-        if names.index(corners[(at + 1) % 4]) < names.index(corners[at - 1]):
-            return ring(corners, -135)
+def known(names: Sequence[Any], near: Near) -> Optional[Places]:
+    """At most two vertices, side by side, and the graphs that have a model: the first model that fits."""
+    if len(names) <= 2:
+        return dict(zip(names, line(len(names))))
+    for lines, spots in models(len(names), len(near[names[0]])):
+        match = matching(lines, len(spots), names, near)
+        if match:
+            return dict(zip(match, spots))
     return None
 
 
-def star_or_wheel(names: Sequence[Any], near: Near) -> Optional[Places]:
-    """One vertex in the middle that is joined to all others, which are joined to none else, or stand in a cycle."""
-    for hub in names:
-        others = [name for name in names if name != hub]
-        if len(others) < 3 or len(near[hub]) != len(others):
-            continue
-        around = {name: near[name] - {hub} for name in others}
-        if not any(around.values()):
-            return dict(ring(others), **{hub: (0.0, 0.0)})
-        if all(len(each) == 2 for each in around.values()) and is_connected(others, around):
-            return dict(ring(chain(others[0], around)), **{hub: (0.0, 0.0)})
-    return None
+def models(size: int, degree: int) -> Iterator[Model]:
+    """The graphs of so many vertices, 3 or more, that have places of their own: their edges and their places. The first
+    vertex has `degree` neighbours."""
+    circle, around = ring(size, -135 if size == 4 else -90), [(i, (i + 1) % size) for i in range(size)]
+    pairs = list(itertools.combinations(range(size), 2))
+    yield around[:-1], line(size)
+    yield around, circle
+    yield pairs, circle
+    if size == 4:
+        # A square with a diagonal, from the top on the left to the bottom on the right. The first vertex and the earlier of its
+        # neighbours on the square follow each other clockwise.
+        yield [pair for pair in pairs if pair != (1, 3)], circle if degree == 3 else [circle[i] for i in (0, 3, 2, 1)]
+    if size > 3:
+        # One vertex in the middle that is joined to all others, which are joined to none else, or stand in a cycle.
+        spokes, rim = [(0, i) for i in range(1, size)], [(i, i % (size - 1) + 1) for i in range(1, size)]
+        for lines in spokes, spokes + rim:
+            yield lines, [(0.0, 0.0), *ring(size - 1)]
+    if 2 <= degree <= size - 2:
+        yield two_rows(size - degree, degree)
+    if size == 8:
+        yield CUBE_LINES, CUBE_SPOTS
+    if size == 10:
+        yield PETERSEN_LINES, two_rings(5)
+    for high in range(2, 5):
+        if size % high == 0 and size // high >= max(high, 3):
+            yield grid(size // high, high)
+    if size % 2 == 0 and size >= 6:
+        yield prism(size // 2)
 
 
-def both_sides(names: Sequence[Any], near: Near) -> Optional[Places]:
-    """A complete bipartite graph: two rows, with the first vertex above."""
-    above = [name for name in names if name not in near[names[0]]]
-    below = [name for name in names if name in near[names[0]]]
-    if min(len(above), len(below)) < 2 or any(near[v] != set(below if v in above else above) for v in names):
-        return None
-    wide = max(len(above), len(below)) - 1
-    found = dict(row(above, -0.75 * wide / 2), **row(below, 0.75 * wide / 2))
-    return {name: (2 * x / wide, 2 * y / wide) for name, (x, y) in found.items()}
+def line(size: int) -> List[Point]:
+    """The places of a path: a line, or one that runs to and fro if it is long."""
+    if size <= LONGEST_ROW:
+        return [((2 * i - size + 1) / max(size - 1, 1), 0.0) for i in range(size)]
+    legs = math.ceil(size / LONGEST_LEG)
+    long = math.ceil(size / legs)
+    steps = [divmod(i, long) for i in range(size)]
+    return [(2 * (long - 1 - at if leg % 2 else at) / (long - 1) - 1, (leg - (legs - 1) / 2) * 2 / (long - 1) * 1.2)
+            for leg, at in steps]
+
+
+def two_rows(above: int, below: int) -> Model:
+    """A complete bipartite graph in two rows."""
+    wide = max(above, below) - 1
+    spots = [((2 * i - count + 1) / wide, y) for count, y in ((above, -0.75), (below, 0.75)) for i in range(count)]
+    return [(u, above + v) for u in range(above) for v in range(below)], spots
+
+
+def grid(wide: int, high: int) -> Model:
+    at = {(x, y): y * wide + x for y in range(high) for x in range(wide)}
+    lines = [(i, at[next_]) for (x, y), i in at.items() for next_ in ((x + 1, y), (x, y + 1)) if next_ in at]
+    return lines, [(2 * x / (wide - 1) - 1, (2 * y - high + 1) / (wide - 1)) for x, y in at]
+
+
+def prism(size: int) -> Model:
+    lines = [(i, (i + 1) % size) for i in range(size)]
+    return lines + [(size + i, size + j) for i, j in lines] + [(i, size + i) for i in range(size)], two_rings(size)
+
+
+def two_rings(size: int) -> List[Point]:
+    """A ring, and one half as large within it."""
+    return ring(size) + ring(size, size=0.5)
 
 
 def tree(names: Sequence[Any], near: Near) -> Optional[Places]:
     """A tree: its middle at the top, and below each vertex those that hang on it."""
-    if count_of_edges(near) != len(names) - 1 or not is_connected(names, near):
+    if count_of_edges(near) != len(names) - 1 or len(walk(names[0], near)) < len(names):
         return None
     top = min(names, key=lambda name: max(walk(name, near).values()))
     far, found, leaves = walk(top, near), {}, itertools.count()
@@ -236,40 +202,6 @@ def tree(names: Sequence[Any], near: Near) -> Optional[Places]:
 
     hang(top)
     return centred(found)
-
-
-def known(names: Sequence[Any], near: Near) -> Optional[Places]:
-    """The cube, Petersen's graph, the grids and the prisms."""
-    for lines, spots in models(len(names)):
-        match = matching(lines, len(spots), names, near)
-        if match:
-            return dict(zip(match, spots))
-    return None
-
-
-def models(size: int) -> Iterator[Any]:
-    """The graphs of so many vertices that have places of their own: their edges and their places."""
-    if size == 8:
-        yield CUBE_LINES, CUBE_SPOTS
-    if size == 10:
-        yield PETERSEN_LINES, [*ring(range(5)).values(), *ring(range(5), size=0.5).values()]
-    for high in range(2, 5):
-        if size % high == 0 and size // high >= max(high, 3):
-            yield grid(size // high, high)
-    if size % 2 == 0 and size >= 6:
-        yield prism(size // 2)
-
-
-def grid(wide: int, high: int) -> Any:
-    at = {(x, y): y * wide + x for y in range(high) for x in range(wide)}
-    lines = [(i, at[next_]) for (x, y), i in at.items() for next_ in ((x + 1, y), (x, y + 1)) if next_ in at]
-    return lines, [(2 * x / (wide - 1) - 1, (2 * y - high + 1) / (wide - 1)) for x, y in at]
-
-
-def prism(size: int) -> Any:
-    lines = [(i, (i + 1) % size) for i in range(size)]
-    lines += [(size + i, size + j) for i, j in lines] + [(i, size + i) for i in range(size)]
-    return lines, [*ring(range(size)).values(), *ring(range(size), size=0.5).values()]
 
 
 def matching(lines: Sequence[Any], size: int, names: Sequence[Any], near: Near) -> Optional[List[Any]]:
@@ -299,14 +231,13 @@ def matching(lines: Sequence[Any], size: int, names: Sequence[Any], near: Near) 
     return [given[spot] for spot in range(size)] if place(0) else None
 
 
-SHAPES = alone, path, cycle, complete, diamond, star_or_wheel, both_sides, known, tree
 
 
 # All other graphs.
 
 def best(names: Sequence[Any], near: Near) -> Places:
     """Of a ring and of springs the places at which fewer vertices stand on edges of others, and then fewer edges cross."""
-    choices = ring(names), springs(names, near)
+    choices = dict(zip(names, ring(len(names)))), springs(names, near)
     return min(choices, key=lambda found: (crowded(names, near, found), crossings(near, found)))
 
 
@@ -315,9 +246,9 @@ def springs(names: Sequence[Any], near: Near) -> Places:
     start in a ring and come to rest in so many rounds."""
     far = {name: walk(name, near) for name in names}
     apart = max(max(each.values()) for each in far.values()) + 1
-    start = ring(names, size=apart / 2)
     # A little out of round, so that no symmetry keeps the springs from coming to rest elsewhere.
-    found = {name: (x * (1 + 0.01 * i), y * (1 + 0.007 * i)) for i, (name, (x, y)) in enumerate(start.items())}
+    start = enumerate(ring(len(names), size=apart / 2))
+    found = {names[i]: (x * (1 + 0.01 * i), y * (1 + 0.007 * i)) for i, (x, y) in start}
     for _ in range(ROUNDS):
         found = {name: pulled(name, found, far[name], apart) for name in names}
     return centred(level(found))
@@ -356,8 +287,7 @@ def centred(found: Places) -> Places:
 
 def lines_of(near: Near) -> List[Tuple[Any, Any]]:
     """Each edge once."""
-    names = list(near)
-    return [(u, v) for i, u in enumerate(names) for v in names[i + 1:] if v in near[u]]
+    return [(u, v) for u, v in itertools.combinations(near, 2) if v in near[u]]
 
 
 def crowded(names: Sequence[Any], near: Near, found: Places) -> int:

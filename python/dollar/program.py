@@ -10,9 +10,9 @@ import subprocess
 import sys
 import sysconfig
 import tempfile
-from contextlib import ExitStack
+from contextlib import ExitStack, contextmanager
 from pathlib import Path
-from typing import IO, Iterable, List, Optional, Sequence, Tuple, Union
+from typing import Iterable, Iterator, List, Optional, Sequence, Tuple, Union
 
 Place = Union[str, "os.PathLike[str]"]
 
@@ -53,11 +53,6 @@ def fault_of(said: bytes, status: int) -> Fault:
     return Fault(text[len("dollar: "):] if text.startswith("dollar: ") else text.partition("\n")[0], status)
 
 
-def is_clone(folder: Path) -> bool:
-    """Whether the folder is a clone of the repository, with the script `dollar` that builds the program."""
-    return (folder / "crates.txt").is_file() and os.access(folder / "dollar", os.X_OK)
-
-
 @functools.lru_cache(maxsize=None)
 def built() -> str:
     """The program of the clone, as its script `dollar` builds it; if it has to, it says so on standard error. The script is asked once, and
@@ -82,7 +77,7 @@ def find_program(program: Optional[Place] = None) -> str:
             if not found:
                 raise ProgramNotFound("%s names %s, and no program is there" % (whence, os.fspath(given)))
             return os.path.abspath(found)
-    if is_clone(CLONE):
+    if (CLONE / "crates.txt").is_file() and os.access(CLONE / "dollar", os.X_OK):
         return built()
     # A wheel brings the program along, and pip puts it beside Python, or into the folder `bin` of a target.
     beside = [Path(sys.executable).parent, Path(sysconfig.get_path("scripts")), Path(__file__).resolve().parents[1] / "bin"]
@@ -92,29 +87,30 @@ def find_program(program: Optional[Place] = None) -> str:
     return os.path.abspath(found)
 
 
-def command_line(words: Iterable[Union[str, bytes]], program: Optional[Place], until: ExitStack) -> Tuple[List[str], List[int]]:
+@contextmanager
+def command_line(words: Iterable[Union[str, bytes]], program: Optional[Place]) -> Iterator[Tuple[List[str], List[int]]]:
     """The command line of the program with these words, and the descriptors that the child must be handed. A word as bytes stands for
     a file with these bytes, which has no name of its own, so that none is left behind. Descriptors below 3 are the child's standard
     streams, even if they are closed here."""
     line, descriptors = [find_program(program)], []
-    for word in words:
-        if isinstance(word, bytes):
-            file: IO[bytes] = until.enter_context(tempfile.TemporaryFile())
-            file.write(word)
-            file.flush()
-            descriptors.append(fcntl.fcntl(file, fcntl.F_DUPFD_CLOEXEC, 3))
-            until.callback(os.close, descriptors[-1])
-            word = "/dev/fd/%d" % descriptors[-1]
-        line.append(word)
-    return line, descriptors
+    with ExitStack() as until:
+        for word in words:
+            if isinstance(word, bytes):
+                file = until.enter_context(tempfile.TemporaryFile())
+                file.write(word)
+                file.flush()
+                descriptors.append(fcntl.fcntl(file, fcntl.F_DUPFD_CLOEXEC, 3))
+                until.callback(os.close, descriptors[-1])
+                word = "/dev/fd/%d" % descriptors[-1]
+            line.append(word)
+        yield line, descriptors
 
 
 def call(words: Sequence[Union[str, bytes]], program: Optional[Place] = None,
          patience: Optional[float] = None) -> Tuple[bytes, bytes, int]:
     """What the program prints and says, and its status. A word as bytes stands for a file with these bytes. With `patience` it is
     killed after so many seconds, and a TimeoutError raised."""
-    with ExitStack() as until:
-        line, descriptors = command_line(words, program, until)
+    with command_line(words, program) as (line, descriptors):
         try:
             done = subprocess.run(line, stdin=subprocess.DEVNULL, stdout=subprocess.PIPE, stderr=subprocess.PIPE,
                                   pass_fds=descriptors, timeout=patience)

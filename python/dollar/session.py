@@ -6,7 +6,6 @@ import queue
 import subprocess
 import threading
 import weakref
-from contextlib import ExitStack
 from types import TracebackType
 from typing import Any, Callable, NamedTuple, Optional, Tuple, Type, TypeVar
 
@@ -116,8 +115,7 @@ class Session:
         self.ended: Optional[End] = None
         self.reads_seats = seats is not None
         words = [*option("--seats", seats), *option("--cap", cap), *option("--workers", workers), *map(str, options)]
-        with ExitStack() as until:
-            line, descriptors = command_line(["serve", members(table), *words], program, until)
+        with command_line(["serve", members(table), *words], program) as (line, descriptors):
             self.child = subprocess.Popen(line, stdin=subprocess.PIPE, stdout=subprocess.PIPE, stderr=subprocess.PIPE,
                                           pass_fds=descriptors)
         self.work: queue.SimpleQueue[Optional[Work]] = queue.SimpleQueue()

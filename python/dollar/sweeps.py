@@ -10,7 +10,6 @@ import tempfile
 import time
 import warnings
 from collections import deque
-from contextlib import ExitStack
 from typing import Any, Callable, Deque, Iterable, Iterator, List, Literal, Optional, Sequence, Tuple, TypeVar, Union, overload
 
 from dollar.answers import (
@@ -30,8 +29,7 @@ class Sweep:
 
     def __init__(self, words: Sequence[Union[str, bytes]], tables: Iterator[Tuple[Any, bytes]], program: Optional[Place]) -> None:
         self.said = tempfile.TemporaryFile()
-        with ExitStack() as until:
-            line, descriptors = command_line(words, program, until)
+        with command_line(words, program) as (line, descriptors):
             self.child = subprocess.Popen(line, bufsize=0, stdin=subprocess.PIPE, stdout=subprocess.PIPE, stderr=self.said,
                                           pass_fds=descriptors)
         assert self.child.stdin is not None and self.child.stdout is not None
@@ -243,4 +241,4 @@ def rr_all(tables: Any, program: Optional[Place] = None, *, workers: Optional[in
     [0, 1, 1, 2]
     """
     words, lines = asked("rr", [], tables, divisors, workers, errors, progress)
-    return swept(words, lines, lambda text, _: riemann_roch_of(text.split(" ")), RefusedRiemannRoch, errors, program)
+    return swept(words, lines, lambda text, _: riemann_roch_of(text), RefusedRiemannRoch, errors, program)

@@ -2,6 +2,7 @@
 
 from __future__ import annotations
 
+import copy
 import importlib
 import json
 import operator
@@ -11,7 +12,7 @@ from collections.abc import Mapping as AbstractMapping
 from pathlib import Path
 from typing import TYPE_CHECKING, Any, Callable, Dict, Iterable, Iterator, List, NamedTuple, Optional, Tuple, Union
 
-from dollar import drawing
+from dollar import checks, drawing
 from dollar.grammar import limit
 from dollar.program import CLONE, Place
 
@@ -63,9 +64,10 @@ def edge_weight(u: Any, v: Any, weight: Any) -> int:
     return count
 
 
-def merged(edges: Iterable[Tuple[Any, Any, int]], place: Dict[Any, int]) -> List[Tuple[Any, Any, int]]:
+def merged(vertices: Iterable[Any], edges: Iterable[Tuple[Any, Any, int]]) -> List[Tuple[Any, Any, int]]:
     """The edges, those between the same two vertices as one, each from the earlier to the later vertex."""
     counts: Dict[Tuple[Any, Any], int] = {}
+    place = {vertex: at for at, vertex in enumerate(vertices)}
     for u, v, count in edges:
         if u not in place or v not in place:
             raise ValueError("the edge from %s to %s has no vertex" % (u, v))
@@ -86,7 +88,7 @@ def of_networkx(graph: Any) -> Multigraph:
         if wrong:
             raise ValueError("an edge is a pair of vertices, and not %r" % (wrong[0],))
         edges = [(u, v, 1) for u, v in graph.edges]
-    return Multigraph(vertices, merged(edges, {node: at for at, node in enumerate(vertices)}))
+    return Multigraph(vertices, merged(vertices, edges))
 
 
 def of_sage_graph(graph: Any) -> Multigraph:
@@ -98,11 +100,19 @@ def of_sage_graph(graph: Any) -> Multigraph:
             raise ValueError("the edge from %s to %s has the label %r: only in a graph with weighted=True it is a number of edges"
                              % (u, v, label))
         edges.append((u, v, 1 if label is None else edge_weight(u, v, label)))
-    return Multigraph(vertices, merged(edges, {node: at for at, node in enumerate(vertices)}))
+    return Multigraph(vertices, merged(vertices, edges))
 
 
-def one_way(u: Any, v: Any, there: int, back: int) -> ValueError:
-    return ValueError("a directed graph has no table: from %s to %s there are %d edges, and %d back" % (u, v, there, back))
+def both_ways(vertices: List[Any], counts: Dict[Tuple[Any, Any], int]) -> List[Tuple[Any, Any, int]]:
+    """The edges of a graph that tells them in both directions."""
+    for (u, v), count in counts.items():
+        if count < 0:
+            raise ValueError("the number of edges from %s to %s is %d" % (u, v, count))
+        ways = u, v, count, counts.get((v, u), 0)
+        if ways[3] != count:
+            raise ValueError("a directed graph has no table: from %s to %s there are %d edges, and %d back" % ways)
+    place = {vertex: at for at, vertex in enumerate(vertices)}
+    return merged(vertices, [(u, v, count) for (u, v), count in counts.items() if place[u] <= place[v] and count])
 
 
 def of_sandpile(sandpile: Any, amounts: Any = None) -> Multigraph:
@@ -110,12 +120,7 @@ def of_sandpile(sandpile: Any, amounts: Any = None) -> Multigraph:
     vertices, ways = list(sandpile.vertices()), sandpile.dict()
     counts = {(u, v): whole(count, "the weight of the edge from %s to %s" % (u, v))
               for u, near in ways.items() for v, count in near.items()}
-    for (u, v), count in counts.items():
-        if counts.get((v, u), 0) != count:
-            raise one_way(u, v, count, counts.get((v, u), 0))
-    place = {vertex: at for at, vertex in enumerate(vertices)}
-    edges = [(u, v, count) for (u, v), count in counts.items() if place[u] <= place[v] and count]
-    return Multigraph(vertices, merged(edges, place), amounts, sandpile.sink())
+    return Multigraph(vertices, both_ways(vertices, counts), amounts, sandpile.sink())
 
 
 def of_sandpile_divisor(divisor: Any) -> Multigraph:
@@ -132,16 +137,10 @@ def of_matrix(matrix: Any) -> Multigraph:
     rows = [list(row) for row in (matrix.to_numpy() if hasattr(matrix, "to_numpy") else matrix)]
     if any(len(row) != len(rows) for row in rows):
         raise ValueError("an adjacency matrix has as many columns as rows")
-    counts = [[whole(count, "the number of edges from %d to %d" % (u, v)) for v, count in enumerate(row)]
-              for u, row in enumerate(rows)]
-    for u, row in enumerate(counts):
-        for v, count in enumerate(row):
-            if count < 0:
-                raise ValueError("the number of edges from %d to %d is %d" % (u, v, count))
-            if count != counts[v][u]:
-                raise one_way(u, v, count, counts[v][u])
-    edges = [(u, v, count) for u, row in enumerate(counts) for v, count in enumerate(row[:u + 1]) if count]
-    return Multigraph(list(range(len(rows))), merged([(v, u, count) for u, v, count in edges], {v: v for v in range(len(rows))}))
+    counts = {(u, v): whole(count, "the number of edges from %d to %d" % (u, v))
+              for u, row in enumerate(rows) for v, count in enumerate(row)}
+    vertices = list(range(len(rows)))
+    return Multigraph(vertices, both_ways(vertices, counts))
 
 
 def of_members(table: Any) -> Multigraph:
@@ -153,16 +152,14 @@ def of_members(table: Any) -> Multigraph:
         if isinstance(edge, str) or len(edge) != 3:
             raise ValueError("edge %d is no list of two names and a number: %r" % (at, edge))
         edges.append((edge[0], edge[1], edge_weight(*edge)))
-    merged(edges, {vertex: at for at, vertex in enumerate(vertices)})
+    merged(vertices, edges)
     return Multigraph(vertices, edges, list(table["amounts"]), table["q"])
 
 
 def of_graph6(line: Union[str, bytes]) -> Multigraph:
     """The multigraph of a line in the format graph6; its vertices are the numbers from 0 on."""
     text = line.decode("ascii") if isinstance(line, bytes) else line
-    text = text.rstrip("\r\n")
-    if text.startswith(">>graph6<<"):
-        text = text[len(">>graph6<<"):]
+    text = re.sub("^>>graph6<<", "", text.rstrip("\r\n"))
     codes = [ord(letter) - 63 for letter in text]
     if not codes or not all(0 <= code < 64 for code in codes):
         raise ValueError("no line of graph6: %r" % text)
@@ -295,10 +292,9 @@ class Table(AbstractMapping[str, Any]):
         try:
             with open(file, encoding="utf-8") as text:
                 return cls(json.load(text))
-        except TypeError as error:
-            raise TypeError("%s: %s" % (os.fspath(file), error)) from None
-        except (ValueError, RecursionError) as error:
-            raise ValueError("%s: %s" % (os.fspath(file), error)) from None
+        except (TypeError, ValueError, RecursionError) as error:
+            kind = TypeError if isinstance(error, TypeError) else ValueError
+            raise kind("%s: %s" % (os.fspath(file), error)) from None
 
     @classmethod
     def graph6(cls, line: Union[str, bytes], amounts: Any = None, q: Any = None) -> Table:
@@ -352,11 +348,11 @@ class Table(AbstractMapping[str, Any]):
 
     def to_dict(self) -> Dict[str, Any]:
         """The members of a table file."""
-        return {member: self[member] for member in MEMBERS}
+        return dict(self)
 
     def to_json(self) -> str:
         """The table as a table file has it, in one line without its end."""
-        return json.dumps({"vertices": self._vertices, "edges": self._edges, "amounts": self._amounts, "q": self._q})
+        return json.dumps(self.to_dict())
 
     def write(self, file: Place) -> None:
         """Writes a table file."""
@@ -377,10 +373,7 @@ class Table(AbstractMapping[str, Any]):
     def to_sage(self) -> Any:
         """The amounts as a SandpileDivisor of Sage, on the Sandpile of the graph, whose sink is q."""
         sandpiles = importlib.import_module("sage.sandpiles.all")
-        graph: Dict[str, Dict[str, int]] = {name: {} for name in self._vertices}
-        for u, v, count in self._edges:
-            graph[u][v] = graph[v][u] = graph[u].get(v, 0) + count
-        return sandpiles.SandpileDivisor(sandpiles.Sandpile(graph, self._q), self.divisor)
+        return sandpiles.SandpileDivisor(sandpiles.Sandpile(checks.edges(self), self._q), self.divisor)
 
     def serve(self, seats: Optional[int] = None, **options: Any) -> Session:
         """A session on the table, or with `seats` one for many people; docs of `Session` tell the options.
@@ -393,9 +386,14 @@ class Table(AbstractMapping[str, Any]):
 
         return Session(self, seats=seats, **options)
 
-    def _as_multigraph(self) -> Tuple[Tuple[str, ...], Dict[Tuple[str, str], int], Tuple[int, ...], str]:
-        place = {name: at for at, name in enumerate(self._vertices)}
-        return self._vertices, {(u, v): count for u, v, count in merged(self._edges, place)}, self._amounts, self._q
+    def _with(self, amounts: Tuple[int, ...]) -> Table:
+        """The table with other amounts."""
+        other = copy.copy(self)
+        other._amounts = amounts
+        return other
+
+    def _as_multigraph(self) -> Tuple[Tuple[str, ...], List[Edge], Tuple[int, ...], str]:
+        return self._vertices, sorted(merged(self._vertices, self._edges)), self._amounts, self._q
 
     def __eq__(self, other: object) -> bool:
         if not isinstance(other, Table):
@@ -465,24 +463,6 @@ def iterate(tables: Iterable[Any]) -> Iterator[Tuple[Any, bytes]]:
             raise type(error)("table %d: %s" % (number, error)) from None
 
 
-class Placed(AbstractMapping[str, Any]):
-    """A table with other amounts, which are given in the order of its vertices: its members, as a table file has them."""
-
-    __slots__ = ("_amounts", "_table")
-
-    def __init__(self, table: Table, amounts: List[int]) -> None:
-        self._table, self._amounts = table, amounts
-
-    def __iter__(self) -> Iterator[str]:
-        return iter(MEMBERS)
-
-    def __len__(self) -> int:
-        return len(MEMBERS)
-
-    def __getitem__(self, member: str) -> Any:
-        return list(self._amounts) if member == "amounts" else self._table[member]
-
-
 def iterate_divisors(table: Table, divisors: Iterable[Any]) -> Iterator[Tuple[Any, bytes]]:
     """For each of the divisors the table with these amounts, and their line. A dict has 0 dollars where it has no vertex."""
     places = {name: place for place, name in enumerate(table.vertices)}
@@ -490,7 +470,7 @@ def iterate_divisors(table: Table, divisors: Iterable[Any]) -> Iterator[Tuple[An
         try:
             if divisor is None:
                 raise TypeError("amounts are a list in the order of the vertices, or a dict, and not None")
-            amounts = list(held(divisor, places, table.vertices))
+            amounts = held(divisor, places, table.vertices)
         except (TypeError, ValueError) as error:
             raise type(error)("divisor %d: %s" % (number, error)) from None
-        yield Placed(table, amounts), " ".join(map(str, amounts)).encode() + b"\n"
+        yield table._with(amounts), " ".join(map(str, amounts)).encode() + b"\n"

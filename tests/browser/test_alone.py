@@ -358,7 +358,7 @@ def with_editor(player):
     empty = player.value("(({ x, y }) => [x + 40, y + 40])($('#board svg').getBoundingClientRect())")
     player.mouse("Pressed", empty)
     player.mouse("Released", empty, 0, 0)
-    equal(player.value("editor.draft.vertices.map((v) => v.name)"), ["a", "b", "c", "d"], "a vertex where there was none")
+    equal(player.value("editor.draft.vertices"), ["a", "b", "c", "d"], "a vertex where there was none")
     player.click("#edit-done")
     player.until("!$('#edit-refused').hidden")
     equal([player.text("#edit-refused span"), player.text("#edit-refused code")],

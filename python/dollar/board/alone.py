@@ -10,13 +10,14 @@ from dollar.drawing import USUAL, layout
 from dollar.program import PATIENCE, call, fault_of
 from dollar.table import EXAMPLES, text_of
 
-MOST_TABLE, MOST_STEPS, MOST_BODY, MOST_TABLES = 1 << 21, 1 << 22, 1 << 24, 1 << 21
-AT_ONCE, MOST_GAMES = 3, 8
-
-
-def examples():
-    """The tables that `dollar.example` names, each as its text, by the names of their files."""
-    return {file.name: text_of(file) for file in sorted(EXAMPLES.glob("*.json"))}
+MOST_BODY, AT_ONCE, MOST_GAMES = 1 << 24, 3, 8
+# The most letters of each text of a question.
+MOST = {"command": 16, "table": 1 << 21, "tables": 1 << 21, "places": 1 << 21, "steps": 1 << 22, "degree": 12, "name": 200,
+        "key": 64, "line": MOST_BODY}
+# What the program is asked: the words of its command line, and the texts after them, each in a file but for a number.
+ASKED = {"judge": (["judge", "--order", "--"], ["table"]), "rr": (["rr", "--"], ["table"]),
+         "rank": (["rank", "--"], ["table", "degree"]), "rehearse": (["rehearse", "--"], ["table", "steps"]),
+         "judge --lines": (["judge", "--lines"], ["tables"])}
 
 
 class OwnGame(Game):
@@ -74,7 +75,9 @@ class Alone:
         if asked == ("GET", ""):
             return page("alone.html")
         if asked == ("GET", "start"):
-            return as_json(self.start())
+            examples, table = sorted(EXAMPLES.glob("*.json")), json.loads(self.text)
+            return as_json({"name": self.name, "table": self.text, "examples": {file.name: text_of(file) for file in examples},
+                            "layout": layout(table, table["amounts"] + USUAL, self.own)})
         if asked == ("POST", "ask"):
             async with self.turns:
                 return as_json(await self.asked(await request.json(MOST_BODY)))
@@ -82,34 +85,24 @@ class Alone:
             return asset(request.parts[1])
         raise Nothing
 
-    def start(self):
-        """What the page begins with."""
-        table = json.loads(self.text)
-        return {"name": self.name, "table": self.text, "examples": examples(),
-                "layout": layout(table, table["amounts"] + USUAL, self.own)}
-
     async def asked(self, given):
         """What the program says to a question of the page, or a thing that is made of a table that it takes for one."""
-        command = text_in(given, "command", 16)
-        table = text_in(given, "table", MOST_TABLE) if command != "play" else ""
-        if command == "begin":
-            return await self.begin(table, [line for line in text_in(given, "steps", MOST_STEPS).split("\n") if line])
+        def text(name):
+            return text_in(given, name, MOST[name])
+
+        command = text("command")
         if command == "play":
-            return await self.play(given)
-        if command == "judge":
-            return await run("judge", "--order", "--", table.encode())
-        if command == "rr":
-            return await run("rr", "--", table.encode())
-        if command == "rank":
-            return await run("rank", "--", table.encode(), text_in(given, "degree", 12))
-        if command == "rehearse":
-            return await run("rehearse", "--", table.encode(), text_in(given, "steps", MOST_STEPS).encode())
-        if command == "judge --lines":
-            return await run("judge", "--lines", text_in(given, "tables", MOST_TABLES).encode())
+            return await self.play(text("key"), given.get("count"), text("line"))
+        table = text("table")
+        if command in ASKED:
+            words, names = ASKED[command]
+            return await run(*words, *(text(name) if name == "degree" else text(name).encode() for name in names))
+        if command == "begin":
+            return await self.begin(table, [line for line in text("steps").split("\n") if line])
         if command == "layout":
-            return await self.layout(table, given)
+            return await self.layout(table, text("places") if "places" in given else None)
         if command == "replay":
-            return await self.replay(table, text_in(given, "steps", MOST_STEPS), text_in(given, "name", 200))
+            return await self.replay(table, text("steps"), text("name"))
         raise Refused(400, "there is no such question")
 
     async def begin(self, table, steps):
@@ -128,9 +121,9 @@ class Alone:
             await self.games.pop(next(iter(self.games))).close()
         return said
 
-    async def play(self, given):
+    async def play(self, key, count, line):
         """What the program says to a line of a page, or None for the status if the game is not there any more."""
-        game, count, line = self.games.get(text_in(given, "key", 64)), given.get("count"), text_in(given, "line", MOST_BODY)
+        game = self.games.get(key)
         if "\n" in line or not isinstance(count, int) or count < 0:
             raise Refused(400, "there is no such line")
         if len(line.encode()) > MOST_LINE:
@@ -144,11 +137,10 @@ class Alone:
         for game in self.games.values():
             await game.close()
 
-    async def layout(self, table, given):
+    async def layout(self, table, own):
         """The verdict on a table, and if there is one, the places of its vertices."""
         said = await run("judge", table.encode())
         if said["status"] == 0:
-            own = text_in(given, "places", MOST_TABLE) if "places" in given else None
             try:
                 made = json.loads(table)
                 said["layout"] = await asyncio.to_thread(layout, made, made["amounts"] + USUAL, own)

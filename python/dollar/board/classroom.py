@@ -7,6 +7,7 @@ import importlib
 import json
 import re
 import time
+from collections import Counter
 
 from dollar.board.game import MOST_LINE, Game
 from dollar.board.pages import asset, page
@@ -89,9 +90,7 @@ class Classroom:
         self.game, self.taken, self.paused, self.saved = SharedGame(text, seats, kept), {}, False, 0
         self.news, self.changes, self.address = None, 0, ""
         # How many entries each seat has, also of those who sat there before.
-        self.used = [0] * (seats + 1)
-        for number, _, _, _ in self.game.entries:
-            self.used[number] += 1
+        self.used = Counter(number for number, _, _, _ in self.game.entries)
         table = json.loads(text)
         self.layout = layout(table, table["amounts"] + USUAL, own)
 
@@ -128,39 +127,24 @@ class Classroom:
         if teaches:
             request.known()
         if request.method == "GET":
-            return self.teachers_page(asked, request) if teaches else self.pupils_page(asked, request)
+            return self.shown(asked, request, teaches)
         given = await request.json(MOST_BODY)
         return await (self.teachers(asked, given) if teaches else self.pupils(asked, given, request))
 
-    def common_page(self, asked):
-        if asked == "":
-            return page("class.html")
-        return asset(asked)
-
-    def begin(self, role):
-        return {"role": role, "name": self.name, "table": self.text, "layout": self.layout, "seats": self.seats,
-                "address": self.address, "code": code_of(self.address)}
-
-    def pupils_page(self, asked, request):
+    def shown(self, asked, request, teaches):
+        """What a page gets that plays nothing."""
         if asked == "start":
-            return as_json(self.begin("pupil"))
+            return as_json({"role": "teacher" if teaches else "pupil", "name": self.name, "table": self.text,
+                            "layout": self.layout, "seats": self.seats, "address": self.address, "code": code_of(self.address)})
         if asked == "events":
             number, seat = begin_at(request), None
-            if "key" in request.query:
+            if "key" in request.query and not teaches:
                 seat = self.seat_of(request.query["key"])
                 request.known()
             return 200, "text/event-stream", lambda gone: self.events(gone, number, seat)
-        return self.common_page(asked)
-
-    def teachers_page(self, asked, request):
-        if asked == "start":
-            return as_json(self.begin("teacher"))
-        if asked == "events":
-            number = begin_at(request)
-            return 200, "text/event-stream", lambda gone: self.events(gone, number, None)
-        if asked in FILES:
+        if asked in FILES and teaches:
             return 200, FILES[asked], self.file(asked).encode()
-        return self.common_page(asked)
+        return asset(asked) if asked else page("class.html")
 
     # Pupils.
 
@@ -226,8 +210,8 @@ class Classroom:
 
     async def teachers(self, asked, given):
         if asked == "free":
-            return self.free(given.get("seat"))
-        if asked == "pause":
+            self.free(given.get("seat"))
+        elif asked == "pause":
             self.paused = given.get("paused") is True
         elif asked == "end":
             await self.game.finish()
@@ -246,8 +230,6 @@ class Classroom:
             raise Refused(409, "Nobody has this seat.")
         for ended in seat.pages:
             end_with(ended, "freed")
-        self.changed()
-        return as_json({})
 
     async def again(self):
         """Starts the program again, with all entries that there were."""
@@ -262,14 +244,11 @@ class Classroom:
         """The page that shows the game."""
         steps, history = self.file("steps.txt"), self.file("history.txt")
         try:
-            made = await asyncio.to_thread(self.page_of, steps, history)
+            lines = await asyncio.to_thread(printed, "rehearse", self.text.encode(), steps.encode(), patience=PATIENCE)
+            made = await asyncio.to_thread(replay_page, self.name, self.text, steps, lines, history, self.own)
         except (Fault, TimeoutError) as fault:
             raise Refused(409, "The program does not play the game again: %s" % fault) from None
         return as_json({"page": made})
-
-    def page_of(self, steps, history):
-        lines = printed("rehearse", self.text.encode(), steps.encode(), patience=PATIENCE)
-        return replay_page(self.name, self.text, steps, lines, history, self.own)
 
     def file(self, name):
         """The text of a file that is taken along."""

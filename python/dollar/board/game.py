@@ -20,8 +20,7 @@ class Game:
         """Starts the program, again if it was started before, and gives its answers to some lines, all of which are written at once. If it
         ends before that, there are fewer. `ended` is called when it ends later."""
         await self.close()
-        with contextlib.ExitStack() as until:
-            line, descriptors = command_line(["serve", self.text.encode(), "--seats", str(self.seats)], None, until)
+        with command_line(["serve", self.text.encode(), "--seats", str(self.seats)], None) as (line, descriptors):
             self.child = await asyncio.create_subprocess_exec(
                 *line, stdin=asyncio.subprocess.PIPE, stdout=asyncio.subprocess.PIPE, stderr=asyncio.subprocess.PIPE,
                 start_new_session=True, pass_fds=descriptors)

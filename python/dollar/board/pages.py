@@ -11,7 +11,6 @@ from dollar.table import text_of
 WEB = os.path.join(os.path.dirname(os.path.abspath(__file__)), "web")
 KINDS = {"css": "text/css", "js": "text/javascript"}
 ASSETS = {"grammar.js", *(name for name in os.listdir(WEB) if name.rpartition(".")[2] in KINDS)}
-PARTS = "board", "controls", "now", "whole", "legend", "hands"
 
 
 def part(name):
@@ -28,10 +27,11 @@ def one_script(names):
 
 
 def filled(name, words):
-    """A page with its parts, and other texts in the places of their names."""
-    texts = {**{each: part(each + ".html") for each in PARTS}, **words}
-    pieces = part(name).split("{{")
-    return pieces[0] + "".join(texts[key] + rest for key, rest in (piece.split("}}", 1) for piece in pieces[1:]))
+    """A page with texts, or else other parts of pages, in the places of their names."""
+    def text_of_name(found):
+        return words[found[1]] if found[1] in words else filled(found[1] + ".html", words)
+
+    return re.sub("{{([a-z]+)}}", text_of_name, part(name))
 
 
 def asset(name):

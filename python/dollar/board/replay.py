@@ -60,12 +60,11 @@ def page(title, text, steps, lines, history=None, own=None):
         raise ValueError("no steps and no history have '<' in them")
     table = json.loads(text)
     amounts = [*table["amounts"], *(set(re.findall(r"=(-?\d+)", shown)))]
-    code = one_script(SCRIPTS)
-    style = "\n" + part("page.css")
+    code, style = one_script(SCRIPTS), "\n" + part("page.css")
     policy = "default-src 'none'; script-src %s; style-src %s; img-src data:; base-uri 'none'; form-action 'none'" % (
         digest(code), digest(style))
     return filled("replay.html", {
-        "title": html.escape(title), "policy": policy, "style": part("page.css"), "table": in_page(text), "steps": steps,
+        "title": html.escape(title), "policy": policy, "style": style, "table": in_page(text), "steps": steps,
         "printed": shown, "layout": in_page(json.dumps(layout(table, amounts, own))), "flaws": in_page(json.dumps(flaws)),
         "script": code})
 

@@ -158,9 +158,8 @@ class Server:
         try:
             request = await asyncio.wait_for(self.request(reader, writer, lambda: self.strangers.pop(task, None)), TO_ASK)
             status, kind, content = await self.answer(request)
-        except asyncio.LimitOverrunError:
-            status, kind, content = 404, "text/plain", Nothing().words.encode()
-        except Refused as refused:
+        except (asyncio.LimitOverrunError, Refused) as error:
+            refused = error if isinstance(error, Refused) else Nothing()
             status, kind, content = refused.status, "text/plain", refused.words.encode()
         whole = isinstance(content, bytes)
         writer.write(head(status, kind, len(content) if whole else None))
@@ -179,20 +178,14 @@ class Server:
                 await pieces.aclose()
                 await asyncio.gather(gone, return_exceptions=True)
         self.make_room(task, writer)
-        await self.end(reader, writer)
-
-    async def end(self, reader, writer):
-        """Ends the answer, and lets go of what the other side still sends, so that it may read the answer."""
         if writer.can_write_eof():
             writer.write_eof()
         await asyncio.wait_for(self.swallow(reader), 1.0)
 
     async def swallow(self, reader):
+        """Lets go of what the other side still sends, so that it may read the answer."""
         left = 1 << 20
-        while left > 0:
-            got = await reader.read(MOST_HEAD)
-            if not got:
-                return
+        while left > 0 and (got := await reader.read(MOST_HEAD)):
             left -= len(got)
 
     async def request(self, reader, writer, known):
@@ -202,24 +195,22 @@ class Server:
             first, *lines = data[:-4].decode("ascii").split("\r\n")
         except UnicodeDecodeError:
             raise Nothing from None
-        target = TARGET.match(first)
-        headers = headers_of(lines)
+        target, headers = TARGET.match(first), headers_of(lines)
         if not target or "transfer-encoding" in headers or not self.is_here(headers.get("host"), writer):
             raise Nothing
-        method = target.group(1)
-        origin = headers.get("origin")
-        if (method == "POST" and origin is None) or origin not in (None, "http://" + headers["host"]):
+        own = "http://" + headers["host"]
+        if headers.get("origin", own if target[1] == "GET" else None) != own:
             raise Nothing
         if headers.get("sec-fetch-site", "none") not in ("none", "same-origin") and headers.get("sec-fetch-dest") != "document":
             raise Nothing
-        return Request(method, target.group(2), headers, reader, known)
+        return Request(*target.groups(), headers, reader, known)
 
     def is_here(self, host, writer):
         """Whether a Host names this server: by the address that was called, or by a name that was given to it."""
         found = HOST.match((host or "").lower())
-        if not found or int(found.group(2) or 80) != self.port:
+        if not found or int(found[2] or 80) != self.port:
             return False
-        name = found.group(1)
+        name = found[1]
         called = ipaddress.ip_address(writer.get_extra_info("sockname")[0].partition("%")[0])
         if name in self.names or (name == "localhost" and called.is_loopback):
             return True
@@ -244,9 +235,8 @@ def headers_of(lines):
 
 def head(status, kind, length):
     """The head of an answer; without a length it goes on until the connection ends."""
-    lines = ["HTTP/1.1 %d %s" % (status, REASONS[status]), "Content-Type: %s; charset=utf-8" % kind]
-    lines += ["%s: %s" % pair for pair in ALWAYS.items()]
-    lines += [] if length is None else ["Content-Length: %d" % length]
+    headers = {"Content-Type": kind + "; charset=utf-8", **ALWAYS, **({} if length is None else {"Content-Length": length})}
+    lines = ["HTTP/1.1 %d %s" % (status, REASONS[status]), *("%s: %s" % pair for pair in headers.items())]
     return ("\r\n".join(lines) + "\r\n\r\n").encode()
 
 
@@ -259,6 +249,6 @@ async def drained(writer):
         raise
 
 
-def as_json(thing, status=200):
+def as_json(thing):
     """An answer of JSON."""
-    return status, "application/json", json.dumps(thing).encode()
+    return 200, "application/json", json.dumps(thing).encode()

@@ -4,13 +4,12 @@ import { Questions } from "./ask.js";
 import { SVG, draw } from "./board.js";
 import { Editor } from "./edit.js";
 import { Hands } from "./hand.js";
-import { post, save, sure } from "./page.js";
+import { post, save, store, stored, sure } from "./page.js";
 import { layoutOf, placesText } from "./places.js";
-import { Viewer, element } from "./viewer.js";
-import { Game, faultWords, linesOf } from "./words.js";
+import { Viewer, bind, choose, element } from "./viewer.js";
+import { Game, linesOf } from "./words.js";
 
-const LOTS = 64;
-const SOON = 400;
+const LOTS = 64, SOON = 400;
 export let table, fileName, examples, viewer, hands, questions, editor;
 let turn = Promise.resolve(), key = null, keeping = null;
 
@@ -38,7 +37,7 @@ async function playNow(line) {
   if (dropped && !(await sure(`Going on from here drops the ${dropped} steps that follow. Shall they go?`))) return null;
   const step = `${element("seat").value} ${line}`;
   const said = await hands.patient(answered(now, step));
-  if (said.status !== 0) return hands.tell(faultWords(said.err), `dollar: ${said.err}`);
+  if (said.status !== 0) return hands.refuse(said.err);
   game.cut(now);
   game.add(step, linesOf(said.out)[0]);
   hands.tell("");
@@ -76,32 +75,25 @@ function keepNow() {
   if (keeping === null) return;
   clearTimeout(keeping);
   keeping = null;
-  const kept = { table, fileName, steps: stepsText(viewer.game.length), places: placesText(viewer.board.layout) };
-  try {
-    sessionStorage.setItem(KEPT, JSON.stringify(kept));
-  } catch {
-    /* A browser that keeps nothing, or not so much: then the game lasts as long as the page. */
-  }
+  const { game, board } = viewer;
+  store("sessionStorage", KEPT, { table, fileName, steps: stepsText(game.length), places: placesText(board.layout) });
 }
 
 /* What was kept, with what the program prints of it, or null. */
 async function kept() {
-  try {
-    const before = JSON.parse(sessionStorage.getItem(KEPT));
-    const placed = await ask({ command: "layout", table: before.table, places: before.places });
-    const said = await ask({ command: "begin", table: before.table, steps: before.steps });
-    if (placed.status !== 0 || said.status !== 0) return null;
-    key = said.key;
-    return { ...before, layout: placed.layout, printed: said.out };
-  } catch {
-    return null;
-  }
+  const before = stored("sessionStorage", KEPT);
+  if (!before) return null;
+  const placed = await ask({ command: "layout", table: before.table, places: before.places });
+  const said = await ask({ command: "begin", table: before.table, steps: before.steps });
+  if (placed.status !== 0 || said.status !== 0) return null;
+  key = said.key;
+  return { ...before, layout: placed.layout, printed: said.out };
 }
 
 /* Another table. What the program refuses is told, and nothing changes. */
 
 export async function openTable(text, file, places) {
-  const said = await ask({ command: "layout", table: text, ...(places === undefined ? {} : { places }) });
+  const said = await ask({ command: "layout", table: text, places });
   if (said.status !== 0) return said.err;
   const { length } = viewer.game;
   if (length && !(await sure(`The ${length} steps of this game go with its table. Shall they go?`))) return null;
@@ -138,12 +130,7 @@ async function find(text) {
 
 async function openFile(file) {
   if (!file) return;
-  if (file.size > 1 << 20) return hands.tell(faultWords("file too long"), "dollar: file too long");
-  told(await openTable(await file.text(), file.name));
-}
-
-function told(fault) {
-  hands.tell(fault === null ? "" : faultWords(fault), fault === null ? "" : `dollar: ${fault}`);
+  hands.refuse(file.size > 1 << 20 ? "file too long" : await openTable(await file.text(), file.name));
 }
 
 /* Other dollars, drawn by lots, of which the program says which can be won. */
@@ -152,10 +139,10 @@ async function drawLots(degree, kind) {
   const now = viewer.game.tableAt(viewer.now);
   const tables = Array.from({ length: LOTS }, () => ({ ...now, amounts: lots(now.vertices.length, degree) }));
   const said = await ask({ command: "judge --lines", table, tables: textOf(tables.map((each) => JSON.stringify(each))) });
-  if (said.status !== 0) return told(said.err);
+  if (said.status !== 0) return hands.refuse(said.err);
   const at = linesOf(said.out).findIndex((line) => (kind ? line.startsWith(`${kind} `) : /^(un)?winnable /.test(line)));
   if (at < 0) return hands.tell(`Of ${LOTS} that were drawn none ${kind === "unwinnable" ? "can't" : "can"} be won.`);
-  told(await openTable(`${JSON.stringify(tables[at], null, 1)}\n`, fileName, placesText(viewer.board.layout)));
+  hands.refuse(await openTable(`${JSON.stringify(tables[at], null, 1)}\n`, fileName, placesText(viewer.board.layout)));
   return null;
 }
 
@@ -184,18 +171,19 @@ function picture() {
 async function takePage() {
   const said = await ask({ command: "replay", table, steps: stepsText(viewer.game.length), name: fileName });
   if (said.status === 0) save("game.html", said.page, "text/html");
-  else told(said.err);
+  else hands.refuse(said.err);
 }
 
 function bindTaking() {
-  const on = (id, act) => element(id).addEventListener("click", act);
-  on("take-table", () => save("table.json", table));
-  on("take-steps", () => save("steps.txt", stepsText(viewer.game.length)));
-  on("take-now", () => save("now.json", questions.now()));
-  on("take-places", () => save("places.txt", placesText(viewer.board.layout)));
-  on("take-picture", () => save("board.svg", picture(), "image/svg+xml"));
-  on("take-page", takePage);
-  on("print", () => window.print());
+  bind({
+    "take-table": () => save("table.json", table),
+    "take-steps": () => save("steps.txt", stepsText(viewer.game.length)),
+    "take-now": () => save("now.json", questions.now()),
+    "take-places": () => save("places.txt", placesText(viewer.board.layout)),
+    "take-picture": () => save("board.svg", picture(), "image/svg+xml"),
+    "take-page": takePage,
+    print: () => window.print(),
+  });
 }
 
 function bindTables() {
@@ -203,7 +191,7 @@ function bindTables() {
   element("example").addEventListener("change", async (event) => {
     const file = event.target.value;
     event.target.value = "";
-    if (file) told(await openTable(examples[file], file));
+    if (file) hands.refuse(await openTable(examples[file], file));
   });
   element("open").addEventListener("change", async (event) => {
     await openFile(event.target.files[0]);
@@ -214,17 +202,16 @@ function bindTables() {
     event.preventDefault();
     openFile(event.dataTransfer.files[0]);
   });
-  element("edit").addEventListener("click", () => editor.open());
-  element("draw-form").addEventListener("submit", (event) => {
-    event.preventDefault();
-    drawLots(Number(element("draw-degree").value), element("draw-kind").value);
+  bind({
+    edit: () => editor.open(),
+    "draw-form": () => drawLots(Number(element("draw-degree").value), element("draw-kind").value),
   });
 }
 
 async function start() {
   const given = await (await fetch("start")).json();
   ({ table, examples, name: fileName } = given);
-  element("seat").replaceChildren(...Array.from({ length: 64 }, (_, i) => new Option(i + 1, i + 1)));
+  choose("seat", Array.from({ length: 64 }, (_, i) => i + 1));
   const before = await kept();
   if (before) ({ table, fileName } = before);
   begin(layoutOf((before || given).layout));

@@ -2,18 +2,15 @@
    amounts and edges that are shown, and leaves no entry. */
 
 import { still } from "./board.js";
-import { element, made } from "./viewer.js";
+import { below, bind, element, lost, made } from "./viewer.js";
 import { answerOf, dollars, faultWords, linesOf, listed, lossWords, planned, replyWords } from "./words.js";
 
 export class Questions {
   /* `ask` puts a question to the program, and `play` plays a line. */
   constructor(viewer, ask, play) {
     Object.assign(this, { viewer, ask, play, table: null, reply: null });
-    element("ask-won").addEventListener("click", () => this.won());
-    element("ask-rank").addEventListener("click", () => this.rank());
-    element("ask-rr").addEventListener("click", () => this.numbers());
-    element("show-script").addEventListener("click", () => this.showScript());
-    element("show-fire").addEventListener("click", () => this.fire());
+    bind({ "ask-won": () => this.won(), "ask-rank": () => this.rank(), "ask-rr": () => this.numbers(),
+      "show-script": () => this.showScript(), "show-fire": () => this.fire() });
   }
 
   now() {
@@ -43,10 +40,10 @@ export class Questions {
     return null;
   }
 
-  mark(says) {
+  mark(counts, words) {
     const { board, game, now } = this.viewer;
     board.burnt = [];
-    board.show(game.states[now], game.table.q, says);
+    board.show(game.states[now], game.table.q, below(counts, words));
   }
 
   async won() {
@@ -55,16 +52,14 @@ export class Questions {
     const reply = answerOf(linesOf(printed)[0]), { game, now } = this.viewer, { amounts } = game.states[now];
     this.tell(replyWords(reply, amounts, game.table.q), printed);
     this.reply = reply;
-    const lends = [...reply.script].filter(([, count]) => count !== 0);
-    element("show-script").hidden = lends.length === 0;
+    element("show-script").hidden = below(reply.script, planned).size === 0;
     element("show-fire").hidden = reply.kind === "winnable";
     this.viewer.showScript(element("told-script"), reply, amounts);
-    this.mark(new Map(lends.map(([name, count]) => [name, planned(count)])));
+    this.mark(reply.script, planned);
   }
 
   showScript() {
-    const lends = [...this.reply.script].filter(([, count]) => count !== 0);
-    this.play(`script ${lends.map(([name, count]) => `${name}=${count}`).join(",")}`);
+    this.play(`script ${[...below(this.reply.script, (count) => count)].map((pair) => pair.join("=")).join(",")}`);
   }
 
   async rank() {
@@ -73,13 +68,13 @@ export class Questions {
     const rank = /^rank (-?\d+)$/m.exec(printed);
     if (!rank) return this.tell("The program gives no rank.", printed);
     const degree = Number(rank[1]) + 1;
-    const lost = await this.answer({ command: "rank", degree: String(degree) });
-    if (lost === null) return;
-    const reply = answerOf(linesOf(lost)[0]);
+    const tested = await this.answer({ command: "rank", degree: String(degree) });
+    if (tested === null) return;
+    const reply = answerOf(linesOf(tested)[0]);
     const first = degree === 0 ? "It can't be won as it stands."
       : `The first way to lose ${dollars(degree)} that can't be borne: ${lossWords(reply.loss)}.`;
-    this.tell(`The rank is ${rank[1]}. ${first}`, printed + lost);
-    this.mark(this.viewer.lost(reply.loss));
+    this.tell(`The rank is ${rank[1]}. ${first}`, printed + tested);
+    this.mark(reply.loss, lost);
   }
 
   async numbers() {
@@ -102,15 +97,11 @@ export class Questions {
       const left = game.names.filter((name) => !burning.slice(0, count).includes(name));
       const who = left.length === 1 ? `if ${next} lent` : `if ${listed(left)} lent at once`;
       const why = count === 0 ? "it owes, and a giver gets nothing" : `${who}, ${next} would owe`;
-      this.burn(state, burning.slice(0, count + 1), `${next} burns: ${why}. So it is no giver.`);
+      this.viewer.board.burnt = burning.slice(0, count + 1);
+      this.viewer.board.show(state, game.table.q);
+      this.line(`${next} burns: ${why}. So it is no giver.`);
     }
     this.line("All burn: there are no givers, and nobody can help.");
-  }
-
-  burn(state, burnt, words) {
-    this.viewer.board.burnt = burnt;
-    this.viewer.board.show(state, this.viewer.game.table.q);
-    this.line(words);
   }
 
   line(words) {

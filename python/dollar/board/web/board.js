@@ -82,13 +82,11 @@ export class Board {
   vertex(name, amount, isQ, says) {
     const [x, y] = this.place(name), r = this.layout.radius;
     const kinds = ["vertex", amount < 0 && "debt", this.chosen.has(name) && "chosen", this.burnt.includes(name) && "burnt"];
-    const group = draw("g", { class: kinds.filter(Boolean).join(" "), "data-name": name }, this.svg);
-    if (this.hands) {
-      const label = `${amountWords(name, amount)}${isQ ? ", q" : ""}${says ? `, ${says}` : ""}`;
-      const given = { tabindex: 0, role: "button", "aria-label": label, "aria-pressed": this.chosen.has(name) };
-      for (const [key, value] of Object.entries(given)) group.setAttribute(key, value);
-      draw("circle", { class: "reach", cx: x, cy: y, r: r + 9 }, group);
-    }
+    const label = `${amountWords(name, amount)}${isQ ? ", q" : ""}${says ? `, ${says}` : ""}`;
+    const hands = { tabindex: 0, role: "button", "aria-label": label, "aria-pressed": this.chosen.has(name) };
+    const given = { class: kinds.filter(Boolean).join(" "), "data-name": name, ...(this.hands && hands) };
+    const group = draw("g", given, this.svg);
+    if (this.hands) draw("circle", { class: "reach", cx: x, cy: y, r: r + 9 }, group);
     if (isQ) draw("circle", { class: "ring", cx: x, cy: y, r: r + 4 }, group);
     draw("circle", { class: "round", cx: x, cy: y, r }, group);
     draw("circle", { class: "hatch", cx: x, cy: y, r }, group);

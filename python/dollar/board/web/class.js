@@ -2,9 +2,9 @@
 
 import { draw } from "./board.js";
 import { Hands } from "./hand.js";
-import { post, save, sure } from "./page.js";
+import { post, save, store, stored, sure } from "./page.js";
 import { layoutOf } from "./places.js";
-import { Viewer, element, made } from "./viewer.js";
+import { Viewer, bind, button, element, made, say } from "./viewer.js";
 import { Game, faultWords } from "./words.js";
 
 const SOON = 16;
@@ -14,29 +14,14 @@ export const entries = new Map(), players = [];
 
 /* A seat of one's own, which is kept over a reload. */
 
-function kept() {
-  try {
-    return JSON.parse(localStorage.getItem(KEPT));
-  } catch {
-    return null;
-  }
-}
-
 function keep(seat) {
   me = seat;
-  try {
-    if (seat) localStorage.setItem(KEPT, JSON.stringify(seat));
-    else localStorage.removeItem(KEPT);
-  } catch {
-    /* A browser that keeps nothing: the seat lasts as long as the page. */
-  }
+  store("localStorage", KEPT, seat);
 }
 
-async function join(event) {
-  event.preventDefault();
-  const got = await post("join", { name: element("your-name").value }), box = element("join-refused");
-  box.hidden = !got.refused;
-  box.textContent = got.refused || "";
+async function join() {
+  const got = await post("join", { name: element("your-name").value });
+  say("join-refused", got.refused);
   if (got.refused) return;
   keep(got);
   sit();
@@ -46,26 +31,25 @@ function stand(words) {
   keep(null);
   if (source) source.close();
   notice(words);
-  element("entrance").hidden = false;
-  document.body.classList.add("outside");
+  enter(false);
 }
 
-function inside() {
-  element("entrance").hidden = true;
-  document.body.classList.remove("outside");
+function enter(inside) {
+  element("entrance").hidden = inside;
+  document.body.classList.toggle("outside", !inside);
 }
 
 /* A page without a seat, which shows the way in as well. */
 
 function watch() {
-  inside();
+  enter(true);
   element("hands").hidden = true;
   showWay();
   listen("events?");
 }
 
 function sit() {
-  inside();
+  enter(true);
   listen(`events?key=${encodeURIComponent(me.key)}&`);
 }
 
@@ -84,7 +68,7 @@ function listen(path) {
     source.close();
     notice("This seat is open in more pages than may be. This page sees nothing new until it is loaded again.");
   });
-  source.addEventListener("open", () => later());
+  source.addEventListener("open", later);
   source.addEventListener("error", () => {
     if (source.readyState !== EventSource.CLOSED) notice("There is no connection to the game. The page tries again.");
     else if (me) seek();
@@ -143,8 +127,7 @@ function told() {
   else notice("");
   const list = element("names"), old = list.textContent;
   const rows = Object.entries(names).map(([seat, { name, here }]) => {
-    const item = made("li", "", here ? "" : "away");
-    item.value = seat;
+    const item = made("li", "", { value: seat, class: here ? "" : "away" });
     item.append(made("b", name), ` ${entries.get(seat) || 0} played${here ? "" : ", away"} `);
     if (me && Number(seat) === me.seat) item.append("(you) ");
     if (given.role === "teacher") item.append(freeing(seat, name));
@@ -189,13 +172,9 @@ export async function play(line) {
 /* What only the teacher's page has. */
 
 function freeing(seat, name) {
-  const button = made("button", "free");
-  button.type = "button";
-  button.setAttribute("aria-label", `Free the seat of ${name}`);
-  button.addEventListener("click", async () => {
+  return button("free", async () => {
     if (await sure(`Shall the seat of ${name} be free for another?`)) command("free", { seat: Number(seat) });
-  });
-  return button;
+  }, { "aria-label": `Free the seat of ${name}` });
 }
 
 async function command(path, thing) {
@@ -205,13 +184,9 @@ async function command(path, thing) {
 }
 
 function showWay() {
+  const box = element("code"), rows = given.code;
   element("way").hidden = false;
   element("address").textContent = given.address;
-  drawCode(given.code);
-}
-
-function drawCode(rows) {
-  const box = element("code");
   if (!rows) return;
   box.setAttribute("viewBox", `-4 -4 ${rows.length + 8} ${rows.length + 8}`);
   draw("rect", { x: -4, y: -4, width: rows.length + 8, height: rows.length + 8, class: "paper" }, box);
@@ -225,15 +200,15 @@ function teach() {
   element("teacher").hidden = false;
   element("hands").hidden = true;
   showWay();
-  const on = (id, act) => element(id).addEventListener("click", act);
-  on("pause", () => command("pause", { paused: !state.paused }));
-  on("end", async () => {
-    if (await sure("Shall the game end? Take its files along before you close this page.")) command("end", {});
-  });
-  on("again", () => command("again", {}));
-  on("take-page", async () => {
-    const got = await command("replay", {});
-    if (got.page) save("game.html", got.page, "text/html");
+  bind({
+    pause: () => command("pause", { paused: !state.paused }), again: () => command("again", {}),
+    async end() {
+      if (await sure("Shall the game end? Take its files along before you close this page.")) command("end", {});
+    },
+    async "take-page"() {
+      const got = await command("replay", {});
+      if (got.page) save("game.html", got.page, "text/html");
+    },
   });
   listen("events?");
 }
@@ -247,12 +222,10 @@ async function start() {
   viewer.filled(0);
   hands = teaches ? null : new Hands(viewer, play);
   if (teaches) return teach();
-  element("join").addEventListener("submit", join);
-  element("watch").addEventListener("click", watch);
-  me = kept();
+  bind({ join, watch });
+  me = stored("localStorage", KEPT);
   if (me) return sit();
-  element("entrance").hidden = false;
-  document.body.classList.add("outside");
+  enter(false);
   element("your-name").focus();
   return null;
 }

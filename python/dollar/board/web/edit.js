@@ -2,8 +2,8 @@
 
 import { GRAMMAR } from "./grammar.js";
 import { freePlace, placesText } from "./places.js";
-import { element, made } from "./viewer.js";
-import { faultWords } from "./words.js";
+import { bind, button, choose, element, made, refuse } from "./viewer.js";
+import { Game } from "./words.js";
 
 const MOST_VERTICES = GRAMMAR.limits["dg_graph::MAX_VERTICES"], ROOM = [620, 440];
 
@@ -11,24 +11,20 @@ export class Editor {
   /* `done` is called with the text of the table and the places, and gives what the program refuses, or null. */
   constructor(viewer, hands, done, find) {
     Object.assign(this, { viewer, hands, done, find, draft: null });
-    element("add-vertex").addEventListener("click", () => this.addVertex());
-    element("add-edge").addEventListener("click", () => this.addEdge(element("edge-from").value, element("edge-to").value));
-    element("edit-done").addEventListener("click", () => this.finish());
-    element("edit-cancel").addEventListener("click", () => this.close());
-    element("edit-places").addEventListener("click", () => this.places());
+    bind({
+      "add-vertex": () => this.addVertex(), "add-edge": () => this.addEdge(element("edge-from").value, element("edge-to").value),
+      "edit-done": () => this.finish(), "edit-cancel": () => this.close(), "edit-places": () => this.places(),
+    });
   }
 
   open() {
-    const { game, now, board } = this.viewer, table = game.tableAt(now);
+    const { game, now, board } = this.viewer;
     this.viewer.stop();
     this.kept = board.layout;
     board.layout = this.wider(board.layout);
     board.burnt = [];
-    this.draft = {
-      vertices: table.vertices.map((name, i) => ({ name, amount: table.amounts[i] })),
-      edges: table.edges.map(([u, v, count]) => ({ ends: [u, v], count })), q: table.q,
-    };
-    this.hands.other = { drag: (press, at) => this.drag(press, at), up: (press, at, to) => this.up(press, at, to) };
+    this.draft = structuredClone(game.tableAt(now));
+    this.hands.other = this;
     this.shown(true);
     this.fill();
     // What stood above the button is hidden now, and the board may be out of sight.
@@ -46,7 +42,7 @@ export class Editor {
   shown(open) {
     element("editor").hidden = !open;
     document.body.classList.toggle("editing", open);
-    this.refuse("", "");
+    refuse("edit-refused", null);
   }
 
   close() {
@@ -62,32 +58,20 @@ export class Editor {
   }
 
   text() {
-    const { vertices, edges, q } = this.draft;
-    return `${JSON.stringify({ vertices: vertices.map(({ name }) => name), edges: edges.map(({ ends, count }) => [...ends, count]),
-      amounts: vertices.map(({ amount }) => amount), q }, null, 1)}\n`;
+    return `${JSON.stringify(this.draft, null, 1)}\n`;
   }
 
   async finish() {
     const refused = await this.done(this.text(), placesText(this.viewer.board.layout));
     if (refused === null) this.leave();
-    else this.refuse(faultWords(refused), `dollar: ${refused}`);
-  }
-
-  refuse(words, own) {
-    const box = element("edit-refused");
-    box.hidden = !words;
-    box.querySelector("span").textContent = words;
-    box.querySelector("code").textContent = own;
+    else refuse("edit-refused", refused);
   }
 
   async places() {
     const found = await this.find(this.text());
-    if (found.layout) {
-      this.viewer.board.layout = this.wider(found.layout);
-      this.draw();
-    } else {
-      this.refuse(faultWords(found.err), `dollar: ${found.err}`);
-    }
+    if (!found.layout) return refuse("edit-refused", found.err);
+    this.viewer.board.layout = this.wider(found.layout);
+    return this.draw();
   }
 
   /* On the board. */
@@ -117,27 +101,22 @@ export class Editor {
   }
 
   draw() {
-    const { vertices, edges, q } = this.draft, key = ([u, v]) => `${u} ${v}`;
-    const state = { edges: new Map(), added: new Map(), amounts: new Map(vertices.map(({ name, amount }) => [name, amount])) };
-    for (const { ends, count } of edges) state.edges.set(key(ends), (state.edges.get(key(ends)) || 0) + count);
-    this.viewer.board.show(state, q);
+    this.viewer.board.show(new Game(this.draft).states[0], this.draft.q);
   }
 
   /* In the lists. */
 
   fill() {
     const { vertices, edges } = this.draft, body = (id) => document.querySelector(`#${id} tbody`);
-    body("edit-vertices").replaceChildren(...vertices.map((vertex) => this.vertexRow(vertex)));
+    body("edit-vertices").replaceChildren(...vertices.map((name) => this.vertexRow(name)));
     body("edit-edges").replaceChildren(...edges.map((edge) => this.edgeRow(edge)));
-    for (const id of ["edge-from", "edge-to"]) element(id).replaceChildren(...vertices.map(({ name }) => new Option(name, name)));
-    if (vertices.length > 1) element("edge-to").selectedIndex = 1;
+    ["edge-from", "edge-to"].forEach((id, i) => choose(id, vertices, i));
     element("add-vertex").disabled = vertices.length >= MOST_VERTICES;
     this.draw();
   }
 
   input(type, value, label, change) {
-    const field = Object.assign(document.createElement("input"), { type, value });
-    field.setAttribute("aria-label", label);
+    const field = made("input", undefined, { type, value, "aria-label": label });
     field.addEventListener("change", () => change(field));
     return field;
   }
@@ -153,36 +132,29 @@ export class Editor {
 
   row(...cells) {
     const row = made("tr");
-    for (const cell of cells) row.append(made("td"));
-    cells.forEach((cell, i) => row.children[i].append(cell));
+    for (const cell of cells) row.insertCell().append(cell);
     return row;
   }
 
   remover(label, act) {
-    const button = made("button", "remove");
-    button.type = "button";
-    button.setAttribute("aria-label", label);
-    button.addEventListener("click", act);
-    return button;
+    return button("remove", act, { "aria-label": label });
   }
 
-  vertexRow(vertex) {
-    const { name } = vertex, q = this.input("radio", name, `q is ${name}`, () => {
+  vertexRow(name) {
+    const { vertices, amounts } = this.draft, at = vertices.indexOf(name), q = this.input("radio", name, `q is ${name}`, () => {
       this.draft.q = name;
       this.draw();
     });
-    q.name = "q";
-    q.checked = name === this.draft.q;
+    Object.assign(q, { name: "q", checked: name === this.draft.q });
     const named = this.input("text", name, `The name of ${name}`, (input) => this.rename(name, input.value));
-    named.size = 10;
-    named.maxLength = 16;
-    return this.row(named, this.number(vertex.amount, `Dollars of ${name}`, (amount) => { vertex.amount = amount; }), q,
+    Object.assign(named, { size: 10, maxLength: 16 });
+    return this.row(named, this.number(amounts[at], `Dollars of ${name}`, (amount) => { amounts[at] = amount; }), q,
       this.remover(`Remove ${name}`, () => this.removeVertex(name)));
   }
 
   edgeRow(edge) {
-    const label = edge.ends.join(" - ");
-    return this.row(label, this.number(edge.count, `Edges ${label}`, (count) => { edge.count = count; }),
+    const label = `${edge[0]} - ${edge[1]}`;
+    return this.row(label, this.number(edge[2], `Edges ${label}`, (count) => { edge[2] = count; }),
       this.remover(`Remove ${label}`, () => {
         this.draft.edges = this.draft.edges.filter((other) => other !== edge);
         this.fill();
@@ -190,11 +162,11 @@ export class Editor {
   }
 
   rename(name, other) {
-    const { draft } = this, { layout } = this.viewer.board;
-    if (other !== name && draft.vertices.every((vertex) => vertex.name !== other)) {
-      draft.vertices.find((vertex) => vertex.name === name).name = other;
-      for (const edge of draft.edges) edge.ends = edge.ends.map((end) => (end === name ? other : end));
-      if (draft.q === name) draft.q = other;
+    const { draft } = this, { layout } = this.viewer.board, renamed = (each) => (each === name ? other : each);
+    if (!draft.vertices.includes(other)) {
+      draft.vertices = draft.vertices.map(renamed);
+      draft.edges = draft.edges.map((edge) => edge.map(renamed));
+      draft.q = renamed(draft.q);
       layout.places.set(other, layout.places.get(name));
       layout.sizes.set(other, Math.min(11, (11 * 6) / Math.max(other.length, 1)));
       layout.places.delete(name);
@@ -203,33 +175,35 @@ export class Editor {
   }
 
   freeName() {
-    const used = new Set(this.draft.vertices.map(({ name }) => name));
-    return [..."abcdefghijklmnopqrstuvwxyz"].find((name) => !used.has(name)) || `v${used.size}`;
+    const { vertices } = this.draft;
+    return [..."abcdefghijklmnopqrstuvwxyz"].find((name) => !vertices.includes(name)) || `v${vertices.length}`;
   }
 
   addVertex(at) {
     const { draft } = this, { layout } = this.viewer.board;
     if (draft.vertices.length >= MOST_VERTICES) return;
     const name = this.freeName();
-    draft.vertices.push({ name, amount: 0 });
+    draft.vertices.push(name);
+    draft.amounts.push(0);
     layout.sizes.set(name, 11);
     this.move(name, at || freePlace(layout));
     this.fill();
   }
 
   removeVertex(name) {
-    const { draft } = this;
-    draft.vertices = draft.vertices.filter((vertex) => vertex.name !== name);
-    draft.edges = draft.edges.filter(({ ends }) => !ends.includes(name));
-    if (draft.q === name && draft.vertices.length) draft.q = draft.vertices[0].name;
+    const { draft } = this, at = draft.vertices.indexOf(name);
+    draft.vertices.splice(at, 1);
+    draft.amounts.splice(at, 1);
+    draft.edges = draft.edges.filter((edge) => !edge.includes(name));
+    if (draft.q === name && draft.vertices.length) [draft.q] = draft.vertices;
     this.viewer.board.layout.places.delete(name);
     this.fill();
   }
 
   addEdge(u, v) {
-    const found = this.draft.edges.find(({ ends }) => ends.includes(u) && ends.includes(v) && u !== v);
-    if (found) found.count += 1;
-    else this.draft.edges.push({ ends: [u, v], count: 1 });
+    const found = this.draft.edges.find((edge) => edge.includes(u) && edge.includes(v) && u !== v);
+    if (found) found[2] += 1;
+    else this.draft.edges.push([u, v, 1]);
     this.fill();
   }
 }

@@ -2,7 +2,7 @@
 
 import { draw } from "./board.js";
 import { vertexAhead, vertexAt } from "./places.js";
-import { element } from "./viewer.js";
+import { bind, choose, element, refuse, say } from "./viewer.js";
 
 const LONG_PRESS = 550, FAR_ENOUGH = 9, PATIENT = 1000;
 
@@ -48,12 +48,11 @@ export class Hands {
     this.board.svg.setPointerCapture(event.pointerId);
     this.press = { at, name, start: [event.clientX, event.clientY], moved: false, done: false };
     if (name !== null) this.board.focus(name);
-    if (name !== null && !this.other) this.press.timer = setTimeout(() => this.long(), LONG_PRESS);
-  }
-
-  long() {
-    this.press.done = true;
-    this.play(`borrow ${this.press.name}`);
+    if (name === null || this.other) return;
+    this.press.timer = setTimeout(() => {
+      this.press.done = true;
+      this.play(`borrow ${name}`);
+    }, LONG_PRESS);
   }
 
   move(event) {
@@ -62,7 +61,7 @@ export class Hands {
     press.moved = press.moved || Math.hypot(event.clientX - press.start[0], event.clientY - press.start[1]) > FAR_ENOUGH;
     if (!press.moved) return;
     clearTimeout(press.timer);
-    if (this.other && this.other.drag) return this.other.drag(press, this.point(event));
+    if (this.other) return this.other.drag(press, this.point(event));
     if (press.name !== null) this.line(this.board.place(press.name), this.point(event));
   }
 
@@ -147,26 +146,18 @@ export class Hands {
   }
 
   onForms() {
-    const on = (id, words) => element(id).addEventListener(id.endsWith("-form") ? "submit" : "click", (event) => {
-      event.preventDefault();
-      this.play(words());
-    });
     const value = (id) => element(id).value;
-    on("fire", () => `fire ${this.viewer.game.names.filter((name) => this.board.chosen.has(name)).join(",")}`);
-    on("claim", () => "claim");
-    on("look", () => "look");
-    on("commit", () => "commit");
-    on("gift-form", () => `gift ${value("gift-to")} ${value("gift-amount")}`);
-    on("join-form", () => `join ${value("join-from")} ${value("join-to")}`);
-    on("rank-form", () => `rank ${value("rank-degree")}`);
-    on("line-form", () => value("line-in"));
+    bind({
+      fire: () => this.play(`fire ${this.viewer.game.names.filter((name) => this.board.chosen.has(name)).join(",")}`),
+      claim: () => this.play("claim"), look: () => this.play("look"), commit: () => this.play("commit"),
+      "gift-form": () => this.play(`gift ${value("gift-to")} ${value("gift-amount")}`),
+      "join-form": () => this.play(`join ${value("join-from")} ${value("join-to")}`),
+      "rank-form": () => this.play(`rank ${value("rank-degree")}`), "line-form": () => this.play(value("line-in")),
+    });
   }
 
   names(names) {
-    for (const id of ["gift-to", "join-from", "join-to"]) {
-      element(id).replaceChildren(...names.map((name) => new Option(name, name)));
-    }
-    if (names.length > 1) element("join-to").selectedIndex = 1;
+    for (const id of ["gift-to", "join-from", "join-to"]) choose(id, names, id === "join-to" ? 1 : 0);
   }
 
   /* What is promised, and a word if that takes its time. */
@@ -180,10 +171,12 @@ export class Hands {
   }
 
   /* Says why a line was not taken, with the program's own words. */
-  tell(words, own = "") {
-    const box = element("refused");
-    box.hidden = !words;
-    box.querySelector("span").textContent = words;
-    box.querySelector("code").textContent = own;
+  tell(words, own) {
+    say("refused", words, own);
+  }
+
+  /* Says what the program has refused, if it has. */
+  refuse(fault) {
+    refuse("refused", fault);
   }
 }

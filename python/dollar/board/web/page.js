@@ -1,4 +1,4 @@
-/* What the pages with a server share: requests, a question to the reader, and files that are saved. */
+/* What the pages with a server share: requests, a question to the reader, files that are saved, and what the browser keeps. */
 
 import { element, made } from "./viewer.js";
 
@@ -26,9 +26,25 @@ export function sure(words) {
 }
 
 export function save(file, text, kind = "text/plain") {
-  const link = made("a");
-  link.href = URL.createObjectURL(new Blob([text], { type: kind }));
-  link.download = file;
+  const link = made("a", "", { href: URL.createObjectURL(new Blob([text], { type: kind })), download: file });
   link.click();
   setTimeout(() => URL.revokeObjectURL(link.href), 10000);
+}
+
+/* What the browser keeps for a page. If it keeps nothing, or not so much, it lasts as long as the page. */
+
+export function stored(storage, key) {
+  try {
+    return JSON.parse(window[storage].getItem(key));
+  } catch {
+    return null;
+  }
+}
+
+export function store(storage, key, thing) {
+  try {
+    window[storage].setItem(key, JSON.stringify(thing));
+  } catch {
+    /* It is not kept. */
+  }
 }

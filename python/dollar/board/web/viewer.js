@@ -1,28 +1,68 @@
 /* Walks through a game: the board, the step and its answer in words, a slider with marks, and the list of all lines. */
 
 import { Board, still } from "./board.js";
-import { commandWords, debtWords, flowWords, legendWords, markOf, mostTelling, often, planned, replyWords } from "./words.js";
+import { commandWords, debtWords, faultWords, flowWords, legendWords, markOf, mostTelling, often, planned, replyWords } from "./words.js";
 
 export const element = (id) => document.getElementById(id);
 // The marks of a long game, which all are looked at for, are drawn when no more steps come for a while.
 const BETWEEN = 2200, LISTED = 400, FEW = 1000, LATER = 300;
 
-export function made(tag, text, kind) {
+export function made(tag, text, given = {}) {
   const part = document.createElement(tag);
+  for (const [name, value] of Object.entries(given)) part.setAttribute(name, value);
   if (text !== undefined) part.textContent = text;
-  if (kind) part.className = kind;
   return part;
 }
 
-function tableRow(parent, cells, tag = "td") {
-  const row = made("tr");
-  cells.forEach((cell, i) => {
-    const part = made(i === 0 ? "th" : tag, cell);
-    part.scope = i === 0 && tag === "td" ? "row" : "col";
-    row.append(part);
-  });
-  parent.append(row);
+export function button(text, act, given) {
+  const part = made("button", text, { type: "button", ...given });
+  part.addEventListener("click", act);
+  return part;
 }
+
+/* What is done at a click on a button, or when a form is sent, by their ids. */
+export function bind(acts) {
+  for (const [id, act] of Object.entries(acts)) {
+    element(id).addEventListener(element(id).tagName === "FORM" ? "submit" : "click", (event) => {
+      event.preventDefault();
+      act();
+    });
+  }
+}
+
+/* A list of a page, from which one of these is chosen. */
+export function choose(id, names, at = 0) {
+  element(id).replaceChildren(...names.map((name) => new Option(name, name)));
+  element(id).selectedIndex = Math.min(at, names.length - 1);
+}
+
+/* Words in a box that is there if there are any, and the program's own. */
+export function say(id, words, own = "") {
+  const box = element(id);
+  box.hidden = !words;
+  box.querySelector("span").textContent = words;
+  box.querySelector("code").textContent = own;
+}
+
+/* Says in the box what the program has refused, or nothing if that is null. */
+export function refuse(id, fault) {
+  if (fault === null) say(id, "");
+  else say(id, faultWords(fault), `dollar: ${fault}`);
+}
+
+/* A row, whose first cell says what it is about. */
+export function tableRow(cells) {
+  const row = made("tr");
+  row.append(...cells.map((cell, i) => made(i ? "td" : "th", cell, i ? {} : { scope: "row" })));
+  return row;
+}
+
+/* What is said below the vertices of which a map has another number than 0. */
+export function below(counts, words) {
+  return new Map([...counts].filter(([, count]) => count).map(([name, count]) => [name, words(count)]));
+}
+
+export const lost = (count) => `lost ${count}`;
 
 export class Viewer {
   /* `flaws` has what the program prints, for each step that has another line; `who` says of a step who played it. */
@@ -35,10 +75,11 @@ export class Viewer {
   }
 
   bind() {
-    const keys = {
-      ArrowLeft: () => this.go(this.now - 1), ArrowRight: () => this.go(this.now + 1), Home: () => this.go(0),
-      End: () => this.go(this.game.length), " ": () => this.play(),
+    const ways = {
+      first: () => this.go(0), back: () => this.go(this.now - 1), play: () => this.play(), on: () => this.go(this.now + 1),
+      last: () => this.go(this.game.length),
     };
+    const keys = { Home: ways.first, ArrowLeft: ways.back, " ": ways.play, ArrowRight: ways.on, End: ways.last };
     document.addEventListener("keydown", (event) => {
       const at = event.target, taken = at.closest && at.closest("input:not([type=range]), select, textarea, dialog, .vertex");
       const onButton = ["BUTTON", "SUMMARY", "A", "LABEL"].includes(at.tagName);
@@ -47,13 +88,7 @@ export class Viewer {
       keys[event.key]();
     });
     element("slider").addEventListener("input", () => this.go(Number(element("slider").value)));
-    element("first").addEventListener("click", () => this.go(0));
-    element("back").addEventListener("click", () => this.go(this.now - 1));
-    element("on").addEventListener("click", () => this.go(this.now + 1));
-    element("last").addEventListener("click", () => this.go(this.game.length));
-    element("play").addEventListener("click", () => this.play());
-    element("earlier").addEventListener("click", () => this.list(this.listed[0] - LISTED));
-    element("later").addEventListener("click", () => this.list(this.listed[1]));
+    bind({ ...ways, earlier: () => this.list(this.listed[0] - LISTED), later: () => this.list(this.listed[1]) });
     window.addEventListener("resize", () => this.fillMarks());
   }
 
@@ -82,7 +117,7 @@ export class Viewer {
       if (follows) this.list(length);
     } else if (follows || length - low <= LISTED) {
       const over = Math.max(0, length - low - LISTED);
-      for (let index = high; index < length; index++) this.item(index, list);
+      for (let index = high; index < length; index++) list.append(this.item(index));
       for (let index = 0; index < over; index++) list.firstChild.remove();
       this.listed = [low + over, length];
     }
@@ -98,13 +133,8 @@ export class Viewer {
     if (index === 0) return new Map();
     const { word, given, script } = this.game.steps[index - 1], reply = this.game.replies[index - 1];
     if (reply.kind === "given") return new Map([[given[0], Number(given[1]) < 0 ? `${-given[1]} taken` : `${given[1]} given`]]);
-    if (reply.loss) return this.lost(reply.loss);
-    const shown = [...(reply.script || (reply.kind === "moved" ? script : []))].filter(([, count]) => count !== 0);
-    return new Map(shown.map(([name, count]) => [name, word === "commit" ? planned(count) : often(count)]));
-  }
-
-  lost(loss) {
-    return new Map([...loss].filter(([, count]) => count).map(([name, count]) => [name, `lost ${count}`]));
+    if (reply.loss) return below(reply.loss, lost);
+    return below(reply.script || (reply.kind === "moved" ? script : []), word === "commit" ? planned : often);
   }
 
   show(index) {
@@ -113,7 +143,7 @@ export class Viewer {
     this.now = next;
     this.board.burnt = [];
     this.showText();
-    this.showVerdict();
+    this.showScript(element("verdict"), next ? replies[next - 1] : {}, states[next].amounts);
     this.showPlace();
     const q = this.game.table.q, says = this.says(next);
     if (moving) this.board.travel(states[next - 1], states[next], q, says, steps[next - 1].script, () => this.rest());
@@ -140,21 +170,11 @@ export class Viewer {
     element("differs").textContent = flaw === undefined ? "" : `This is not what the program prints, which is: ${flaw}`;
   }
 
-  showVerdict() {
-    const reply = this.now > 0 ? this.game.replies[this.now - 1] : {};
-    this.showScript(element("verdict"), reply, this.game.states[this.now].amounts);
-  }
-
   showScript(box, { script, reduced }, amounts) {
-    const [head, body] = [box.querySelector("thead"), box.querySelector("tbody")];
+    const rows = [...(script || [])].map(([name, count]) => [name, often(count), amounts.get(name), reduced.get(name)]);
     box.hidden = !script;
     box.open = Boolean(script);
-    head.replaceChildren();
-    body.replaceChildren();
-    if (!script) return;
-    box.querySelector("summary").textContent = "The script, vertex by vertex";
-    tableRow(head, ["vertex", "script", "now", "then"], "th");
-    for (const [name, count] of script) tableRow(body, [name, often(count), amounts.get(name), reduced.get(name)]);
+    box.querySelector("tbody").replaceChildren(...rows.map(tableRow));
   }
 
   showPlace() {
@@ -197,32 +217,25 @@ export class Viewer {
     this.show(index);
   }
 
-  buttonTo(index, parent, text, kind) {
-    const button = made("button", text, kind);
-    button.type = "button";
-    button.dataset.index = index;
-    button.addEventListener("click", () => this.go(index));
-    parent.append(button);
-    return button;
+  buttonTo(index, text, given) {
+    return button(text, () => this.go(index), { class: this.game.replies[index - 1].kind, "data-index": index, ...given });
   }
 
   /* The list has a part of the lines, so that a long history opens at once. */
   list(from) {
     const low = Math.max(0, Math.min(from, this.game.length - LISTED)), high = Math.min(low + LISTED, this.game.length);
-    const list = document.querySelector("#whole ol");
-    list.replaceChildren();
-    for (let index = low; index < high; index++) this.item(index, list);
+    document.querySelector("#whole ol").replaceChildren(...Array.from({ length: high - low }, (_, i) => this.item(low + i)));
     this.listed = [low, high];
     element("earlier").hidden = low === 0;
     element("later").hidden = high === this.game.length;
     this.point();
   }
 
-  item(index, list) {
-    const step = this.game.steps[index], reply = this.game.replies[index], item = made("li");
-    const both = this.buttonTo(index + 1, item, "", reply.kind);
-    both.append(made("code", step.line), " ", made("code", reply.line));
-    list.append(item);
+  item(index) {
+    const item = made("li"), both = this.buttonTo(index + 1, "");
+    both.append(made("code", this.game.steps[index].line), " ", made("code", this.game.replies[index].line));
+    item.append(both);
+    return item;
   }
 
   /* Marks stand where there is room: of steps that lie too near to each other, the one that tells most. */
@@ -232,17 +245,15 @@ export class Viewer {
   }
 
   fillMarks() {
-    element("marks").replaceChildren();
-    for (const index of this.markedSteps()) this.markAt(index);
+    element("marks").replaceChildren(...this.markedSteps().map((index) => this.markAt(index)));
     this.point();
   }
 
   markAt(index) {
     const step = this.game.steps[index - 1], reply = this.game.replies[index - 1];
-    const mark = this.buttonTo(index, element("marks"), markOf(step, reply), reply.kind);
+    const words = { title: `Step ${index}: ${step.line}; ${reply.line}`, "aria-label": `Step ${index}: ${reply.kind}` };
+    const mark = this.buttonTo(index, markOf(step, reply), { tabindex: -1, ...words });
     mark.style.left = `${(100 * index) / this.game.length}%`;
-    mark.title = `Step ${index}: ${step.line}; ${reply.line}`;
-    mark.tabIndex = -1;
-    mark.setAttribute("aria-label", `Step ${index}: ${reply.kind}`);
+    return mark;
   }
 }

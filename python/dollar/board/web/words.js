@@ -134,10 +134,10 @@ export class Game {
 
 export function flows(edges, script) {
   const times = (name) => script.get(name) || 0;
-  const all = [...edges].map(([key, count]) => ({ pair: key.split(" "), key, count }));
-  const between = all.map(({ pair: [u, v], key, count }) => ({ u, v, key, count, each: times(u) - times(v) }));
-  return between.filter(({ each }) => each !== 0).map((flow) =>
-    flow.each > 0 ? { ...flow, from: flow.u, to: flow.v } : { ...flow, from: flow.v, to: flow.u, each: -flow.each });
+  return [...edges].map(([key, count]) => {
+    const [u, v] = key.split(" "), each = times(u) - times(v);
+    return each > 0 ? { key, count, from: u, to: v, each } : { key, count, from: v, to: u, each: -each };
+  }).filter(({ each }) => each > 0);
 }
 
 /* Words. */
@@ -180,12 +180,8 @@ export function flowWords(edges, script) {
   return told.length ? `Dollars along the edges: ${listed(told)}.` : "No dollar goes along an edge.";
 }
 
-function debtsOf(amounts) {
-  return [...amounts.keys()].filter((name) => amounts.get(name) < 0);
-}
-
 export function debtWords(amounts) {
-  const told = debtsOf(amounts).map((name) => `${name} owes ${-amounts.get(name)}`);
+  const told = [...amounts].filter(([, amount]) => amount < 0).map(([name, amount]) => `${name} owes ${-amount}`);
   return told.length ? `In debt: ${listed(told)}.` : "Nobody is in debt.";
 }
 
