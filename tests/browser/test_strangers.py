@@ -205,7 +205,7 @@ def questions(ask, folder, table):
     """What the page asks goes to the program as it is."""
     steps = "1 look\n2 lend a\n1 commit\n"
     for given, words in (
-            ({"command": "judge"}, ("judge", TRIANGLE)), ({"command": "rr"}, ("rr", TRIANGLE)),
+            ({"command": "judge"}, ("judge", TRIANGLE, "--order")), ({"command": "rr"}, ("rr", TRIANGLE)),
             ({"command": "rank", "degree": "1"}, ("rank", TRIANGLE, "1")),
             ({"command": "rank", "degree": "-1"}, ("rank", "--", TRIANGLE, "-1")),
             ({"command": "rank", "degree": "--help"}, ("rank", "--", TRIANGLE, "--help")),
