@@ -1,5 +1,5 @@
 //! What `dollar --help` and the help of each command say. Every command that is shown there with a `$` before it is run
-//! by `tests/pages/check`, on the table and the files that are shown, and its answer compared with what stands below it.
+//! by `tests/pages`, on the table and the files that are shown, and its answer compared with what stands below it.
 
 /// The program's version, and the toolchain that it is proved with, which `tools/completion/check` compares with the one at
 /// hand.
@@ -38,7 +38,7 @@ pub(crate) const LINES_HELP: &str = "FILE has a table on each line, and each is 
 
 pub(crate) const DIVISORS_HELP: &str = "LINES has amounts for the table on each line";
 
-pub(crate) const ORDER_HELP: &str = "Each verdict ends with the order in which the vertices burn";
+pub(crate) const ORDER_HELP: &str = "Verdicts end with the order in which vertices burn";
 
 pub(crate) const CAPACITY_HELP: &str = "How many entries there may be, 1 to 65536; default 65536";
 
