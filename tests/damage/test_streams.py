@@ -191,8 +191,9 @@ def threads(checks):
         print("left out: runs without room for a thread, for want of a limit on processes that refuses one")
         return
     told, typed = b"0 looked 0 a=2 b=-1 c=-1\nbad trials\n", b"look\nrank 631\nrank 1\nclaim\n"
+    alone = b"0 1 not won\nentries 1\ngifts 0\nposition a=2 b=-1 c=-1\nseat 1 calls 1\n"
     for wanted, words in [
-            (THREAD, ("party", table, script, script)), (THREAD, ("party", table, script)),
+            (THREAD, ("party", table, script, script)), (Run(0, alone, b""), ("party", table, script)),
             *((THREAD, ("rank", table, "1", "--workers", workers)) for workers in ("2", "4", "16")),
             (Run(0, b"rank below 1 at a=0 b=0 c=1\n", b""), ("rank", table, "1")),
             (THREAD._replace(output=told), ("serve", table, "--workers", "2")),
