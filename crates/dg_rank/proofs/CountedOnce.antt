@@ -2,9 +2,7 @@
 --   lower_number   of two numbered trials the one that comes before the other has the lower number
 --   no_lower       the trial of a number has no lower one in another numbering
 --   counted_once   two counts of the trials with one property are the same
-use Rattle.std.proofs.Common.{◌≡◌, ℕ, zero, suc, ◌<◌, ◌≤◌, List, arith, sym, subst, ⊎_elim}
-use Rattle.std.proofs.lemmas.Bool.{cases_lt}
-use Rattle.dg_rank.specs.Trials.{IsNumbering, AreCounted, ComesBefore}
+use Rattle.dg_rank.proofs.Common.{◌≡◌, ℕ, zero, suc, ◌<◌, ◌≤◌, List, arith, sym, subst, ⊎_elim, cases_lt, IsNumbering, AreCounted, ComesBefore}
 use Rattle.dg_rank.proofs.Lists.{before_both}
 
 pub lower_number : (n k : ℕ) (P : List ℕ → Type 0) (c : ℕ) (nth : ℕ → List ℕ) (i j : ℕ) → IsNumbering n k P c nth →

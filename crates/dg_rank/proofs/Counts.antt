@@ -4,11 +4,7 @@
 --   past_above     past the limits of a degree are all above it
 --   past_within    no rank test is past the limits and within them
 --   some_trial     on one place or more there is some trial of each degree
-use Rattle.std.proofs.Common.{◌≡◌, ℕ, ◌<◌, ◌≤◌, inl, inr, arith}
-use Rattle.dg_rank.specs.declared.counting.TheConstants.{MAX_TRIALS}
-use Rattle.dg_rank.specs.Trials.{IsTrial, AreCounted, AnyTrial}
-use Rattle.dg_rank.specs.Limits.{IsWithinLimits, IsPastLimits}
-use Rattle.dg_rank.specs.Ranks.{IsWithin}
+use Rattle.dg_rank.proofs.Common.{◌≡◌, ℕ, ◌<◌, ◌≤◌, inl, inr, arith, MAX_TRIALS, IsTrial, AreCounted, AnyTrial, IsWithinLimits, IsPastLimits, IsWithin}
 use Rattle.dg_rank.specs.Numbering.{trial_count, nth_trial}
 use Rattle.dg_rank.proofs.Numbering.{numbered}
 use Rattle.dg_rank.proofs.CountedOnce.{counted_once}

@@ -1,25 +1,12 @@
--- Rank tests of a divisor by those of its dual.
+-- Rank tests of a divisor by those of its residual.
 --   decided          a test that tells one of two facts which hold together tells the other
 --   unsettled-cong   divisors that agree are unsettled together
---   unsettled_dual   where a divisor is unsettled by a test of a degree below the genus, so is the dual
---   dual_passes      what agrees with the dual passes its test exactly where the divisor passes its own
+--   unsettled_dual   where a divisor is unsettled by a test of a degree below the genus, so is the residual
+--   dual_passes      what agrees with the residual passes its test exactly where the divisor passes its own
 --   both_past        where the lower of both degrees is past the limits, so are both tests
 --   told_rich, told_poor, told_high   what the degree or the genus settles is told
 --   told_within      so is what a test of the lower degree within the limits tells
-use Rattle.std.proofs.Common.{◌≡◌, ℕ, ◌<◌, inl, inr, Bool, true, false, arith, subst}
-use Rattle.std.specs.Prelude.{◌↔◌, ◌≤ℤ◌, ◌<ℤ◌, ◌+ℤ◌, MatchBool, min}
-use Rattle.std.proofs.lemmas.Bool.{cases_lt}
-use Rattle.std.proofs.lemmas.Int.{ints}
-use Rattle.std.proofs.Math.IntN.{pos}
-use Rattle.dg_theory.specs.Multigraph.{Multigraph, IsMultigraph, genus}
-use Rattle.dg_theory.specs.Firing.{Amounts, degree, AgreeOn}
-use Rattle.dg_theory.specs.Rank.{less, canonical, HasRankAtLeast}
-use Rattle.dg_theory.proofs.SumLaws.{sum_below-cong}
-use Rattle.dg_theory.proofs.Equivalence.{equivalent-refl}
-use Rattle.dg_theory.proofs.RankLaws.{equivalent-rank}
-use Rattle.dg_theory.proofs.DualityLaws.{IsDual, dual-degree, dual_tests}
-use Rattle.dg_rank.specs.Limits.{IsPastLimits}
-use Rattle.dg_rank.specs.Ranks.{IsWithin, IsUnsettled, BothArePast, IsUntold}
+use Rattle.dg_rank.proofs.Common.{◌≡◌, ℕ, ◌<◌, inl, inr, Bool, true, false, arith, subst, ◌↔◌, ◌≤ℤ◌, ◌<ℤ◌, ◌+ℤ◌, MatchBool, min, cases_lt, ints, pos, Multigraph, IsMultigraph, genus, Amounts, degree, AgreeOn, less, canonical, HasRankAtLeast, sum_below-cong, equivalent-refl, equivalent-rank, IsDual, dual-degree, dual_tests, IsPastLimits, IsWithin, IsUnsettled, BothArePast, IsUntold}
 use Rattle.dg_rank.proofs.Counts.{past_above, past_within}
 
 pub decided : {P Q : Type 0} (b : Bool) → P ↔ Q → MatchBool b P (¬ P) → MatchBool b Q (¬ Q)

@@ -17,34 +17,8 @@
 --   form_kept       the same amounts are as good a form, of what is the same on the vertices
 --   repaid_told     what repaying tells, once dollars were taken from a form, it tells of all that the form stands for
 --   left_degree     what is left without a trial adds up to no more than before
-use Rattle.std.proofs.Common.{◌≡◌, ℕ, ◌+◌, ◌*◌, ◌<◌, ◌≤◌, Bool, true, false, List, [], length, arith, sym, ap, subst, ◌∙◌, ⊎_elim}
-use Rattle.std.specs.Prelude.{slice_index, ◌≤ℤ◌, MatchBool}
-use Rattle.std.specs.Int.RustNames.{unsigned_abs}
-use Rattle.std.proofs.lemmas.Bool.{cases_eq}
-use Rattle.std.proofs.lemmas.Int.{ints}
-use Rattle.std.specs.List.{sum}
-use Rattle.std.proofs.lemmas.List.Sums.{get_or-le-sum_by}
-use Rattle.std.proofs.Math.IntN.{ℤ, pos, ◌+ℤ◌, ◌-ℤ◌}
-use Rattle.dg_theory.specs.Multigraph.{Multigraph, IsMultigraph}
-use Rattle.dg_theory.specs.Firing.{Amounts, degree, only_at, IsEffective, HasNoDebtOff, AgreeOn, AreEquivalent}
-use Rattle.dg_theory.specs.Play.{IsWinnable}
-use Rattle.dg_theory.specs.Rank.{less}
-use Rattle.dg_theory.proofs.Absolute.{within_abs, abs_within}
-use Rattle.dg_theory.proofs.Equivalence.{equivalent-refl, equivalent-trans, equivalent-degree}
-use Rattle.dg_theory.proofs.Giving.{degree-only_at, degree-less}
-use Rattle.dg_theory.proofs.Plays.{only_at-here, only_at-other}
-use Rattle.dg_theory.proofs.Range.{sum_below-one, sum_below-at_most}
-use Rattle.dg_theory.proofs.SumLaws.{sum_below-cong, sum_below-add}
-use Rattle.dg_theory.proofs.Winning.{equivalent-winnable}
-use Rattle.dg_graph.specs.Graph.{IsGraph}
-use Rattle.dg_chips.specs.Vector.{Vector, at}
-use Rattle.dg_reduce.specs.Effective.{IsEffectiveForm}
-use Rattle.dg_rank.specs.Divisors.{amounts_of}
-use Rattle.dg_rank.specs.Trials.{IsTrial}
-use Rattle.dg_rank.specs.Limits.{IsWithinLimits}
-use Rattle.dg_rank.specs.Losses.{WinsWithout}
-use Rattle.dg_rank.specs.Moves.{change, after_move, IsMoved}
-use Rattle.dg_rank.specs.declared.enumeration.Moved.{Moved}
+use Rattle.dg_rank.proofs.Common.{◌≡◌, ℕ, ◌+◌, ◌*◌, ◌<◌, ◌≤◌, Bool, true, false, List, [], length, arith, sym, ap, subst, ◌∙◌, ⊎_elim, slice_index, ◌≤ℤ◌, MatchBool, unsigned_abs, cases_eq, ints, sum, get_or-le-sum_by, ℤ, pos, ◌-ℤ◌, Multigraph, IsMultigraph, Amounts, degree, only_at, IsEffective, HasNoDebtOff, AgreeOn, AreEquivalent, IsWinnable, less, within_abs, abs_within, equivalent-refl, equivalent-trans, equivalent-degree, degree-only_at, degree-less, only_at-here, only_at-other, sum_below-one, sum_below-at_most, sum_below-cong, sum_below-add, equivalent-winnable, IsGraph, Vector, at, IsEffectiveDivisor, amounts_of, IsTrial, IsWithinLimits, WinsWithout, change, after_move, IsMoved, Moved}
+use Rattle.std.proofs.Math.IntN.{◌+ℤ◌}
 use Rattle.dg_rank.specs.Numbering.{nth_trial}
 use Rattle.dg_rank.proofs.FirstLosses.{nth-trial}
 
@@ -97,7 +71,7 @@ degree-taken n A B v k below less =
     sum_below-cong n B (λ w. A w -ℤ only_at v (pos k) w) (λ w _. less w)
     ∙ degree-less n A (only_at v (pos k)) ∙ ap (λ (d : ℤ). degree n A -ℤ d) (degree-only_at n v (pos k) below)
 
-pub form_degree : (g : Multigraph) (A : Amounts) (x : Vector) → IsMultigraph g → IsEffectiveForm g A x →
+pub form_degree : (g : Multigraph) (A : Amounts) (x : Vector) → IsMultigraph g → IsEffectiveDivisor g A x →
     degree g.size (at x) ≡ degree g.size A
 form_degree g A x graph form = sym (equivalent-degree g A (at x) graph form.led)
 
@@ -106,7 +80,7 @@ pub more_equivalent : (g : Multigraph) (A B C : Amounts) → AreEquivalent g A B
 more_equivalent g A B C (s, leads) = (s, λ v below. omega (arith, ints, leads v below))
 
 pub told_by : (b : Bool) (g : Multigraph) (A B : Amounts) (z : Vector) → AreEquivalent g A B →
-    MatchBool b (IsEffectiveForm g B z) (¬ IsWinnable g B) → MatchBool b (IsEffectiveForm g A z) (¬ IsWinnable g A)
+    MatchBool b (IsEffectiveDivisor g B z) (¬ IsWinnable g B) → MatchBool b (IsEffectiveDivisor g A z) (¬ IsWinnable g A)
 told_by true g A B z same form = record {
   size = form.size;
   effective = form.effective;
@@ -114,7 +88,7 @@ told_by true g A B z same form = record {
 }
 told_by false g A B z same lost = λ win. lost ((equivalent-winnable g A B same).0 win)
 
-pub form_wins : (g : Multigraph) (A : Amounts) (x : Vector) → IsEffectiveForm g A x → IsWinnable g A
+pub form_wins : (g : Multigraph) (A : Amounts) (x : Vector) → IsEffectiveDivisor g A x → IsWinnable g A
 form_wins g A x form = (equivalent-winnable g A (at x) form.led).1 ([], form.effective)
 
 after_less : (g : Multigraph) (D : Amounts) (E F : List ℕ) (m : Moved) → length E ≡ g.size → IsMoved E F m →
@@ -126,9 +100,9 @@ after_less g D E F m places moved v below =
 
 pub next_told : (b : Bool) (g : Multigraph) (D : Amounts) (E F : List ℕ) (m : Moved) (x y : Vector) →
     length E ≡ g.size → IsMoved E F m →
-    IsEffectiveForm g (less D (amounts_of E)) x →
-    MatchBool b (IsEffectiveForm g (after_move g.size m (at x)) y) (¬ IsWinnable g (after_move g.size m (at x))) →
-    MatchBool b (IsEffectiveForm g (less D (amounts_of F)) y) (¬ WinsWithout g D F)
+    IsEffectiveDivisor g (less D (amounts_of E)) x →
+    MatchBool b (IsEffectiveDivisor g (after_move g.size m (at x)) y) (¬ IsWinnable g (after_move g.size m (at x))) →
+    MatchBool b (IsEffectiveDivisor g (less D (amounts_of F)) y) (¬ WinsWithout g D F)
 next_told b g D E F m x y places moved form told =
     let D' : Amounts = less D (amounts_of E) in
     told_by b g (less D (amounts_of F)) (after_move g.size m (at x)) y
@@ -138,7 +112,7 @@ next_told b g D E F m x y places moved form told =
     told
 
 pub left_degree : (g : Multigraph) (D : Amounts) (E : List ℕ) (x : Vector) → IsGraph g →
-    ((v : ℕ) → v < g.size → unsigned_abs (D v) ≤ 1999000) → IsEffectiveForm g (less D (amounts_of E)) x →
+    ((v : ℕ) → v < g.size → unsigned_abs (D v) ≤ 1999000) → IsEffectiveDivisor g (less D (amounts_of E)) x →
     degree g.size (at x) ≤ℤ pos 32000000
 left_degree g D E x graph range form =
     let same : degree g.size (at x) ≡ degree g.size (less D (amounts_of E)) =
@@ -165,9 +139,9 @@ left_small n k c E B F v within trial inside small left =
     let (low, high) = within_abs (B v) 1999000 small in
     abs_within (F v) 2000000 (omega (arith, ints)) (omega (arith, ints))
 
-pub form_kept : (g : Multigraph) (A B : Amounts) (x y : Vector) → AgreeOn g.size A B → IsEffectiveForm g B x →
+pub form_kept : (g : Multigraph) (A B : Amounts) (x y : Vector) → AgreeOn g.size A B → IsEffectiveDivisor g B x →
     y.size ≡ g.size →
-    ((v : ℕ) → v < g.size → at y v ≡ at x v) → IsEffectiveForm g A y
+    ((v : ℕ) → v < g.size → at y v ≡ at x v) → IsEffectiveDivisor g A y
 form_kept g A B x y same form size kept = record {
   size = size;
   effective = λ v below. rw (kept v below) (form.effective v below);
@@ -177,8 +151,8 @@ form_kept g A B x y same form size kept = record {
 }
 
 pub repaid_told : (b : Bool) (g : Multigraph) (A B C D : Amounts) (x y : Vector) → AgreeOn g.size D (λ v. A v +ℤ C v) →
-    IsEffectiveForm g A x → AgreeOn g.size (λ v. at x v +ℤ C v) B →
-    MatchBool b (IsEffectiveForm g B y) (¬ IsWinnable g B) → MatchBool b (IsEffectiveForm g D y) (¬ IsWinnable g D)
+    IsEffectiveDivisor g A x → AgreeOn g.size (λ v. at x v +ℤ C v) B →
+    MatchBool b (IsEffectiveDivisor g B y) (¬ IsWinnable g B) → MatchBool b (IsEffectiveDivisor g D y) (¬ IsWinnable g D)
 repaid_told b g A B C D x y start form end told =
     told_by b g D B y
     (equivalent-trans g D (λ v. A v +ℤ C v) B (equivalent-refl g D (λ v. A v +ℤ C v) start)

@@ -15,23 +15,9 @@
 --   some_number       there is a trial with the number 0
 --   poor_loses        if the degree is too low, each trial loses
 --   poor_loss         so trial number 0 is the first loss
-use Rattle.std.proofs.Common.{◌≡◌, ℕ, ◌<◌, List, length, arith, refl, sym, subst, ◌∙◌}
-use Rattle.std.specs.Prelude.{◌≤ℤ◌, ◌<ℤ◌, Bool, true, false, not, Option, Some, None, is_some, MatchBool, MatchOption, ⊤}
-use Rattle.std.proofs.lemmas.Bool.{both_ways}
-use Rattle.std.proofs.lemmas.Int.{ints}
-use Rattle.std.proofs.Math.IntN.{pos}
-use Rattle.dg_theory.specs.Multigraph.{Multigraph, IsMultigraph}
-use Rattle.dg_theory.specs.Firing.{Amounts, degree, IsEffective}
-use Rattle.dg_theory.specs.Play.{IsWinnable}
-use Rattle.dg_theory.specs.Rank.{less, HasRankAtLeast, IsBefore, IsFirstLoss}
-use Rattle.dg_theory.proofs.SumLaws.{sum_below-cong}
-use Rattle.dg_theory.proofs.Giving.{win_more, degree-less, degree-winnable}
-use Rattle.dg_chips.specs.Vector.{Vector, at}
-use Rattle.dg_rank.specs.Trials.{IsTrial, ComesBefore, IsNumbering, AnyTrial}
-use Rattle.dg_rank.specs.Limits.{IsWithinLimits}
+use Rattle.dg_rank.proofs.Common.{◌≡◌, ℕ, ◌<◌, List, length, arith, refl, sym, subst, ◌∙◌, ◌≤ℤ◌, ◌<ℤ◌, not, Option, Some, None, is_some, MatchBool, MatchOption, ⊤, both_ways, ints, pos, Multigraph, IsMultigraph, Amounts, degree, IsEffective, IsWinnable, less, HasRankAtLeast, IsBefore, IsFirstLoss, sum_below-cong, win_more, degree-less, degree-winnable, Vector, at, IsTrial, ComesBefore, IsNumbering, AnyTrial, IsWithinLimits, amounts_of, HoldsTrial, WinsWithout, AllWin, IsFirstLossIn}
+use Rattle.std.specs.Prelude.{Bool, true, false}
 use Rattle.dg_rank.specs.Numbering.{trial_count, nth_trial}
-use Rattle.dg_rank.specs.Divisors.{amounts_of, HoldsTrial}
-use Rattle.dg_rank.specs.Losses.{WinsWithout, AllWin, IsFirstLossIn}
 use Rattle.dg_rank.proofs.Numbering.{numbered}
 use Rattle.dg_rank.proofs.Counts.{limits_count, some_trial}
 use Rattle.dg_rank.proofs.CountedOnce.{lower_number}

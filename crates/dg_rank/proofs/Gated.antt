@@ -1,16 +1,7 @@
 -- Verdicts that are known before the workers pass the gate.
 --   known_verdict   if the answer is a verdict that is right, or that no thread was started, it is the answer of a rank
 --                   test with workers
-use Rattle.std.proofs.Common.{◌≡◌, ℕ, sym, subst}
-use Rattle.std.specs.Prelude.{Result, MatchResult}
-use Rattle.std.proofs.lemmas.Result.{MatchResult-weaker}
-use Rattle.dg_theory.specs.Multigraph.{Multigraph}
-use Rattle.dg_theory.specs.Firing.{Amounts}
-use Rattle.dg_verdict.specs.RankTests.{IsRankTest}
-use Rattle.dg_rank.specs.Ranks.{IsWithin, IsRankFault, MayHaveWorkers}
-use Rattle.dg_verdict.specs.declared.rank_verdict.RankVerdict.{RankVerdict}
-use Rattle.dg_rank.specs.declared.rank_fault.RankFault.{RankFault}
-use Rattle.dg_rank.specs.declared.rank_fault.RankFault.TheVariants.{Spawn}
+use Rattle.dg_rank.proofs.Common.{◌≡◌, ℕ, sym, subst, Result, MatchResult, MatchResult-weaker, Multigraph, Amounts, IsRankTest, IsWithin, IsRankFault, MayHaveWorkers, RankVerdict, RankFault, Spawn}
 
 pub known_verdict : (g : Multigraph) (D : Amounts) (k w : ℕ) (verdict : RankVerdict)
     (r : Result RankVerdict RankFault) →

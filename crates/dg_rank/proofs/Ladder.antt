@@ -10,27 +10,8 @@
 --   rank_by_ladder  the rank by its tests
 --   rank_agrees, in_limits_agrees, needs_agrees   it is the same of amounts that agree on the vertices
 --   ranks_by_ladders   both ranks by their tests
-use Rattle.std.proofs.Common.{◌≡◌, ℕ, zero, suc, ◌+◌, ◌<◌, ◌⊎◌, inl, inr, arith, refl, sym, ap, subst, ◌∙◌, ⊎_elim}
-use Rattle.std.specs.Prelude.{Result, Ok, Err}
-use Rattle.std.proofs.lemmas.Bool.{cases_eq}
-use Rattle.std.proofs.lemmas.Int.{ints}
-use Rattle.std.proofs.Math.IntN.{ℤ, pos, negsuc, ◌+ℤ◌, ◌-ℤ◌}
-use Rattle.dg_theory.specs.Multigraph.{Multigraph}
-use Rattle.dg_theory.specs.Firing.{Amounts, AgreeOn}
-use Rattle.dg_theory.specs.Rank.{less, canonical, HasRankAtLeast, IsRank}
-use Rattle.dg_theory.proofs.Agreement.{agree-sym}
-use Rattle.dg_theory.proofs.Equivalence.{equivalent-refl}
-use Rattle.dg_theory.proofs.LossLaws.{loss_bounds_rank}
-use Rattle.dg_theory.proofs.RankLaws.{equivalent-rank}
-use Rattle.dg_theory.proofs.RankNumbers.{rank_passes}
-use Rattle.dg_chips.specs.Vector.{Vector, at}
-use Rattle.dg_verdict.specs.declared.rank_verdict.RankVerdict.{RankVerdict}
-use Rattle.dg_verdict.specs.declared.rank_verdict.RankVerdict.TheVariants.{AtLeast, Below}
-use Rattle.dg_rank.specs.Ladders.{AnswersRankTest, AreAnswers, PassesBelow, FailsAfter, MeetsTooMany, RankByLadder, RanksByLadders}
-use Rattle.dg_rank.specs.Limits.{IsPastLimits}
-use Rattle.dg_rank.specs.Ranks.{IsWithin, IsRankInLimits, NeedsTooMany}
-use Rattle.dg_rank.specs.declared.rank_fault.RankFault.{RankFault}
-use Rattle.dg_rank.specs.declared.rank_fault.RankFault.TheVariants.{TooMany}
+use Rattle.dg_rank.proofs.Common.{◌≡◌, ℕ, zero, suc, ◌+◌, ◌<◌, ◌⊎◌, inl, inr, arith, refl, sym, ap, subst, ◌∙◌, ⊎_elim, Result, Ok, Err, cases_eq, ints, ℤ, pos, negsuc, ◌-ℤ◌, Multigraph, Amounts, AgreeOn, less, canonical, HasRankAtLeast, IsRank, agree-sym, equivalent-refl, loss_bounds_rank, equivalent-rank, rank_passes, Vector, at, RankVerdict, AtLeast, Below, AnswersRankTest, AreAnswers, PassesBelow, FailsAfter, MeetsTooMany, RankByLadder, RanksByLadders, IsPastLimits, IsWithin, IsRankInLimits, NeedsTooMany, RankFault, TooMany}
+use Rattle.std.proofs.Math.IntN.{◌+ℤ◌}
 use Rattle.dg_rank.proofs.Counts.{past_above, past_within}
 use Rattle.dg_rank.proofs.RankByTests.{rank_before}
 

@@ -4,28 +4,9 @@
 --   landed           what is left without the last of them
 --   leaps            so a leap goes over trials that win
 --   stays            if there is no leap, the trial itself wins
-use Rattle.std.proofs.Common.{◌≡◌, ◌≢◌, ℕ, suc, ◌+◌, ◌-◌, ◌<◌, ◌≤◌, List, [], ◌++◌, length, set, take, drop, arith, sym, ap, ◌∙◌, ⊎_elim, min}
-use Rattle.std.proofs.Common.{length-set, get_or-set_same, get_or-set_other}
-use Rattle.std.specs.Prelude.{slice_index, ◌≤ℤ◌}
-use Rattle.std.specs.List.{sum}
-use Rattle.std.proofs.lemmas.Bool.{cases_eq, cases_lt}
-use Rattle.std.proofs.lemmas.Int.{ints}
-use Rattle.std.proofs.lemmas.List.{get_or_append_left, get_or-append_right, get_or-take, get_or-drop, get_or_past, length-take-le, length-drop, take-append-drop, take-set, take-set-le}
-use Rattle.std.proofs.lemmas.List.Sums.{get_or-le-sum_by}
-use Rattle.std.proofs.Math.IntN.{pos, ◌+ℤ◌, ◌-ℤ◌}
-use Rattle.dg_theory.specs.Multigraph.{Multigraph}
-use Rattle.dg_theory.specs.Firing.{Amounts, only_at, AreEquivalent}
-use Rattle.dg_theory.specs.Rank.{less}
-use Rattle.dg_theory.proofs.Equivalence.{equivalent-refl, equivalent-trans}
-use Rattle.dg_theory.proofs.Plays.{only_at-here, only_at-other}
-use Rattle.dg_theory.proofs.Winning.{equivalent-winnable}
-use Rattle.dg_chips.specs.Vector.{Vector, at}
-use Rattle.dg_reduce.specs.Effective.{IsEffectiveForm}
-use Rattle.dg_rank.specs.declared.counting.TheConstants.{MAX_TRIALS}
-use Rattle.dg_rank.specs.Divisors.{amounts_of}
-use Rattle.dg_rank.specs.Trials.{IsTrial}
-use Rattle.dg_rank.specs.Limits.{IsWithinLimits}
-use Rattle.dg_rank.specs.Losses.{WinsWithout, AllWin, IsLeft}
+use Rattle.dg_rank.proofs.Common.{◌≡◌, ◌≢◌, ℕ, suc, ◌+◌, ◌-◌, ◌<◌, ◌≤◌, List, [], ◌++◌, length, set, take, drop, arith, sym, ap, ◌∙◌, ⊎_elim, length-set, get_or-set_same, get_or-set_other, slice_index, ◌≤ℤ◌, sum, cases_eq, cases_lt, ints, get_or_append_left, get_or-append_right, get_or-take, get_or-drop, get_or_past, length-take-le, length-drop, take-append-drop, take-set, take-set-le, get_or-le-sum_by, pos, ◌-ℤ◌, Multigraph, Amounts, only_at, AreEquivalent, less, equivalent-refl, equivalent-trans, only_at-here, only_at-other, equivalent-winnable, Vector, at, IsEffectiveDivisor, MAX_TRIALS, amounts_of, IsTrial, IsWithinLimits, WinsWithout, AllWin, IsLeft}
+use Rattle.std.proofs.Common.{min}
+use Rattle.std.proofs.Math.IntN.{◌+ℤ◌}
 use Rattle.dg_rank.specs.Numbering.{trial_count, nth_trial}
 use Rattle.dg_rank.proofs.Numbering.{numbered}
 use Rattle.dg_rank.proofs.Counts.{some_trial, limits_trial}
@@ -37,7 +18,7 @@ abbrev pub IsRich : ℕ → ℕ → ℕ → Vector → Type 0
 IsRich n d r x = (u : ℕ) → d ≤ u → u + 1 < n → pos r ≤ℤ at x u
 
 -- amounts that are as much elsewhere as two trials differ by
-moved_form : (g : Multigraph) (D : Amounts) (E F : List ℕ) (x : Vector) → IsEffectiveForm g (less D (amounts_of E)) x →
+moved_form : (g : Multigraph) (D : Amounts) (E F : List ℕ) (x : Vector) → IsEffectiveDivisor g (less D (amounts_of E)) x →
     AreEquivalent g (less D (amounts_of F)) (λ v. at x v +ℤ (amounts_of E v -ℤ amounts_of F v))
 moved_form g D E F x form =
     equivalent-trans g (less D (amounts_of F)) (λ v. less D (amounts_of E) v +ℤ (amounts_of E v -ℤ amounts_of F v))
@@ -68,7 +49,7 @@ held_after n k c i d r j v E split here low past inside =
 
 pub wins_among : (g : Multigraph) (D : Amounts) (k c i d r j : ℕ) (E : List ℕ) (x : Vector) →
     IsSplit g.size k c i d r E →
-    IsRich g.size d r x → IsEffectiveForm g (less D (amounts_of E)) x → j < trial_count (g.size - d) r →
+    IsRich g.size d r x → IsEffectiveDivisor g (less D (amounts_of E)) x → j < trial_count (g.size - d) r →
     WinsWithout g D (nth_trial g.size k (i + j))
 wins_among g D k c i d r j E x split rich form low =
     let G : List ℕ = nth_trial g.size k (i + j) in
@@ -181,8 +162,8 @@ landing_differs n k c i d r v E o inside = ⊎_elim
     (cases_eq v d)
 
 landed : (g : Multigraph) (D : Amounts) (k c i d r : ℕ) (E : List ℕ) (x y : Vector) → IsOver g.size k c i d r E →
-    IsRich g.size d r x → IsEffectiveForm g (less D (amounts_of E)) x → y.size ≡ x.size → IsGiven g.size d r x y →
-    IsEffectiveForm g (less D (amounts_of (landing g.size d r E))) y
+    IsRich g.size d r x → IsEffectiveDivisor g (less D (amounts_of E)) x → y.size ≡ x.size → IsGiven g.size d r x y →
+    IsEffectiveDivisor g (less D (amounts_of (landing g.size d r E))) y
 unfolding IsGiven
 landed g D k c i d r E x y o rich form size given =
     let F : List ℕ = landing g.size d r E in
@@ -204,7 +185,7 @@ landed g D k c i d r E x y o rich form size given =
     }
 
 pub leaps : (g : Multigraph) (D : Amounts) (k c i d r m : ℕ) (E : List ℕ) (x y : Vector) → IsOver g.size k c i d r E →
-    IsRich g.size d r x → IsEffectiveForm g (less D (amounts_of E)) x → y.size ≡ x.size →
+    IsRich g.size d r x → IsEffectiveDivisor g (less D (amounts_of E)) x → y.size ≡ x.size →
     ((w : ℕ) → at y w ≡ (at x w +ℤ only_at (g.size - 1) (pos r) w) -ℤ only_at d (pos r) w) →
     m ≡ min (MAX_TRIALS + 1) (trial_count (g.size - d) r) →
     (i + (m - 1) < c) × AllWin g D k i (i + (m - 1) + 1) × IsLeft g D k (i + (m - 1)) (landing g.size d r E) y

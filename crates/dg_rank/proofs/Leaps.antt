@@ -10,13 +10,7 @@
 --   IsAmong n k c i d r j E    == the trial number i + j of c holds before place d what E does, and from there on what
 --                                 the trial number j of degree r does
 --   among                      the trials that differ from E from place d on alone come right after it
-use Rattle.std.proofs.Common.{◌≡◌, ℕ, zero, suc, ◌+◌, ◌-◌, ◌<◌, ◌≤◌, List, [], ◌∷◌, ◌++◌, length, take, drop, arith, refl, sym, ap, ◌∙◌}
-use Rattle.std.specs.Prelude.{slice_index}
-use Rattle.std.specs.List.{sum}
-use Rattle.std.proofs.lemmas.List.{take-append-drop, length-take-le, length-drop, get_or-drop}
-use Rattle.std.proofs.lemmas.List.Sums.{sum_by-take-drop}
-use Rattle.dg_rank.specs.Trials.{IsTrial, IsNumbering, AnyTrial}
-use Rattle.dg_rank.specs.Limits.{IsWithinLimits}
+use Rattle.dg_rank.proofs.Common.{◌≡◌, ℕ, zero, suc, ◌+◌, ◌-◌, ◌<◌, ◌≤◌, List, [], ◌∷◌, ◌++◌, length, take, drop, arith, refl, sym, ap, ◌∙◌, slice_index, sum, take-append-drop, length-take-le, length-drop, get_or-drop, sum_by-take-drop, IsTrial, IsNumbering, AnyTrial, IsWithinLimits}
 use Rattle.dg_rank.specs.Numbering.{trial_count, raised, nth_trial}
 use Rattle.dg_rank.proofs.Lists.{sum_cons}
 use Rattle.dg_rank.proofs.Numbering.{numbered}

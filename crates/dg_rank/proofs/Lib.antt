@@ -21,8 +21,11 @@ pub mod LeapForms
 pub mod SmallAmounts
 -- Trials that are reduced for the last vertex.
 pub mod ReducedTrials
--- Ranks and rank tests by the dual.
+-- The first loss, found by a walk from place to place.
+pub mod LateLosses
+-- Ranks and rank tests by the residual.
 pub mod DualTests
 pub mod TestDegrees
 pub mod RankByTests
 pub mod Ladder
+pub mod Common

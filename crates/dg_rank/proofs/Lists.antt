@@ -6,12 +6,7 @@
 --   before_cons    an order of trials stays with one amount put before both
 --   before_both    no two trials are each before the other
 --   heavier        a list that is before another and holds nothing after the place at which they differ has less in all
-use Rattle.std.proofs.Common.{◌≡◌, ℕ, zero, suc, ◌+◌, ◌<◌, ◌≤◌, List, [], ◌∷◌, length, arith, refl, sym, subst, ⊎_elim}
-use Rattle.std.specs.Prelude.{slice_index}
-use Rattle.std.specs.List.{sum}
-use Rattle.std.proofs.lemmas.Bool.{cases_lt}
-use Rattle.std.proofs.lemmas.List.Sums.{sum_by-cons}
-use Rattle.dg_rank.specs.Trials.{IsTrial, ComesBefore}
+use Rattle.dg_rank.proofs.Common.{◌≡◌, ℕ, zero, suc, ◌+◌, ◌<◌, ◌≤◌, List, [], ◌∷◌, length, arith, refl, sym, subst, ⊎_elim, slice_index, sum, cases_lt, sum_by-cons, IsTrial, ComesBefore}
 
 pub sum_cons : (a : ℕ) (E : List ℕ) → sum (a ∷ E) ≡ a + sum E
 sum_cons a E = sum_by-cons (λ (x : ℕ). x) a E

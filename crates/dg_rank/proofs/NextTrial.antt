@@ -4,12 +4,7 @@
 --   nothing_between   no trial comes between a trial and the one made from it
 --   next_number       the trial made from one has the next number
 --   has_place         where a trial has a next one, it holds something past the first place
-use Rattle.std.proofs.Common.{◌≡◌, ℕ, ◌+◌, ◌<◌, ◌≤◌, List, length, arith, sym, ap, subst, ◌∙◌, ⊎_elim}
-use Rattle.std.specs.Prelude.{slice_index}
-use Rattle.std.specs.List.{sum}
-use Rattle.std.proofs.lemmas.Bool.{cases_lt}
-use Rattle.std.proofs.lemmas.List.{get_or_past}
-use Rattle.dg_rank.specs.Trials.{IsTrial, IsNumbering, AnyTrial, ComesBefore}
+use Rattle.dg_rank.proofs.Common.{◌≡◌, ℕ, ◌+◌, ◌<◌, ◌≤◌, List, length, arith, sym, ap, subst, ◌∙◌, ⊎_elim, slice_index, sum, cases_lt, get_or_past, IsTrial, IsNumbering, AnyTrial, ComesBefore}
 use Rattle.dg_rank.specs.Numbering.{trial_count, nth_trial}
 use Rattle.dg_rank.proofs.Lists.{heavier}
 use Rattle.dg_rank.proofs.Numbering.{numbered}

@@ -1,11 +1,7 @@
 -- The numbering by the first amount is one of all trials.
 --   numbered         all trials have their numbers in order, each once
 --   counted_before   as many trials as its number says come before each
-use Rattle.std.proofs.Common.{◌≡◌, ℕ, zero, suc, ◌+◌, ◌-◌, ◌<◌, ◌≤◌, List, [], ◌∷◌, length, arith, refl, sym, ap, subst, ◌∙◌, ⊎_elim, ◌⊎◌, inl, inr}
-use Rattle.std.specs.Prelude.{slice_index}
-use Rattle.std.specs.List.{sum}
-use Rattle.std.proofs.lemmas.Bool.{cases_lt, cond_below, cond_above}
-use Rattle.dg_rank.specs.Trials.{IsTrial, IsNumbering, AreCounted, AnyTrial, ComesBefore}
+use Rattle.dg_rank.proofs.Common.{◌≡◌, ℕ, zero, suc, ◌+◌, ◌-◌, ◌<◌, ◌≤◌, List, [], ◌∷◌, length, arith, refl, sym, ap, subst, ◌∙◌, ⊎_elim, ◌⊎◌, inl, inr, slice_index, sum, cases_lt, cond_below, cond_above, IsTrial, IsNumbering, AreCounted, AnyTrial, ComesBefore}
 use Rattle.dg_rank.specs.Numbering.{one_place_more, trial_count, raised, with_place, nth_trial}
 use Rattle.dg_rank.proofs.Lists.{sum_cons, no_places, trial_cons, trial_tail, before_cons}
 use Rattle.dg_rank.proofs.CountedOnce.{lower_number}

@@ -6,9 +6,7 @@
 --   count_grows   on more places there are no fewer trials
 --   count_grows_by_degree   of a greater degree there are no fewer trials, on one place or more
 --   count_next    on p + 1 places there are (k + p) / p times as many trials of degree k as on p places
-use Rattle.std.proofs.Common.{◌≡◌, ℕ, zero, suc, ◌+◌, ◌*◌, ◌/◌, ◌<◌, ◌≤◌, arith, refl, ap, ⊎_elim, add-one}
-use Rattle.std.proofs.Math.Nat.{mul-div_cancel_left}
-use Rattle.std.proofs.lemmas.Bool.{cases_lt}
+use Rattle.dg_rank.proofs.Common.{◌≡◌, ℕ, zero, suc, ◌+◌, ◌*◌, ◌/◌, ◌<◌, ◌≤◌, arith, refl, ap, ⊎_elim, add-one, mul-div_cancel_left, cases_lt}
 use Rattle.dg_rank.specs.Numbering.{one_place_more, trial_count}
 
 pub one_place : (k : ℕ) → trial_count 1 k ≡ 1

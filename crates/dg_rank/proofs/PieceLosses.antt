@@ -6,18 +6,7 @@
 --   loss_after     after trials that all win, the first loss of later ones is the first loss of all
 --   found_after    after trials that all win, what is found in later ones is found in all
 --   partial_after  after trials that all win, what is known of later ones is known of all
-use Rattle.std.proofs.Common.{ℕ, ◌+◌, ◌*◌, ◌/◌, ◌<◌, ◌≤◌, List, arith, ⊎_elim, mul-le-mul_right}
-use Rattle.std.specs.Prelude.{Option, Some, None, MatchOption}
-use Rattle.std.proofs.lemmas.Bool.{cases_lt}
-use Rattle.std.proofs.lemmas.Nat.{le-div}
-use Rattle.std.proofs.Math.Nat.{div-mul-le_self, div-le_of_le-mul}
-use Rattle.dg_theory.specs.Multigraph.{Multigraph}
-use Rattle.dg_theory.specs.Firing.{Amounts}
-use Rattle.dg_rank.specs.Losses.{AllWin, IsFirstLossIn, IsPartial}
-use Rattle.dg_rank.specs.Pieces.{piece_start}
-use Rattle.dg_rank.specs.declared.pieces.Search.{Search}
-use Rattle.dg_rank.specs.declared.partial.Partial.{Partial}
-use Rattle.dg_rank.specs.declared.partial.Partial.TheVariants.{Lost, Won, Open}
+use Rattle.dg_rank.proofs.Common.{ℕ, ◌+◌, ◌*◌, ◌/◌, ◌<◌, ◌≤◌, List, arith, ⊎_elim, mul-le-mul_right, Option, Some, None, MatchOption, cases_lt, le-div, div-mul-le_self, div-le_of_le-mul, Multigraph, Amounts, AllWin, IsFirstLossIn, IsPartial, piece_start, Search, SearchState, Lost, Won, Open}
 
 pub piece_within : (s : Search) (j : ℕ) → j ≤ s.workers → piece_start s j ≤ s.count
 piece_within s j few =
@@ -65,7 +54,7 @@ pub found_after : (g : Multigraph) (D : Amounts) (k i m j : ℕ) (found : Option
 found_after g D k i m j (Some E) start wins loss = loss_after g D k i m j E start wins loss
 found_after g D k i m j None start wins later = wins_both g D k i m j wins later
 
-pub partial_after : (g : Multigraph) (D : Amounts) (k i m j : ℕ) (later : Partial) → i ≤ m → AllWin g D k i m →
+pub partial_after : (g : Multigraph) (D : Amounts) (k i m j : ℕ) (later : SearchState) → i ≤ m → AllWin g D k i m →
     IsPartial g D k m j later → IsPartial g D k i j later
 partial_after g D k i m j (Lost E) start wins loss = loss_after g D k i m j E start wins loss
 partial_after g D k i m j Won start wins all = wins_both g D k i m j wins all

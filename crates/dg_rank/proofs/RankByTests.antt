@@ -1,25 +1,13 @@
 -- Ranks that are told by the first test that fails.
 --   rank_before       where k is the least degree of the tests that D fails, the rank is k - 1
---   rank_of_dual_before  so is that of the dual, for the degree at which its test passes where that of D does
+--   rank_of_dual_before  so is that of the residual, for the degree at which its test passes where that of D does
 --   fails_low         there k is at most the degree and 1, but for its sign
 --   not_all_pass      from the genus on, and where it is not rich, a divisor fails
 --   in_limits         the rank is told within the limits, where the next test is
 --   needs_too_many    where a test of the next degree after the rank is past the limits, too many tests are needed
 --   tests_suffice     where all tests up to one that fails are told, none past the limits is needed
-use Rattle.std.proofs.Common.{◌≡◌, ℕ, zero, suc, ◌+◌, ◌<◌, ◌≤◌, inl, inr, arith, refl, sym, subst}
-use Rattle.std.specs.Int.RustNames.{unsigned_abs}
-use Rattle.std.specs.Prelude.{◌≤ℤ◌, ◌<ℤ◌}
-use Rattle.std.proofs.lemmas.Bool.{cases_eq, cases_lt}
-use Rattle.std.proofs.lemmas.Int.{ints, by_lt_z}
-use Rattle.std.proofs.Math.IntN.{ℤ, pos, ◌+ℤ◌, ◌-ℤ◌}
-use Rattle.dg_theory.specs.Multigraph.{Multigraph, IsMultigraph, genus}
-use Rattle.dg_theory.specs.Firing.{Amounts, degree}
-use Rattle.dg_theory.specs.Rank.{less, canonical, HasRankAtLeast, IsRank}
-use Rattle.dg_theory.proofs.RankLaws.{poor_rank}
-use Rattle.dg_theory.proofs.RankNumbers.{rank_passes, rank_of_dual}
-use Rattle.dg_theory.proofs.DualityLaws.{IsDual, high_rank}
-use Rattle.dg_rank.specs.Limits.{IsWithinLimits, IsPastLimits}
-use Rattle.dg_rank.specs.Ranks.{IsRankInLimits, NeedsTooMany, IsUntold, NeedsPastTests, FailsFirstAt}
+use Rattle.dg_rank.proofs.Common.{◌≡◌, ℕ, zero, suc, ◌+◌, ◌<◌, ◌≤◌, inl, inr, arith, refl, sym, subst, unsigned_abs, ◌≤ℤ◌, ◌<ℤ◌, cases_eq, cases_lt, ints, by_lt_z, ℤ, pos, ◌-ℤ◌, Multigraph, IsMultigraph, genus, Amounts, degree, less, canonical, HasRankAtLeast, IsRank, poor_rank, rank_passes, rank_of_dual, IsDual, high_rank, IsWithinLimits, IsPastLimits, IsRankInLimits, NeedsTooMany, IsUntold, NeedsPastTests, FailsFirstAt}
+use Rattle.std.proofs.Math.IntN.{◌+ℤ◌}
 
 pub rank_before : (g : Multigraph) (D : Amounts) (k : ℕ) → FailsFirstAt g D k → IsRank g D (pos k -ℤ pos 1)
 rank_before g D zero first = (refl, first.fails)

@@ -14,28 +14,8 @@
 --   passed_win          from a place on where a trial with one dollar more is not reduced, no reduced one has more
 --   told_more           what is told of less is told of more
 --   more_win            those with as much at a place, and those with more
-use Rattle.std.proofs.Common.{◌≡◌, ◌≢◌, ℕ, ◌+◌, ◌-◌, ◌<◌, ◌≤◌, Bool, true, false, [], arith, refl, sym, ap, ◌∙◌, ◌⊎◌, inl, inr, ⊎_elim}
-use Rattle.std.specs.Prelude.{◌≤ℤ◌, Option, Some, None, MatchBool, MatchOption, ⊤}
-use Rattle.std.proofs.lemmas.Bool.{cases_eq, cases_lt, both_ways}
-use Rattle.std.proofs.lemmas.Int.{ints}
-use Rattle.std.proofs.Math.IntN.{ℤ, pos, ◌+ℤ◌, ◌-ℤ◌}
-use Rattle.dg_theory.specs.Multigraph.{Multigraph, IsMultigraph}
-use Rattle.dg_theory.specs.Firing.{Amounts, degree, only_at, IsEffective, HasNoDebtOff, fired, AreEquivalent}
-use Rattle.dg_theory.specs.Play.{IsWinnable}
-use Rattle.dg_theory.specs.Rank.{less, HasRankAtLeast}
-use Rattle.dg_theory.specs.Reduced.{IsReduced}
-use Rattle.dg_theory.proofs.DualityLaws.{natural}
-use Rattle.dg_theory.proofs.Equivalence.{equivalent-refl, equivalent-trans, equivalent-degree}
-use Rattle.dg_theory.proofs.ExistenceLaws.{reduced_exists}
-use Rattle.dg_theory.proofs.Giving.{degree-less, degree-only_at}
-use Rattle.dg_theory.proofs.Plays.{only_at-here, only_at-other}
-use Rattle.dg_theory.proofs.Range.{sum_below-one}
-use Rattle.dg_theory.proofs.SumLaws.{sum_below-cong}
-use Rattle.dg_theory.proofs.ReducedLaws.{reduced_decides, effective_from}
-use Rattle.dg_theory.proofs.Winning.{equivalent-winnable}
-use Rattle.dg_chips.specs.Vector.{Vector, at}
-use Rattle.dg_reduce.specs.Effective.{IsEffectiveForm}
-use Rattle.dg_rank.specs.Losses.{ReducedWin}
+use Rattle.dg_rank.proofs.Common.{◌≡◌, ◌≢◌, ℕ, ◌+◌, ◌-◌, ◌<◌, ◌≤◌, Bool, true, false, [], arith, refl, sym, ap, ◌∙◌, ◌⊎◌, inl, inr, ⊎_elim, ◌≤ℤ◌, Option, Some, None, MatchBool, MatchOption, ⊤, cases_eq, cases_lt, both_ways, ints, ℤ, pos, ◌-ℤ◌, Multigraph, IsMultigraph, Amounts, degree, only_at, IsEffective, HasNoDebtOff, fired, AreEquivalent, IsWinnable, less, HasRankAtLeast, IsReduced, natural, equivalent-refl, equivalent-trans, equivalent-degree, reduced_exists, degree-less, degree-only_at, only_at-here, only_at-other, sum_below-one, sum_below-cong, reduced_decides, effective_from, equivalent-winnable, Vector, at, IsEffectiveDivisor, ReducedWin}
+use Rattle.std.proofs.Math.IntN.{◌+ℤ◌}
 use Rattle.dg_rank.proofs.Elsewhere.{more_equivalent, degree-given, degree-taken, repaid_told}
 
 pub reduced_below : (g : Multigraph) (q : ℕ) (E F : Amounts) → IsReduced g q F → HasNoDebtOff g q E →
@@ -73,14 +53,14 @@ pub loses_rank : (g : Multigraph) (D E : Amounts) (k : ℕ) → IsEffective g.si
 loses_rank g D E k effective of_degree loses rank = loses (rank E effective of_degree)
 
 pub form_of_both : (g : Multigraph) (E : Amounts) (x : Vector) → x.size ≡ g.size → IsEffective g.size (at x) →
-    IsEffectiveForm g (less (λ v. at x v +ℤ E v) E) x
+    IsEffectiveDivisor g (less (λ v. at x v +ℤ E v) E) x
 form_of_both g E x size effective = record {
   size = size;
   effective = effective;
   led = equivalent-refl g (less (λ v. at x v +ℤ E v) E) (at x) (λ v below. omega (arith, ints));
 }
 
-pub moved_wins : (g : Multigraph) (D E F : Amounts) (x : Vector) → IsEffectiveForm g (less D E) x →
+pub moved_wins : (g : Multigraph) (D E F : Amounts) (x : Vector) → IsEffectiveDivisor g (less D E) x →
     ((v : ℕ) → v < g.size → F v ≤ℤ (at x v +ℤ E v)) → IsWinnable g (less D F)
 moved_wins g D E F x form enough =
     let more : Amounts = less E F in
@@ -150,7 +130,7 @@ beyond_few g k d E F parted v below =
 
 pub rich_win : (g : Multigraph) (D E : Amounts) (k d : ℕ) (x : Vector) → d < g.size →
     ((v : ℕ) → d < v → v + 1 < g.size → E v ≡ pos 0) →
-    IsEffective g.size E → degree g.size E ≡ pos k → IsEffectiveForm g (less D E) x →
+    IsEffective g.size E → degree g.size E ≡ pos k → IsEffectiveDivisor g (less D E) x →
     ((v : ℕ) → d ≤ v → v < g.size - 1 → E (g.size - 1) ≤ℤ at x v) → ReducedWin g D k d E
 unfolding beyond
 rich_win g D E k d x inside empty solvent amount form rich F effective of_degree reduced same more =
@@ -236,7 +216,7 @@ shifted_degree g d E E' s =
 
 pub small_degree : (g : Multigraph) (E E' : Amounts) (x y : Vector) → IsMultigraph g →
     degree g.size E' ≡ degree g.size E →
-    IsEffectiveForm g (less (λ v. at x v +ℤ E v) E') y → degree g.size (at y) ≡ degree g.size (at x)
+    IsEffectiveDivisor g (less (λ v. at x v +ℤ E v) E') y → degree g.size (at y) ≡ degree g.size (at x)
 small_degree g E E' x y graph amount form =
     let D : Amounts = λ v. at x v +ℤ E v in
     omega (
@@ -249,11 +229,11 @@ small_degree g E E' x y graph amount form =
     )
 
 pub carried : (b : Bool) (g : Multigraph) (D E E' : Amounts) (x y : Vector) (from to : ℕ) →
-    IsEffectiveForm g (less D E) x →
+    IsEffectiveDivisor g (less D E) x →
     ((v : ℕ) → E' v ≡ (E v -ℤ only_at from (pos 1) v) +ℤ only_at to (pos 1) v) →
-    MatchBool b (IsEffectiveForm g (λ v. (at x v +ℤ only_at from (pos 1) v) -ℤ only_at to (pos 1) v) y)
+    MatchBool b (IsEffectiveDivisor g (λ v. (at x v +ℤ only_at from (pos 1) v) -ℤ only_at to (pos 1) v) y)
     (¬ IsWinnable g (λ v. (at x v +ℤ only_at from (pos 1) v) -ℤ only_at to (pos 1) v)) →
-    MatchBool b (IsEffectiveForm g (less D E') y) (¬ IsWinnable g (less D E'))
+    MatchBool b (IsEffectiveDivisor g (less D E') y) (¬ IsWinnable g (less D E'))
 carried b g D E E' x y from to form moved told =
     repaid_told b g (less D E) (λ v. (at x v +ℤ only_at from (pos 1) v) -ℤ only_at to (pos 1) v)
     (λ v. only_at from (pos 1) v -ℤ only_at to (pos 1) v) (less D E') x y
@@ -263,7 +243,7 @@ pub told_so : (b : Bool) (P Q P' Q' : Type 0) → (P → P') → (Q → Q') → 
 told_so true P Q P' Q' won lost told = won told
 told_so false P Q P' Q' won lost told = lost told
 
-as_much_or_more : (a b : ℤ) → a ≤ℤ b → (b ≡ a) ⊎ ((a +ℤ pos 1) ≤ℤ b)
+pub as_much_or_more : (a b : ℤ) → a ≤ℤ b → (b ≡ a) ⊎ ((a +ℤ pos 1) ≤ℤ b)
 as_much_or_more a b low =
     let (n, is) = natural (b -ℤ a) (omega (arith, ints)) in
     ⊎_elim

@@ -2,14 +2,8 @@
 --   win_next   if a piece wins and the next trial wins, the piece that is longer by that trial wins
 --   IsReached g D k i j E x   == the trials from number i to number j win, and x is what is left without the last, E
 --   reached    a leap from the next trial reaches one further on
-use Rattle.std.proofs.Common.{◌≡◌, ℕ, ◌+◌, ◌<◌, ◌≤◌, List, arith, sym, subst, ⊎_elim}
-use Rattle.std.proofs.lemmas.Bool.{cases_eq, cases_lt}
-use Rattle.dg_theory.specs.Multigraph.{Multigraph}
-use Rattle.dg_theory.specs.Firing.{Amounts}
-use Rattle.dg_chips.specs.Vector.{Vector}
-use Rattle.dg_rank.specs.Limits.{IsWithinLimits}
+use Rattle.dg_rank.proofs.Common.{◌≡◌, ℕ, ◌+◌, ◌<◌, ◌≤◌, List, arith, sym, subst, ⊎_elim, cases_eq, cases_lt, Multigraph, Amounts, Vector, IsWithinLimits, WinsWithout, AllWin, IsLeft}
 use Rattle.dg_rank.specs.Numbering.{trial_count, nth_trial}
-use Rattle.dg_rank.specs.Losses.{WinsWithout, AllWin, IsLeft}
 use Rattle.dg_rank.proofs.Counts.{limits_count}
 
 pub win_next : (g : Multigraph) (D : Amounts) (k i j : ℕ) (E : List ℕ) → E ≡ nth_trial g.size k j → AllWin g D k i j →

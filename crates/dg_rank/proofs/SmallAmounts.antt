@@ -6,24 +6,8 @@
 --   degree_small     n amounts within 1,000,000 add up to at most n times as much
 --   reduced_small    where the degree is at least 0 and less than the genus and a thousand, all amounts are small
 --   unsettled_small  so are they where the degree does not settle the test of an equivalent divisor
-use Rattle.std.proofs.Common.{◌≡◌, ℕ, zero, suc, ◌+◌, ◌*◌, ◌<◌, ◌≤◌, arith, refl, ⊎_elim, suc-mul}
-use Rattle.std.specs.Prelude.{◌≤ℤ◌, ◌<ℤ◌}
-use Rattle.std.specs.Int.RustNames.{unsigned_abs}
-use Rattle.std.proofs.lemmas.Bool.{cases_eq}
-use Rattle.std.proofs.lemmas.Int.{ints}
-use Rattle.std.proofs.Math.IntN.{pos, ◌+ℤ◌, ◌-ℤ◌}
-use Rattle.dg_theory.specs.Sums.{sum_below, total_below}
-use Rattle.dg_theory.specs.Multigraph.{Multigraph, edges_between, valence, edge_count, genus}
-use Rattle.dg_theory.specs.Firing.{Amounts, degree, AreEquivalent}
-use Rattle.dg_theory.specs.Reduced.{IsReduced}
-use Rattle.dg_theory.proofs.SumLaws.{sum_below-zero}
-use Rattle.dg_theory.proofs.SumBounds.{sum_below-at_least}
-use Rattle.dg_theory.proofs.SumSwap.{sum_below-sub}
-use Rattle.dg_theory.proofs.Range.{sum_below-one}
-use Rattle.dg_theory.proofs.Equivalence.{equivalent-degree}
-use Rattle.dg_graph.specs.Graph.{IsGraph}
-use Rattle.dg_fallback.proofs.Outcome.{reduced_few}
-use Rattle.dg_rank.specs.Ranks.{IsUnsettled}
+use Rattle.dg_rank.proofs.Common.{◌≡◌, ℕ, zero, suc, ◌+◌, ◌*◌, ◌<◌, ◌≤◌, arith, refl, ⊎_elim, suc-mul, ◌≤ℤ◌, ◌<ℤ◌, unsigned_abs, cases_eq, ints, pos, ◌-ℤ◌, sum_below, total_below, Multigraph, edges_between, valence, edge_count, genus, Amounts, degree, AreEquivalent, IsReduced, sum_below-zero, sum_below-at_least, sum_below-sub, sum_below-one, equivalent-degree, IsGraph, reduced_few, IsUnsettled}
+use Rattle.std.proofs.Math.IntN.{◌+ℤ◌}
 
 -- the edges to lower vertices are some of the edges
 total_below-part : (n m : ℕ) (f : ℕ → ℕ) → n ≤ m → total_below n f ≤ total_below m f

@@ -8,13 +8,8 @@
 --   count_within  a degree up to that of the divisor is within its amount and 1
 --   dual_degree  the degree of the dual's test, which passes where that of degree k does
 --   last_tested  where none before that number is left, the last was tested
-use Rattle.std.proofs.Common.{◌≡◌, ℕ, ◌+◌, ◌<◌, ◌≤◌, arith, w32, w64, to_z, of_z}
-use Rattle.std.specs.Prelude.{◌≤ℤ◌, ◌<ℤ◌}
-use Rattle.std.specs.Int.{int_max}
-use Rattle.std.specs.Int.RustNames.{unsigned_abs}
-use Rattle.std.proofs.lemmas.Int.{ints, clamps}
-use Rattle.std.proofs.Math.IntN.{ℤ, pos, ◌+ℤ◌, ◌-ℤ◌, nat_abs}
-use Rattle.dg_theory.proofs.DualityLaws.{natural}
+use Rattle.dg_rank.proofs.Common.{◌≡◌, ℕ, ◌+◌, ◌<◌, ◌≤◌, arith, w32, w64, to_z, of_z, ◌≤ℤ◌, ◌<ℤ◌, int_max, unsigned_abs, ints, clamps, ℤ, pos, ◌-ℤ◌, nat_abs, natural}
+use Rattle.std.proofs.Math.IntN.{◌+ℤ◌}
 
 pub rich_below : (total genus apart first : ℤ) (j : ℕ) → apart ≡ (total +ℤ pos 1) -ℤ genus →
     unsigned_abs apart ≤ 17000000 →

@@ -6,19 +6,7 @@
 --   listed-at         the list holds the amount of each vertex in its place
 --   listed-amounts    where nobody is in debt, the amounts of the list are those of the divisor
 --   listed-trial      where nobody is in debt, the list is a trial of the divisor's degree
-use Rattle.std.proofs.Common.{◌≡◌, ℕ, zero, suc, ◌+◌, ◌<◌, ◌≤◌, List, [], ◌∷◌, ◌++◌, length, take, arith, refl, sym, ◌∙◌, ⊎_elim, add-one, length-append}
-use Rattle.std.specs.Prelude.{slice_index}
-use Rattle.std.specs.List.{sum}
-use Rattle.std.specs.Int.RustNames.{unsigned_abs}
-use Rattle.std.proofs.lemmas.Bool.{cases_eq}
-use Rattle.std.proofs.lemmas.Int.{ints}
-use Rattle.std.proofs.lemmas.List.{get_or_append_left, get_or_push, take_all}
-use Rattle.std.proofs.lemmas.List.Sums.{sum_by_more}
-use Rattle.std.proofs.Math.IntN.{pos}
-use Rattle.dg_theory.specs.Firing.{Amounts, degree, IsEffective}
-use Rattle.dg_theory.proofs.SumLaws.{sum_below-cong}
-use Rattle.dg_rank.specs.Trials.{IsTrial}
-use Rattle.dg_rank.specs.Divisors.{amounts_of}
+use Rattle.dg_rank.proofs.Common.{◌≡◌, ℕ, zero, suc, ◌+◌, ◌<◌, ◌≤◌, List, [], ◌∷◌, ◌++◌, length, take, arith, refl, sym, ◌∙◌, ⊎_elim, add-one, length-append, slice_index, sum, unsigned_abs, cases_eq, ints, get_or_append_left, get_or_push, take_all, sum_by_more, pos, Amounts, degree, IsEffective, sum_below-cong, IsTrial, amounts_of}
 
 pub degree-take : (n : ℕ) (E : List ℕ) → n ≤ length E → degree n (amounts_of E) ≡ pos (sum (take n E))
 degree-take zero E few = refl

@@ -15,10 +15,7 @@
 --   sought_last             a trial that is sought until nothing is left holds all at its first place
 --   one_amount              on one place there is but one trial
 --   last_amount             what is left goes to the last place
-use Rattle.std.proofs.Common.{◌≡◌, ℕ, suc, ◌+◌, ◌-◌, ◌<◌, ◌≤◌, List, [], ◌∷◌, ◌++◌, length, take, set, arith, refl, sym, ap, subst, ◌∙◌, length-set}
-use Rattle.std.proofs.lemmas.List.{take_more_set, take_all}
-use Rattle.std.proofs.lemmas.Bool.{cond_below, cond_above}
-use Rattle.dg_rank.specs.Trials.{IsTrial}
+use Rattle.dg_rank.proofs.Common.{◌≡◌, ℕ, suc, ◌+◌, ◌-◌, ◌<◌, ◌≤◌, List, [], ◌∷◌, ◌++◌, length, take, set, arith, refl, sym, ap, subst, ◌∙◌, length-set, take_more_set, take_all, cond_below, cond_above, IsTrial}
 use Rattle.dg_rank.specs.Numbering.{one_place_more, trial_count, raised, with_place, nth_trial}
 use Rattle.dg_rank.proofs.Lists.{no_places}
 use Rattle.dg_rank.proofs.Numbering.{numbered}

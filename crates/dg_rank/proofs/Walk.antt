@@ -7,19 +7,7 @@
 --   last_held          a trial that has a next one holds something past its first place
 --   following          the walk makes the next trial of one that has a next
 --   moved_as_told      the walk moves what it tells
-use Rattle.std.proofs.Common.{◌≡◌, ◌≢◌, ℕ, ◌+◌, ◌-◌, ◌<◌, ◌≤◌, List, length, set, arith, sym, ap, ◌∙◌, ⊎_elim, length-set, get_or-set_same, get_or-set_other}
-use Rattle.std.specs.Prelude.{slice_index}
-use Rattle.std.specs.List.{sum}
-use Rattle.std.proofs.Math.IntN.{pos, ◌-ℤ◌}
-use Rattle.std.proofs.lemmas.Bool.{cases_eq, cases_lt}
-use Rattle.std.proofs.lemmas.Int.{ints}
-use Rattle.std.proofs.lemmas.List.Sums.{sum_by-set, get_or-le-sum_by}
-use Rattle.dg_theory.specs.Firing.{only_at}
-use Rattle.dg_theory.proofs.Plays.{only_at-here, only_at-other}
-use Rattle.dg_rank.specs.Trials.{IsTrial}
-use Rattle.dg_rank.specs.Limits.{IsWithinLimits}
-use Rattle.dg_rank.specs.Divisors.{amounts_of}
-use Rattle.dg_rank.specs.Moves.{change, IsMoved}
+use Rattle.dg_rank.proofs.Common.{◌≡◌, ◌≢◌, ℕ, ◌+◌, ◌-◌, ◌<◌, ◌≤◌, List, length, set, arith, sym, ap, ◌∙◌, ⊎_elim, length-set, get_or-set_same, get_or-set_other, slice_index, sum, pos, ◌-ℤ◌, cases_eq, cases_lt, ints, sum_by-set, get_or-le-sum_by, only_at, only_at-here, only_at-other, IsTrial, IsWithinLimits, amounts_of, change, IsMoved}
 use Rattle.dg_rank.specs.Numbering.{trial_count, nth_trial}
 use Rattle.dg_rank.proofs.Counts.{limits_count, limits_trial}
 use Rattle.dg_rank.proofs.NextTrial.{IsNext, next_number, has_place}

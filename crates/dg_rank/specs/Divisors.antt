@@ -3,8 +3,8 @@
 --   HoldsTrial n E d      == the divisor d holds the amounts of the trial E for n vertices
 --   IsTrialNumber n k i d == d holds a trial of degree k, and just i trials come before it
 use Rattle.std.specs.Prelude.{◌≡◌, ℕ, ◌<◌, pos, List, slice_index}
-use Rattle.dg_theory.specs.Firing.{Amounts}
 use Rattle.dg_chips.specs.Vector.{Vector, at}
+use Rattle.dg_theory.specs.Firing.{Amounts}
 use Rattle.dg_rank.specs.Trials.{IsTrial, ComesBefore, AreCounted}
 
 abbrev pub amounts_of : List ℕ → Amounts

@@ -9,14 +9,14 @@
 --   RankByLadder         == the rank of D is r, and is told within the limits, exactly if the tests of
 --                           D fail after r; and D needs too many tests exactly if they meet one past
 --                           the limits before one that fails
---   RanksByLadders       == so it is of D and its dual E: both ranks are told within the limits
+--   RanksByLadders       == so it is of D and its residual E: both ranks are told within the limits
 --                           exactly if the tests of both fail, each after its rank; and one of the two
 --                           needs too many exactly if the tests of one meet a test past the limits
 use Rattle.std.specs.Prelude.{◌≡◌, ◌↔◌, ℕ, ◌<◌, ◌⊎◌, ℤ, pos, ◌+ℤ◌, Result, Ok, Err, MatchResult}
-use Rattle.dg_theory.specs.Multigraph.{Multigraph}
-use Rattle.dg_theory.specs.Firing.{Amounts}
 use Rattle.dg_chips.specs.Dual.{DualOf}
 use Rattle.dg_chips.specs.Vector.{Vector}
+use Rattle.dg_theory.specs.Firing.{Amounts}
+use Rattle.dg_theory.specs.Multigraph.{Multigraph}
 use Rattle.dg_verdict.specs.RankTests.{IsRankTest}
 use Rattle.dg_verdict.specs.declared.rank_verdict.RankVerdict.{RankVerdict}
 use Rattle.dg_verdict.specs.declared.rank_verdict.RankVerdict.TheVariants.{AtLeast, Below}

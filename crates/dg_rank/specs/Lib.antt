@@ -8,4 +8,5 @@ pub mod Ladders
 pub mod Numbering
 pub mod Moves
 pub mod Losses
+pub mod LateLosses
 pub mod Pieces

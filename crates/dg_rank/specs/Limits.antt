@@ -4,8 +4,8 @@
 --                           are c trials
 --   IsPastLimits n k     == rank tests of degree k on n vertices are past one of the limits
 use Rattle.std.specs.Prelude.{◌≡◌, ℕ, ◌<◌, ◌≤◌, ◌⊎◌}
-use Rattle.dg_rank.specs.Trials.{AreCounted, AnyTrial}
 use Rattle.dg_graph.specs.declared.limits.TheConstants.{MAX_VERTICES}
+use Rattle.dg_rank.specs.Trials.{AreCounted, AnyTrial}
 use Rattle.dg_rank.specs.declared.counting.TheConstants.{MAX_DEGREE, MAX_TRIALS}
 
 pub record IsWithinLimits (n k c : ℕ) : Type 0 where

@@ -15,17 +15,17 @@
 --                                and there as much or more, unless it is the last
 use Rattle.std.specs.Prelude.{◌≡◌, ℕ, ◌+◌, ◌-◌, ◌<◌, ◌≤◌, pos, ◌≤ℤ◌, List}
 use Rattle.std.specs.Int.RustNames.{unsigned_abs}
-use Rattle.dg_theory.specs.Multigraph.{Multigraph}
+use Rattle.dg_chips.specs.Vector.{Vector}
+use Rattle.dg_reduce.specs.Effective.{IsEffectiveDivisor}
 use Rattle.dg_theory.specs.Firing.{Amounts, degree, IsEffective}
+use Rattle.dg_theory.specs.Multigraph.{Multigraph}
 use Rattle.dg_theory.specs.Play.{IsWinnable}
 use Rattle.dg_theory.specs.Rank.{less}
 use Rattle.dg_theory.specs.Reduced.{IsReduced}
-use Rattle.dg_chips.specs.Vector.{Vector}
-use Rattle.dg_reduce.specs.Effective.{IsEffectiveForm}
 use Rattle.dg_rank.specs.Divisors.{amounts_of}
 use Rattle.dg_rank.specs.Numbering.{nth_trial}
-use Rattle.dg_rank.specs.declared.partial.Partial.{Partial}
-use Rattle.dg_rank.specs.declared.partial.Partial.TheVariants.{Lost, Won, Open}
+use Rattle.dg_rank.specs.declared.search_state.SearchState.{SearchState}
+use Rattle.dg_rank.specs.declared.search_state.SearchState.TheVariants.{Lost, Won, Open}
 
 abbrev pub AreSmall : ℕ → Amounts → Type 0
 AreSmall n D = (v : ℕ) → v < n → unsigned_abs (D v) ≤ 1999000
@@ -47,14 +47,14 @@ pub record IsFirstLossIn (g : Multigraph) (D : Amounts) (k i j : ℕ) (E : List 
   pub loses : ¬ WinsWithout g D E
   pub first : AllWin g D k i number
 
-abbrev pub IsPartial : Multigraph → Amounts → ℕ → ℕ → ℕ → Partial → Type 0
+abbrev pub IsPartial : Multigraph → Amounts → ℕ → ℕ → ℕ → SearchState → Type 0
 IsPartial g D k i j (Lost E) = IsFirstLossIn g D k i j E
 IsPartial g D k i j Won = AllWin g D k i j
 IsPartial g D k i j (Open m) = (m ≤ j) × AllWin g D k i m
 
 pub record IsLeft (g : Multigraph) (D : Amounts) (k i : ℕ) (E : List ℕ) (x : Vector) : Type 0 where
   pub trial : E ≡ nth_trial g.size k i
-  pub form : IsEffectiveForm g (less D (amounts_of E)) x
+  pub form : IsEffectiveDivisor g (less D (amounts_of E)) x
 
 abbrev pub ReducedWin : Multigraph → Amounts → ℕ → ℕ → Amounts → Type 0
 ReducedWin g D k d E = (F : Amounts) → IsEffective g.size F → degree g.size F ≡ pos k →

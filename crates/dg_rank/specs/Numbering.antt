@@ -6,7 +6,7 @@
 --   with_place c nth k i  == the trial number i of degree k on one place more, if c and nth
 --                            number those without it
 --   nth_trial n k i       == the trial number i of degree k on n places
-use Rattle.std.specs.Prelude.{ℕ, zero, suc, ◌+◌, ◌-◌, nat_lt, if◌then◌else◌, List, [], ◌∷◌}
+use Rattle.std.specs.Prelude.{if◌then◌else◌, ℕ, zero, suc, ◌+◌, ◌-◌, nat_lt, List, [], ◌∷◌}
 
 unfoldable pub one_place_more : (ℕ → ℕ) → ℕ → ℕ
 one_place_more c zero = c zero

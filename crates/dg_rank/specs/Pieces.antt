@@ -8,7 +8,7 @@ use Rattle.dg_chips.specs.Vector.{at}
 use Rattle.dg_rank.specs.Limits.{IsWithinLimits}
 use Rattle.dg_rank.specs.Losses.{AreSmall, IsPartial}
 use Rattle.dg_rank.specs.declared.pieces.Search.{Search}
-use Rattle.dg_rank.specs.declared.partial.Partial.{Partial}
+use Rattle.dg_rank.specs.declared.search_state.SearchState.{SearchState}
 
 abbrev pub piece_start : Search → ℕ → ℕ
 piece_start s j = j * s.count / s.workers
@@ -18,5 +18,5 @@ pub record CanSearch (s : Search) : Type 0 where
   pub range : AreSmall s.graph.size (at s.chips)
   pub limits : (c : ℕ) × IsWithinLimits s.graph.size s.k c × (s.count ≤ c)
 
-abbrev pub Tells : Search → ℕ → ℕ → Partial → Type 0
+abbrev pub Tells : Search → ℕ → ℕ → SearchState → Type 0
 Tells s i j x = IsPartial s.graph (at s.chips) s.k i j x

@@ -4,28 +4,29 @@
 --                             genus
 --   IsRankInLimits g D r   == r is the rank of D, and the test of the next degree is within the
 --                             limits
---   AreRanksInLimits g D r == so are the two of r, of D and of its dual
+--   AreRanksInLimits g D r == so are the two of r, of D and of its residual
 --   NeedsTooMany g D       == D needs too many rank tests: its rank is told by none within the
 --                             limits, since D passes all that come before one past them
---   EitherNeedsTooMany g D == D or its dual needs too many rank tests
---   DualNeedsTooMany g D   == the dual of D is in range, and D or the dual needs too many rank tests
+--   EitherNeedsTooMany g D == D or its residual needs too many rank tests
+--   RefusesBothRanks g D   == the residual of D is in range, and D or the residual needs too many rank tests
 --   BothArePast g D k      == the rank test of degree k is past the limits, and so is that of the
---                             dual which passes if it passes
+--                             residual which passes if it passes
 --   IsUntold g D k         == nothing tells whether the rank of D is at least k: its degree leaves
 --                             that open, k is below the genus, and both tests are past the limits
 --   TellsRankTest g D k result == the result is whether the rank of D is at least k; or it is
 --                             `TooMany`, exactly if nothing tells that
 --   NeedsPastTests g D     == D passes all rank tests before one that nothing tells
+--   AreBothRanks g D r     == r is the ranks of D and of its residual, and nothing is untold that they need
 --   FailsFirstAt g D k     == k is the least degree of the rank tests that D fails
 --   MayHaveWorkers w       == a rank test may have w workers
 --   IsRankFault n k w e    == a rank test with w workers is refused for this cause, and for no
 --                             earlier one, and never for want of memory; whether a thread really
 --                             did not start, no definition can say
 use Rattle.std.specs.Prelude.{◌≡◌, ℕ, ◌<◌, ◌≤◌, ◌⊎◌, ℤ, pos, ◌+ℤ◌, ◌-ℤ◌, ◌≤ℤ◌, ◌<ℤ◌, Bool, MatchBool, Result, Ok, Err}
-use Rattle.dg_theory.specs.Multigraph.{Multigraph, genus}
-use Rattle.dg_theory.specs.Firing.{Amounts, degree}
-use Rattle.dg_theory.specs.Rank.{less, canonical, HasRankAtLeast, IsRank}
 use Rattle.dg_chips.specs.Vector.{IsInRange}
+use Rattle.dg_theory.specs.Firing.{Amounts, degree}
+use Rattle.dg_theory.specs.Multigraph.{Multigraph, genus}
+use Rattle.dg_theory.specs.Rank.{less, canonical, HasRankAtLeast, IsRank}
 use Rattle.dg_rank.specs.Limits.{IsWithinLimits, IsPastLimits}
 use Rattle.dg_rank.specs.declared.rank_fault.RankFault.{RankFault}
 use Rattle.dg_rank.specs.declared.rank_fault.RankFault.TheVariants.{TooMany, Workers, OutOfMemory, Spawn}
@@ -56,7 +57,7 @@ pub record NeedsTooMany (g : Multigraph) (D : Amounts) : Type 0 where
 abbrev pub EitherNeedsTooMany : Multigraph → Amounts → Type 0
 EitherNeedsTooMany g D = NeedsTooMany g D ⊎ NeedsTooMany g (less (canonical g) D)
 
-pub record DualNeedsTooMany (g : Multigraph) (D : Amounts) : Type 0 where
+pub record RefusesBothRanks (g : Multigraph) (D : Amounts) : Type 0 where
   pub in_range : IsInRange g.size (less (canonical g) D)
   pub either : EitherNeedsTooMany g D
 
@@ -80,6 +81,9 @@ pub record NeedsPastTests (g : Multigraph) (D : Amounts) : Type 0 where
   pub degree : ℕ
   pub untold : IsUntold g D degree
   pub passed : (k : ℕ) → k < degree → HasRankAtLeast g D k
+
+abbrev pub AreBothRanks : Multigraph → Amounts → ℤ × ℤ → Type 0
+AreBothRanks g D r = IsRank g D r.0 × IsRank g (less (canonical g) D) r.1 × (¬ NeedsPastTests g D)
 
 pub record FailsFirstAt (g : Multigraph) (D : Amounts) (k : ℕ) : Type 0 where
   pub passed : (j : ℕ) → j < k → HasRankAtLeast g D j

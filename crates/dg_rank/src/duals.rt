@@ -1,9 +1,9 @@
-//! Rank tests by the dual of a divisor, which is the canonical divisor less it. By the theorem of Riemann and Roch a divisor
-//! passes a test exactly if its dual passes another, and one of the two may have far fewer trials.
+//! Rank tests by the residual of a divisor, which is the canonical divisor less it. By the theorem of Riemann and Roch a divisor
+//! passes a test exactly if its residual passes another, and one of the two may have far fewer trials.
 ghost use Rattle.std.specs.Prelude.{◌≡◌, ℕ, ◌<◌, ◌≤◌, pos, ◌+ℤ◌, ◌-ℤ◌, MatchBool, MatchOption, MatchResult};
 ghost use Rattle.std.specs.Int.RustNames.{unsigned_abs};
-ghost use Rattle.dg_theory.specs.Multigraph.{genus};
-ghost use Rattle.dg_theory.specs.Firing.{degree, AreEquivalent};
+ghost use Rattle.dg_theory.specs.Multigraph.{Multigraph, genus};
+ghost use Rattle.dg_theory.specs.Firing.{Amounts, degree, AreEquivalent};
 ghost use Rattle.dg_theory.specs.Rank.{less, canonical, HasRankAtLeast};
 ghost use Rattle.dg_fallback.specs.declared.limits.TheConstants.{MAX_START};
 ghost use Rattle.dg_graph.specs.Graph.{IsGraph};
@@ -16,15 +16,16 @@ ghost use Rattle.dg_rank.specs.declared.rank_fault.RankFault.TheVariants.{TooMan
 use crate::counting::trials;
 use crate::enumeration::Trial;
 use crate::first_loss::first_loss;
-use crate::partial::Partial;
+use crate::late_losses::{MANY, search_by_places};
 use crate::rank_fault::RankFault;
-use crate::reduced_trials::{few_visits, most_visits, told_by_reduced};
+use crate::reduced_trials::{few_visits, most_visits, search_reduced};
+use crate::search_state::SearchState;
 use dg_chips::{Divisor, Wide};
 use dg_graph::Graph;
 use dg_reduce::{InverseLaplacian, reduce_certified};
 
 /// Whether the rank of a divisor is at least k: whether every effective divisor of degree k can be lost and the rest still
-/// won. The test is made of the divisor or of its dual, if that has fewer trials.
+/// won. The test is made of the divisor or of its residual, if that has fewer trials.
 ///
 /// Refused with `TooMany` alone: if the tests of both are past the limits, and no law tells what they would.
 pub fn has_rank(graph: &Graph, q: usize, divisor: &Divisor, k: u32) -> Result<bool, RankFault>
@@ -79,12 +80,9 @@ pub(crate) fn degree_left(divisor: &Divisor, k: u32) -> i64
 /// How many trials are made before those that are reduced for the last vertex are asked.
 const FIRST_TRIALS: u32 = 256;
 
-/// From so many trials on they are asked.
-const MANY: u32 = 8192;
-
-/// What is known of the trials before all are made: by some of them, by the trials of the dual, and by the trials that are
+/// What is known of the trials before all are made: by some of them, by the trials of the residual, and by the trials that are
 /// reduced for the last vertex. The amounts are what the divisor can be fired to.
-pub(crate) fn told_before(
+pub(crate) fn search_cheaply(
     graph: &Graph,
     inverse: &InverseLaplacian,
     divisor: &Divisor,
@@ -92,7 +90,7 @@ pub(crate) fn told_before(
     k: u32,
     count: u32,
     most: u32,
-) -> Partial
+) -> SearchState
     requires size { divisor.now.size ≡ graph.now.size }
     requires unsettled { IsUnsettled graph.now (at divisor.now) k }
     requires chips { chips.now.size ≡ graph.now.size }
@@ -102,22 +100,25 @@ pub(crate) fn told_before(
     requires most { most ≤ count }
     ensures { IsPartial graph.now (at chips.now) k 0 count result }
 {
-    match told_by_dual(graph, inverse, divisor, chips, k, most) {
-        Partial::Lost(trial) => Partial::Lost(trial),
-        Partial::Won => Partial::Won,
-        Partial::Open(from) => told_after(graph, inverse, chips, k, from, count),
+    match search_dual(graph, inverse, divisor, chips, k, 0, most.min(MANY)) {
+        SearchState::Open(from) => match search_more(graph, inverse, chips, k, from, count) {
+            SearchState::Open(from) => search_dual(graph, inverse, divisor, chips, k, from, most),
+            told => told,
+        },
+        told => told,
     }
 }
 
-/// What is known of all trials if those before a number win: by some more, and by those that are reduced for the last vertex.
-fn told_after(
+/// What is known of all trials if those before a number win: by some more, by those that are reduced for the last vertex, and by
+/// a walk from place to place.
+fn search_more(
     graph: &Graph,
     inverse: &InverseLaplacian,
     chips: &Wide,
     k: u32,
     from: u32,
     count: u32,
-) -> Partial
+) -> SearchState
     requires size { chips.now.size ≡ graph.now.size }
     requires range { AreSmall graph.now.size (at chips.now) }
     requires limits { IsWithinLimits graph.now.size k count }
@@ -126,57 +127,70 @@ fn told_after(
     ensures { IsPartial graph.now (at chips.now) k 0 count result }
 {
     if count < MANY {
-        return Partial::Open(from);
+        return SearchState::Open(from);
     }
     let to = count.min(from + FIRST_TRIALS);
     if let Some(trial) = first_loss(graph, inverse, chips, k, from, to) {
-        return Partial::Lost(trial);
+        return SearchState::Lost(trial);
     }
-    match told_by_reduced(graph, inverse, chips, k, few_visits(count)) {
-        Some(true) => Partial::Won,
-        _ => Partial::Open(to),
+    match search_reduced(graph, inverse, chips, k, few_visits(count)) {
+        Some(true) => SearchState::Won,
+        _ => or_open(search_by_places(graph, inverse, chips, k, count), to),
     }
 }
 
-/// What is known of the trials by as many of them as the dual has in all, and then by the trials of the dual; nothing if the
-/// dual has more than `most`, and if the degree of the test is too high for it to pass. The amounts are what the divisor
-/// can be fired to.
-fn told_by_dual(
+/// What is told of trials, or that those before a number win, if no more is told.
+fn or_open(told: SearchState, from: u32) -> SearchState
+    ensures { (g : Multigraph) (D : Amounts) (k j : ℕ) → IsPartial g D k 0 j told → from ≤ j →
+        AllWin g D k 0 from → IsPartial g D k 0 j result }
+{
+    match told {
+        SearchState::Open(_) => SearchState::Open(from),
+        other => other,
+    }
+}
+
+/// What is known of the trials if those before a number win: by as many of them as the residual has in all, and then by the
+/// trials of the residual. Nothing more is known if the residual has more than `most` or not more than those, and if the
+/// degree of the test is too high for it to pass. The amounts are what the divisor can be fired to.
+fn search_dual(
     graph: &Graph,
     inverse: &InverseLaplacian,
     divisor: &Divisor,
     chips: &Wide,
     k: u32,
+    from: u32,
     most: u32,
-) -> Partial
+) -> SearchState
     requires size { divisor.now.size ≡ graph.now.size }
     requires some { 0 < graph.now.size }
     requires unsettled { IsUnsettled graph.now (at divisor.now) k }
     requires chips { chips.now.size ≡ graph.now.size }
     requires fired { AreEquivalent graph.now (at divisor.now) (at chips.now) }
     requires range { AreSmall graph.now.size (at chips.now) }
-    requires limits { (c : ℕ) × IsWithinLimits graph.now.size k c × (most ≤ c) }
+    requires limits { (c : ℕ) × IsWithinLimits graph.now.size k c × (most ≤ c) × (from ≤ c) }
+    requires before { AllWin graph.now (at chips.now) k 0 from }
     ensures { (c : ℕ) → IsWithinLimits graph.now.size k c →
         IsPartial graph.now (at chips.now) k 0 c result }
 {
     let size = graph.size();
     if i64::from(k) >= i64::from(graph.genus()) {
-        return Partial::Open(0);
+        return SearchState::Open(from);
     }
     let other = degree_of_dual(graph, divisor, k);
     let Some(fewer) = trials(size, other) else {
-        return Partial::Open(0);
+        return SearchState::Open(from);
     };
-    if fewer > most {
-        return Partial::Open(0);
+    if fewer > most || fewer <= from {
+        return SearchState::Open(from);
     }
-    if let Some(trial) = first_loss(graph, inverse, chips, k, 0, fewer) {
-        return Partial::Lost(trial);
+    if let Some(trial) = first_loss(graph, inverse, chips, k, from, fewer) {
+        return SearchState::Lost(trial);
     }
     if all_win(graph, inverse, &dual_of(graph, divisor), other, fewer) {
-        return Partial::Won;
+        return SearchState::Won;
     }
-    Partial::Open(fewer)
+    SearchState::Open(fewer)
 }
 
 /// The first loss of all trials, of which so much is known; `None` if there is none.
@@ -186,7 +200,7 @@ pub(crate) fn loss_after(
     chips: &Wide,
     k: u32,
     count: u32,
-    told: Partial,
+    told: SearchState,
 ) -> Option<Trial>
     requires size { chips.now.size ≡ graph.now.size }
     requires range { AreSmall graph.now.size (at chips.now) }
@@ -197,13 +211,13 @@ pub(crate) fn loss_after(
         (IsFirstLossIn graph.now (at chips.now) k 0 count) }
 {
     match told {
-        Partial::Lost(trial) => Some(trial),
-        Partial::Won => None,
-        Partial::Open(from) => first_loss(graph, inverse, chips, k, from, count),
+        SearchState::Lost(trial) => Some(trial),
+        SearchState::Won => None,
+        SearchState::Open(from) => first_loss(graph, inverse, chips, k, from, count),
     }
 }
 
-/// The degree at which the dual passes its test exactly if the divisor passes the test of degree k.
+/// The degree at which the residual passes its test exactly if the divisor passes the test of degree k.
 fn degree_of_dual(graph: &Graph, divisor: &Divisor, k: u32) -> u32
     requires size { divisor.now.size ≡ graph.now.size }
     requires unsettled { IsUnsettled graph.now (at divisor.now) k }
@@ -214,7 +228,7 @@ fn degree_of_dual(graph: &Graph, divisor: &Divisor, k: u32) -> u32
     (i64::from(k) - ranks_apart(graph, divisor)) as u32
 }
 
-/// By how much the rank of a divisor is above the rank of its dual.
+/// By how much the rank of a divisor is above the rank of its residual.
 pub(crate) fn ranks_apart(graph: &Graph, divisor: &Divisor) -> i64
     requires { divisor.now.size ≡ graph.now.size }
     ensures apart { result ≡ (degree graph.now.size (at divisor.now) +ℤ pos 1) -ℤ genus graph.now }
@@ -225,7 +239,7 @@ pub(crate) fn ranks_apart(graph: &Graph, divisor: &Divisor) -> i64
     divisor.degree() + 1 - i64::from(graph.genus())
 }
 
-/// The dual of a divisor: the canonical divisor less it.
+/// The residual of a divisor: the canonical divisor less it.
 fn dual_of(graph: &Graph, divisor: &Divisor) -> Wide
     requires { divisor.now.size ≡ graph.now.size }
     ensures size { result.size ≡ graph.now.size }
@@ -252,7 +266,7 @@ fn all_win(graph: &Graph, inverse: &InverseLaplacian, amounts: &Wide, k: u32, co
         (¬ HasRankAtLeast graph.now (at amounts.now) k) }
 {
     let chips = reduce_certified(graph, inverse, 0, amounts).reduced.divisor;
-    match told_by_reduced(graph, inverse, &chips, k, most_visits(graph, count)) {
+    match search_reduced(graph, inverse, &chips, k, most_visits(graph, count)) {
         Some(wins) => wins,
         None => first_loss(graph, inverse, &chips, k, 0, count).is_none(),
     }

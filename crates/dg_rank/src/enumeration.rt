@@ -65,6 +65,18 @@ impl Trial {
         amounts[v] = amount;
     }
 
+    /// The same trial with a dollar more at a place.
+    pub(crate) fn with_more(self, v: usize) -> Trial
+        requires place { v < length self }
+        requires few { slice_index self v ≤ MAX_DEGREE }
+        ensures { result ≡ slice_set self v (slice_index self v + 1) }
+    {
+        let mut more = self;
+        let amount = more.get(v) + 1;
+        more.set(v, amount);
+        more
+    }
+
     /// The trial of degree k on n vertices with this number, counted from 0 in the order of trials.
     pub fn with_number(n: usize, k: u32, i: u32) -> Trial
         requires { (c : ℕ) × IsWithinLimits n k c × (i < c) }
@@ -83,6 +95,22 @@ impl Trial {
             number = rest;
         }
         trial.set(n - 1, left);
+        trial
+    }
+
+    /// The trial on n places that holds so many dollars at the last, and nothing elsewhere.
+    pub(crate) fn at_last(n: usize, dollars: u32) -> Trial
+        requires some { 0 < n }
+        requires few { n ≤ MAX_VERTICES }
+        ensures places { length result ≡ n }
+        ensures held { slice_index result (n - 1) ≡ dollars }
+        ensures empty { (u : ℕ) → u + 1 < n → slice_index result u ≡ 0 }
+    {
+        let mut trial = Trial {
+            size: n,
+            amounts: [0; 16],
+        };
+        trial.set(n - 1, dollars);
         trial
     }
 

@@ -6,7 +6,7 @@ ghost use Rattle.dg_theory.specs.Play.{IsWinnable};
 ghost use Rattle.dg_theory.specs.Rank.{less};
 ghost use Rattle.dg_graph.specs.Graph.{IsGraph};
 ghost use Rattle.dg_chips.specs.Vector.{at};
-ghost use Rattle.dg_reduce.specs.Effective.{IsEffectiveForm};
+ghost use Rattle.dg_reduce.specs.Effective.{IsEffectiveDivisor};
 ghost use Rattle.dg_rank.specs.Divisors.{amounts_of};
 ghost use Rattle.dg_rank.specs.Limits.{IsWithinLimits};
 ghost use Rattle.dg_rank.specs.Trials.{IsTrial};
@@ -18,7 +18,7 @@ use crate::counting::count;
 use crate::enumeration::{Moved, Trial};
 use dg_chips::Wide;
 use dg_graph::Graph;
-use dg_reduce::{EffectiveForm, InverseLaplacian, reduce_certified};
+use dg_reduce::{EffectiveDivisor, InverseLaplacian, reduce_certified};
 
 /// The first trial of degree k, of those from one number up to another, whose loss leaves what can't be won; `None`
 /// if there is none. What is left of one trial is not far from what is left of the next, so each starts from it; and those
@@ -62,7 +62,7 @@ pub(crate) fn left_without(
     inverse: &InverseLaplacian,
     chips: &Wide,
     trial: &Trial,
-) -> Option<EffectiveForm>
+) -> Option<EffectiveDivisor>
     requires graph { IsGraph graph.now }
     requires size { chips.now.size ≡ graph.now.size }
     requires range { AreSmall graph.now.size (at chips.now) }
@@ -70,7 +70,7 @@ pub(crate) fn left_without(
         IsTrial graph.now.size k trial.now }
     ensures { MatchOption result
         (¬ WinsWithout graph.now (at chips.now) trial.now)
-        (IsEffectiveForm graph.now (less (at chips.now) (amounts_of trial.now))) }
+        (IsEffectiveDivisor graph.now (less (at chips.now) (amounts_of trial.now))) }
 {
     let lost = trial.to_divisor();
     let left = reduce_certified(graph, inverse, 0, &chips.less(&lost))
@@ -79,13 +79,13 @@ pub(crate) fn left_without(
     if left.get(0) < 0 {
         return None;
     }
-    Some(EffectiveForm::of(&left))
+    Some(EffectiveDivisor::of(&left))
 }
 
 /// From what is left without a trial to what is left without the next one: the dollars of the place that is left come back, one is
 /// taken at the place before it and the others at the last place, each as far as there are too few by firing. False if that
 /// can't be won.
-fn lose_elsewhere(graph: &Graph, left: &mut EffectiveForm, moved: &Moved) -> bool
+fn lose_elsewhere(graph: &Graph, left: &mut EffectiveDivisor, moved: &Moved) -> bool
     requires size { left.old.size ≡ graph.now.size }
     requires effective { IsEffective graph.now.size (at left.old) }
     requires degree { AddUpToFew graph.now.size (at left.old) }
@@ -93,7 +93,7 @@ fn lose_elsewhere(graph: &Graph, left: &mut EffectiveForm, moved: &Moved) -> boo
     requires place { moved.now.place < graph.now.size }
     requires few { moved.now.others < 1000 }
     ensures { MatchBool result
-        (IsEffectiveForm graph.now (after_move graph.now.size moved.now (at left.old)) left.new)
+        (IsEffectiveDivisor graph.now (after_move graph.now.size moved.now (at left.old)) left.new)
         (¬ IsWinnable graph.now (after_move graph.now.size moved.now (at left.old))) }
 {
     let last = graph.size() - 1;
@@ -109,7 +109,7 @@ fn lose_elsewhere(graph: &Graph, left: &mut EffectiveForm, moved: &Moved) -> boo
 
 /// Goes on to the last of the trials that are seen to win at once: those that hold the dollars of the last place anywhere after the
 /// other places that hold some, if each vertex there has as many left. Returns how many trials further that is.
-fn leap(trial: &mut Trial, left: &mut EffectiveForm) -> u32
+fn leap(trial: &mut Trial, left: &mut EffectiveDivisor) -> u32
     requires size { left.old.size ≡ length trial.old }
     requires trial { (k : ℕ) × (c : ℕ) × (i : ℕ) × IsWithinLimits left.old.size k c × (i < c) ×
         (trial.old ≡ nth_trial left.old.size k i) }
@@ -138,7 +138,7 @@ fn leap(trial: &mut Trial, left: &mut EffectiveForm) -> u32
 
 /// A place from which on the trial holds nothing before its last place, and each vertex before the last has at least so many
 /// dollars left.
-fn first_rich(trial: &Trial, left: &EffectiveForm, dollars: u32) -> usize
+fn first_rich(trial: &Trial, left: &EffectiveDivisor, dollars: u32) -> usize
     requires some { 0 < length trial.now }
     requires size { left.now.size ≡ length trial.now }
     requires few { dollars ≤ 1000 }

@@ -2,7 +2,7 @@
 ghost use Rattle.dg_rank.specs.Ladders.{RankByLadder, RanksByLadders};
 
 /// A rank is what `rank_at_least` tells for the degrees 0, 1, 2 and so on: `rank`, and `both_ranks_in_limits` of a divisor
-/// and its dual, name the last degree of which it answers `AtLeast`, one before the first `Below`; and they answer `None`
+/// and its residual, name the last degree of which it answers `AtLeast`, one before the first `Below`; and they answer `None`
 /// exactly if it answers `TooMany` before it answers `Below`.
 pub fn ranks_are_told_by_tests()
     ensures one { RankByLadder }

@@ -1,11 +1,10 @@
-//! The rank of a divisor and that of its dual, as numbers: the first test that fails tells the one, and by the theorem of
+//! The rank of a divisor and that of its residual, as numbers: the first test that fails tells the one, and by the theorem of
 //! Riemann and Roch the other.
 ghost use Rattle.std.specs.Prelude.{◌≡◌, ◌<◌, ◌≤◌, pos, ◌+ℤ◌, ◌-ℤ◌, MatchOption};
 ghost use Rattle.dg_theory.specs.Multigraph.{genus};
 ghost use Rattle.dg_theory.specs.Firing.{degree};
-ghost use Rattle.dg_theory.specs.Rank.{less, canonical, IsRank};
 ghost use Rattle.dg_chips.specs.Vector.{at};
-ghost use Rattle.dg_rank.specs.Ranks.{IsRankInLimits, AreRanksInLimits, NeedsTooMany, EitherNeedsTooMany, NeedsPastTests, FailsFirstAt};
+ghost use Rattle.dg_rank.specs.Ranks.{AreBothRanks, IsRankInLimits, AreRanksInLimits, NeedsTooMany, EitherNeedsTooMany, NeedsPastTests, FailsFirstAt};
 
 use crate::counting::trials;
 use crate::duals::{passes, ranks_apart};
@@ -22,30 +21,45 @@ pub fn rank(graph: &Graph, q: usize, divisor: &Divisor) -> Option<i64>
         (NeedsTooMany graph.now (at divisor.now))
         (IsRankInLimits graph.now (at divisor.now)) }
 {
-    let fails = first_failing(graph, divisor)?;
+    let fails = first_failing(graph, &InverseLaplacian::new(graph, 0), divisor)?;
     trials(graph.size(), fails)?;
     Some(i64::from(fails) - 1)
 }
 
-/// The rank of a divisor and that of its dual, which is the canonical divisor less it. `None` if tests of both are needed
+/// The rank of a divisor and that of its residual, which is the canonical divisor less it. `None` if tests of both are needed
 /// that are past the limits, and no law tells what they would.
 pub fn both_ranks(graph: &Graph, q: usize, divisor: &Divisor) -> Option<(i64, i64)>
     requires size { divisor.now.size ≡ graph.now.size }
     requires vertex { q < graph.now.size }
     ensures { MatchOption result
         (NeedsPastTests graph.now (at divisor.now))
-        (λ r. IsRank graph.now (at divisor.now) r.0
-        × IsRank graph.now (less (canonical graph.now) (at divisor.now)) r.1
-        × (¬ NeedsPastTests graph.now (at divisor.now))) }
+        (AreBothRanks graph.now (at divisor.now)) }
 {
     let _size = graph.size();
-    let fails = first_failing(graph, divisor)?;
+    both_ranks_by(graph, &InverseLaplacian::new(graph, 0), divisor)
+}
+
+/// Both ranks as `both_ranks` tells them, by an inverse of the graph's Laplacian that many calls share. The answer is the
+/// same whatever inverse it is; that of the graph for its first vertex is the quick one.
+pub fn both_ranks_by(
+    graph: &Graph,
+    inverse: &InverseLaplacian,
+    divisor: &Divisor,
+) -> Option<(i64, i64)>
+    requires size { divisor.now.size ≡ graph.now.size }
+    requires some { 0 < graph.now.size }
+    ensures { MatchOption result
+        (NeedsPastTests graph.now (at divisor.now))
+        (AreBothRanks graph.now (at divisor.now)) }
+{
+    let _size = graph.size();
+    let fails = first_failing(graph, inverse, divisor)?;
     let rank = i64::from(fails) - 1;
     Some((rank, rank - ranks_apart(graph, divisor)))
 }
 
-/// The rank of a divisor and that of its dual, as `rank_at_least` tells them for the degrees 0, 1, 2 and so on. `None` if a test
-/// past the limits would be needed, of the one or of the other, were each found by tests of its own.
+/// The rank of a divisor and that of its residual, as `rank_at_least` tells them for the degrees 0, 1, 2 and so on. `None` if a
+/// test past the limits would be needed, of the one or of the other, were each found by tests of its own.
 pub fn both_ranks_in_limits(graph: &Graph, q: usize, divisor: &Divisor) -> Option<(i64, i64)>
     requires size { divisor.now.size ≡ graph.now.size }
     requires vertex { q < graph.now.size }
@@ -53,7 +67,7 @@ pub fn both_ranks_in_limits(graph: &Graph, q: usize, divisor: &Divisor) -> Optio
         (EitherNeedsTooMany graph.now (at divisor.now))
         (AreRanksInLimits graph.now (at divisor.now)) }
 {
-    let fails = first_failing(graph, divisor)?;
+    let fails = first_failing(graph, &InverseLaplacian::new(graph, 0), divisor)?;
     let dual_fails = first_failing_of_dual(graph, divisor, fails);
     trials(graph.size(), fails)?;
     trials(graph.size(), dual_fails)?;
@@ -61,8 +75,8 @@ pub fn both_ranks_in_limits(graph: &Graph, q: usize, divisor: &Divisor) -> Optio
 }
 
 /// The least degree at which the rank test of a divisor fails. `None` if a test is needed that is past the limits, as is
-/// that of the dual, and no law tells what it would.
-fn first_failing(graph: &Graph, divisor: &Divisor) -> Option<u32>
+/// that of the residual, and no law tells what it would.
+fn first_failing(graph: &Graph, inverse: &InverseLaplacian, divisor: &Divisor) -> Option<u32>
     requires size { divisor.now.size ≡ graph.now.size }
     requires some { 0 < graph.now.size }
     ensures { MatchOption result
@@ -73,9 +87,8 @@ fn first_failing(graph: &Graph, divisor: &Divisor) -> Option<u32>
     // A divisor passes all tests for which it is rich, and from the genus on no others.
     let first = ranks_apart(graph, divisor).max(0);
     let end = first.max(i64::from(graph.genus())) + 1;
-    let inverse = InverseLaplacian::new(graph, 0);
     for k in first as u32..end as u32 {
-        match passes(graph, &inverse, divisor, k) {
+        match passes(graph, inverse, divisor, k) {
             Ok(true) => {}
             Ok(false) => return Some(k),
             Err(_) => return None,
@@ -84,7 +97,7 @@ fn first_failing(graph: &Graph, divisor: &Divisor) -> Option<u32>
     unreachable!()
 }
 
-/// The least degree at which the rank test of the dual fails, if this is that of the divisor.
+/// The least degree at which the rank test of the residual fails, if this is that of the divisor.
 fn first_failing_of_dual(graph: &Graph, divisor: &Divisor, fails: u32) -> u32
     requires size { divisor.now.size ≡ graph.now.size }
     requires some { 0 < graph.now.size }

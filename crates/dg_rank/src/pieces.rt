@@ -9,8 +9,8 @@ ghost use Rattle.dg_rank.specs.declared.rank_fault.RankFault.TheVariants.{Spawn}
 
 use crate::enumeration::Trial;
 use crate::first_loss::first_loss;
-use crate::partial::Partial;
 use crate::rank_fault::RankFault;
+use crate::search_state::SearchState;
 use crate::workers::Gate;
 use dg_chips::Wide;
 use dg_graph::Graph;
@@ -54,10 +54,10 @@ pub(crate) fn first_loss_among<R: Threads + Wait, G: Gate>(
 {
     let lost = AtomicU32::new(search.workers);
     match search_from(rt, search, &lost, gate, 0) {
-        Ok(Partial::Lost(trial)) => Ok(Some(trial)),
-        Ok(Partial::Won) => Ok(None),
+        Ok(SearchState::Lost(trial)) => Ok(Some(trial)),
+        Ok(SearchState::Won) => Ok(None),
         // This never comes: a piece leaves trials open only if an earlier one has lost.
-        Ok(Partial::Open(from)) => Ok(first_loss(
+        Ok(SearchState::Open(from)) => Ok(first_loss(
             &search.graph,
             &InverseLaplacian::new(&search.graph, 0),
             &search.chips,
@@ -76,7 +76,7 @@ fn search_from<R: Threads + Wait, G: Gate>(
     lost: &AtomicU32,
     gate: &G,
     piece: u32,
-) -> Result<Partial, RankFault>
+) -> Result<SearchState, RankFault>
     requires search { CanSearch search.now }
     requires workers { MayHaveWorkers search.now.workers }
     requires piece { piece ≤ search.now.workers }
@@ -85,16 +85,16 @@ fn search_from<R: Threads + Wait, G: Gate>(
         (λ e. e ≡ Spawn) }
 {
     if piece == search.workers {
-        return Ok(Partial::Won);
+        return Ok(SearchState::Won);
     }
     let next = piece + 1;
-    let mut here = || -> Partial
+    let mut here = || -> SearchState
         requires { CanSearch search.now × MayHaveWorkers search.now.workers ×
             (piece < search.now.workers) }
         ensures { Tells search.entry.now (piece_start search.entry.now piece)
             (piece_start search.entry.now (piece + 1)) result }
     { search_piece(search, lost, gate, piece) };
-    let mut later = || -> Result<Partial, RankFault>
+    let mut later = || -> Result<SearchState, RankFault>
         requires { CanSearch search.now × MayHaveWorkers search.now.workers ×
             (next ≤ search.now.workers) }
         ensures { MatchResult result
@@ -112,19 +112,19 @@ fn search_from<R: Threads + Wait, G: Gate>(
 }
 
 /// What is known of trials, and of others after them.
-fn first_of(here: Partial, later: Partial) -> Partial
+fn first_of(here: SearchState, later: SearchState) -> SearchState
     ensures { (s : Search) (i m j : ℕ) → i ≤ m → m ≤ j → Tells s i m here → Tells s m j later →
         Tells s i j result }
 {
     match here {
-        Partial::Lost(trial) => Partial::Lost(trial),
-        Partial::Won => later,
-        Partial::Open(from) => Partial::Open(from),
+        SearchState::Lost(trial) => SearchState::Lost(trial),
+        SearchState::Won => later,
+        SearchState::Open(from) => SearchState::Open(from),
     }
 }
 
 /// What is known of a piece, after the gate.
-fn search_piece<G: Gate>(search: &Search, lost: &AtomicU32, gate: &G, piece: u32) -> Partial
+fn search_piece<G: Gate>(search: &Search, lost: &AtomicU32, gate: &G, piece: u32) -> SearchState
     requires search { CanSearch search.now }
     requires workers { MayHaveWorkers search.now.workers }
     requires piece { piece < search.now.workers }
@@ -144,7 +144,7 @@ fn enter<G: Gate>(gate: &G, piece: u32) -> u32
 
 /// What is known of a piece, if `lost` is the number of the first piece that has lost so far. Once that is an earlier one,
 /// nobody asks for the rest of this one.
-fn search_trials(search: &Search, lost: &AtomicU32, piece: u32) -> Partial
+fn search_trials(search: &Search, lost: &AtomicU32, piece: u32) -> SearchState
     requires search { CanSearch search.now }
     requires workers { MayHaveWorkers search.now.workers }
     requires piece { piece < search.now.workers }
@@ -153,23 +153,23 @@ fn search_trials(search: &Search, lost: &AtomicU32, piece: u32) -> Partial
     let end = start_of(search, piece + 1);
     let start = start_of(search, piece);
     if start >= end {
-        return Partial::Won;
+        return SearchState::Won;
     }
     let inverse = InverseLaplacian::new(&search.graph, 0);
     let mut from = start;
     while from < end {
         if lost.load(Ordering::SeqCst) < piece {
-            return Partial::Open(from);
+            return SearchState::Open(from);
         }
         let to = end.min(from + FIRST_LOOK.max(from - start));
         let loss = first_loss(&search.graph, &inverse, &search.chips, search.k, from, to);
         if let Some(trial) = loss {
             lost.fetch_min(piece, Ordering::SeqCst);
-            return Partial::Lost(trial);
+            return SearchState::Lost(trial);
         }
         from = to;
     }
-    Partial::Won
+    SearchState::Won
 }
 
 /// The number of the first trial of a piece, and of the one past all trials for the number past all pieces.

@@ -11,7 +11,7 @@ ghost use Rattle.dg_rank.specs.Ladders.{AnswersRankTest};
 ghost use Rattle.dg_rank.specs.Ranks.{IsWithin, IsUnsettled};
 
 use crate::counting::trials;
-use crate::duals::{degree_left, loss_after, told_before};
+use crate::duals::{degree_left, loss_after, search_cheaply};
 use crate::enumeration::Trial;
 use crate::rank_fault::RankFault;
 use dg_chips::{Divisor, Wide};
@@ -20,7 +20,7 @@ use dg_reduce::{InverseLaplacian, reduce_certified};
 use dg_verdict::RankVerdict;
 
 /// Tests whether the rank of a divisor is at least k: whether every effective divisor of degree k can be lost and the
-/// rest still won. If not, the answer names the first that can't, in the order of trials. If the dual of the divisor has
+/// rest still won. If not, the answer names the first that can't, in the order of trials. If the residual of the divisor has
 /// fewer trials, those may tell that none can't. It takes no memory.
 ///
 /// Refused with `TooMany` alone, if k is above 1,000 or there are more than 200,000 trials.
@@ -42,10 +42,51 @@ pub fn rank_at_least(
         return Ok(verdict);
     }
     let inverse = InverseLaplacian::new(graph, 0);
-    let chips = small_amounts(graph, &inverse, divisor, k);
-    let told = told_before(graph, &inverse, divisor, &chips, k, count, count / 2);
-    let loss = loss_after(graph, &inverse, &chips, k, count, told);
-    Ok(verdict_on(k, loss))
+    Ok(tested(graph, &inverse, divisor, k, count))
+}
+
+/// The rank test as `rank_at_least` makes it, by an inverse of the graph's Laplacian that many tests share. The answer is
+/// the same whatever inverse it is; that of the graph for its first vertex is the quick one.
+///
+/// Refused as `rank_at_least`.
+pub fn rank_at_least_by(
+    graph: &Graph,
+    inverse: &InverseLaplacian,
+    divisor: &Divisor,
+    k: u32,
+) -> Result<RankVerdict, RankFault>
+    requires size { divisor.now.size ≡ graph.now.size }
+    requires some { 0 < graph.now.size }
+    ensures { AnswersRankTest graph.now (at divisor.now) k result }
+{
+    let size = graph.size();
+    let Some(count) = trials(size, k) else {
+        return Err(RankFault::TooMany);
+    };
+    if let Some(verdict) = settled(graph, divisor, k) {
+        return Ok(verdict);
+    }
+    Ok(tested(graph, inverse, divisor, k, count))
+}
+
+/// The answer of a rank test that the degree does not settle, by its trials, of which there are `count`.
+fn tested(
+    graph: &Graph,
+    inverse: &InverseLaplacian,
+    divisor: &Divisor,
+    k: u32,
+    count: u32,
+) -> RankVerdict
+    requires size { divisor.now.size ≡ graph.now.size }
+    requires limits { IsWithinLimits graph.now.size k count }
+    requires unsettled { IsUnsettled graph.now (at divisor.now) k }
+    ensures { IsRankTest graph.now (at divisor.now) k result }
+{
+    let _size = graph.size();
+    let chips = small_amounts(graph, inverse, divisor, k);
+    let told = search_cheaply(graph, inverse, divisor, &chips, k, count, count / 2);
+    let loss = loss_after(graph, inverse, &chips, k, count, told);
+    verdict_on(k, loss)
 }
 
 /// The amounts that are reduced for the first vertex and that a divisor can be fired to, if the degree does not settle its

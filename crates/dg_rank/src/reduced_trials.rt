@@ -5,7 +5,7 @@ ghost use Rattle.dg_theory.specs.Firing.{Amounts, degree, only_at, IsEffective};
 ghost use Rattle.dg_theory.specs.Play.{IsWinnable};
 ghost use Rattle.dg_theory.specs.Rank.{less, HasRankAtLeast};
 ghost use Rattle.dg_chips.specs.Vector.{at};
-ghost use Rattle.dg_reduce.specs.Effective.{IsEffectiveForm};
+ghost use Rattle.dg_reduce.specs.Effective.{IsEffectiveDivisor};
 ghost use Rattle.dg_rank.specs.Losses.{AreSmall, AddUpToFew, ReducedWin};
 ghost use Rattle.dg_rank.specs.Ranks.{IsWithin};
 
@@ -13,7 +13,7 @@ use crate::enumeration::Trial;
 use crate::first_loss::left_without;
 use dg_chips::Wide;
 use dg_graph::Graph;
-use dg_reduce::{EffectiveForm, InverseLaplacian};
+use dg_reduce::{EffectiveDivisor, InverseLaplacian};
 
 /// How many trials there are for each visit that those which are reduced may take: if these tell nothing, little is lost.
 const TRIALS_A_VISIT: u32 = 256;
@@ -58,7 +58,7 @@ fn neighbours(row: &[u8; 16]) -> usize {
 }
 
 /// Whether all trials of degree k can be lost. `None` if so many visits do not tell.
-pub(crate) fn told_by_reduced(
+pub(crate) fn search_reduced(
     graph: &Graph,
     inverse: &InverseLaplacian,
     chips: &Wide,
@@ -76,7 +76,7 @@ pub(crate) fn told_by_reduced(
     let Some(mut left) = left_without(graph, inverse, chips, &first) else {
         return Some(false);
     };
-    let lost = EffectiveForm::of(&Wide::of(&first.to_divisor()));
+    let lost = EffectiveDivisor::of(&Wide::of(&first.to_divisor()));
     let mut visits = visits;
     reduced_win(graph, &mut left, &lost, 0, &mut visits)
 }
@@ -87,8 +87,8 @@ pub(crate) fn told_by_reduced(
 /// tell.
 fn reduced_win(
     graph: &Graph,
-    left: &mut EffectiveForm,
-    lost: &EffectiveForm,
+    left: &mut EffectiveDivisor,
+    lost: &EffectiveDivisor,
     place: usize,
     visits: &mut u32,
 ) -> Option<bool>
@@ -101,13 +101,13 @@ fn reduced_win(
     requires left { IsEffective graph.now.size (at left.old) }
     requires small { AddUpToFew graph.now.size (at left.old) }
     ensures told { (D : Amounts) (k : ℕ) → degree graph.now.size (at lost.now) ≡ pos k →
-        IsEffectiveForm graph.now (less D (at lost.now)) left.old →
+        IsEffectiveDivisor graph.now (less D (at lost.now)) left.old →
         MatchOption result ⊤ (λ b. MatchBool b
         (ReducedWin graph.now D k place (at lost.now))
         (¬ HasRankAtLeast graph.now D k)) }
-    ensures kept { (D : Amounts) → IsEffectiveForm graph.now (less D (at lost.now)) left.old →
+    ensures kept { (D : Amounts) → IsEffectiveDivisor graph.now (less D (at lost.now)) left.old →
         MatchOption result ⊤ (λ b. MatchBool b
-        (IsEffectiveForm graph.now (less D (at lost.now)) left.new) ⊤) }
+        (IsEffectiveDivisor graph.now (less D (at lost.now)) left.new) ⊤) }
 {
     if *visits == 0 {
         return None;
@@ -124,17 +124,17 @@ fn reduced_win(
     if left.get(place) == 0 && !more.is_reduced(graph, last) {
         return Some(true);
     }
-    if !carry(graph, left, last, place) {
+    if !move_chip(graph, left, last, place) {
         return Some(false);
     }
     if !reduced_win(graph, left, &more, place, visits)? {
         return Some(false);
     }
-    Some(carry(graph, left, place, last))
+    Some(move_chip(graph, left, place, last))
 }
 
 /// A trial with one dollar more at a place, from the last.
-fn with_more(lost: &EffectiveForm, place: usize, last: usize) -> EffectiveForm
+fn with_more(lost: &EffectiveDivisor, place: usize, last: usize) -> EffectiveDivisor
     requires place { place < lost.now.size }
     requires last { last < lost.now.size }
     requires lost { IsEffective lost.now.size (at lost.now) }
@@ -151,14 +151,14 @@ fn with_more(lost: &EffectiveForm, place: usize, last: usize) -> EffectiveForm
 
 /// Gives a dollar to one vertex, and takes one from another, as far as there are too few by firing. False if that can't be
 /// won.
-fn carry(graph: &Graph, left: &mut EffectiveForm, from: usize, to: usize) -> bool
+pub(crate) fn move_chip(graph: &Graph, left: &mut EffectiveDivisor, from: usize, to: usize) -> bool
     requires size { left.old.size ≡ graph.now.size }
     requires from { from < graph.now.size }
     requires to { to < graph.now.size }
     requires left { IsEffective graph.now.size (at left.old) }
     requires small { AddUpToFew graph.now.size (at left.old) }
     ensures { MatchBool result
-        (IsEffectiveForm graph.now (λ v. (at left.old v +ℤ only_at from (pos 1) v) -ℤ only_at to (pos 1) v)
+        (IsEffectiveDivisor graph.now (λ v. (at left.old v +ℤ only_at from (pos 1) v) -ℤ only_at to (pos 1) v)
         left.new)
         (¬ IsWinnable graph.now (λ v. (at left.old v +ℤ only_at from (pos 1) v) -ℤ only_at to (pos 1) v)) }
 {
@@ -168,7 +168,7 @@ fn carry(graph: &Graph, left: &mut EffectiveForm, from: usize, to: usize) -> boo
 }
 
 /// Whether each vertex from a place on, before the last, has at least as much left as the trial holds at the last place.
-fn is_rich(left: &EffectiveForm, lost: &EffectiveForm, place: usize, last: usize) -> bool
+fn is_rich(left: &EffectiveDivisor, lost: &EffectiveDivisor, place: usize, last: usize) -> bool
     requires left { last < left.now.size }
     requires lost { last < lost.now.size }
     ensures { MatchBool result

@@ -2,19 +2,7 @@
 --   held-may       who may burn is the same, where q burns
 --   whole_order    so its order is that of the amounts
 --   whole_reduced  and the amounts are reduced
-use Rattle.std.proofs.Common.{◌≡◌, ◌≢◌, ℕ, suc, ◌<◌, Bool, true, false, List, [], ◌∷◌, take, arith, ap, sym, ◌∙◌}
-use Rattle.std.specs.Prelude.{◌↔◌, slice_get, Some}
-use Rattle.std.proofs.lemmas.Bool.{both_ways}
-use Rattle.std.proofs.lemmas.Int.{ints}
-use Rattle.dg_theory.specs.Multigraph.{Multigraph}
-use Rattle.dg_theory.specs.Firing.{Amounts}
-use Rattle.dg_theory.specs.Burning.{among, MayBurn, BurnsNext, BurnsInOrder}
-use Rattle.dg_theory.specs.Reduced.{IsReduced}
-use Rattle.dg_theory.proofs.BurningOrder.{among_first, q_burns}
-use Rattle.dg_burn.specs.Fires.{dollars}
-use Rattle.dg_reduce.specs.declared.certificate.Burning.{Burning}
-use Rattle.dg_reduce.specs.Certificates.{IsBurningOrder}
-use Rattle.dg_reduce.specs.Burnings.{IsWhole, IsHeldOff}
+use Rattle.dg_reduce.proofs.Common.{◌≡◌, ◌≢◌, ℕ, suc, ◌<◌, Bool, true, false, List, [], ◌∷◌, take, arith, ap, sym, ◌∙◌, ◌↔◌, slice_get, Some, both_ways, ints, Multigraph, Amounts, among, MayBurn, BurnsNext, BurnsInOrder, IsReduced, among_first, q_burns, dollars, Burning, IsBurningOrder, IsWhole, IsHeldOff}
 
 pub held-may : (g : Multigraph) (q : ℕ) (D : Amounts) (held : List ℕ) (B : ℕ → Bool) (v : ℕ) →
     IsHeldOff g.size q D held → B q ≡ true → MayBurn g (dollars held) B v ↔ MayBurn g D B v

@@ -3,20 +3,7 @@
 --   repaying-start       no set has lent at first
 --   repaying-done        once v is out of debt, nobody is in debt
 --   repaying-lost        if the amounts are reduced for v while v is in debt, they can't be won
-use Rattle.std.proofs.Common.{◌≡◌, ℕ, ◌<◌, arith, refl, ap, ⊎_elim}
-use Rattle.std.proofs.lemmas.Int.{ints}
-use Rattle.std.proofs.lemmas.Bool.{cases_eq}
-use Rattle.std.proofs.Math.IntN.{pos}
-use Rattle.std.specs.Prelude.{◌≤ℤ◌, ◌<ℤ◌}
-use Rattle.dg_theory.specs.Multigraph.{Multigraph}
-use Rattle.dg_theory.specs.Firing.{HasNoDebtOff, AreEquivalent}
-use Rattle.dg_theory.specs.Play.{IsWinnable}
-use Rattle.dg_theory.specs.Reduced.{IsReduced}
-use Rattle.dg_theory.proofs.Equivalence.{equivalent-refl}
-use Rattle.dg_theory.proofs.Range.{IsLed, led_start}
-use Rattle.dg_theory.proofs.ReducedLaws.{reduced_decides}
-use Rattle.dg_chips.specs.Vector.{Vector, at}
-use Rattle.dg_reduce.specs.Effective.{IsEffectiveForm}
+use Rattle.dg_reduce.proofs.Common.{◌≡◌, ℕ, ◌<◌, arith, refl, ap, ⊎_elim, ints, cases_eq, pos, ◌≤ℤ◌, ◌<ℤ◌, Multigraph, HasNoDebtOff, AreEquivalent, IsWinnable, IsReduced, equivalent-refl, IsLed, led_start, reduced_decides, Vector, at, IsEffectiveDivisor}
 
 pub record IsRepaying (g : Multigraph) (v : ℕ) (x y : Vector) : Type 0 where
   pub size : y.size ≡ g.size
@@ -32,7 +19,7 @@ repaying-start g v x size no_debt = record {
 }
 
 pub repaying-done : (g : Multigraph) (v : ℕ) (x y : Vector) → IsRepaying g v x y → pos 0 ≤ℤ at y v →
-    IsEffectiveForm g (at x) y
+    IsEffectiveDivisor g (at x) y
 repaying-done g v x y state paid = record {
   size = state.size;
   effective = λ w below. ⊎_elim

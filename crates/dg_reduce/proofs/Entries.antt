@@ -1,10 +1,7 @@
 -- Entries of a script that are written one by one.
 --   few_set  if each is within a limit, and one more is, then each is once that is written
-use Rattle.std.proofs.Common.{ℕ, ◌<◌, ◌≤◌, List, length, slice_set, get_or-set_same, get_or-set_other, inl, inr, pos}
-use Rattle.std.specs.List.{slice_index_or}
-use Rattle.std.specs.Int.RustNames.{unsigned_abs}
-use Rattle.std.proofs.Math.IntN.{ℤ}
-use Rattle.std.proofs.lemmas.Bool.{cases_eq}
+use Rattle.dg_reduce.proofs.Common.{ℕ, ◌<◌, ◌≤◌, List, length, slice_set, get_or-set_same, get_or-set_other, inl, inr, slice_index_or, unsigned_abs, ℤ, cases_eq}
+use Rattle.std.proofs.Common.{pos}
 
 pub few_set : (xs : List ℤ) (v : ℕ) (x : ℤ) → v < length xs → unsigned_abs x ≤ 1000000000 →
     ((w : ℕ) → unsigned_abs (slice_index_or xs w (pos 0)) ≤ 1000000000) →

@@ -9,30 +9,7 @@
 --   once_more        after one more set has lent, such sets led there
 --   once_falls       the weight falls where one more set lends once
 --   once_limit       from amounts within 2^26 come amounts within 17 * 2^26
-use Rattle.std.proofs.Common.{◌≡◌, ℕ, zero, suc, ◌+◌, ◌*◌, ◌^◌, ◌<◌, ◌≤◌, Bool, true, false, arith, refl, sym, ap, ◌∙◌, ⊎_elim}
-use Rattle.std.specs.Prelude.{if◌then◌else◌}
-use Rattle.std.specs.Int.RustNames.{unsigned_abs}
-use Rattle.std.proofs.lemmas.Bool.{cases_Bool}
-use Rattle.std.proofs.lemmas.Int.{ints}
-use Rattle.std.proofs.Math.IntN.{pos, ◌-ℤ◌}
-use Rattle.dg_theory.specs.Sums.{total_below}
-use Rattle.dg_theory.specs.Multigraph.{Multigraph, edges_between, valence}
-use Rattle.dg_theory.specs.Firing.{Amounts, fired, gain, indicator, multiple, FiresTo}
-use Rattle.dg_theory.specs.Reduced.{edges_out}
-use Rattle.dg_theory.specs.Burning.{edges_into, FiresFreely}
-use Rattle.dg_theory.proofs.Absolute.{abs_within}
-use Rattle.dg_theory.proofs.Debts.{into-le-valence, out-le-valence}
-use Rattle.dg_theory.proofs.Equivalence.{equivalent-trans}
-use Rattle.dg_theory.proofs.FiringLaws.{fired-cong}
-use Rattle.dg_theory.proofs.Multiples.{multiple-once}
-use Rattle.dg_theory.proofs.Potential.{weights, levels_are_potential}
-use Rattle.dg_theory.proofs.Range.{led_step, led-cong, led_limit}
-use Rattle.dg_theory.proofs.Reach.{distance_from, distance_from-is}
-use Rattle.dg_theory.proofs.SetFiring.{gain-inside, gain-outside}
-use Rattle.dg_theory.proofs.Weights.{weight_of, weight_of-cong, weight_falls_by_set}
-use Rattle.dg_graph.specs.Graph.{IsGraph}
-use Rattle.dg_graph.proofs.Valences.{valence-outside}
-use Rattle.dg_chips.specs.Vector.{Vector, at}
+use Rattle.dg_reduce.proofs.Common.{if◌then◌else◌, ◌≡◌, ℕ, zero, suc, ◌+◌, ◌*◌, ◌^◌, ◌<◌, ◌≤◌, Bool, true, false, arith, refl, sym, ap, ◌∙◌, ⊎_elim, unsigned_abs, cases_Bool, ints, pos, ◌-ℤ◌, total_below, Multigraph, edges_between, valence, Amounts, fired, gain, indicator, multiple, FiresTo, edges_out, edges_into, FiresFreely, abs_within, into-le-valence, out-le-valence, equivalent-trans, fired-cong, multiple-once, weights, levels_are_potential, led_step, led-cong, led_limit, distance_from, distance_from-is, gain-inside, gain-outside, weight_of, weight_of-cong, weight_falls_by_set, IsGraph, valence-outside, Vector, at}
 use Rattle.dg_reduce.proofs.DebtSteps.{IsRepaying}
 
 apart : (b : Bool) (e : ℕ) → (if b then e else 0) + (if b then 0 else e) ≡ e

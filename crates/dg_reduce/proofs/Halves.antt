@@ -2,15 +2,7 @@
 --   half_bit     a bit of a byte is tested by its place
 --   lane_bit     so is a bit of the set, in the byte that holds it
 --   lane_other   what is left of a lane where the bit of its vertex is not set
-use Rattle.std.proofs.Common.{◌≡◌, ℕ, zero, suc, ◌+◌, ◌-◌, ◌*◌, ◌/◌, ◌%◌, ◌^◌, ◌<◌, ◌≤◌, Bool, true, false, not, cond, eqb, nat_eq, List, [], ◌∷◌, ◌++◌, map, length, replicate, min, arith, refl, sym, ap, ap₂, ◌∙◌, ⊎_elim, bit_and, w8}
-use Rattle.std.specs.Prelude.{slice_index, if◌then◌else◌}
-use Rattle.std.specs.Int.{bit_at}
-use Rattle.std.proofs.lemmas.Bool.{cases_lt, agree_below_at, eqb-true, ne_eqb}
-use Rattle.std.proofs.lemmas.List.{get_or_append_left, get_or-append_right}
-use Rattle.std.proofs.lemmas.Nat.{pow_pos}
-use Rattle.std.proofs.lemmas.Nat.Bits.{and_pow, bit_at-lt, bit_at_and, bit_at_ones, bit_at_cat_high}
-use Rattle.std.proofs.lemmas.Simd.{tops_compared, get_or-zip2, get_or-sel_l, length-replicate, get_or-replicate}
-use lib.Lanes.{zip2, sel_l, top}
+use Rattle.dg_reduce.proofs.Common.{if◌then◌else◌, ◌≡◌, ℕ, zero, suc, ◌+◌, ◌-◌, ◌*◌, ◌/◌, ◌%◌, ◌^◌, ◌<◌, ◌≤◌, Bool, true, false, not, cond, eqb, nat_eq, List, [], ◌∷◌, ◌++◌, map, length, replicate, min, arith, refl, sym, ap, ap₂, ◌∙◌, ⊎_elim, bit_and, w8, slice_index, bit_at, cases_lt, agree_below_at, eqb-true, ne_eqb, get_or_append_left, get_or-append_right, pow_pos, and_pow, bit_at-lt, bit_at_and, bit_at_ones, bit_at_cat_high, tops_compared, get_or-zip2, get_or-sel_l, length-replicate, get_or-replicate, zip2, sel_l, top}
 use Rattle.dg_graph.specs.Sets.{in_set}
 
 abbrev pub places : List ℕ

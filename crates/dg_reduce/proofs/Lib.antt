@@ -5,3 +5,4 @@ pub mod DebtSteps
 pub mod Entries
 pub mod FormSteps
 pub mod Halves
+pub mod Common

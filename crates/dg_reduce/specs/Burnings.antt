@@ -2,10 +2,10 @@
 --   IsWhole g q x     == all vertices burn from q, in the order of x, if they hold what x tells
 --   IsHeldOff n q D l == each of n vertices but q has as many dollars in D as l tells
 use Rattle.std.specs.Prelude.{◌≡◌, ◌≢◌, ℕ, ◌<◌, List}
-use Rattle.dg_theory.specs.Multigraph.{Multigraph}
-use Rattle.dg_theory.specs.Firing.{Amounts}
-use Rattle.dg_theory.specs.Reduced.{IsReduced}
 use Rattle.dg_burn.specs.Fires.{dollars}
+use Rattle.dg_theory.specs.Firing.{Amounts}
+use Rattle.dg_theory.specs.Multigraph.{Multigraph}
+use Rattle.dg_theory.specs.Reduced.{IsReduced}
 use Rattle.dg_reduce.specs.declared.certificate.Burning.{Burning}
 use Rattle.dg_reduce.specs.Certificates.{IsBurningOrder}
 

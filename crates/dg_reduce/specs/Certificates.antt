@@ -5,11 +5,11 @@
 --                                in the reduced divisor
 use Rattle.std.specs.Prelude.{◌≡◌, ℕ, ◌<◌, ◌≤◌, List, take}
 use Rattle.std.specs.List.{slice_index_or}
-use Rattle.dg_theory.specs.Multigraph.{Multigraph}
-use Rattle.dg_theory.specs.Firing.{Amounts}
-use Rattle.dg_theory.specs.Burning.{BurnsInOrder}
 use Rattle.dg_chips.specs.Vector.{at}
 use Rattle.dg_fallback.specs.Reductions.{IsReduction}
+use Rattle.dg_theory.specs.Burning.{BurnsInOrder}
+use Rattle.dg_theory.specs.Firing.{Amounts}
+use Rattle.dg_theory.specs.Multigraph.{Multigraph}
 use Rattle.dg_reduce.specs.declared.reducing.Certified.{Certified}
 
 pub record IsBurningOrder (g : Multigraph) (q : ℕ) (D : Amounts) (l : List ℕ) : Type 0 where

@@ -12,6 +12,7 @@ ghost use Rattle.dg_fallback.specs.declared.limits.TheConstants.{MAX_START};
 ghost use Rattle.dg_reduce.specs.Burnings.{IsWhole};
 
 use crate::certificate::Burning;
+use crate::effective_divisor::seen_by_burning;
 use crate::inverse_laplacian::{InverseLaplacian, Lending, lendings_once};
 use dg_burn::burn_counted;
 use dg_chips::{Script, Wide};
@@ -24,8 +25,9 @@ const MOST: i32 = 1_000_000_000;
 /// How often one who owes borrows: more than was ever seen to be needed.
 const PAYINGS: usize = 1000;
 
-/// How many times those who do not burn lend together: more than was ever seen to be needed.
-const BURNING_ROUNDS: usize = 200;
+/// How many times those who do not burn lend together. Most tables need a few rounds; a heavy part that hangs on one edge was
+/// seen to need 690.
+const BURNING_ROUNDS: usize = 2000;
 
 /// How many of these times they lend but once. Mostly all burn by then, and to compute how often they can lend costs more than
 /// it saves; if a heavy part hangs on few edges, it saves hundreds of rounds.
@@ -36,7 +38,7 @@ const MOST_TIMES: i32 = 1_000_000;
 
 /// Amounts off q, and lendings, near to those of a reduction. What q holds is not followed: no step looks at it.
 #[derive(Clone, Copy)]
-struct Near {
+struct GuessState {
     chips: [i32; 16],
     script: [i32; 16],
 }
@@ -101,7 +103,7 @@ fn guess_near(
     ensures burning { IfSome result.burning (λ x. IsWhole graph.now q x) }
 {
     let _size = graph.size();
-    let mut near = Near {
+    let mut near = GuessState {
         chips: *amounts,
         script: rounded(lendings),
     };
@@ -128,7 +130,7 @@ fn amounts_off(q: usize, chips: &Wide) -> [i32; 16]
 }
 
 /// Lets all lend so often.
-fn lend_all(size: usize, lending: &Lending, near: &mut Near)
+fn lend_all(size: usize, lending: &Lending, near: &mut GuessState)
     requires { size ≤ MAX_VERTICES }
 {
     for v in 0..size {
@@ -165,7 +167,7 @@ fn lend(chips: &mut [i32; 16], row: &[i32; 16], times: i32) {
 
 /// Lets the least who owes borrow until it owes no more, again and again. In any order of turns, each borrows as often in
 /// the end.
-fn pay(lending: &Lending, near: &mut Near) {
+fn pay(lending: &Lending, near: &mut GuessState) {
     for _ in 0..PAYINGS {
         if !is_owing(&near.chips) {
             return;
@@ -209,12 +211,12 @@ fn times_to_pay(chips: i32, valence: i32) -> i32 {
 }
 
 /// Lets those who do not burn lend together, again and again, until all burn: that burning is the result.
-fn burn_down(graph: &Graph, lending: &Lending, q: usize, near: &mut Near) -> Option<Burning>
+fn burn_down(graph: &Graph, lending: &Lending, q: usize, near: &mut GuessState) -> Option<Burning>
     requires { q < graph.now.size }
     ensures { IfSome result (λ x. IsWhole graph.now q x) }
 {
     for round in 0..BURNING_ROUNDS {
-        let held = held_by(&near.chips);
+        let held = seen_by_burning(&near.chips);
         let counted = burn_counted(graph, q, &held);
         if counted.burnt.unburnt == 0 {
             let order = counted.burnt.order;
@@ -244,17 +246,8 @@ fn most_times(set: u16, joined: &[u8; 16], chips: &[i32; 16]) -> i32 {
     most.max(1)
 }
 
-/// The amounts as far as burning looks at them.
-fn held_by(chips: &[i32; 16]) -> [u8; 16] {
-    let mut held = [0; 16];
-    for v in 0..16 {
-        held[v] = chips[v].clamp(0, 64) as u8;
-    }
-    held
-}
-
 /// Lets the vertices of a set lend together so many times; `joined` are the edges of each vertex to those that are not in it.
-fn fire(lending: &Lending, set: u16, joined: &[u8; 16], times: i32, near: &mut Near) {
+fn fire(lending: &Lending, set: u16, joined: &[u8; 16], times: i32, near: &mut GuessState) {
     for v in 0..16 {
         let lends = i32::from(contains(set, v));
         let out = i32::from(joined[v]);

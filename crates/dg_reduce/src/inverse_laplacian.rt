@@ -8,7 +8,7 @@ ghost use Rattle.std.specs.Prelude.{◌<◌, ◌≤◌};
 use dg_graph::{Graph, MAX_VERTICES};
 use std::simd::prelude::*;
 
-/// What is added to the lendings, so that those halfway between two numbers are rounded up, as they are reckoned here or there.
+/// What is added to the lendings, so that those halfway between two numbers are rounded up, as they are computed here or there.
 const A_BIT_MORE: f64 = 0.001;
 
 /// The inverse of a graph's Laplacian without the row and column of q, as far as fractions of 64 bits give it, with what else

@@ -3,14 +3,14 @@
 #![tactic(auto)]
 
 mod certificate;
-mod effective_form;
+mod effective_divisor;
 mod guessing;
 mod inverse_laplacian;
 mod reducing;
 
 pub use certificate::{Burning, is_solvent_off, order_by, order_if_reduced};
 pub use dg_fallback::{MAX_START, Reduced};
-pub use effective_form::EffectiveForm;
+pub use effective_divisor::EffectiveDivisor;
 pub use guessing::{Guessed, guess, guess_once};
 pub use inverse_laplacian::InverseLaplacian;
 pub use reducing::{Certified, certified_by, reduce, reduce_certified, reduce_wide};

@@ -1,4 +1,4 @@
-use Rattle.std.proofs.Common.{◌≡◌, ◌+◌, ◌*◌, ◌/◌, ◌≤◌, arith, sym}
+use Rattle.dg_rank.proofs.Common.{◌≡◌, ◌+◌, ◌*◌, ◌/◌, ◌≤◌, arith, sym}
 use Rattle.dg_rank.specs.Numbering.{trial_count}
 use Rattle.dg_rank.proofs.Pascal.{one_place, count_grows, count_next}
 use Rattle.dg_rank.proofs.counting.count.Goals as goal

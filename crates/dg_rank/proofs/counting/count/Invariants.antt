@@ -1,4 +1,4 @@
-use Rattle.std.proofs.Common.{◌≡◌, ◌≤◌}
+use Rattle.dg_rank.proofs.Common.{◌≡◌, ◌≤◌}
 use Rattle.dg_rank.specs.Numbering.{trial_count}
 use Rattle.dg_rank.proofs.counting.count.Given as goal
 

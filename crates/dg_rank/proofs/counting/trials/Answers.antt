@@ -1,5 +1,4 @@
-use Rattle.std.proofs.Common.{◌≡◌, ℕ, arith, inr, subst}
-use Rattle.dg_rank.specs.Trials.{AreCounted, AnyTrial}
+use Rattle.dg_rank.proofs.Common.{◌≡◌, ℕ, arith, inr, subst, AreCounted, AnyTrial}
 use Rattle.dg_rank.specs.Numbering.{trial_count, nth_trial}
 use Rattle.dg_rank.proofs.Numbering.{numbered}
 use Rattle.dg_rank.proofs.counting.trials.Goals as goal

@@ -1,14 +1,11 @@
-use Rattle.std.specs.Prelude.{◌↔◌}
-use Rattle.dg_theory.specs.Rank.{HasRankAtLeast}
-use Rattle.dg_theory.proofs.RankLaws.{equivalent-rank}
-use Rattle.dg_chips.specs.Vector.{at}
+use Rattle.dg_rank.proofs.Common.{◌↔◌, HasRankAtLeast, equivalent-rank, at}
 use Rattle.dg_rank.proofs.FirstLosses.{found_decides}
 use Rattle.dg_rank.proofs.DualTests.{decided}
 use Rattle.dg_rank.proofs.SmallAmounts.{unsettled_small}
 use Rattle.dg_rank.proofs.duals.all_win.Goals as goal
 
-pub told_by_reduced-requires-clause-range : goal.told_by_reduced-requires-clause-range
-told_by_reduced-requires-clause-range c =
+pub search_reduced-requires-clause-range : goal.search_reduced-requires-clause-range
+search_reduced-requires-clause-range c =
     unsettled_small c.args.graph.now 0 (at c.args.amounts.now) (at c.reduce_certified-chips.result.reduced.divisor) c.args.k
     c.requires.graph c.requires.limits.some c.requires.limits.small c.requires.unsettled
     (at c.reduce_certified-chips.result.reduced.script, c.reduce_certified-chips.ensures.reduction.led)

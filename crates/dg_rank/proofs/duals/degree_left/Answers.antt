@@ -1,8 +1,4 @@
-use Rattle.std.proofs.Common.{◌≤◌, ◌*◌, arith}
-use Rattle.std.specs.Int.RustNames.{unsigned_abs}
-use Rattle.std.proofs.lemmas.Int.{ints}
-use Rattle.dg_theory.specs.Firing.{degree}
-use Rattle.dg_chips.specs.Vector.{at}
+use Rattle.dg_rank.proofs.Common.{◌≤◌, ◌*◌, arith, unsigned_abs, ints, degree, at}
 use Rattle.dg_rank.proofs.SmallAmounts.{degree_small}
 use Rattle.dg_rank.proofs.duals.degree_left.Goals as goal
 

@@ -1,5 +1,4 @@
-use Rattle.std.proofs.Common.{◌<◌, arith}
-use Rattle.std.proofs.lemmas.Int.{ints}
+use Rattle.dg_rank.proofs.Common.{◌<◌, arith, ints}
 use Rattle.dg_rank.proofs.duals.dual_of.Goals as goal
 
 pub returns-clause-range : goal.returns-clause-range

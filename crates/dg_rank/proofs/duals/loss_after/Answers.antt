@@ -1,6 +1,4 @@
-use Rattle.std.proofs.Common.{◌≤◌, arith}
-use Rattle.dg_chips.specs.Vector.{at}
-use Rattle.dg_rank.specs.Losses.{AllWin}
+use Rattle.dg_rank.proofs.Common.{◌≤◌, arith, at, AllWin}
 use Rattle.dg_rank.proofs.PieceLosses.{found_after}
 use Rattle.dg_rank.proofs.duals.loss_after.Goals as goal
 

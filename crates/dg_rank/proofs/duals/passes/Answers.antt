@@ -1,15 +1,5 @@
-use Rattle.std.proofs.Common.{◌≡◌, ◌<◌, arith, refl}
-use Rattle.std.specs.Prelude.{◌≤ℤ◌, ◌<ℤ◌, min}
-use Rattle.std.proofs.lemmas.Int.{ints}
-use Rattle.std.proofs.Math.IntN.{pos, ◌+ℤ◌, ◌-ℤ◌}
-use Rattle.dg_theory.specs.Multigraph.{genus}
-use Rattle.dg_theory.specs.Firing.{degree}
-use Rattle.dg_theory.proofs.Equivalence.{equivalent-refl}
-use Rattle.dg_theory.proofs.RankLaws.{rich_rank, poor_rank, equivalent-rank}
-use Rattle.dg_theory.proofs.DualityLaws.{high_rank}
-use Rattle.dg_chips.specs.Vector.{at}
-use Rattle.dg_rank.specs.Limits.{IsPastLimits}
-use Rattle.dg_rank.specs.Ranks.{IsWithin}
+use Rattle.dg_rank.proofs.Common.{◌≡◌, ◌<◌, arith, refl, ◌≤ℤ◌, ◌<ℤ◌, min, ints, pos, ◌-ℤ◌, genus, degree, equivalent-refl, rich_rank, poor_rank, equivalent-rank, high_rank, at, IsPastLimits, IsWithin}
+use Rattle.std.proofs.Math.IntN.{◌+ℤ◌}
 use Rattle.dg_rank.proofs.DualTests.{decided, unsettled-cong, unsettled_dual, dual_passes, both_past, told_rich, told_poor, told_high, told_within}
 use Rattle.dg_rank.proofs.duals.passes.Goals.{then-rest-lt0-via-then-rest-lt0, then-rest-lt0-via-else-rest-lt0+then-from-genus}
 use Rattle.dg_rank.proofs.duals.passes.Goals as goal

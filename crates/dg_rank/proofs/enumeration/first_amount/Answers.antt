@@ -1,4 +1,4 @@
-use Rattle.std.proofs.Common.{◌≡◌, ◌-◌, arith}
+use Rattle.dg_rank.proofs.Common.{◌≡◌, ◌-◌, arith}
 use Rattle.dg_rank.specs.Numbering.{trial_count}
 use Rattle.dg_rank.proofs.Unranking.{sought_first, sought_more, sought_here, sought_last}
 use Rattle.dg_rank.proofs.enumeration.first_amount.Goals as goal

@@ -1,9 +1,4 @@
-use Rattle.std.proofs.Common.{◌≡◌, ℕ, ◌+◌, List, length, true, false, arith, refl, sym, subst, ◌∙◌}
-use Rattle.dg_theory.specs.Rank.{less}
-use Rattle.dg_chips.specs.Vector.{at}
-use Rattle.dg_reduce.specs.Effective.{IsEffectiveForm}
-use Rattle.dg_rank.specs.Divisors.{amounts_of}
-use Rattle.dg_rank.specs.Trials.{IsTrial}
+use Rattle.dg_rank.proofs.Common.{◌≡◌, ℕ, ◌+◌, List, length, true, false, arith, refl, sym, subst, ◌∙◌, less, at, IsEffectiveDivisor, amounts_of, IsTrial}
 use Rattle.dg_rank.specs.Numbering.{nth_trial}
 use Rattle.dg_rank.proofs.Counts.{limits_count}
 use Rattle.dg_rank.proofs.FirstLosses.{nth-trial}
@@ -146,7 +141,7 @@ returns-then-not-lose_elsewhere c =
     }
 
 form : (c : Else-not-lose_elsewhere) →
-    IsEffectiveForm c.args.graph.now
+    IsEffectiveDivisor c.args.graph.now
     (less (at c.args.chips.now) (amounts_of c.advance-moved.new.self)) c.lose_elsewhere.new.left
 form c =
     next_told true c.args.graph.now (at c.args.chips.now) c.trials.trial c.advance-moved.new.self c.advance-moved.result

@@ -1,5 +1,4 @@
-use Rattle.std.proofs.Common.{◌-◌}
-use Rattle.dg_chips.specs.Vector.{at}
+use Rattle.dg_rank.proofs.Common.{◌-◌, at}
 use Rattle.dg_rank.proofs.Search.{IsReached}
 use Rattle.dg_rank.proofs.first_loss.first_loss.Given as goal
 

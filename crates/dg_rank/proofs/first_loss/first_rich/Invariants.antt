@@ -1,5 +1,5 @@
-use Rattle.std.proofs.Common.{◌≡◌, ℕ, ◌+◌, ◌<◌, ◌≤◌, pos, ◌≤ℤ◌, length, slice_index}
-use Rattle.dg_chips.specs.Vector.{at}
+use Rattle.dg_rank.proofs.Common.{◌≡◌, ℕ, ◌+◌, ◌<◌, ◌≤◌, length, at}
+use Rattle.std.proofs.Common.{pos, ◌≤ℤ◌, slice_index}
 use Rattle.dg_rank.proofs.first_loss.first_rich.Given as goal
 
 abbrev pub invariant-loop-place : goal.invariant-loop-place

@@ -1,14 +1,4 @@
-use Rattle.std.proofs.Common.{◌≡◌, ℕ, ◌+◌, ◌<◌, ◌≤◌, ◌-◌, length, arith, sym, ap, ◌∙◌}
-use Rattle.std.specs.Prelude.{slice_index}
-use Rattle.std.proofs.lemmas.Int.{ints}
-use Rattle.std.proofs.lemmas.List.Sums.{get_or-le-sum_by}
-use Rattle.std.specs.List.{sum}
-use Rattle.std.specs.Int.RustNames.{unsigned_abs}
-use Rattle.std.proofs.Math.IntN.{pos}
-use Rattle.dg_theory.specs.Firing.{only_at}
-use Rattle.dg_theory.proofs.Plays.{only_at-other}
-use Rattle.dg_chips.specs.Vector.{at}
-use Rattle.dg_rank.specs.Trials.{IsTrial}
+use Rattle.dg_rank.proofs.Common.{◌≡◌, ℕ, ◌+◌, ◌<◌, ◌≤◌, ◌-◌, length, arith, sym, ap, ◌∙◌, slice_index, ints, get_or-le-sum_by, sum, unsigned_abs, pos, only_at, only_at-other, at, IsTrial}
 use Rattle.dg_rank.specs.Numbering.{trial_count}
 use Rattle.dg_rank.proofs.Counts.{limits_trial, some_trial}
 use Rattle.dg_rank.proofs.Elsewhere.{rich_small}

@@ -1,15 +1,4 @@
-use Rattle.std.proofs.Common.{◌≤◌, arith, refl, ◌∙◌}
-use Rattle.std.specs.Prelude.{◌≤ℤ◌}
-use Rattle.std.specs.Int.RustNames.{unsigned_abs}
-use Rattle.std.proofs.Math.IntN.{pos}
-use Rattle.std.proofs.lemmas.Int.{ints}
-use Rattle.dg_theory.specs.Firing.{AgreeOn, AreEquivalent}
-use Rattle.dg_theory.specs.Rank.{less}
-use Rattle.dg_theory.proofs.Equivalence.{equivalent-refl, equivalent-trans}
-use Rattle.dg_theory.proofs.ReducedLaws.{effective_from, reduced_decides}
-use Rattle.dg_chips.specs.Vector.{at}
-use Rattle.dg_reduce.specs.Effective.{IsEffectiveForm}
-use Rattle.dg_rank.specs.Divisors.{amounts_of}
+use Rattle.dg_rank.proofs.Common.{◌≤◌, arith, refl, ◌∙◌, ◌≤ℤ◌, unsigned_abs, pos, ints, AgreeOn, AreEquivalent, less, equivalent-refl, equivalent-trans, effective_from, reduced_decides, at, IsEffectiveDivisor, amounts_of}
 use Rattle.dg_rank.proofs.Elsewhere.{left_degree, left_small, form_kept, rich_small}
 use Rattle.dg_rank.proofs.first_loss.left_without.Goals as goal
 use Rattle.dg_rank.proofs.first_loss.left_without.Goals.{After-less, After-reduce_certified-left}
@@ -39,7 +28,7 @@ led c same = equivalent-trans c.args.graph.now _ (at c.less.result) _
 form : (c : After-reduce_certified-left) →
     AgreeOn c.args.graph.now.size (less (at c.args.chips.now) (amounts_of c.args.trial.now)) (at c.less.result) →
     pos 0 ≤ℤ at c.reduce_certified-left.result.reduced.divisor 0 →
-    IsEffectiveForm c.args.graph.now
+    IsEffectiveDivisor c.args.graph.now
     (less (at c.args.chips.now) (amounts_of c.args.trial.now)) c.reduce_certified-left.result.reduced.divisor
 form c same paid = record {
   size = c.reduce_certified-left.ensures.reduction.sizes.0;
@@ -69,7 +58,7 @@ returns-then-get-lt0 c = λ win.
 pub of-requires : goal.of-requires
 of-requires c = record {
   range = λ v inside.
-      let good : IsEffectiveForm c.args.graph.now
+      let good : IsEffectiveDivisor c.args.graph.now
       (less (at c.args.chips.now) (amounts_of c.args.trial.now)) c.reduce_certified-left.result.reduced.divisor =
       form (goal.at.of-requires c).After-reduce_certified-left (left (goal.at.of-requires c).After-less)
       (omega (arith, ints)) in

@@ -1,12 +1,5 @@
-use Rattle.std.proofs.Common.{◌≡◌, ℕ, ◌+◌, ◌-◌, ◌≤◌, arith}
-use Rattle.std.specs.Prelude.{◌≤ℤ◌}
-use Rattle.std.specs.Int.RustNames.{unsigned_abs}
-use Rattle.std.proofs.Math.IntN.{pos, ◌+ℤ◌, ◌-ℤ◌}
-use Rattle.std.proofs.lemmas.Int.{ints}
-use Rattle.dg_theory.specs.Firing.{degree, IsEffective, only_at}
-use Rattle.dg_theory.proofs.Giving.{win_more}
-use Rattle.dg_chips.specs.Vector.{at}
-use Rattle.dg_rank.specs.Moves.{after_move}
+use Rattle.dg_rank.proofs.Common.{◌≡◌, ℕ, ◌+◌, ◌-◌, ◌≤◌, arith, ◌≤ℤ◌, unsigned_abs, pos, ◌-ℤ◌, ints, degree, IsEffective, only_at, win_more, at, after_move}
+use Rattle.std.proofs.Math.IntN.{◌+ℤ◌}
 use Rattle.dg_rank.proofs.Elsewhere.{only_at-more, gift_stays, owed_at, rich_small, owed_small, degree-given, degree-taken, form_degree, repaid_told}
 use Rattle.dg_rank.proofs.first_loss.lose_elsewhere.Goals as goal
 use Rattle.dg_rank.proofs.first_loss.lose_elsewhere.Goals.{After-give, Else-not-repay}

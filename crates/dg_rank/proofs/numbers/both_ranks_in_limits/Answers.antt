@@ -1,7 +1,4 @@
-use Rattle.std.proofs.Common.{arith, inl, inr}
-use Rattle.std.proofs.lemmas.Int.{ints}
-use Rattle.dg_theory.specs.Rank.{less, canonical}
-use Rattle.dg_chips.specs.Vector.{at}
+use Rattle.dg_rank.proofs.Common.{arith, inl, inr, ints, less, canonical, at}
 use Rattle.dg_rank.proofs.RankByTests.{rank_before, rank_of_dual_before, in_limits, needs_too_many}
 use Rattle.dg_rank.proofs.numbers.both_ranks_in_limits.Goals as goal
 

@@ -1,15 +1,5 @@
-use Rattle.std.proofs.Common.{◌≡◌, arith, sym, subst, ⊎_elim}
-use Rattle.std.specs.Prelude.{◌≤ℤ◌}
-use Rattle.std.proofs.lemmas.Bool.{cases_eq}
-use Rattle.std.proofs.lemmas.Int.{ints}
-use Rattle.std.proofs.Math.IntN.{pos, ◌+ℤ◌}
-use Rattle.dg_theory.specs.Multigraph.{genus}
-use Rattle.dg_theory.specs.Firing.{degree}
-use Rattle.dg_theory.specs.Rank.{HasRankAtLeast}
-use Rattle.dg_theory.proofs.RankLaws.{rich_rank}
-use Rattle.dg_theory.proofs.DualityLaws.{natural}
-use Rattle.dg_chips.specs.Vector.{at}
-use Rattle.dg_rank.specs.Ranks.{IsUntold}
+use Rattle.dg_rank.proofs.Common.{◌≡◌, arith, sym, subst, ⊎_elim, ◌≤ℤ◌, cases_eq, ints, pos, genus, degree, HasRankAtLeast, rich_rank, natural, at, IsUntold}
+use Rattle.std.proofs.Math.IntN.{◌+ℤ◌}
 use Rattle.dg_rank.proofs.DualTests.{told_rich}
 use Rattle.dg_rank.proofs.RankByTests.{not_all_pass, tests_suffice}
 use Rattle.dg_rank.proofs.SmallAmounts.{genus_small, genus_least}

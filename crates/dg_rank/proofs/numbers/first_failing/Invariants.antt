@@ -1,7 +1,4 @@
-use Rattle.std.proofs.Common.{ℕ, ◌<◌}
-use Rattle.dg_theory.specs.Rank.{HasRankAtLeast}
-use Rattle.dg_chips.specs.Vector.{at}
-use Rattle.dg_rank.specs.Ranks.{IsUntold}
+use Rattle.dg_rank.proofs.Common.{ℕ, ◌<◌, HasRankAtLeast, at, IsUntold}
 use Rattle.dg_rank.proofs.numbers.first_failing.Given as goal
 
 abbrev pub invariant-loop-k : goal.invariant-loop-k

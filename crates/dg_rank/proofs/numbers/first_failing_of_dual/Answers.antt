@@ -1,8 +1,4 @@
-use Rattle.std.proofs.Common.{arith}
-use Rattle.dg_theory.specs.Multigraph.{genus}
-use Rattle.dg_theory.specs.Firing.{degree}
-use Rattle.dg_theory.proofs.RankNumbers.{not_rich}
-use Rattle.dg_chips.specs.Vector.{at}
+use Rattle.dg_rank.proofs.Common.{arith, genus, degree, not_rich, at}
 use Rattle.dg_rank.proofs.RankByTests.{fails_low}
 use Rattle.dg_rank.proofs.SmallAmounts.{genus_small, genus_least}
 use Rattle.dg_rank.proofs.TestDegrees.{dual_degree}

@@ -1,6 +1,4 @@
-use Rattle.std.proofs.Common.{arith}
-use Rattle.std.proofs.lemmas.Int.{ints}
-use Rattle.dg_chips.specs.Vector.{at}
+use Rattle.dg_rank.proofs.Common.{arith, ints, at}
 use Rattle.dg_rank.proofs.RankByTests.{rank_before, in_limits}
 use Rattle.dg_rank.proofs.numbers.rank.Goals as goal
 

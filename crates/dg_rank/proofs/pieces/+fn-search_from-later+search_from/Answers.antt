@@ -1,5 +1,4 @@
-use Rattle.std.proofs.Common.{rules, ◌+◌, ◌≤◌, ◌<◌, arith}
-use Rattle.dg_rank.specs.Pieces.{piece_start}
+use Rattle.dg_rank.proofs.Common.{rules, ◌+◌, ◌≤◌, ◌<◌, arith, piece_start}
 use Rattle.dg_rank.proofs.PieceLosses.{piece_within, piece_ends}
 use Rattle.dg_rank.proofs.pieces.+fn-search_from-later+search_from.Goals as goal
 

@@ -1,4 +1,4 @@
-use Rattle.std.proofs.Common.{◌+◌, ◌-◌, ◌*◌}
+use Rattle.dg_rank.proofs.Common.{◌+◌, ◌-◌, ◌*◌}
 use Rattle.dg_rank.proofs.pieces.+fn-search_from-later+search_from.Given as goal
 
 abbrev pub decreases-later : goal.decreases-later

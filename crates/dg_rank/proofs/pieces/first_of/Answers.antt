@@ -1,5 +1,5 @@
 use Rattle.dg_rank.proofs.PieceLosses.{partial_after}
-use Rattle.dg_chips.specs.Vector.{at}
+use Rattle.dg_rank.proofs.Common.{at}
 use Rattle.dg_rank.proofs.pieces.first_of.Goals as goal
 
 pub returns-in-Won : goal.returns-in-Won

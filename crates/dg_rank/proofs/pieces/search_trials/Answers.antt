@@ -1,7 +1,4 @@
-use Rattle.std.proofs.Common.{◌+◌, ◌≤◌, arith}
-use Rattle.dg_chips.specs.Vector.{at}
-use Rattle.dg_rank.specs.Losses.{IsFirstLossIn}
-use Rattle.dg_rank.specs.Pieces.{piece_start}
+use Rattle.dg_rank.proofs.Common.{◌+◌, ◌≤◌, arith, at, IsFirstLossIn, piece_start}
 use Rattle.dg_rank.proofs.PieceLosses.{piece_within, wins_both, loss_before, loss_after}
 use Rattle.dg_rank.proofs.pieces.search_trials.Goals as goal
 

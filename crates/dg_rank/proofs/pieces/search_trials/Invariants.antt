@@ -1,7 +1,4 @@
-use Rattle.std.proofs.Common.{◌-◌, ◌≤◌}
-use Rattle.dg_chips.specs.Vector.{at}
-use Rattle.dg_rank.specs.Losses.{AllWin}
-use Rattle.dg_rank.specs.Pieces.{piece_start}
+use Rattle.dg_rank.proofs.Common.{◌-◌, ◌≤◌, at, AllWin, piece_start}
 use Rattle.dg_rank.proofs.pieces.search_trials.Given as goal
 
 abbrev pub invariant-loop-from : goal.invariant-loop-from

@@ -1,14 +1,6 @@
-use Rattle.std.proofs.Common.{◌≡◌, ◌<◌, arith, refl}
-use Rattle.std.specs.Prelude.{◌≤ℤ◌, ◌<ℤ◌}
-use Rattle.std.proofs.lemmas.Int.{ints}
-use Rattle.std.proofs.Math.IntN.{pos, ◌+ℤ◌, ◌-ℤ◌}
-use Rattle.dg_theory.specs.Multigraph.{genus}
-use Rattle.dg_theory.specs.Firing.{degree}
-use Rattle.dg_theory.proofs.RankLaws.{rich_rank}
-use Rattle.dg_chips.specs.Vector.{at}
-use Rattle.dg_rank.specs.Limits.{IsWithinLimits}
+use Rattle.dg_rank.proofs.Common.{◌≡◌, ◌<◌, arith, refl, ◌≤ℤ◌, ◌<ℤ◌, ints, pos, ◌-ℤ◌, genus, degree, rich_rank, at, IsWithinLimits, IsFirstLossIn}
+use Rattle.std.proofs.Math.IntN.{◌+ℤ◌}
 use Rattle.dg_rank.specs.Numbering.{nth_trial}
-use Rattle.dg_rank.specs.Losses.{IsFirstLossIn}
 use Rattle.dg_rank.proofs.FirstLosses.{nth-trial, found_loss, some_number, poor_loss}
 use Rattle.dg_rank.proofs.ranks.settled.Goals as goal
 

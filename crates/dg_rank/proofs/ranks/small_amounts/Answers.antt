@@ -1,8 +1,4 @@
-use Rattle.std.proofs.Common.{arith}
-use Rattle.std.proofs.lemmas.Int.{ints}
-use Rattle.dg_theory.specs.Firing.{AreEquivalent}
-use Rattle.dg_theory.proofs.Equivalence.{equivalent-refl, equivalent-trans}
-use Rattle.dg_chips.specs.Vector.{at}
+use Rattle.dg_rank.proofs.Common.{arith, ints, AreEquivalent, equivalent-refl, equivalent-trans, at}
 use Rattle.dg_rank.proofs.SmallAmounts.{unsettled_small}
 use Rattle.dg_rank.proofs.ranks.small_amounts.Goals as goal
 use Rattle.dg_rank.proofs.ranks.small_amounts.Goals.{After-reduce_certified}

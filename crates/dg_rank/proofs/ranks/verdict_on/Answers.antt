@@ -1,7 +1,4 @@
-use Rattle.std.proofs.Common.{refl}
-use Rattle.dg_theory.proofs.LossLaws.{equivalent-loss}
-use Rattle.dg_theory.proofs.RankLaws.{equivalent-rank}
-use Rattle.dg_chips.specs.Vector.{at}
+use Rattle.dg_rank.proofs.Common.{refl, equivalent-loss, equivalent-rank, at}
 use Rattle.dg_rank.proofs.FirstLosses.{found_rank, found_loss}
 use Rattle.dg_rank.proofs.ranks.verdict_on.Goals as goal
 

@@ -1,16 +1,8 @@
-use Rattle.std.proofs.Common.{ℕ, ◌-◌, true, false, arith, refl, ◌∙◌}
-use Rattle.std.specs.Prelude.{◌≤ℤ◌, ⊤, MatchBool}
-use Rattle.std.proofs.lemmas.Int.{ints}
-use Rattle.std.proofs.Math.IntN.{pos, ◌+ℤ◌}
-use Rattle.dg_theory.specs.Firing.{Amounts, degree}
-use Rattle.dg_theory.specs.Play.{IsWinnable}
-use Rattle.dg_theory.specs.Rank.{less, HasRankAtLeast}
-use Rattle.dg_chips.specs.Vector.{at}
-use Rattle.dg_reduce.specs.Effective.{IsEffectiveForm}
-use Rattle.dg_rank.specs.Losses.{ReducedWin}
+use Rattle.dg_rank.proofs.Common.{ℕ, ◌-◌, true, false, arith, refl, ◌∙◌, ◌≤ℤ◌, ⊤, MatchBool, ints, pos, Amounts, degree, IsWinnable, less, HasRankAtLeast, at, IsEffectiveDivisor, ReducedWin}
+use Rattle.std.proofs.Math.IntN.{◌+ℤ◌}
 use Rattle.dg_rank.proofs.ReducedTrials.{IsShifted, rich_win, shifted_last, shifted_empty, shifted_solvent, shifted_degree, small_degree, carried, told_so, form_of_both, loses_rank, more_win, passed_win}
 use Rattle.dg_rank.proofs.reduced_trials.+reduced_win.Goals as goal
-use Rattle.dg_rank.proofs.reduced_trials.+reduced_win.Goals.{After-with_more-more, After-carry, Else-not-carry, Else-not-branch-2, After-carry-2}
+use Rattle.dg_rank.proofs.reduced_trials.+reduced_win.Goals.{After-with_more-more, Else-not-move_chip, Else-not-branch-2, After-move_chip-2}
 
 pub returns-then-is_rich-clause-told : goal.returns-then-is_rich-clause-told
 returns-then-is_rich-clause-told t c D k amount form =
@@ -54,12 +46,12 @@ shifted t c =
     }
 
 left_first : (t : ℕ) (c : After-with_more-more t) (D : Amounts) →
-    IsEffectiveForm c.args.graph.now (less D (at c.args.lost.now)) c.args.left.now →
-    IsEffectiveForm c.args.graph.now (less D (at c.args.lost.now)) c.reduced_win.new.left
+    IsEffectiveDivisor c.args.graph.now (less D (at c.args.lost.now)) c.args.left.now →
+    IsEffectiveDivisor c.args.graph.now (less D (at c.args.lost.now)) c.reduced_win.new.left
 left_first t c D form = rw c.if-not-branch.false at (c.in_ok-reduced_win.ensures.kept D form)
 
 known_first : (t : ℕ) (c : After-with_more-more t) →
-    IsEffectiveForm c.args.graph.now
+    IsEffectiveDivisor c.args.graph.now
     (less (λ v. at c.args.left.now v +ℤ at c.args.lost.now v) (at c.args.lost.now)) c.reduced_win.new.left
 known_first t c =
     left_first t c (λ v. at c.args.left.now v +ℤ at c.args.lost.now v)
@@ -89,39 +81,39 @@ returns-then-not-is_reduced-clause-told t c D k amount form =
     c.requires.lost
     (rw c.size-last.ensures.size at c.if-not-is_reduced.ensures))
 
-pub carry-requires-clause-size : goal.carry-requires-clause-size
-carry-requires-clause-size t c = (known_first t (goal.at.carry-requires-clause-size t c).After-with_more-more).size
+pub move_chip-requires-clause-size : goal.move_chip-requires-clause-size
+move_chip-requires-clause-size t c = (known_first t (goal.at.move_chip-requires-clause-size t c).After-with_more-more).size
 
-pub carry-requires-clause-left : goal.carry-requires-clause-left
-carry-requires-clause-left t c = (known_first t (goal.at.carry-requires-clause-left t c).After-with_more-more).effective
+pub move_chip-requires-clause-left : goal.move_chip-requires-clause-left
+move_chip-requires-clause-left t c = (known_first t (goal.at.move_chip-requires-clause-left t c).After-with_more-more).effective
 
-pub carry-requires-clause-small : goal.carry-requires-clause-small
-carry-requires-clause-small t c = small_first t (goal.at.carry-requires-clause-small t c).After-with_more-more
+pub move_chip-requires-clause-small : goal.move_chip-requires-clause-small
+move_chip-requires-clause-small t c = small_first t (goal.at.move_chip-requires-clause-small t c).After-with_more-more
 
-pub returns-then-not-carry-clause-told : goal.returns-then-not-carry-clause-told
-returns-then-not-carry-clause-told t c D k amount form =
+pub returns-then-not-move_chip-clause-told : goal.returns-then-not-move_chip-clause-told
+returns-then-not-move_chip-clause-told t c D k amount form =
     let g = c.args.graph.now in
     let E = at c.args.lost.now in
     let E' = at c.with_more-more.result in
-    let d = (goal.at.returns-then-not-carry-clause-told t c).After-with_more-more in
+    let d = (goal.at.returns-then-not-move_chip-clause-told t c).After-with_more-more in
     let s : IsShifted g c.args.place E E' = shifted t d in
     loses_rank g D E' k (shifted_solvent g c.args.place E E' s c.requires.lost)
     (shifted_degree g c.args.place E E' s ∙ amount)
-    (carried false g D E E' c.reduced_win.new.left c.carry.new.left (c.size-last.result - 1) c.args.place
-    (left_first t d D form) c.with_more-more.ensures.moved c.if-not-carry.ensures)
+    (carried false g D E E' c.reduced_win.new.left c.move_chip.new.left (c.size-last.result - 1) c.args.place
+    (left_first t d D form) c.with_more-more.ensures.moved c.if-not-move_chip.ensures)
 
-left_second : (t : ℕ) (c : Else-not-carry t) (D : Amounts) →
-    IsEffectiveForm c.args.graph.now (less D (at c.args.lost.now)) c.args.left.now →
-    IsEffectiveForm c.args.graph.now (less D (at c.with_more-more.result)) c.carry.new.left
+left_second : (t : ℕ) (c : Else-not-move_chip t) (D : Amounts) →
+    IsEffectiveDivisor c.args.graph.now (less D (at c.args.lost.now)) c.args.left.now →
+    IsEffectiveDivisor c.args.graph.now (less D (at c.with_more-more.result)) c.move_chip.new.left
 left_second t c D form =
     carried true c.args.graph.now D (at c.args.lost.now) (at c.with_more-more.result) c.reduced_win.new.left
-    c.carry.new.left (c.size-last.result - 1) c.args.place
-    (left_first t (goal.at.Else-not-carry t c).After-with_more-more D form) c.with_more-more.ensures.moved
-    c.if-not-carry.ensures
+    c.move_chip.new.left (c.size-last.result - 1) c.args.place
+    (left_first t (goal.at.Else-not-move_chip t c).After-with_more-more D form) c.with_more-more.ensures.moved
+    c.if-not-move_chip.ensures
 
-known_second : (t : ℕ) (c : Else-not-carry t) →
-    IsEffectiveForm c.args.graph.now
-    (less (λ v. at c.args.left.now v +ℤ at c.args.lost.now v) (at c.with_more-more.result)) c.carry.new.left
+known_second : (t : ℕ) (c : Else-not-move_chip t) →
+    IsEffectiveDivisor c.args.graph.now
+    (less (λ v. at c.args.left.now v +ℤ at c.args.lost.now v) (at c.with_more-more.result)) c.move_chip.new.left
 known_second t c =
     left_second t c (λ v. at c.args.left.now v +ℤ at c.args.lost.now v)
     (form_of_both c.args.graph.now (at c.args.lost.now) c.args.left.now c.requires.size c.requires.left)
@@ -132,7 +124,7 @@ reduced_win-requires-2 t c =
     let E = at c.args.lost.now in
     let E' = at c.with_more-more.result in
     let s : IsShifted g c.args.place E E' = shifted t (goal.at.reduced_win-requires-2 t c).After-with_more-more in
-    let form = known_second t (goal.at.reduced_win-requires-2 t c).Else-not-carry in (
+    let form = known_second t (goal.at.reduced_win-requires-2 t c).Else-not-move_chip in (
       omega (arith, ints, shifted_last g c.args.place E E' s, s.some),
       (
         form.size,
@@ -151,7 +143,7 @@ reduced_win-requires-2 t c =
                     omega (
                       arith,
                       ints,
-                      small_degree g E E' c.args.left.now c.carry.new.left
+                      small_degree g E E' c.args.left.now c.move_chip.new.left
                           c.size-last.ensures.graph.multigraph (shifted_degree g c.args.place E E' s) form,
                       c.requires.small,
                     ),
@@ -170,32 +162,32 @@ returns-then-not-branch-2-clause-told t c D k amount form =
     let s = shifted t d.After-with_more-more in
     rw c.if-not-branch-2.true at (c.in_ok-reduced_win-2.ensures.told D k
     (shifted_degree c.args.graph.now c.args.place (at c.args.lost.now) (at c.with_more-more.result) s ∙ amount)
-    (left_second t d.Else-not-carry D form))
+    (left_second t d.Else-not-move_chip D form))
 
 left_third : (t : ℕ) (c : Else-not-branch-2 t) (D : Amounts) →
-    IsEffectiveForm c.args.graph.now (less D (at c.args.lost.now)) c.args.left.now →
-    IsEffectiveForm c.args.graph.now (less D (at c.with_more-more.result)) c.reduced_win-2.new.left
+    IsEffectiveDivisor c.args.graph.now (less D (at c.args.lost.now)) c.args.left.now →
+    IsEffectiveDivisor c.args.graph.now (less D (at c.with_more-more.result)) c.reduced_win-2.new.left
 left_third t c D form =
     rw c.if-not-branch-2.false at (c.in_ok-reduced_win-2.ensures.kept D
-    (left_second t (goal.at.Else-not-branch-2 t c).Else-not-carry D form))
+    (left_second t (goal.at.Else-not-branch-2 t c).Else-not-move_chip D form))
 
 known_third : (t : ℕ) (c : Else-not-branch-2 t) →
-    IsEffectiveForm c.args.graph.now
+    IsEffectiveDivisor c.args.graph.now
     (less (λ v. at c.args.left.now v +ℤ at c.args.lost.now v) (at c.with_more-more.result)) c.reduced_win-2.new.left
 known_third t c =
     left_third t c (λ v. at c.args.left.now v +ℤ at c.args.lost.now v)
     (form_of_both c.args.graph.now (at c.args.lost.now) c.args.left.now c.requires.size c.requires.left)
 
-pub carry-requires-2-clause-size : goal.carry-requires-2-clause-size
-carry-requires-2-clause-size t c = (known_third t (goal.at.carry-requires-2-clause-size t c).Else-not-branch-2).size
+pub move_chip-requires-2-clause-size : goal.move_chip-requires-2-clause-size
+move_chip-requires-2-clause-size t c = (known_third t (goal.at.move_chip-requires-2-clause-size t c).Else-not-branch-2).size
 
-pub carry-requires-2-clause-left : goal.carry-requires-2-clause-left
-carry-requires-2-clause-left t c =
-    (known_third t (goal.at.carry-requires-2-clause-left t c).Else-not-branch-2).effective
+pub move_chip-requires-2-clause-left : goal.move_chip-requires-2-clause-left
+move_chip-requires-2-clause-left t c =
+    (known_third t (goal.at.move_chip-requires-2-clause-left t c).Else-not-branch-2).effective
 
-pub carry-requires-2-clause-small : goal.carry-requires-2-clause-small
-carry-requires-2-clause-small t c =
-    let d = goal.at.carry-requires-2-clause-small t c in
+pub move_chip-requires-2-clause-small : goal.move_chip-requires-2-clause-small
+move_chip-requires-2-clause-small t c =
+    let d = goal.at.move_chip-requires-2-clause-small t c in
     let s = shifted t d.After-with_more-more in
     omega (
       arith,
@@ -208,15 +200,15 @@ carry-requires-2-clause-small t c =
     )
 
 -- the dollar is carried back
-back : (t : ℕ) (c : After-carry-2 t) (D : Amounts) →
-    IsEffectiveForm c.args.graph.now (less D (at c.args.lost.now)) c.args.left.now →
-    MatchBool c.carry-2.result (IsEffectiveForm c.args.graph.now (less D (at c.args.lost.now)) c.carry-2.new.left)
+back : (t : ℕ) (c : After-move_chip-2 t) (D : Amounts) →
+    IsEffectiveDivisor c.args.graph.now (less D (at c.args.lost.now)) c.args.left.now →
+    MatchBool c.move_chip-2.result (IsEffectiveDivisor c.args.graph.now (less D (at c.args.lost.now)) c.move_chip-2.new.left)
     (¬ IsWinnable c.args.graph.now (less D (at c.args.lost.now)))
 back t c D form =
-    carried c.carry-2.result c.args.graph.now D (at c.with_more-more.result) (at c.args.lost.now)
-    c.reduced_win-2.new.left c.carry-2.new.left c.args.place (c.size-last.result - 1)
-    (left_third t (goal.at.After-carry-2 t c).Else-not-branch-2 D form)
-    (λ v. omega (arith, ints, c.with_more-more.ensures.moved v)) c.carry-2.ensures
+    carried c.move_chip-2.result c.args.graph.now D (at c.with_more-more.result) (at c.args.lost.now)
+    c.reduced_win-2.new.left c.move_chip-2.new.left c.args.place (c.size-last.result - 1)
+    (left_third t (goal.at.After-move_chip-2 t c).Else-not-branch-2 D form)
+    (λ v. omega (arith, ints, c.with_more-more.ensures.moved v)) c.move_chip-2.ensures
 
 pub returns-clause-told : goal.returns-clause-told
 returns-clause-told t c D k amount form =
@@ -225,20 +217,20 @@ returns-clause-told t c D k amount form =
     let E' = at c.with_more-more.result in
     let d = goal.at.returns-clause-told t c in
     let s : IsShifted g c.args.place E E' = shifted t d.After-with_more-more in
-    told_so c.carry-2.result (IsEffectiveForm g (less D E) c.carry-2.new.left) (¬ IsWinnable g (less D E))
+    told_so c.move_chip-2.result (IsEffectiveDivisor g (less D E) c.move_chip-2.new.left) (¬ IsWinnable g (less D E))
     (ReducedWin g D k c.args.place E) (¬ HasRankAtLeast g D k)
     (λ _. more_win g D E E' k c.args.place s c.requires.empty
     (rw c.if-not-branch.false at (c.in_ok-reduced_win.ensures.told D k amount form))
     (rw c.if-not-branch-2.false at (c.in_ok-reduced_win-2.ensures.told D k
     (shifted_degree g c.args.place E E' s ∙ amount)
-    (left_second t d.Else-not-carry D form))))
+    (left_second t d.Else-not-move_chip D form))))
     (loses_rank g D E k c.requires.lost amount)
-    (back t d.After-carry-2 D form)
+    (back t d.After-move_chip-2 D form)
 
 pub returns-clause-kept : goal.returns-clause-kept
 returns-clause-kept t c D form =
     let g = c.args.graph.now in
     let E = at c.args.lost.now in
-    told_so c.carry-2.result (IsEffectiveForm g (less D E) c.carry-2.new.left) (¬ IsWinnable g (less D E))
-    (IsEffectiveForm g (less D E) c.carry-2.new.left) ⊤ (λ kept. kept) (λ _. tt)
-    (back t (goal.at.returns-clause-kept t c).After-carry-2 D form)
+    told_so c.move_chip-2.result (IsEffectiveDivisor g (less D E) c.move_chip-2.new.left) (¬ IsWinnable g (less D E))
+    (IsEffectiveDivisor g (less D E) c.move_chip-2.new.left) ⊤ (λ kept. kept) (λ _. tt)
+    (back t (goal.at.returns-clause-kept t c).After-move_chip-2 D form)

@@ -1,6 +1,4 @@
-use Rattle.std.proofs.Common.{◌+◌, ◌-◌}
-use Rattle.std.specs.Int.RustNames.{unsigned_abs}
-use Rattle.dg_chips.specs.Vector.{at}
+use Rattle.dg_rank.proofs.Common.{◌+◌, ◌-◌, unsigned_abs, at}
 use Rattle.dg_rank.proofs.reduced_trials.+reduced_win.Given as goal
 
 abbrev pub decreases-reduced_win : goal.decreases-reduced_win

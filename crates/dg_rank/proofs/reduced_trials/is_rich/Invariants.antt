@@ -1,6 +1,4 @@
-use Rattle.std.proofs.Common.{ℕ, ◌<◌, ◌≤◌}
-use Rattle.std.specs.Prelude.{◌≤ℤ◌}
-use Rattle.dg_chips.specs.Vector.{at}
+use Rattle.dg_rank.proofs.Common.{ℕ, ◌<◌, ◌≤◌, ◌≤ℤ◌, at}
 use Rattle.dg_rank.proofs.reduced_trials.is_rich.Given as goal
 
 abbrev pub invariant-loop-v : goal.invariant-loop-v

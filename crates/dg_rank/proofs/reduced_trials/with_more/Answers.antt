@@ -1,6 +1,4 @@
-use Rattle.std.proofs.Common.{◌+◌, ◌≤◌, arith}
-use Rattle.std.specs.Int.RustNames.{unsigned_abs}
-use Rattle.dg_chips.specs.Vector.{at}
+use Rattle.dg_rank.proofs.Common.{◌+◌, ◌≤◌, arith, unsigned_abs, at}
 use Rattle.dg_rank.proofs.Elsewhere.{rich_small, owed_small}
 use Rattle.dg_rank.proofs.reduced_trials.with_more.Goals as goal
 

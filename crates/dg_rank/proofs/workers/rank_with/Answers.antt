@@ -1,16 +1,10 @@
-use Rattle.std.proofs.Common.{arith, refl}
-use Rattle.dg_theory.specs.Rank.{HasRankAtLeast}
-use Rattle.dg_theory.proofs.RankLaws.{equivalent-rank}
-use Rattle.dg_chips.specs.Vector.{at}
-use Rattle.dg_rank.specs.Limits.{IsWithinLimits}
-use Rattle.dg_rank.specs.Losses.{IsFirstLossIn}
-use Rattle.dg_verdict.specs.declared.rank_verdict.RankVerdict.TheVariants.{AtLeast}
+use Rattle.dg_rank.proofs.Common.{arith, refl, HasRankAtLeast, equivalent-rank, at, IsWithinLimits, IsFirstLossIn, AtLeast}
 use Rattle.dg_rank.proofs.FirstLosses.{found_trial, loss-trial, found_rank}
 use Rattle.dg_rank.proofs.Gated.{known_verdict}
 use Rattle.dg_rank.proofs.workers.rank_with.Goals as goal
 
-pub told_before-requires-clause-range : goal.told_before-requires-clause-range
-told_before-requires-clause-range g c =
+pub search_cheaply-requires-clause-range : goal.search_cheaply-requires-clause-range
+search_cheaply-requires-clause-range g c =
     c.small_amounts-chips.ensures.small
 
 pub verdict_on-verdict-requires : goal.verdict_on-verdict-requires
@@ -18,7 +12,7 @@ verdict_on-verdict-requires g c =
     let limits : IsWithinLimits c.args.graph.now.size c.args.k c.in-Some.count =
     rw c.size-size.ensures.size at c.in-Some.ensures in
     let loss : IsFirstLossIn c.args.graph.now (at c.small_amounts-chips.result) c.args.k 0 c.in-Some.count c.in-Lost.trial =
-    rw c.in-Lost.is at c.told_before.ensures in (
+    rw c.in-Lost.is at c.search_cheaply.ensures in (
       c.args.graph.now.size,
       c.in-Some.count,
       limits,
@@ -31,7 +25,7 @@ returns-in-Lost g c =
     let limits : IsWithinLimits c.args.graph.now.size c.args.k c.in-Some.count =
     rw c.size-size.ensures.size at c.in-Some.ensures in
     let loss : IsFirstLossIn c.args.graph.now (at c.small_amounts-chips.result) c.args.k 0 c.in-Some.count c.in-Lost.trial =
-    rw c.in-Lost.is at c.told_before.ensures in
+    rw c.in-Lost.is at c.search_cheaply.ensures in
     known_verdict c.args.graph.now (at c.args.divisor.now) c.args.k c.args.workers c.verdict_on-verdict.result
     c.after_the_gate-in-Lost.result (c.in-Some.count, limits) (omega arith, c.if-workers-gt-MAX_WORKERS.false)
     (c.verdict_on-verdict.ensures c.args.graph.now (at c.args.divisor.now)
@@ -45,7 +39,7 @@ returns-in-Won g c =
     rw c.size-size.ensures.size at c.in-Some.ensures in
     let rank : HasRankAtLeast c.args.graph.now (at c.small_amounts-chips.result) c.args.k =
     found_rank c.args.graph.now (at c.small_amounts-chips.result) c.args.k c.in-Some.count limits
-    (rw c.in-Won.is at c.told_before.ensures) in
+    (rw c.in-Won.is at c.search_cheaply.ensures) in
     known_verdict c.args.graph.now (at c.args.divisor.now) c.args.k c.args.workers (AtLeast c.args.k)
     c.after_the_gate-in-Won.result (c.in-Some.count, limits) (omega arith, c.if-workers-gt-MAX_WORKERS.false) (
       refl,

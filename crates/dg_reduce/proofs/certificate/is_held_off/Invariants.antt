@@ -1,5 +1,4 @@
-use Rattle.dg_chips.specs.Vector.{at}
-use Rattle.dg_reduce.specs.Burnings.{IsHeldOff}
+use Rattle.dg_reduce.proofs.Common.{at, IsHeldOff}
 use Rattle.dg_reduce.proofs.certificate.is_held_off.Given as goal
 
 abbrev pub invariant-loop-v : goal.invariant-loop-v

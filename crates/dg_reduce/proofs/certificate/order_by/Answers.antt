@@ -1,6 +1,4 @@
-use Rattle.std.proofs.Common.{rules}
-use Rattle.dg_chips.specs.Vector.{at}
-use Rattle.dg_reduce.specs.Burnings.{IsWhole, IsHeldOff}
+use Rattle.dg_reduce.proofs.Common.{rules, at, IsWhole, IsHeldOff}
 use Rattle.dg_reduce.proofs.Burnings.{whole_order, whole_reduced}
 use Rattle.dg_reduce.proofs.certificate.order_by.Goals as goal
 

@@ -1,6 +1,4 @@
-use Rattle.std.proofs.Common.{◌≡◌, arith}
-use Rattle.std.proofs.lemmas.Int.{ints}
-use Rattle.dg_burn.proofs.Told.{none_reduced}
+use Rattle.dg_reduce.proofs.Common.{◌≡◌, arith, ints, none_reduced}
 use Rattle.dg_reduce.proofs.guessing.burn_down.Goals as goal
 
 pub returns-then-counted-eq0 : goal.returns-then-counted-eq0

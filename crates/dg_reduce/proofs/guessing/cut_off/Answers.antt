@@ -1,5 +1,4 @@
-use Rattle.std.proofs.Common.{◌<◌, length, length-set, arith, ◌∙◌}
-use Rattle.std.proofs.lemmas.Int.{ints}
+use Rattle.dg_reduce.proofs.Common.{◌<◌, length, length-set, arith, ◌∙◌, ints}
 use Rattle.dg_reduce.proofs.Entries.{few_set}
 use Rattle.dg_reduce.proofs.guessing.cut_off.Goals as goal
 

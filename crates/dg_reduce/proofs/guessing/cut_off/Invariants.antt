@@ -1,6 +1,5 @@
-use Rattle.std.proofs.Common.{◌≡◌, ℕ, ◌≤◌, length, pos}
-use Rattle.std.specs.List.{slice_index_or}
-use Rattle.std.specs.Int.RustNames.{unsigned_abs}
+use Rattle.dg_reduce.proofs.Common.{◌≡◌, ℕ, ◌≤◌, length, slice_index_or, unsigned_abs}
+use Rattle.std.proofs.Common.{pos}
 use Rattle.dg_reduce.proofs.guessing.cut_off.Given as goal
 
 abbrev pub invariant-loop-v : goal.invariant-loop-v

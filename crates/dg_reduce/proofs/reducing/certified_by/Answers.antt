@@ -1,6 +1,4 @@
-use Rattle.std.proofs.Common.{arith}
-use Rattle.dg_chips.specs.Vector.{at}
-use Rattle.dg_fallback.proofs.Outcome.{reduction_within}
+use Rattle.dg_reduce.proofs.Common.{arith, at, reduction_within}
 use Rattle.dg_reduce.proofs.reducing.certified_by.Goals as goal
 
 pub returns : goal.returns

@@ -1,8 +1,4 @@
-use Rattle.std.proofs.Common.{arith, ap, ◌∙◌}
-use Rattle.std.proofs.Math.IntN.{ℤ, ◌+ℤ◌}
-use Rattle.dg_theory.specs.Firing.{gain}
-use Rattle.dg_chips.specs.Vector.{at}
-use Rattle.dg_fallback.proofs.Outcome.{reduction_within}
+use Rattle.dg_reduce.proofs.Common.{arith, ap, ◌∙◌, ℤ, ◌+ℤ◌, gain, at, reduction_within}
 use Rattle.dg_reduce.proofs.reducing.reduce.Goals as goal
 
 pub returns : goal.returns

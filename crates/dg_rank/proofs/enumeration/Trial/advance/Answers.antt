@@ -1,5 +1,4 @@
-use Rattle.std.proofs.Common.{ℕ, ◌-◌, arith}
-use Rattle.std.proofs.lemmas.List.Sums.{get_or-le-sum_by}
+use Rattle.dg_rank.proofs.Common.{ℕ, ◌-◌, arith, get_or-le-sum_by}
 use Rattle.dg_rank.proofs.Walk.{IsLastHeld, room, last_held, following, moved_as_told}
 use Rattle.dg_rank.proofs.enumeration.Trial.advance.Goals as goal
 use Rattle.dg_rank.proofs.enumeration.Trial.advance.Goals.{After-last_held-place}

@@ -1,4 +1,5 @@
-use Rattle.std.proofs.Common.{◌≡◌, ℕ, ◌≤◌, slice_index, length}
+use Rattle.dg_rank.proofs.Common.{◌≡◌, ℕ, ◌≤◌, length}
+use Rattle.std.proofs.Common.{slice_index}
 use Rattle.dg_rank.proofs.enumeration.Trial.last_held.Given as goal
 
 abbrev pub invariant-loop-place : goal.invariant-loop-place

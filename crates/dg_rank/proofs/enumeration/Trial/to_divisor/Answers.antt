@@ -1,10 +1,5 @@
-use Rattle.std.proofs.Common.{◌≡◌, ℕ, ◌<◌, ◌≤◌, length, length-set, take, slice_index, slice_index_or, arith, ◌∙◌}
-use Rattle.std.specs.List.{sum}
-use Rattle.std.proofs.lemmas.Int.{ints}
-use Rattle.std.proofs.lemmas.List.{get_or-take, length-take-le}
-use Rattle.std.proofs.lemmas.List.Sums.{get_or-le-sum_by}
-use Rattle.std.proofs.Math.IntN.{pos}
-use Rattle.dg_chips.proofs.VectorLaws.{filled-set}
+use Rattle.dg_rank.proofs.Common.{◌≡◌, ℕ, ◌<◌, ◌≤◌, length, length-set, take, arith, ◌∙◌, sum, ints, get_or-take, length-take-le, get_or-le-sum_by, pos, filled-set}
+use Rattle.std.proofs.Common.{slice_index, slice_index_or}
 use Rattle.dg_rank.proofs.enumeration.Trial.to_divisor.Goals as goal
 
 pub loop-v-preserved : goal.loop-v-preserved

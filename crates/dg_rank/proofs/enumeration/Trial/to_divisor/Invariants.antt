@@ -1,6 +1,5 @@
-use Rattle.std.proofs.Common.{◌≡◌, ℕ, ◌<◌, length, slice_index}
-use Rattle.std.specs.List.{slice_index_or}
-use Rattle.std.proofs.Math.IntN.{pos}
+use Rattle.dg_rank.proofs.Common.{◌≡◌, ℕ, ◌<◌, length, slice_index_or, pos}
+use Rattle.std.proofs.Common.{slice_index}
 use Rattle.dg_rank.proofs.enumeration.Trial.to_divisor.Given as goal
 
 abbrev pub invariant-loop-v : goal.invariant-loop-v

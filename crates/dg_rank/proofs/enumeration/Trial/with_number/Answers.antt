@@ -1,5 +1,4 @@
-use Rattle.std.proofs.Common.{◌≡◌, ◌-◌, ◌<◌, ℕ, arith, subst, sym, ◌∙◌, refl, set, take, ◌++◌}
-use Rattle.std.proofs.lemmas.List.{length-take-le}
+use Rattle.dg_rank.proofs.Common.{◌≡◌, ◌-◌, ◌<◌, ℕ, arith, subst, sym, ◌∙◌, refl, set, take, ◌++◌, length-take-le}
 use Rattle.dg_rank.specs.Numbering.{trial_count, nth_trial}
 use Rattle.dg_rank.proofs.Counts.{limits_count}
 use Rattle.dg_rank.proofs.Unranking.{last_amount}

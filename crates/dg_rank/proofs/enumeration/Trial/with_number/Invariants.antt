@@ -1,4 +1,4 @@
-use Rattle.std.proofs.Common.{◌≡◌, ◌-◌, ◌<◌, ◌≤◌, ◌++◌, length, take}
+use Rattle.dg_rank.proofs.Common.{◌≡◌, ◌-◌, ◌<◌, ◌≤◌, ◌++◌, length, take}
 use Rattle.dg_rank.specs.Numbering.{trial_count, nth_trial}
 use Rattle.dg_rank.proofs.enumeration.Trial.with_number.Given as goal
 

@@ -1,0 +1,288 @@
+//! Amounts without debts, from which dollars are taken.
+
+ghost use Rattle.std.specs.Prelude.{◌≡◌, ℕ, ◌<◌, ◌≤◌, ◌^◌, ◌-◌, pos, ◌+ℤ◌, ◌-ℤ◌, if◌then◌else◌, MatchBool, MatchOption, slice_index};
+ghost use Rattle.std.specs.List.{slice_index_or};
+ghost use Rattle.std.specs.Int.RustNames.{unsigned_abs};
+ghost use Rattle.dg_theory.specs.Multigraph.{valence};
+ghost use Rattle.dg_theory.specs.Firing.{only_at, indicator, gain, FiresTo, IsEffective, HasNoDebtOff};
+ghost use Rattle.dg_theory.specs.Play.{IsWinnable};
+ghost use Rattle.dg_theory.specs.Reduced.{edges_out, IsReduced};
+ghost use Rattle.dg_graph.specs.declared.limits.TheConstants.{MAX_VERTICES};
+ghost use Rattle.dg_graph.specs.Sets.{in_set};
+ghost use Rattle.dg_chips.specs.Vector.{at};
+ghost use Rattle.dg_burn.specs.Fires.{IsHeld};
+ghost use Rattle.dg_reduce.specs.Effective.{IsEffectiveDivisor};
+ghost use Rattle.dg_reduce.specs.Rests.{IsRest};
+
+use dg_burn::{Counted, burn_counted};
+use dg_chips::Wide;
+use dg_graph::Graph;
+use std::marker::Model;
+use std::simd::prelude::*;
+
+/// The bit of each vertex in its half of a set.
+const PLACES: [u8; 16] = [1, 2, 4, 8, 16, 32, 64, 128, 1, 2, 4, 8, 16, 32, 64, 128];
+
+/// An amount of dollars for each vertex of a graph, in 32 bits, changed in place.
+#[derive(Clone, Copy, PartialEq, Eq)]
+pub struct EffectiveDivisor {
+    size: usize,
+    amounts: [i32; 16],
+}
+
+impl Model for EffectiveDivisor {
+    ghost use Rattle.dg_chips.specs.Vector.{Vector, IsWide};
+
+    ghost Value = { Vector };
+
+    ghost view = { λ a. record { size = a.size; numbers = a.amounts } };
+
+    ghost invariant = { λ a. IsWide (record { size = a.size; numbers = a.amounts }) };
+
+    ghost inverse = { λ x. record { size = x.size; amounts = x.numbers } };
+}
+
+impl EffectiveDivisor {
+    /// The same amounts in 32 bits.
+    pub fn of(chips: &Wide) -> EffectiveDivisor
+        requires range { (v : ℕ) → v < chips.now.size → unsigned_abs (at chips.now v) ≤ 2 ^ 30 }
+        ensures size { result.size ≡ chips.now.size }
+        ensures amounts { (v : ℕ) → v < chips.now.size → at result v ≡ at chips.now v }
+    {
+        let size = chips.size();
+        let mut amounts = [0; 16];
+        for v in 0..size {
+            amounts[v] = chips.get(v) as i32;
+        }
+        EffectiveDivisor { size, amounts }
+    }
+
+    /// The number of vertices.
+    pub fn size(&self) -> usize
+        ensures { result ≡ self.now.size }
+    {
+        self.size
+    }
+
+    /// The amount of a vertex.
+    pub fn get(&self, v: usize) -> i32
+        requires { v < self.now.size }
+        ensures { result ≡ at self.now v }
+    {
+        let dollars = &self.amounts;
+        dollars[v]
+    }
+
+    /// Gives dollars to a vertex.
+    pub fn give(&mut self, v: usize, dollars: u32)
+        requires vertex { v < self.old.size }
+        requires range { unsigned_abs (at self.old v) ≤ 2 ^ 29 }
+        requires dollars { dollars ≤ 2 ^ 29 }
+        ensures size { self.new.size ≡ self.old.size }
+        ensures amounts { (w : ℕ) → at self.new w ≡ at self.old w +ℤ only_at v (pos dollars) w }
+    {
+        let amounts = &mut self.amounts;
+        amounts[v] += dollars as i32;
+    }
+
+    /// Takes dollars from a vertex, which may then be in debt.
+    pub fn take(&mut self, v: usize, dollars: u32)
+        requires vertex { v < self.old.size }
+        requires range { unsigned_abs (at self.old v) ≤ 2 ^ 29 }
+        requires dollars { dollars ≤ 2 ^ 29 }
+        ensures size { self.new.size ≡ self.old.size }
+        ensures amounts { (w : ℕ) → at self.new w ≡ at self.old w -ℤ only_at v (pos dollars) w }
+    {
+        let amounts = &mut self.amounts;
+        amounts[v] -= dollars as i32;
+    }
+
+    /// Pays back what one vertex owes; nobody else may be in debt. As long as it owes, the vertices that burning from it leaves
+    /// lend. False if the amounts can't be won; then nothing is said of what is left.
+    #[inline(always)]
+    pub fn repay(&mut self, graph: &Graph, v: usize) -> bool
+        requires size { self.old.size ≡ graph.now.size }
+        requires vertex { v < graph.now.size }
+        requires no_debt { HasNoDebtOff graph.now v (at self.old) }
+        requires range { (w : ℕ) → w < graph.now.size → unsigned_abs (at self.old w) ≤ 2 ^ 26 }
+        ensures { MatchBool result
+            (IsEffectiveDivisor graph.now (at self.old) self.new)
+            (¬ IsWinnable graph.now (at self.old)) }
+    {
+        if self.get(v) >= 0 {
+            return true;
+        }
+        self.pay(graph, v)
+    }
+
+    /// The same, if the vertex is in debt at first.
+    #[inline(never)]
+    fn pay(&mut self, graph: &Graph, v: usize) -> bool
+        requires size { self.old.size ≡ graph.now.size }
+        requires vertex { v < graph.now.size }
+        requires no_debt { HasNoDebtOff graph.now v (at self.old) }
+        requires range { (w : ℕ) → w < graph.now.size → unsigned_abs (at self.old w) ≤ 2 ^ 26 }
+        ensures { MatchBool result
+            (IsEffectiveDivisor graph.now (at self.old) self.new)
+            (¬ IsWinnable graph.now (at self.old)) }
+    {
+        // The clause of `size` says that the graph is within its limits.
+        let _size = graph.size();
+        'paying: while self.get(v) < 0 {
+            let Some(rest) = self.rest(graph, v) else {
+                return false;
+            };
+            self.fire(graph, &rest);
+        }
+        true
+    }
+
+    /// Makes amounts without debts reduced for a vertex: the vertices that burning from it leaves lend, until it leaves none.
+    pub fn reduce(&mut self, graph: &Graph, v: usize)
+        requires size { self.old.size ≡ graph.now.size }
+        requires vertex { v < graph.now.size }
+        requires effective { IsEffective graph.now.size (at self.old) }
+        requires range { (w : ℕ) → w < graph.now.size → unsigned_abs (at self.old w) ≤ 2 ^ 26 }
+        ensures form { IsEffectiveDivisor graph.now (at self.old) self.new }
+        ensures reduced { IsReduced graph.now v (at self.new) }
+    {
+        // The clause of `size` says that the graph is within its limits.
+        let _size = graph.size();
+        'reducing: while let Some(rest) = self.rest(graph, v) {
+            self.fire(graph, &rest);
+        }
+    }
+
+    /// Whether the amounts are reduced for a vertex: whether burning from it leaves nothing.
+    pub fn is_reduced(&self, graph: &Graph, v: usize) -> bool
+        requires size { self.now.size ≡ graph.now.size }
+        requires vertex { v < graph.now.size }
+        requires no_debt { HasNoDebtOff graph.now v (at self.now) }
+        ensures { MatchBool result
+            (IsReduced graph.now v (at self.now))
+            (¬ IsReduced graph.now v (at self.now)) }
+    {
+        let _size = graph.size();
+        let seen = burn_counted(graph, v, &self.held());
+        seen.burnt.unburnt == 0
+    }
+
+    /// What burning from a vertex leaves, with its counts, if it leaves something.
+    fn rest(&self, graph: &Graph, v: usize) -> Option<Counted>
+        requires size { self.now.size ≡ graph.now.size }
+        requires vertex { v < graph.now.size }
+        requires no_debt { HasNoDebtOff graph.now v (at self.now) }
+        ensures { MatchOption result
+            (IsReduced graph.now v (at self.now))
+            (IsRest graph.now v (at self.now)) }
+    {
+        let _size = graph.size();
+        let counted = burn_counted(graph, v, &self.held());
+        if counted.burnt.unburnt == 0 {
+            return None;
+        }
+        Some(counted)
+    }
+
+    /// The amounts as far as burning looks at them.
+    fn held(&self) -> [u8; 16]
+        ensures { IsHeld self.now.size (at self.now) result }
+    {
+        let _size = self.size;
+        seen_by_burning(&self.amounts)
+    }
+
+    /// Lets each vertex that burning left lend once.
+    fn fire(&mut self, graph: &Graph, rest: &Counted)
+        requires size { self.old.size ≡ graph.now.size }
+        requires rest { (v : ℕ) →
+            slice_index rest.now.joined v ≡ edges_out graph.now (in_set rest.now.burnt.unburnt) v }
+        requires range { (v : ℕ) → v < graph.now.size → unsigned_abs (at self.old v) ≤ 2 ^ 31 - 64 }
+        ensures size { self.new.size ≡ graph.now.size }
+        ensures fires { FiresTo graph.now (indicator (in_set rest.now.burnt.unburnt)) (at self.old)
+            (at self.new) }
+    {
+        let size = graph.size();
+        let gains = gains_of(graph, rest);
+        let mut amounts = self.amounts;
+        for v in 0..16 {
+            amounts[v] = with_gain(amounts[v], gains[v]);
+        }
+        *self = EffectiveDivisor { size, amounts };
+    }
+}
+
+/// The amounts as far as burning looks at them: 0 for a debt, and 64 for more than 64.
+pub(crate) fn seen_by_burning(amounts: &[i32; 16]) -> [u8; 16]
+    ensures { IsHeld MAX_VERTICES (λ v. slice_index_or amounts.now v (pos 0)) result }
+{
+    let mut held = [0; 16];
+    for v in 0..16 {
+        held[v] = (amounts[v].clamp(0, 255) as u8).min(64);
+    }
+    held
+}
+
+/// What each vertex gains if each vertex that burning left lends once.
+fn gains_of(graph: &Graph, rest: &Counted) -> [i8; 16]
+    requires { (v : ℕ) →
+        slice_index rest.now.joined v ≡ edges_out graph.now (in_set rest.now.burnt.unburnt) v }
+    ensures gains { (v : ℕ) → v < MAX_VERTICES →
+        slice_index_or result v (pos 0)
+        ≡ gain graph.now (indicator (in_set rest.now.burnt.unburnt)) v }
+    ensures few { (v : ℕ) → unsigned_abs (slice_index_or result v (pos 0)) ≤ 63 }
+{
+    let _size = graph.size();
+    let others = outside(rest.burnt.unburnt, u8x16::from_array(*graph.valences())).to_array();
+    let mut gains = [0; 16];
+    for v in 0..16 {
+        gains[v] = gained(graph, rest, others[v], v);
+    }
+    gains
+}
+
+/// What a vertex gains if each vertex that burning left lends once, and a dollar comes along each of so many edges.
+fn gained(graph: &Graph, rest: &Counted, edges: u8, v: usize) -> i8
+    requires vertex { v < MAX_VERTICES }
+    requires rest { slice_index rest.now.joined v
+        ≡ edges_out graph.now (in_set rest.now.burnt.unburnt) v }
+    requires edges { edges ≡ (if in_set rest.now.burnt.unburnt v then 0 else valence graph.now v) }
+    ensures gain { result ≡ gain graph.now (indicator (in_set rest.now.burnt.unburnt)) v }
+    ensures few { unsigned_abs result ≤ 63 }
+{
+    let _size = graph.size();
+    difference(edges, rest.joined[v])
+}
+
+/// The difference of two numbers of edges.
+fn difference(more: u8, less: u8) -> i8
+    requires more { more ≤ 63 }
+    requires less { less ≤ 63 }
+    ensures { result ≡ pos more -ℤ pos less }
+{
+    more as i8 - less as i8
+}
+
+/// An amount with what is gained.
+fn with_gain(amount: i32, gain: i8) -> i32
+    requires amount { unsigned_abs amount ≤ 2 ^ 31 - 64 }
+    requires gain { unsigned_abs gain ≤ 63 }
+    ensures { result ≡ amount +ℤ gain }
+{
+    amount + i32::from(gain)
+}
+
+/// The numbers of the vertices that are not in a set, 0 at those that are.
+fn outside(set: u16, numbers: u8x16) -> u8x16
+    ensures { (v : ℕ) → v < MAX_VERTICES →
+        slice_index result v ≡ (if in_set set v then 0 else slice_index numbers v) }
+{
+    let low = (set & 255) as u8;
+    let high = (set >> 8) as u8;
+    let halves = [
+        low, low, low, low, low, low, low, low, high, high, high, high, high, high, high, high,
+    ];
+    let bits = u8x16::from_array(halves) & u8x16::from_array(PLACES);
+    bits.simd_eq(u8x16::splat(0))
+        .select(numbers, u8x16::splat(0))
+}
